@@ -1,6 +1,7 @@
 -- A journal that grows by an entry.
 use Rattle.std.proofs.Common.{◌≡◌, ℕ, ◌+◌, ◌<◌, ◌≤◌, List, [], ◌∷◌, ◌++◌, map, length, Bool, true, false, cond, refl, ap, ◌∙◌, arith, length-append}
-use Rattle.std.specs.Prelude.{filter, Some, is_some}
+use Rattle.std.specs.Prelude.{filter, Some, is_some, min, ◌^◌, ◌-◌}
+use Rattle.std.proofs.lemmas.Grind.{common_steps}
 use Rattle.std.proofs.lemmas.List.{map-append}
 use Rattle.std.proofs.lemmas.List.Elements.{filter-append}
 use Rattle.node_core.specs.declared.limits.Limits.{Limits}
@@ -22,7 +23,7 @@ use Rattle.node_shared.specs.Journal.{entry, Does, IsRun, process_of, process_en
 use Rattle.node_shared.specs.BookInvariant.{BookInvariant}
 use Rattle.node_shared.specs.History.{IsSubsequence}
 use Rattle.node_shared.specs.Running.{EndsRun}
-use Rattle.node_shared.specs.Serving.{Continues}
+use Rattle.node_shared.specs.Serving.{Continues, ContinuesTo, entry_count}
 
 abbrev step_of : Entry → Step
 step_of e = e.step
@@ -41,6 +42,15 @@ run-on limits old new es s r run does =
 -- a step that is done after a run, with entries that are in it
 pub continues : (limits : Limits) (old new : State) (es own : List Entry) (s : Step) (r : Reply) → IsSubsequence own es → IsRun limits es old → Does old s r new → Continues limits own s r
 continues limits old new es own s r stand run does = (es, new, stand, run-on limits old new es s r run does)
+
+-- and that run has as many entries as it has
+pub continues-to : (limits : Limits) (old new : State) (es own : List Entry) (s : Step) (r : Reply) → IsSubsequence own es → IsRun limits es old → Does old s r new
+    → ContinuesTo limits own s (entry_count (es ++ entry s r ∷ [])) r
+continues-to limits old new es own s r stand run does = (es, new, stand, run-on limits old new es s r run does, refl)
+
+-- the number of entries with one more
+pub counts-on : (es : List Entry) (e : Entry) (n : ℕ) → n ≡ entry_count es → min (n + 1) (2 ^ 64 - 1) ≡ entry_count (es ++ e ∷ [])
+counts-on es e n is = rw (length-append es (e ∷ [])) (grind (arith, common_steps))
 
 -- a step that is done after a run ends one
 pub ends-run : (limits : Limits) (parts : ℕ) (old new : State) (es : List Entry) (s : Step) (r : Reply) → limits.processes + 1 ≡ parts → IsRun limits es old

@@ -4,6 +4,8 @@ pub mod Enrolments
 pub mod Recording
 pub mod Parts
 pub mod Jobs
+pub mod Calls
 pub mod Ordering
 pub mod Sent
+pub mod SentNodes
 pub mod SentServers

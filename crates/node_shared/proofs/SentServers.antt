@@ -1,14 +1,17 @@
--- A caller may go to another thread, and threads may share a server where its hasher may go from one to another.
+-- A caller may go to another thread. Threads may share a server where its hasher may go from one to another and be shared.
 use denote.RattleType.{RattleType}
-use denote.Param.Send.{IsSend, IsSync, sendable, view_send, recorded_send, recorded_sync, struct_send, struct_sync}
+use denote.Builtin.{u64}
+use denote.Param.Send.{IsSend, IsSync, sendable, part_keyless, view_send, view_sync, recorded_send, recorded_sync, struct_send, struct_sync}
 use denote.Struct.Declared.{shape}
 use Rattle.std.specs.declared.clone.Clone as Clone
 use Rattle.std.proofs.Crossing.{crosses}
+use Rattle.std.proofs.sync.RwLock.TheSendSync as lock
 use Rattle.atomic_table.specs.contracts.shared.Seat as Seat
 use Rattle.atomic_table.proofs.shared.Seat.TheSendSync as seat
 use Rattle.atomic_table.proofs.owned.Table.TheSendSync as table
 use Rattle.ets_term.specs.declared.key_hash.KeyHash as KeyHash
 use Rattle.node_core.proofs.Sent.{node_send}
+use Rattle.node_shared.proofs.SentNodes.{node_sync}
 use Rattle.node_shared.specs.declared.history.HistoryId as HistoryId
 use Rattle.node_shared.specs.contracts.entry.Entry as Entry
 use Rattle.node_shared.specs.contracts.history.rule.HistoryView as HistoryView
@@ -26,6 +29,16 @@ use Rattle.node_shared.proofs.Sent.{entry_send}
 seat_send : IsSend (Seat.the_row Entry.the_row HistoryView.the_row)
 seat_send = seat.the_send Entry.the_row HistoryView.the_row entry_send
 
+-- a seat has no bytes, and no `&` to it lets anything be done with it
+seat_sync : IsSync (Seat.the_row Entry.the_row HistoryView.the_row)
+seat_sync = record { shared = λ d b o κ q. part_keyless (Seat.the_row Entry.the_row HistoryView.the_row) seat_send q d b o }
+
+number_send : IsSend u64
+number_send = search sendable
+
+number_sync : IsSync u64
+number_sync = search sendable
+
 module _ (B : RattleType) (b : HistoryId.Ghosts B.Denot) (r : IsSend B) where
   pub owner_send : IsSend (HistoryOwner.the_row B b)
   owner_send =
@@ -37,19 +50,31 @@ module _ (B : RattleType) (b : HistoryId.Ghosts B.Denot) (r : IsSend B) where
 
   pub caller_send : IsSend (Caller.the_row B b)
   caller_send =
-      view_send (caller.the_row B b) _ _ _ _ (recorded_send (caller.the_field B b).row _ _ (caller.the_type B b).to_one (struct_send (shape (caller.the_type B b)) (search sendable, (writer_send, tt))))
+      view_send (caller.the_row B b) _ _ _ _ (recorded_send (caller.the_field B b).row _ _ (caller.the_type B b).to_one (struct_send (shape (caller.the_type B b)) (search sendable, (writer_send, (number_send, tt)))))
 
   module _ (H : RattleType) (k : KeyHash.Ghosts H.Denot) (c : Clone.Ghosts H.Denot) (s : IsSend H) where
     pub served_send : IsSend (ServedNode.the_row B H b k c)
     served_send =
         view_send (served.the_row B H b k c) _ _ _ _ (recorded_send (served.the_field B H b k c).row _ _ (served.the_type B H b k c).to_one (struct_send (shape (served.the_type B H b k c)) (
           node_send H k c s,
-          (owner_send, tt),
+          (owner_send, (number_send, tt)),
         )))
 
-    pub server_sync : IsSync (Server.the_row B H b k c)
-    server_sync =
-        recorded_sync (Server.the_field B H b k c).row _ _ (Server.the_type B H b k c).to_one (struct_sync (shape (Server.the_type B H b k c)) (
-          search (entry_send, table.the_field_sync, crosses, sendable) depth 60 fits 20000,
-          (search (served_send, crosses, sendable) depth 60 fits 20000, tt),
-        ))
+    module _ (y : IsSync B) (z : IsSync H) where
+      owner_sync : IsSync (HistoryOwner.the_row B b)
+      owner_sync =
+          view_sync (owner.the_row B b) _ _ _ _ (recorded_sync (owner.the_field B b).row _ _ (owner.the_type B b).to_one (struct_sync (shape (owner.the_type B b)) (seat_sync, (search sendable, tt))))
+
+      pub served_sync : IsSync (ServedNode.the_row B H b k c)
+      served_sync =
+          view_sync (served.the_row B H b k c) _ _ _ _ (recorded_sync (served.the_field B H b k c).row _ _ (served.the_type B H b k c).to_one (struct_sync (shape (served.the_type B H b k c)) (
+            node_sync H k c z,
+            (owner_sync, (number_sync, tt)),
+          )))
+
+      pub server_sync : IsSync (Server.the_row B H b k c)
+      server_sync =
+          recorded_sync (Server.the_field B H b k c).row _ _ (Server.the_type B H b k c).to_one (struct_sync (shape (Server.the_type B H b k c)) (
+            search (entry_send, table.the_field_sync, crosses, sendable) depth 60 fits 20000,
+            (search (served_send, served_sync, lock.the_field_sync, crosses, sendable) depth 60 fits 20000, tt),
+          ))

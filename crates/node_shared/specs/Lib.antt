@@ -4,6 +4,7 @@ pub mod Running
 pub mod Records
 pub mod History
 pub mod Serving
+pub mod Calling
 pub mod BookInvariant
 pub mod Asking
 pub mod Faults

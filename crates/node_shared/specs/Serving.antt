@@ -1,12 +1,15 @@
 -- What callers observe of a served node, and what a reply of it is.
-use Rattle.std.specs.Prelude.{◌≡◌, ℕ, Bool, true, List, [], ◌∷◌, ◌++◌, None}
+use Rattle.std.specs.Prelude.{◌≡◌, ℕ, ◌≤◌, ◌^◌, ◌-◌, Bool, true, List, [], ◌∷◌, ◌++◌, Option, None, length, min}
 use Rattle.std.specs.Bool.{MatchBool}
 use Rattle.std.specs.Option.{IsSomeAnd}
 use Rattle.node_core.specs.declared.limits.Limits.{Limits}
 use Rattle.node_core.specs.declared.step.Step.{Step}
 use Rattle.node_core.specs.declared.step.Step.TheVariants.{Enrol}
+use Rattle.node_core.specs.declared.step.Call.{Call}
 use Rattle.node_core.specs.declared.step.Reply.{Reply}
 use Rattle.node_core.specs.State.{State}
+use Rattle.node_core.specs.Observable.{observable}
+use Rattle.node_core.specs.Reads.{Reads}
 use Rattle.node_core.specs.rules.Growth.{due}
 use Rattle.node_core.specs.rules.Replies.{is_value}
 use Rattle.node_shared.specs.declared.entry.Entry.{Entry}
@@ -44,11 +47,34 @@ Continues limits entries s r =
     (before : List Entry) × (state : State)
     × IsSubsequence entries before × IsRun limits (before ++ entry s r ∷ []) state
 
+-- the number of these entries, as far as a `u64` goes
+abbrev pub entry_count : List Entry → ℕ
+entry_count entries = min (length entries) (2 ^ 64 - 1)
+
+-- the same, and that run has n entries
+abbrev pub ContinuesTo : Limits → List Entry → Step → ℕ → Reply → Type 0
+ContinuesTo limits entries s n r =
+    (before : List Entry) × (state : State)
+    × IsSubsequence entries before × IsRun limits (before ++ entry s r ∷ []) state
+    × (n ≡ entry_count (before ++ entry s r ∷ []))
+
+-- some run of a node with these limits has at least n entries, and its state gives this answer to a call that may read
+abbrev pub AnswersRead : Limits → ℕ → ℕ → Call → Option Reply → Type 0
+AnswersRead limits p n asked answer =
+    (before : List Entry) × (state : State)
+    × IsRun limits before state × (n ≤ length before) × Reads (observable state) p asked answer
+
 -- this refusal to enrol p ends some run of a node with these limits
 abbrev pub RefusesCaller : Limits → ℕ → Reply → Type 0
 RefusesCaller limits p r = IsEnrolRefusal r × Continues limits [] (Enrol p) r
 
+-- a caller's own record, and how many entries the history had at its last one
+pub record CallerState : Type 0 where
+  pub own : RecordState
+  pub seen : ℕ
+
 -- a caller whose process was enrolled, and did nothing else
-abbrev pub IsEnrolledCaller : Limits → ℕ → RecordState → Type 0
+abbrev pub IsEnrolledCaller : Limits → ℕ → CallerState → Type 0
 IsEnrolledCaller limits p caller =
-    (r : Reply) × (is_value r ≡ true) × (caller ≡ enrolled_record p r) × Continues limits [] (Enrol p) r
+    (r : Reply) × (is_value r ≡ true) × (caller.own ≡ enrolled_record p r)
+    × ContinuesTo limits [] (Enrol p) caller.seen r

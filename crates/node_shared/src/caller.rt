@@ -1,45 +1,49 @@
-ghost use Rattle.std.specs.Prelude.{◌≡◌, IfOk, OnErr};
+ghost use Rattle.std.specs.Prelude.{◌≡◌, ◌≤◌, [], length, vec_capacity, IfOk, IfErr, OnErr};
 ghost use Rattle.node_core.specs.declared.step.Step.TheVariants.{End, Ask};
 ghost use Rattle.node_shared.specs.Records.{with_entry};
-ghost use Rattle.node_shared.specs.Serving.{Continues};
+ghost use Rattle.node_shared.specs.Calling.{HasAsked};
+ghost use Rattle.node_shared.specs.Serving.{AnswersRead, ContinuesTo};
 
-use crate::history::{HistoryId, HistoryWriter};
+use crate::history::{HistoryId, HistoryWord, HistoryWriter};
+use crate::served::ServedNode;
 use crate::server::Server;
-use ets_term::KeyHash;
-use node_core::{Call, Reply, Step};
+use ets_term::{Items, KeyHash};
+use node_core::{Call, Reply, RunFault, Step};
 use std::alloc::AllocError;
 use std::marker::Model;
 use std::sync::Wait;
 
-/// The caller of one process of a server. A contract sees the process, and its steps with their replies, which are in
-/// the server's history in this order. The program has no list of them.
+/// The caller of one process of a server. A contract sees the process, and its own steps with their replies, which are
+/// in the server's history in this order. The program has no list of them. It has their newest place, `seen`: how many
+/// entries the history had at the last of them.
 #[derive(Drop)]
 pub struct Caller<B: HistoryId> {
     pid: u32,
     writer: HistoryWriter<B>,
+    seen: u64,
 }
 
 impl<B: HistoryId> Model for Caller<B> {
-    ghost use Rattle.node_shared.specs.Records.{RecordState};
-    ghost use Rattle.node_shared.specs.inside.Codes.{record_code};
+    ghost use Rattle.node_shared.specs.Serving.{CallerState};
+    ghost use Rattle.node_shared.specs.inside.Codes.{caller_code};
 
-    ghost Value = { RecordState };
+    ghost Value = { CallerState };
 
-    ghost coded = { record_code };
+    ghost coded = { caller_code };
 
-    ghost view = { λ c. record { pid = c.pid; entries = c.writer } };
+    ghost view = { λ c. record { own = record { pid = c.pid; entries = c.writer }; seen = c.seen } };
 }
 
 impl<B: HistoryId> Caller<B> {
-    pub(crate) fn of(pid: u32, writer: HistoryWriter<B>) -> Self
-        ensures { result ≡ record { pid = pid; entries = writer } }
+    pub(crate) fn of(pid: u32, writer: HistoryWriter<B>, seen: u64) -> Self
+        ensures { result ≡ record { own = record { pid = pid; entries = writer }; seen = seen } }
     {
-        Caller { pid, writer }
+        Caller { pid, writer, seen }
     }
 
     /// Returns the process. It takes no memory.
     pub fn pid(&self) -> u32
-        ensures { result ≡ self.now.pid }
+        ensures { result ≡ self.now.own.pid }
     {
         self.pid
     }
@@ -52,12 +56,58 @@ impl<B: HistoryId> Caller<B> {
         server: &Server<B, H>,
         call: Call,
     ) -> Result<Reply, AllocError>
-        ensures ok { IfOk result (λ r. self.new ≡ with_entry self.old (Ask self.old.pid call) r) }
-        ensures order { IfOk result (Continues B.limits self.old.entries (Ask self.old.pid call)) }
+        ensures ok { IfOk result (λ r. self.new.own ≡ with_entry self.old.own (Ask self.old.own.pid call) r) }
+        ensures order { IfOk result (ContinuesTo B.limits self.old.own.entries (Ask self.old.own.pid call) self.new.seen) }
         ensures err { OnErr result (self.new ≡ self.old) }
     {
         let event = Step::Ask(self.pid, call);
         self.step(rt, server, event)
+    }
+
+    /// Makes these calls in order, with no step of another process between them, and returns their replies. `ask` says
+    /// what holds of each. If memory runs out, it stops and returns the replies to the calls before. It may wait for
+    /// the lock.
+    pub fn ask_all<H: KeyHash + Copy + Drop, R: Wait>(
+        &mut self,
+        rt: &R,
+        server: &Server<B, H>,
+        calls: Vec<Call>,
+    ) -> Result<Vec<Reply>, RunFault>
+        ensures ok { IfOk result (λ replies. HasAsked B.limits self.old calls.items replies.items self.new) }
+        ensures all { IfOk result (λ replies. length replies.items ≡ length calls.items) }
+        ensures err { IfErr result (λ fault. HasAsked B.limits self.old calls.items fault.replies self.new) }
+    {
+        let mut replies = Vec::new(*calls.allocator());
+        if replies.reserve(calls.len()).is_err() {
+            return Err(fault_after(replies));
+        }
+        let mut served = server.served.write(rt);
+        self.ask_each(&server.word, &mut *served, calls, replies)
+    }
+
+    fn ask_each<H: KeyHash + Copy + Drop>(
+        &mut self,
+        word: &HistoryWord,
+        served: &mut ServedNode<B, H>,
+        calls: Vec<Call>,
+        mut replies: Vec<Reply>,
+    ) -> Result<Vec<Reply>, RunFault>
+        requires table { word.now.shared.table_id ≡ B.table }
+        requires one { word.now.shared.table_id.words ≡ 1 }
+        requires none { replies.items ≡ [] }
+        requires room { length calls.items ≤ vec_capacity replies }
+        ensures ok { IfOk result (λ replies. HasAsked B.limits self.old calls.items replies.items self.new) }
+        ensures all { IfOk result (λ replies. length replies.items ≡ length calls.items) }
+        ensures err { IfErr result (λ fault. HasAsked B.limits self.old calls.items fault.replies self.new) }
+    {
+        for call in calls {
+            let next = Step::Ask(self.pid, call);
+            match self.step_on(word, served, next) {
+                Ok(reply) => replies.push_reserved(reply),
+                Err(_) => return Err(fault_after(replies)),
+            }
+        }
+        Ok(replies)
     }
 
     /// Ends the process and returns the reply; the reply to later calls is `NoProcess`. `ask` says what holds of order
@@ -67,12 +117,31 @@ impl<B: HistoryId> Caller<B> {
         rt: &R,
         server: &Server<B, H>,
     ) -> Result<Reply, AllocError>
-        ensures ok { IfOk result (λ r. self.new ≡ with_entry self.old (End self.old.pid) r) }
-        ensures order { IfOk result (Continues B.limits self.old.entries (End self.old.pid)) }
+        ensures ok { IfOk result (λ r. self.new.own ≡ with_entry self.old.own (End self.old.own.pid) r) }
+        ensures order { IfOk result (ContinuesTo B.limits self.old.own.entries (End self.old.own.pid) self.new.seen) }
         ensures err { OnErr result (self.new ≡ self.old) }
     {
         let event = Step::End(self.pid);
         self.step(rt, server, event)
+    }
+
+    /// Replies to a call that changes nothing, in parallel with other readers. Returns `None` for any other call. Some
+    /// run of a node with these limits leads to the state that it reads. That run has at least as many entries as the
+    /// history had at this caller's last own step. It may wait for the lock. `Err` is out of memory, or a history with
+    /// fewer entries, which no server has for its own caller.
+    pub fn read<H: KeyHash + Copy + Drop, R: Wait>(
+        &self,
+        rt: &R,
+        server: &Server<B, H>,
+        call: &Call,
+    ) -> Result<Option<Reply>, AllocError>
+        ensures { IfOk result (AnswersRead B.limits self.now.own.pid self.now.seen call.now) }
+    {
+        let served = server.served.read(rt);
+        if self.seen > served.count() {
+            return Err(AllocError);
+        }
+        served.read(self.pid, call)
     }
 
     fn step<H: KeyHash + Copy + Drop, R: Wait>(
@@ -81,13 +150,35 @@ impl<B: HistoryId> Caller<B> {
         server: &Server<B, H>,
         event: Step,
     ) -> Result<Reply, AllocError>
-        ensures ok { IfOk result (λ r. self.new ≡ with_entry self.old event r) }
-        ensures order { IfOk result (Continues B.limits self.old.entries event) }
+        ensures ok { IfOk result (λ r. self.new.own ≡ with_entry self.old.own event r) }
+        ensures order { IfOk result (ContinuesTo B.limits self.old.own.entries event self.new.seen) }
         ensures err { OnErr result (self.new ≡ self.old) }
     {
-        server
-            .served
-            .lock(rt)
-            .step(&server.word, &mut self.writer, event)
+        self.step_on(&server.word, &mut *server.served.write(rt), event)
+    }
+
+    fn step_on<H: KeyHash + Copy + Drop>(
+        &mut self,
+        word: &HistoryWord,
+        served: &mut ServedNode<B, H>,
+        event: Step,
+    ) -> Result<Reply, AllocError>
+        requires table { word.now.shared.table_id ≡ B.table }
+        requires one { word.now.shared.table_id.words ≡ 1 }
+        ensures ok { IfOk result (λ r. self.new.own ≡ with_entry self.old.own event r) }
+        ensures order { IfOk result (ContinuesTo B.limits self.old.own.entries event self.new.seen) }
+        ensures err { OnErr result (self.new ≡ self.old) }
+    {
+        let reply = served.step(word, &mut self.writer, event)?;
+        self.seen = served.count();
+        Ok(reply)
+    }
+}
+
+fn fault_after(replies: Vec<Reply>) -> RunFault
+    ensures { result.replies ≡ replies.items }
+{
+    RunFault {
+        replies: Items::from_vec(replies),
     }
 }

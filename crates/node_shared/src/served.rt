@@ -1,32 +1,35 @@
 ghost use Rattle.std.specs.Prelude.{◌≡◌, true, [], ◌∷◌, ◌++◌, IfOk, OnErr, IfErr};
 ghost use Rattle.ets_term.specs.declared.term.Term.TheVariants.{Pid};
 ghost use Rattle.node_core.specs.declared.step.Reply.TheVariants.{Value};
+ghost use Rattle.node_core.specs.Observable.{observable};
+ghost use Rattle.node_core.specs.Reads.{Reads};
 ghost use Rattle.node_core.specs.State.{empty};
 ghost use Rattle.node_core.specs.rules.Replies.{is_value};
 ghost use Rattle.node_core.specs.declared.step.Step.TheVariants.{Enrol};
-ghost use Rattle.node_shared.specs.Journal.{entry};
-ghost use Rattle.node_shared.specs.Serving.{Continues, RefusesCaller, ServesGrowth, ServesStep, TriesServingGrowth};
+ghost use Rattle.node_shared.specs.Journal.{entry, IsRun};
+ghost use Rattle.node_shared.specs.Serving.{ContinuesTo, entry_count, RefusesCaller, ServesGrowth, ServesStep, TriesServingGrowth};
 ghost use Rattle.node_shared.specs.Faults.{Refuses, RefusesWith};
 
 use crate::book::BookFault;
 use crate::history::{HistoryId, HistoryOwner, HistoryWord, HistoryWriter};
 use ets_term::KeyHash;
-use node_core::{Limits, Node, Reply, Step};
+use node_core::{Call, Limits, Node, Reply, Step};
 use std::alloc::{AllocError, Global};
 use std::marker::Model;
 
-/// What is under the lock of a server: the node, and the owner of its history. A contract sees the node's state and the
-/// history, which is a run of the node from its empty state. Nothing is stored of a step.
+/// What is under the lock of a server: the node, the owner of its history, and the number of its entries. A contract
+/// sees the node's state and the history, which is a run of the node from its empty state. Nothing is stored of a step.
 #[derive(Drop)]
 pub struct ServedNode<B: HistoryId, H: KeyHash + Copy + Drop> {
     node: Node<H>,
     owner: HistoryOwner<B>,
+    count: u64,
 }
 
 impl<B: HistoryId, H: KeyHash + Copy + Drop> Model for ServedNode<B, H> {
     ghost use Rattle.std.specs.Prelude.{◌≡◌};
     ghost use Rattle.node_shared.specs.Journal.{IsRun};
-    ghost use Rattle.node_shared.specs.Serving.{ServedState};
+    ghost use Rattle.node_shared.specs.Serving.{ServedState, entry_count};
     ghost use Rattle.node_shared.specs.inside.Codes.{served_code};
 
     ghost Value = { ServedState };
@@ -35,7 +38,7 @@ impl<B: HistoryId, H: KeyHash + Copy + Drop> Model for ServedNode<B, H> {
 
     ghost view = { λ s. record { state = s.node; history = s.owner } };
 
-    ghost invariant = { λ s. IsRun B.limits s.owner s.node };
+    ghost invariant = { λ s. IsRun B.limits s.owner s.node × (s.count ≡ entry_count s.owner) };
 }
 
 impl<B: HistoryId, H: KeyHash + Copy + Drop> ServedNode<B, H> {
@@ -48,7 +51,23 @@ impl<B: HistoryId, H: KeyHash + Copy + Drop> ServedNode<B, H> {
         ServedNode {
             node: Node::new(alloc, limits, hasher),
             owner,
+            count: 0,
         }
+    }
+
+    /// Returns the number of entries of the history, as far as a `u64` goes. It takes no memory.
+    pub fn count(&self) -> u64
+        ensures { result ≡ entry_count self.now.history }
+    {
+        self.count
+    }
+
+    /// Replies to a call that changes nothing, and changes nothing. Returns `None` for any other call.
+    pub fn read(&self, pid: u32, call: &Call) -> Result<Option<Reply>, AllocError>
+        ensures answer { IfOk result (Reads (observable self.now.state) pid call.now) }
+        ensures run { IsRun B.limits self.now.history self.now.state }
+    {
+        self.node.read(pid, call)
     }
 
     /// Runs a step, which is then the last of the history and the last of the writer. Running out of memory changes
@@ -63,11 +82,13 @@ impl<B: HistoryId, H: KeyHash + Copy + Drop> ServedNode<B, H> {
         requires one { word.now.shared.table_id.words ≡ 1 }
         ensures done { IfOk result (λ r. ServesStep self.old event r self.new) }
         ensures own { IfOk result (λ r. writer.new ≡ writer.old ++ entry event r ∷ []) }
-        ensures order { IfOk result (Continues B.limits writer.old event) }
+        ensures order { IfOk result (ContinuesTo B.limits writer.old event (entry_count self.new.history)) }
         ensures err { OnErr result ((self.new ≡ self.old) × (writer.new ≡ writer.old)) }
     {
         let reply = self.node.step(&event)?;
-        Ok(self.owner.enter(word, writer, event, reply))
+        let reply = self.owner.enter(word, writer, event, reply);
+        self.count = self.count.saturating_add(1);
+        Ok(reply)
     }
 
     /// Enrols a process, which is then the last step of the history, and creates the writer of its steps. A fault
@@ -83,7 +104,7 @@ impl<B: HistoryId, H: KeyHash + Copy + Drop> ServedNode<B, H> {
         ensures granted { IfOk result (λ joined. is_value joined.1 ≡ true) }
         ensures pid { IfOk result (λ joined. joined.1 ≡ Value (Pid pid)) }
         ensures own { IfOk result (λ joined. joined.0 ≡ entry (Enrol pid) joined.1 ∷ []) }
-        ensures order { IfOk result (λ joined. Continues B.limits [] (Enrol pid) joined.1) }
+        ensures order { IfOk result (λ joined. ContinuesTo B.limits [] (Enrol pid) (entry_count self.new.history) joined.1) }
         ensures err { OnErr result (self.new ≡ self.old) }
         ensures refused { IfErr result (Refuses self.old.state pid) }
         ensures refused_run { IfErr result (RefusesWith (RefusesCaller B.limits pid)) }
@@ -97,6 +118,7 @@ impl<B: HistoryId, H: KeyHash + Copy + Drop> ServedNode<B, H> {
         }
         let mut writer = self.owner.new_writer(word);
         let reply = self.owner.enter(word, &mut writer, enrol, reply);
+        self.count = self.count.saturating_add(1);
         Ok((writer, reply))
     }
 
@@ -114,6 +136,7 @@ impl<B: HistoryId, H: KeyHash + Copy + Drop> ServedNode<B, H> {
         let reply = self.node.step(&due)?;
         let mut maintenance_writer = self.owner.new_writer(word);
         let _reply = self.owner.enter(word, &mut maintenance_writer, due, reply);
+        self.count = self.count.saturating_add(1);
         Ok(true)
     }
 

@@ -1,9 +1,10 @@
-ghost use Rattle.std.specs.Prelude.{◌≡◌, ◌≤◌, true, IfOk, IfErr};
+ghost use Rattle.std.specs.Prelude.{◌≡◌, ◌≤◌, true, false, IfOk, IfErr};
 ghost use Rattle.ets_term.specs.declared.term.Term.TheVariants.{Pid};
 ghost use Rattle.node_core.specs.declared.step.Reply.TheVariants.{Value};
+ghost use Rattle.node_core.specs.rules.Replies.{is_value};
 ghost use Rattle.node_shared.specs.Records.{enrolled_record};
 ghost use Rattle.node_shared.specs.Serving.{IsEnrolledCaller, RefusesCaller};
-ghost use Rattle.node_shared.specs.Faults.{HandsBack, JoinRefusesWith};
+ghost use Rattle.node_shared.specs.Faults.{HandsBack, JoinRefusesWith, RefusesWith};
 
 use crate::book::BookFault;
 use crate::caller::Caller;
@@ -14,13 +15,13 @@ use crate::shared::JoinFault;
 use ets_term::KeyHash;
 use node_core::Limits;
 use std::alloc::Global;
-use std::sync::{Mutex, Wait};
+use std::sync::{RwLock, Wait};
 
 /// A node that threads share for as long as they like: nothing is stored of a call once it has its reply.
 #[derive(Drop)]
 pub struct Server<B: HistoryId, H: KeyHash + Copy + Drop> {
     pub(crate) word: HistoryWord,
-    pub(crate) served: Mutex<ServedNode<B, H>>,
+    pub(crate) served: RwLock<ServedNode<B, H>>,
     ghost table: { word.shared.table_id ≡ B.table },
     ghost one_word: { word.shared.table_id.words ≡ 1 },
 }
@@ -37,24 +38,33 @@ impl<B: HistoryId, H: KeyHash + Copy + Drop> Server<B, H> {
         let (word, owner) = history.into_named::<B>();
         Server {
             word,
-            served: Mutex::new(ServedNode::new(alloc, owner, limits, hasher)),
+            served: RwLock::new(ServedNode::new(alloc, owner, limits, hasher)),
         }
     }
 
     /// Enrols the number that was drawn, and returns the caller of that process. It may wait for the lock.
     pub fn client<R: Wait>(&self, rt: &R, drawn: Drawn) -> Result<Caller<B>, JoinFault>
         ensures ok { IfOk result (IsEnrolledCaller B.limits drawn.number) }
-        ensures start { IfOk result (λ caller. caller ≡ enrolled_record drawn.number (Value (Pid drawn.number))) }
+        ensures start { IfOk result (λ caller. caller.own ≡ enrolled_record drawn.number (Value (Pid drawn.number))) }
         ensures err { IfErr result (HandsBack drawn) }
         ensures refused { IfErr result (JoinRefusesWith (RefusesCaller B.limits drawn.number)) }
     {
-        let pid = drawn.pid();
-        let joined = self.served.lock(rt).join(&self.word, pid);
-        match joined {
-            Ok((writer, _reply)) => Ok(Caller::of(pid, writer)),
+        match self.join(rt, drawn.pid()) {
+            Ok(caller) => Ok(caller),
             Err(BookFault::Refused(reply)) => Err(JoinFault::Refused(reply, drawn)),
             Err(BookFault::Memory) => Err(JoinFault::Memory(drawn)),
         }
+    }
+
+    fn join<R: Wait>(&self, rt: &R, pid: u32) -> Result<Caller<B>, BookFault>
+        ensures ok { IfOk result (IsEnrolledCaller B.limits pid) }
+        ensures start { IfOk result (λ caller. caller.own ≡ enrolled_record pid (Value (Pid pid))) }
+        ensures refused { IfErr result (RefusesWith (λ r. is_value r ≡ false)) }
+        ensures refused_run { IfErr result (RefusesWith (RefusesCaller B.limits pid)) }
+    {
+        let mut served = self.served.write(rt);
+        let (writer, _reply) = served.join(&self.word, pid)?;
+        Ok(Caller::of(pid, writer, served.count()))
     }
 
     /// Runs pending growth steps, taking the lock anew for each, until none is pending, memory runs out, or `turns`
@@ -64,7 +74,7 @@ impl<B: HistoryId, H: KeyHash + Copy + Drop> Server<B, H> {
     {
         let mut done = 0;
         for _ in 0..turns {
-            if !self.served.lock(rt).try_tend(&self.word) {
+            if !self.served.write(rt).try_tend(&self.word) {
                 break;
             }
             done += 1;

@@ -27,9 +27,9 @@ module _ (a b : Lifetime) (α β : Lft) (B H R : RattleType) (l : HistoryId.Ghos
   abbrev pub Asking : List RattleType
   Asking = ShrRef a α R ∷ ShrRef b β (Server.the_row B H l k c) ∷ Caller.the_row B l ∷ Vec.the_row Call.the_row Global.the_row ghosts ∷ []
 
-  pub asking_send : (name : Sym) → IsSync R → IsSend B → IsSend H → IsSend (TupleAt name Asking)
-  asking_send name runs room hash =
+  pub asking_send : (name : Sym) → IsSync R → IsSend B → IsSync B → IsSend H → IsSync H → IsSend (TupleAt name Asking)
+  asking_send name runs room rooms hash hashes =
       captures_send name Asking (
         shr_send a α R runs,
-        (shr_send b β (Server.the_row B H l k c) (server_sync B l room H k c hash), (caller_send B l room, (Vec-send Call.the_row call_send, tt))),
+        (shr_send b β (Server.the_row B H l k c) (server_sync B l room H k c hash rooms hashes), (caller_send B l room, (Vec-send Call.the_row call_send, tt))),
       )

@@ -18,6 +18,7 @@ mod keeper;
 mod keeping;
 mod meeting;
 mod numbering;
+mod reading;
 mod serving;
 
 /// The call of this name, with the terms of this list.

@@ -6,7 +6,7 @@ use Rattle.node_core.specs.inside.Codes.{state_code}
 use Rattle.node_shared.specs.declared.entry.Entry.{Entry}
 use Rattle.node_shared.specs.contracts.entry.Entry as entry
 use Rattle.node_shared.specs.Records.{BookState, RecordState}
-use Rattle.node_shared.specs.Serving.{ServedState}
+use Rattle.node_shared.specs.Serving.{CallerState, ServedState}
 
 abbrev pub book_code : Coded BookState
 book_code =
@@ -17,6 +17,11 @@ abbrev pub record_code : Coded RecordState
 record_code =
     code_by (ℕ × List Entry) (coded× coded_ℕ (coded_list entry.the_row.coded))
     (λ c. (c.pid, c.entries)) (λ p. record { pid = p.0; entries = p.1 }) (λ _. refl)
+
+abbrev pub caller_code : Coded CallerState
+caller_code =
+    code_by (RecordState × ℕ) (coded× record_code coded_ℕ)
+    (λ c. (c.own, c.seen)) (λ p. record { own = p.0; seen = p.1 }) (λ _. refl)
 
 abbrev pub served_code : Coded ServedState
 served_code =

@@ -156,7 +156,11 @@ fn ask_all<B: HistoryId, H: KeyHash + Copy + Drop, R: Wait>(
 }
 
 /// Two callers ask at once, each in a thread of its own.
-fn both_ask<B: HistoryId + Send, H: KeyHash + Copy + Drop + Send + Sync, R: Threads + Wait + Sync>(
+fn both_ask<
+    B: HistoryId + Send + Sync,
+    H: KeyHash + Copy + Drop + Send + Sync,
+    R: Threads + Wait + Sync,
+>(
     rt: &R,
     server: &Server<B, H>,
     one: (Caller<B>, Vec<Call>),
@@ -177,7 +181,7 @@ fn both_ask<B: HistoryId + Send, H: KeyHash + Copy + Drop + Send + Sync, R: Thre
 }
 
 /// How many objects there are once two callers have inserted fifty each.
-fn objects_of_both<B: HistoryId + Send, R: Threads + Wait + Sync>(
+fn objects_of_both<B: HistoryId + Send + Sync, R: Threads + Wait + Sync>(
     rt: &R,
     alloc: Global,
     server: &Server<B, Fnv>,
@@ -193,7 +197,7 @@ fn objects_of_both<B: HistoryId + Send, R: Threads + Wait + Sync>(
     }
 }
 
-fn is_shared<B: HistoryId + Send, R: Threads + Wait + Sync>(
+fn is_shared<B: HistoryId + Send + Sync, R: Threads + Wait + Sync>(
     rt: &R,
     alloc: Global,
     history: NewHistory,

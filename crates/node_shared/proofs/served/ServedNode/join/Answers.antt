@@ -3,7 +3,8 @@ use Rattle.node_core.specs.declared.step.Step.TheVariants.{Enrol}
 use Rattle.node_core.specs.rules.Replies.{is_value}
 use Rattle.node_core.specs.Observable.{observable}
 use Rattle.node_core.proofs.calls.Enrolling.{not-enrolled}
-use Rattle.node_shared.proofs.Growing.{run-on, continues}
+use Rattle.node_shared.specs.Journal.{entry}
+use Rattle.node_shared.proofs.Growing.{run-on, continues, continues-to, counts-on}
 use Rattle.node_shared.proofs.Enrolments.{enrol-granted, enrol-refused}
 use Rattle.node_shared.proofs.served.ServedNode.join.Goals as goal
 
@@ -22,12 +23,17 @@ returns-then-not-is_value-clause-err g c =
 pub invariant_of-self-2 : goal.invariant_of-self-2
 invariant_of-self-2 g c =
     let did = c.in-Ok.ensures in
-    rw c.enter-reply.ensures.all (rw c.new_writer-writer.ensures.same (run-on g.B.HistoryId.limits c.self.inside.node c.step.new.self c.self.inside.owner (Enrol c.args.pid) c.in-Ok.reply c.self.invariant (did.ok, did.buckets)))
+    let was = c.self.invariant in
+    let same = c.new_writer-writer.ensures.same in
+    let event = entry (Enrol c.args.pid) c.in-Ok.reply in (
+      rw (c.enter-reply.ensures.all, same) (run-on g.B.HistoryId.limits c.self.inside.node c.step.new.self c.self.inside.owner (Enrol c.args.pid) c.in-Ok.reply was.0 (did.ok, did.buckets)),
+      rw (c.saturating_add-self-inside.ensures, c.enter-reply.ensures.all, same) (counts-on c.self.inside.owner event c.self.inside.count was.1),
+    )
 
 pub returns-clause-order : goal.returns-clause-order
 returns-clause-order g c =
     let did = c.in-Ok.ensures in
-    rw c.enter-reply.ensures.reply (continues g.B.HistoryId.limits c.self.inside.node c.step.new.self c.self.inside.owner [] (Enrol c.args.pid) c.in-Ok.reply tt c.self.invariant (did.ok, did.buckets))
+    rw (c.enter-reply.ensures.reply, c.enter-reply.ensures.all, c.new_writer-writer.ensures.same) (continues-to g.B.HistoryId.limits c.self.inside.node c.step.new.self c.self.inside.owner [] (Enrol c.args.pid) c.in-Ok.reply tt c.self.invariant.0 (did.ok, did.buckets))
 
 pub returns-clause-pid : goal.returns-clause-pid
 returns-clause-pid g c =
@@ -39,5 +45,5 @@ returns-then-not-is_value-clause-refused_run g c =
     let refused : is_value c.in-Ok.reply ≡ false = search rules in
     let did = c.in-Ok.ensures in (
       enrol-refused (observable c.self.inside.node) (observable c.step.new.self) c.args.pid c.in-Ok.reply refused did.ok,
-      continues g.B.HistoryId.limits c.self.inside.node c.step.new.self c.self.inside.owner [] (Enrol c.args.pid) c.in-Ok.reply tt c.self.invariant (did.ok, did.buckets),
+      continues g.B.HistoryId.limits c.self.inside.node c.step.new.self c.self.inside.owner [] (Enrol c.args.pid) c.in-Ok.reply tt c.self.invariant.0 (did.ok, did.buckets),
     )

@@ -11,8 +11,9 @@ pub join-one_caller-requires-send-F : goal.join-one_caller-requires-send-F
 join-one_caller-requires-send-F g c κs within =
     let runs : IsSync g.row.R = search rules parts 8 in
     let hash : IsSend (copied 1 g.row.H) = search rules parts 8 in
+    let hashes : IsSync (copied 1 g.row.H) = search rules parts 8 in
     param_send 1 _ (arg_send _ denote.Exit.no _ (asking_send
     (named 6) (named 7) κs.1.1.1.1.1.1.0 κs.1.1.1.1.1.1.1.0
     (param 0 g.row.B) (copied 1 g.row.H) (param 2 g.row.R) g.B.HistoryId g.H.KeyHash g.H.Clone
     (116 ∷ 101 ∷ 115 ∷ 116 ∷ 95 ∷ 115 ∷ 104 ∷ 97 ∷ 114 ∷ 101 ∷ 100 ∷ 58 ∷ 58 ∷ 116 ∷ 101 ∷ 115 ∷ 116 ∷ 115 ∷ 58 ∷ 58 ∷ 115 ∷ 101 ∷ 114 ∷ 118 ∷ 105 ∷ 110 ∷ 103 ∷ 58 ∷ 58 ∷ 102 ∷ 110 ∷ 58 ∷ 58 ∷ 98 ∷ 111 ∷ 116 ∷ 104 ∷ 95 ∷ 97 ∷ 115 ∷ 107 ∷ 58 ∷ 58 ∷ 106 ∷ 111 ∷ 105 ∷ 110 ∷ 43 ∷ 97 ∷ 114 ∷ 103 ∷ 50 ∷ 43 ∷ 83 ∷ 101 ∷ 108 ∷ 102 ∷ [])
-    (param_sync 2 g.row.R runs) c.type_bounds.send-B hash))
+    (param_sync 2 g.row.R runs) c.type_bounds.send-B c.type_bounds.sync-B hash hashes))

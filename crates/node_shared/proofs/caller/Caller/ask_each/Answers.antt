@@ -1,0 +1,39 @@
+use Rattle.std.proofs.Common.{◌≡◌, ℕ, ◌++◌, [], ◌∷◌, length, sym, ap, ◌∙◌, subst, append_assoc, length-append, arith, rules}
+use Rattle.std.specs.Vec.Iter.{into_iter_items}
+use Rattle.node_core.specs.declared.step.Step.TheVariants.{Ask}
+use Rattle.node_shared.specs.Records.{with_entry}
+use Rattle.node_shared.specs.Serving.{CallerState, ContinuesTo}
+use Rattle.node_shared.proofs.Calls.{asked-none, asked-next}
+use Rattle.node_shared.proofs.caller.Caller.ask_each.Goals as goal
+
+pub loop-call-init : goal.loop-call-init
+loop-call-init g c = record {
+  all = search rules;
+  len = search rules;
+  count = ap length c.requires.none;
+  room = c.requires.room;
+  asked = rw c.requires.none (asked-none g.B.HistoryId.limits c.args.self.now c.args.calls.items);
+}
+
+pub loop-call-preserved : goal.loop-call-preserved
+loop-call-preserved g c =
+    let at = c.loop-call in
+    let call = c.in-Some.call in
+    let reply = c.in-Ok.reply in
+    let new = c.step_on.new.self in
+    let rest = into_iter_items c.next.new.self in
+    let steps : into_iter_items at.call-iterator ≡ call ∷ rest = c.in-Some.ensures.steps.0 in
+    let gone = c.in-Some.ensures.steps.1 in
+    let short = ap length steps in
+    let all : (at.yielded ++ call ∷ []) ++ rest ≡ c.args.calls.items = append_assoc at.yielded (call ∷ []) rest ∙ rw (← steps) at.invariant.all in
+    let pushed : c.push_reserved.new.self.items ≡ at.replies.items ++ reply ∷ [] = c.push_reserved.ensures.items in
+    let pid : c.self.inside.pid ≡ at.self.own.pid = ap (λ (s : CallerState). s.own.pid) c.self.view_is in
+    let own = subst (λ (q : ℕ). new.own ≡ with_entry at.self.own (Ask q call) reply) pid c.in-Ok.ensures.ok in
+    let last = subst (λ (q : ℕ). ContinuesTo g.B.HistoryId.limits at.self.own.entries (Ask q call) new.seen reply) pid c.in-Ok.ensures.order in
+    record {
+      all = all;
+      len = omega (arith, at.invariant.len, gone, short);
+      count = ap length pushed ∙ omega (arith, length-append at.replies.items (reply ∷ []), length-append at.yielded (call ∷ []), at.invariant.count);
+      room = omega (arith, c.push_reserved.ensures.capacity, at.invariant.room);
+      asked = rw pushed (asked-next g.B.HistoryId.limits c.args.self.now at.self new at.yielded rest call c.args.calls.items at.replies.items reply (sym (append_assoc at.yielded (call ∷ []) rest) ∙ all) at.invariant.count at.invariant.asked own last);
+    }

@@ -1,0 +1,81 @@
+// A caller reads what it inserted, and a read is no step of its process.
+ghost use Rattle.std.specs.Prelude.{◌≡◌};
+
+use super::{call, limits, two_seats};
+use ets_term::Fnv;
+use node_core::{Limits, Reply};
+use node_shared::{Caller, HistoryId, NewHistory, Server};
+use std::alloc::Global;
+use std::marker::Brand;
+use std::sync::Wait;
+use std::test::Fail;
+use term_text::print_term;
+
+/// What a read replies: the text of a value, the refusal, or `no read`.
+fn text_of_read<B: HistoryId, R: Wait>(
+    rt: &R,
+    alloc: Global,
+    server: &Server<B, Fnv>,
+    caller: &Caller<B>,
+    asked: (&str, &str),
+) -> Result<String, Fail> {
+    let asked = call(alloc, asked.0, asked.1)?;
+    let mut text = String::new(alloc);
+    match caller.read(rt, server, &asked)? {
+        Some(Reply::Value(value)) => print_term(alloc, &value, &mut text)?,
+        Some(Reply::Badarg) => text.push_str("badarg")?,
+        Some(Reply::SystemLimit) => text.push_str("system_limit")?,
+        Some(Reply::NoProcess) => text.push_str("no process")?,
+        None => text.push_str("no read")?,
+    }
+    Ok(text)
+}
+
+/// Returns whether a caller that made two calls at once reads the object of the second, until it ends.
+fn is_read<B: HistoryId, R: Wait>(
+    rt: &R,
+    alloc: Global,
+    server: &Server<B, Fnv>,
+    caller: &mut Caller<B>,
+) -> Result<bool, Fail> {
+    let lookup = ("lookup", "[t,1]");
+    let mut calls = Vec::new(alloc);
+    calls.push(call(alloc, "new", "[t,[named_table]]")?)?;
+    calls.push(call(alloc, "insert", "[t,{1,a}]")?)?;
+    let replies = caller.ask_all(rt, server, calls).map_err(|_| "replies")?;
+    let found = text_of_read(rt, alloc, server, caller, lookup)?;
+    let unknown = text_of_read(rt, alloc, server, caller, ("lookup", "[u,1]"))?;
+    let insertion = text_of_read(rt, alloc, server, caller, ("insert", "[t,{2}]"))?;
+    let size = text_of_read(rt, alloc, server, caller, ("info", "[t,size]"))?;
+    caller.end(rt, server)?;
+    let late = text_of_read(rt, alloc, server, caller, lookup)?;
+    let living = replies.len() == 2 && found.as_str() == "[{1,a}]" && unknown.as_str() == "badarg";
+    Ok(
+        living
+            && insertion.as_str() == "no read"
+            && size.as_str() == "1"
+            && late.as_str() == "no process",
+    )
+}
+
+fn is_served<B: HistoryId, R: Wait>(
+    rt: &R,
+    alloc: Global,
+    history: NewHistory,
+    limits: Limits,
+) -> Result<bool, Fail>
+    requires table { history.word.shared.table_id ≡ B.table }
+    requires limits { limits ≡ B.limits }
+{
+    let (pids, seat, _other) = two_seats(alloc)?;
+    let server = Server::<B, Fnv>::new(alloc, history, limits, Fnv);
+    let mut caller = server.client(rt, pids.draw(seat)).map_err(|_| "a caller")?;
+    is_read(rt, alloc, &server, &mut caller)
+}
+
+#[test]
+fn a_caller_reads_what_it_inserted(rt: HostRuntime) -> Result<(), Fail> {
+    let history = NewHistory::new(rt.alloc())?;
+    assert!(rt; is_served::<Brand, _>(&rt, rt.alloc(), history, limits(1))?);
+    Ok(())
+}
