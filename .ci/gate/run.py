@@ -49,6 +49,7 @@ def crates_with_refused_memory():
 def on_the_program(copy, log):
     """Returns the parts that try the program, and the tests of refused memory, as soon as these are proved and built."""
     program, is_there = f"{copy}/{PROGRAM}/out/ets_script_cli", Proved("ets_script_cli", log)
+    external = f"{copy}/crates/test_external/out/test_external"
     with_tests = crates_with_refused_memory()
     tests, are_there = [f"{copy}/crates/{it}/out/{it}_tests" for it in with_tests], [Proved(f"{it}: its tests are", log) for it in with_tests]
     return [
@@ -58,6 +59,7 @@ def on_the_program(copy, log):
         Part("the examples, cut at every byte", [f"{TOP}/.ci/cuts", program], after=[is_there]),
         Part("failing devices", [f"{TOP}/.ci/devices", program], after=[is_there]),
         Part("refused memory", [f"{TOP}/.ci/refusals", program, *tests], after=[is_there, *are_there], show=r"^refusals: "),
+        Part("terms compared with Erlang's", [f"{TOP}/.ci/external", external], after=[Proved("test_external", log)], show=r"^external: "),
     ]
 
 

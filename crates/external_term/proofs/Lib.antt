@@ -1,0 +1,11 @@
+pub mod Digits
+pub mod Encoded
+mod Examples
+pub mod IdentifierTrips
+pub mod LeafTrips
+pub mod RoundTrip
+pub mod Rows
+pub mod SmallIntegers
+pub mod Standing
+pub mod Steps
+mod WrittenExamples

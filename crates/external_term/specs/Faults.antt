@@ -1,0 +1,26 @@
+-- Faults, and results up to a lack of memory.
+use Rattle.std.specs.Prelude.{◌≡◌, ℕ, Option, Some, None, Result, Ok, Err}
+use Rattle.external_term.specs.declared.fault.ExternalFault.{ExternalFault}
+use Rattle.external_term.specs.declared.fault.ExternalFault.TheVariants.{Truncated, BadVersion, UnknownTag, TooDeep, ImproperList, BadAtom, BadInteger, ForeignIdentifier, Memory}
+
+-- the offset of a fault, which Memory has not
+abbrev pub offset : ExternalFault → Option ℕ
+offset (Truncated at) = Some at
+offset (BadVersion at) = Some at
+offset (UnknownTag at) = Some at
+offset (TooDeep at) = Some at
+offset (ImproperList at) = Some at
+offset (BadAtom at) = Some at
+offset (BadInteger at) = Some at
+offset (ForeignIdentifier at) = Some at
+offset Memory = None
+
+-- a call fails with this fault where it should, or memory ran out
+abbrev pub Fails : {A : Type 0} → Result A ExternalFault → ExternalFault → Type 0
+Fails expected Memory = Unit {0}
+Fails expected f = expected ≡ Err f
+
+-- a call returns what it should, or memory ran out
+abbrev pub Returns : {A : Type 0} → Result A ExternalFault → Result A ExternalFault → Type 0
+Returns expected (Ok x) = expected ≡ Ok x
+Returns expected (Err f) = Fails expected f

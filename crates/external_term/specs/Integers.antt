@@ -1,0 +1,54 @@
+-- Reads integers.
+use Rattle.std.specs.Prelude.{ℕ, zero, suc, ◌+◌, ◌-◌, ◌*◌, ◌^◌, ℤ, pos, negsuc, List, [], ◌∷◌, slice_range, Ok, Err, Bool, true, false, ◌&&◌, nat_le, nat_lt, if◌then◌else◌}
+use Rattle.ets_term.specs.declared.term.Term.{Term}
+use Rattle.ets_term.specs.declared.term.Term.TheVariants.{Int}
+use Rattle.external_term.specs.declared.field.Width.TheVariants.{One, Four}
+use Rattle.external_term.specs.declared.fault.ExternalFault.TheVariants.{BadInteger}
+use Rattle.external_term.specs.Fields.{Read, after, number_at, piece_at}
+
+-- a byte
+abbrev pub small_integer_at : List ℕ → ℕ → Read Term
+small_integer_at bytes at = after (number_at One bytes (at + 1)) (λ n end. Ok (Int (pos n), end))
+
+-- the integer of 32 bits in two's complement
+abbrev pub signed32 : ℕ → ℤ
+signed32 n = if nat_lt n (2 ^ 31) then pos n else negsuc (2 ^ 32 - 1 - n)
+
+abbrev pub integer_at : List ℕ → ℕ → Read Term
+integer_at bytes at = after (number_at Four bytes (at + 1)) (λ n end. Ok (Int (signed32 n), end))
+
+-- the number whose low byte comes first
+abbrev pub little : List ℕ → ℕ
+little [] = 0
+little (b ∷ bs) = b + 256 * little bs
+
+-- the integer of this magnitude, negative if true
+abbrev pub signed : Bool → ℕ → ℤ
+signed true zero = pos 0
+signed true (suc n) = negsuc n
+signed false n = pos n
+
+-- the greatest magnitude of an integer, and the greatest number of its bytes
+abbrev pub max_magnitude : Bool → ℕ
+max_magnitude true = 2 ^ 127
+max_magnitude false = 2 ^ 127 - 1
+
+abbrev pub max_digits : ℕ
+max_digits = 16
+
+abbrev pub big_if : Bool → ℕ → Bool → ℕ → ℕ → Read Term
+big_if true at negative n end = Ok (Int (signed negative n), end)
+big_if false at negative n end = Err (BadInteger at)
+
+-- n bytes of a magnitude, from one offset to another
+abbrev pub big_value : List ℕ → ℕ → ℕ → Bool → ℕ → ℕ → Read Term
+big_value bytes at n negative start end =
+    let magnitude = little (slice_range bytes start end) in
+    big_if (nat_le n max_digits && nat_le magnitude (max_magnitude negative)) at negative magnitude end
+
+-- the number of bytes, the sign, which is 0 if not negative, and the bytes
+abbrev pub big_at : List ℕ → ℕ → Read Term
+big_at bytes at =
+    after (number_at One bytes (at + 1)) (λ n second.
+    after (number_at One bytes second) (λ sign third.
+    after (piece_at n bytes third) (λ start end. big_value bytes at n (nat_lt 0 sign) start end)))

@@ -1,0 +1,9 @@
+pub mod Faults
+pub mod Fields
+pub mod Tags
+pub mod Integers
+pub mod Texts
+pub mod Identifiers
+pub mod Reader
+pub mod Encoding
+pub mod RoundTrip

@@ -1,0 +1,14 @@
+-- A written term is read back.
+use Rattle.std.specs.Prelude.{◌≡◌, ℕ, ◌<◌, ◌≤◌, ◌^◌, List, ◌++◌, length, Ok}
+use Rattle.ets_term.specs.Depth.{depth, max_depth}
+use Rattle.ets_term.specs.Fits.{Fits}
+use Rattle.ets_term.specs.declared.term.Term.{Term}
+use Rattle.external_term.specs.Encoding.{written}
+use Rattle.external_term.specs.Reader.{read}
+
+-- What is written for a term of at most max_depth levels, in less than 2 ^ 32 bytes, is read as this term, to its last
+-- byte, whatever follows.
+abbrev pub ReadsBack : Term → List ℕ → Type 0
+ReadsBack t rest =
+    Fits t → depth t ≤ max_depth → length (written t) < 2 ^ 32
+    → read (written t ++ rest) ≡ Ok (t, length (written t))

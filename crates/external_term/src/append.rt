@@ -1,0 +1,131 @@
+//! Appends the forms that hold no terms to a vector that has room for them.
+ghost use Rattle.std.specs.Prelude.{◌≡◌, ◌+◌, ◌≤◌, ◌<◌, ◌^◌, ◌++◌, length, vec_len, vec_capacity, pos, negsuc};
+ghost use Rattle.external_term.specs.Encoding.{integer_bytes, atom_bytes, pid_bytes, reference_bytes, node_bytes, tuple_header, binary_bytes, big_bytes};
+
+use crate::identifier::NODE;
+use crate::integer::Magnitude;
+use crate::put::{digit_count, put, put_digits, put_long, put_number, put_short};
+use ets_term::{Atom, Integer};
+
+/// Appends a magnitude with its sign, as SMALL_BIG_EXT.
+fn append_big(sign: u8, n: Magnitude, out: &mut Vec<u8>)
+    requires { vec_len out.old + length (big_bytes sign n) ≤ vec_capacity out.old }
+    ensures items { out.new.items ≡ out.old.items ++ big_bytes sign n }
+    ensures capacity { vec_capacity out.old ≤ vec_capacity out.new }
+{
+    put(&[110, digit_count(n) as u8, sign], out);
+    put_digits(n, out);
+}
+
+/// Appends the integer `n`.
+#[tactic(auto, using(crate::proofs::SmallIntegers::byte_bytes, crate::proofs::SmallIntegers::word_bytes, crate::proofs::SmallIntegers::wide_bytes))]
+fn append_positive(n: Magnitude, out: &mut Vec<u8>)
+    requires { vec_len out.old + length (integer_bytes (pos n)) ≤ vec_capacity out.old }
+    ensures items { out.new.items ≡ out.old.items ++ integer_bytes (pos n) }
+    ensures capacity { vec_capacity out.old ≤ vec_capacity out.new }
+{
+    if n < 256 {
+        put_short(97, n as u8, out);
+    } else if n < 0x8000_0000 {
+        put_long(98, n as usize, out);
+    } else {
+        append_big(0, n, out);
+    }
+}
+
+/// Appends the integer `-1 - n`.
+#[tactic(auto, using(crate::proofs::SmallIntegers::negative_word, crate::proofs::SmallIntegers::negative_wide))]
+fn append_negative(n: Magnitude, out: &mut Vec<u8>)
+    requires room { vec_len out.old + length (integer_bytes (negsuc n)) ≤ vec_capacity out.old }
+    requires fits { n < 2 ^ 127 }
+    ensures items { out.new.items ≡ out.old.items ++ integer_bytes (negsuc n) }
+    ensures capacity { vec_capacity out.old ≤ vec_capacity out.new }
+{
+    if n < 0x8000_0000 {
+        put_long(98, 0xFFFF_FFFF - n as usize, out);
+    } else {
+        append_big(1, n + 1, out);
+    }
+}
+
+/// Appends an integer as SMALL_INTEGER_EXT, INTEGER_EXT or SMALL_BIG_EXT.
+pub(crate) fn append_integer(n: Integer, out: &mut Vec<u8>)
+    requires { vec_len out.old + length (integer_bytes n) ≤ vec_capacity out.old }
+    ensures items { out.new.items ≡ out.old.items ++ integer_bytes n }
+    ensures capacity { vec_capacity out.old ≤ vec_capacity out.new }
+{
+    if n >= 0 {
+        append_positive(n as Magnitude, out);
+    } else {
+        append_negative(-(n + 1) as Magnitude, out);
+    }
+}
+
+/// Appends an atom as SMALL_ATOM_UTF8_EXT.
+pub(crate) fn append_atom(name: &Atom, out: &mut Vec<u8>)
+    requires { vec_len out.old + length (atom_bytes name.now) ≤ vec_capacity out.old }
+    ensures items { out.new.items ≡ out.old.items ++ atom_bytes name.now }
+    ensures capacity { vec_capacity out.old ≤ vec_capacity out.new }
+{
+    let text = name.text().as_bytes();
+    put_short(119, text.len() as u8, out);
+    put(text, out);
+}
+
+/// Appends the name of the node as SMALL_ATOM_UTF8_EXT.
+fn append_node(out: &mut Vec<u8>)
+    requires { vec_len out.old + 15 ≤ vec_capacity out.old }
+    ensures items { out.new.items ≡ out.old.items ++ node_bytes }
+    ensures capacity { vec_capacity out.old ≤ vec_capacity out.new }
+{
+    put_short(119, 13, out);
+    put(NODE, out);
+}
+
+/// Appends the pid with this number as NEW_PID_EXT.
+pub(crate) fn append_pid(n: u32, out: &mut Vec<u8>)
+    requires { vec_len out.old + length (pid_bytes n) ≤ vec_capacity out.old }
+    ensures items { out.new.items ≡ out.old.items ++ pid_bytes n }
+    ensures capacity { vec_capacity out.old ≤ vec_capacity out.new }
+{
+    put(&[88], out);
+    append_node(out);
+    put_number(n as usize, out);
+    put(&[0, 0, 0, 0, 0, 0, 0, 0], out);
+}
+
+/// Appends the table identifier with this number as NEWER_REFERENCE_EXT.
+pub(crate) fn append_reference(n: u32, out: &mut Vec<u8>)
+    requires { vec_len out.old + length (reference_bytes n) ≤ vec_capacity out.old }
+    ensures items { out.new.items ≡ out.old.items ++ reference_bytes n }
+    ensures capacity { vec_capacity out.old ≤ vec_capacity out.new }
+{
+    put(&[90, 0, 1], out);
+    append_node(out);
+    put(&[0, 0, 0, 0], out);
+    put_number(n as usize, out);
+}
+
+/// Appends a binary as BINARY_EXT.
+pub(crate) fn append_binary(bytes: &[u8], out: &mut Vec<u8>)
+    requires { vec_len out.old + length (binary_bytes bytes.now) ≤ vec_capacity out.old }
+    ensures items { out.new.items ≡ out.old.items ++ binary_bytes bytes.now }
+    ensures capacity { vec_capacity out.old ≤ vec_capacity out.new }
+{
+    put_long(109, bytes.len(), out);
+    put(bytes, out);
+}
+
+/// Appends the tag of a tuple with its number of elements.
+#[tactic(auto, using(crate::proofs::Encoded::header_short, crate::proofs::Encoded::header_long))]
+pub(crate) fn append_tuple_header(n: usize, out: &mut Vec<u8>)
+    requires { vec_len out.old + length (tuple_header n) ≤ vec_capacity out.old }
+    ensures items { out.new.items ≡ out.old.items ++ tuple_header n }
+    ensures capacity { vec_capacity out.old ≤ vec_capacity out.new }
+{
+    if n < 256 {
+        put_short(104, n as u8, out);
+    } else {
+        put_long(105, n, out);
+    }
+}

@@ -1,0 +1,77 @@
+ghost use Rattle.std.specs.Prelude.{◌≡◌};
+ghost use Rattle.external_term.specs.Faults.{offset};
+
+use std::alloc::{AllocError, AllocFailed};
+
+/// Why bytes do not begin with a term. Offsets are in bytes, from 0.
+#[derive(Debug, Clone, Copy, PartialEq, Eq)]
+pub enum ExternalFault {
+    /// The bytes end inside the field that begins at this offset, or before the items that are counted there.
+    Truncated(usize),
+    /// The first byte is not the version, 131.
+    BadVersion(usize),
+    /// No tag has the value of the byte at this offset.
+    UnknownTag(usize),
+    /// A term, or a character of a string, is at level 129.
+    TooDeep(usize),
+    /// The tail of a list, at this offset, is not the empty list.
+    ImproperList(usize),
+    /// The atom at this offset has more than 255 characters, or one that is not printable ASCII; or no atom is there.
+    BadAtom(usize),
+    /// The integer at this offset does not fit 128 bits.
+    BadInteger(usize),
+    /// The pid or reference at this offset is of another node, or a part of it other than its number is not 0.
+    ForeignIdentifier(usize),
+    /// Memory ran out. The bytes may be correct.
+    Memory,
+}
+
+/// Why a term was not written.
+#[derive(Debug, Clone, Copy, PartialEq, Eq)]
+pub enum ExternalWriteFault {
+    /// The bytes are more than `MAX_BYTES`.
+    TooLarge,
+    /// An allocation failed.
+    Memory,
+}
+
+impl ExternalFault {
+    /// Returns the offset of the fault in bytes, or `None` if memory ran out.
+    pub fn at(&self) -> Option<usize>
+        ensures { result ≡ offset self.now }
+    {
+        match self {
+            ExternalFault::Truncated(at)
+            | ExternalFault::BadVersion(at)
+            | ExternalFault::UnknownTag(at)
+            | ExternalFault::TooDeep(at)
+            | ExternalFault::ImproperList(at)
+            | ExternalFault::BadAtom(at)
+            | ExternalFault::BadInteger(at)
+            | ExternalFault::ForeignIdentifier(at) => Some(*at),
+            ExternalFault::Memory => None,
+        }
+    }
+}
+
+impl From<AllocError> for ExternalFault {
+    ghost use Rattle.std.specs.Prelude.{◌≡◌};
+    ghost use Rattle.external_term.specs.declared.fault.ExternalFault.TheVariants.{Memory};
+
+    ghost from_gives = { λ _ e. e ≡ Memory };
+
+    fn from(_error: AllocError) -> ExternalFault {
+        ExternalFault::Memory
+    }
+}
+
+impl<T: Drop> From<AllocFailed<T>> for ExternalFault {
+    ghost use Rattle.std.specs.Prelude.{◌≡◌};
+    ghost use Rattle.external_term.specs.declared.fault.ExternalFault.TheVariants.{Memory};
+
+    ghost from_gives = { λ _ e. e ≡ Memory };
+
+    fn from(_error: AllocFailed<T>) -> ExternalFault {
+        ExternalFault::Memory
+    }
+}

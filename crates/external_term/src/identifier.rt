@@ -1,0 +1,105 @@
+//! Reads pids, and the references that stand for table identifiers.
+ghost use Rattle.std.specs.Prelude.{◌≡◌, ◌+◌, ◌≤◌, ◌<◌, ◌^◌, length, IfOk};
+ghost use Rattle.external_term.specs.Faults.{Returns};
+ghost use Rattle.external_term.specs.Identifiers.{are_zero, is_own, node_at as read_node, identifier_at as read_identifier, pid_at as read_pid, old_reference_at as read_old, reference_at as read_reference};
+
+use crate::fault::ExternalFault;
+use crate::field::{Width, number_at, number32, piece_at};
+use crate::tag::{Tag, tag_of};
+use crate::text::name_at;
+use ets_term::Term;
+
+/// The name of the node of every pid and table identifier.
+pub(crate) const NODE: &[u8] = b"nonode@nohost";
+
+/// Reads the name of a node, and returns where its characters begin and end.
+fn node_at(bytes: &[u8], at: usize) -> Result<(usize, usize), ExternalFault>
+    requires { at ≤ length bytes.now }
+    ensures within { IfOk result (λ x. (x.0 ≤ x.1) × (x.1 ≤ length bytes.now)) }
+    ensures reads { Returns (read_node bytes.now at) result }
+{
+    if at >= bytes.len() {
+        return Err(ExternalFault::Truncated(at));
+    }
+    match tag_of(bytes[at]) {
+        Tag::Atom(width) => name_at(bytes, at + 1, width),
+        _ => Err(ExternalFault::BadAtom(at)),
+    }
+}
+
+/// Returns whether all bytes are 0.
+fn are_all_zero(bytes: &[u8]) -> bool
+    ensures { result ≡ are_zero bytes.now }
+{
+    bytes.iter().all(|b| *b == 0)
+}
+
+/// Returns whether the node is ours, and the other fields are 0.
+fn is_ours(node: &[u8], before: &[u8], behind: &[u8]) -> bool
+    ensures { result ≡ is_own node.now before.now behind.now }
+{
+    node == NODE && are_all_zero(before) && are_all_zero(behind)
+}
+
+/// Reads the number of an identifier that begins at `start`, whose node is at `at`. It has some bytes before the number
+/// and some after it.
+fn identifier_at(
+    bytes: &[u8],
+    start: usize,
+    at: usize,
+    before: usize,
+    behind: usize,
+) -> Result<(u32, usize), ExternalFault>
+    requires within { at ≤ length bytes.now }
+    requires short { before + behind < 2 ^ 32 }
+    ensures within { IfOk result (λ x. x.1 ≤ length bytes.now) }
+    ensures reads { Returns (read_identifier bytes.now start at before behind) result }
+{
+    let (from, to) = node_at(bytes, at)?;
+    let (first, end) = piece_at(bytes, to, before + 4 + behind)?;
+    let n = first + before;
+    if !is_ours(&bytes[from..to], &bytes[first..n], &bytes[n + 4..end]) {
+        return Err(ExternalFault::ForeignIdentifier(start));
+    }
+    Ok((number32(bytes, n) as u32, end))
+}
+
+/// Reads the pid whose tag is at the offset, with a serial and a creation of `behind` bytes.
+pub(crate) fn pid_at(bytes: &[u8], at: usize, behind: usize) -> Result<(Term, usize), ExternalFault>
+    requires within { at < length bytes.now }
+    requires short { behind < 2 ^ 32 }
+    ensures within { IfOk result (λ x. x.1 ≤ length bytes.now) }
+    ensures reads { Returns (read_pid bytes.now at behind) result }
+{
+    let (n, end) = identifier_at(bytes, at, at + 1, 0, behind)?;
+    Ok((Term::Pid(n), end))
+}
+
+/// Reads the REFERENCE_EXT whose tag is at the offset.
+pub(crate) fn old_reference_at(bytes: &[u8], at: usize) -> Result<(Term, usize), ExternalFault>
+    requires { at < length bytes.now }
+    ensures within { IfOk result (λ x. x.1 ≤ length bytes.now) }
+    ensures reads { Returns (read_old bytes.now at) result }
+{
+    let (n, end) = identifier_at(bytes, at, at + 1, 0, 1)?;
+    Ok((Term::Tid(n), end))
+}
+
+/// Reads the reference of some words whose tag is at the offset, with a creation of `creation` bytes.
+pub(crate) fn reference_at(
+    bytes: &[u8],
+    at: usize,
+    creation: usize,
+) -> Result<(Term, usize), ExternalFault>
+    requires within { at < length bytes.now }
+    requires short { creation < 2 ^ 30 }
+    ensures within { IfOk result (λ x. x.1 ≤ length bytes.now) }
+    ensures reads { Returns (read_reference bytes.now at creation) result }
+{
+    let (words, next) = number_at(bytes, at + 1, Width::Two)?;
+    if words == 0 {
+        return Err(ExternalFault::ForeignIdentifier(at));
+    }
+    let (n, end) = identifier_at(bytes, at, next, creation, 4 * words - 4)?;
+    Ok((Term::Tid(n), end))
+}

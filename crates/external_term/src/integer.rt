@@ -1,0 +1,103 @@
+//! Reads integers.
+ghost use Rattle.std.specs.Prelude.{◌≡◌, ◌≤◌, ◌<◌, ◌^◌, length, IfOk};
+ghost use Rattle.external_term.specs.Faults.{Returns};
+ghost use Rattle.external_term.specs.Integers.{signed32, signed, little, max_magnitude, max_digits, small_integer_at as read_small, integer_at as read_integer, big_at as read_big};
+
+use crate::fault::ExternalFault;
+use crate::field::{Width, number_at, piece_at};
+use ets_term::{Integer, Term};
+
+/// An integer without its sign.
+pub(crate) type Magnitude = u128;
+
+/// The greatest number of bytes of a magnitude.
+pub(crate) const MAX_DIGITS: usize = 16;
+
+/// Reads a SMALL_INTEGER_EXT whose tag is at the offset.
+pub(crate) fn small_integer_at(bytes: &[u8], at: usize) -> Result<(Term, usize), ExternalFault>
+    requires { at < length bytes.now }
+    ensures within { IfOk result (λ x. x.1 ≤ length bytes.now) }
+    ensures reads { Returns (read_small bytes.now at) result }
+{
+    let (n, end) = number_at(bytes, at + 1, Width::One)?;
+    Ok((Term::Int(n as Integer), end))
+}
+
+/// Returns the integer of 32 bits in two's complement.
+fn signed32_value(n: usize) -> Integer
+    requires { n < 2 ^ 32 }
+    ensures { result ≡ signed32 n }
+{
+    if n < 0x8000_0000 {
+        n as Integer
+    } else {
+        -((0xFFFF_FFFF - n) as Integer) - 1
+    }
+}
+
+/// Reads an INTEGER_EXT whose tag is at the offset.
+pub(crate) fn integer_at(bytes: &[u8], at: usize) -> Result<(Term, usize), ExternalFault>
+    requires { at < length bytes.now }
+    ensures within { IfOk result (λ x. x.1 ≤ length bytes.now) }
+    ensures reads { Returns (read_integer bytes.now at) result }
+{
+    let (n, end) = number_at(bytes, at + 1, Width::Four)?;
+    Ok((Term::Int(signed32_value(n)), end))
+}
+
+/// Returns the greatest magnitude of a negative or other integer.
+fn integer_limit(negative: bool) -> Magnitude
+    ensures { result ≡ max_magnitude negative }
+{
+    let size = Integer::MAX as Magnitude;
+    if negative { size + 1 } else { size }
+}
+
+/// Returns the integer of this magnitude and sign.
+fn signed_value(negative: bool, n: Magnitude) -> Integer
+    requires { n ≤ max_magnitude negative }
+    ensures { result ≡ signed negative n }
+{
+    if !negative {
+        n as Integer
+    } else if n == integer_limit(true) {
+        Integer::MIN
+    } else {
+        -(n as Integer)
+    }
+}
+
+/// Returns the number whose low byte comes first.
+#[tactic(auto, using(crate::proofs::Digits::little_more, crate::proofs::Digits::rest_small))]
+fn little_value(digits: &[u8]) -> Magnitude
+    requires { length digits.now ≤ max_digits }
+    ensures { result ≡ little digits.now }
+{
+    let mut value: Magnitude = 0;
+    let mut left = digits.len();
+    while left > 0 {
+        left -= 1;
+        value = value * 256 + digits[left] as Magnitude;
+    }
+    value
+}
+
+/// Reads a SMALL_BIG_EXT whose tag is at the offset.
+pub(crate) fn big_at(bytes: &[u8], at: usize) -> Result<(Term, usize), ExternalFault>
+    requires { at < length bytes.now }
+    ensures within { IfOk result (λ x. x.1 ≤ length bytes.now) }
+    ensures reads { Returns (read_big bytes.now at) result }
+{
+    let (n, second) = number_at(bytes, at + 1, Width::One)?;
+    let (sign, third) = number_at(bytes, second, Width::One)?;
+    let (start, end) = piece_at(bytes, third, n)?;
+    if n > MAX_DIGITS {
+        return Err(ExternalFault::BadInteger(at));
+    }
+    let negative = sign > 0;
+    let magnitude = little_value(&bytes[start..end]);
+    if magnitude > integer_limit(negative) {
+        return Err(ExternalFault::BadInteger(at));
+    }
+    Ok((Term::Int(signed_value(negative, magnitude)), end))
+}

@@ -1,0 +1,100 @@
+//! Appends fields to a vector that has room for them.
+ghost use Rattle.std.specs.Prelude.{◌≡◌, ◌+◌, ◌/◌, ◌%◌, ◌≤◌, ◌<◌, ◌∷◌, [], ◌++◌, length, vec_len, vec_capacity};
+ghost use Rattle.external_term.specs.Encoding.{big2, big4, digits_of};
+
+use crate::integer::{MAX_DIGITS, Magnitude};
+
+/// Appends some bytes.
+pub(crate) fn put(bytes: &[u8], out: &mut Vec<u8>)
+    requires { vec_len out.old + length bytes.now ≤ vec_capacity out.old }
+    ensures items { out.new.items ≡ out.old.items ++ bytes.now }
+    ensures capacity { vec_capacity out.old ≤ vec_capacity out.new }
+{
+    let _ = out.extend_from_slice(bytes);
+}
+
+/// Returns the byte of a number that counts `unit`s.
+fn byte_of(n: usize, unit: usize) -> u8
+    requires { 0 < unit }
+    ensures { result ≡ n / unit % 256 }
+{
+    (n / unit % 256) as u8
+}
+
+/// Appends a tag and a length of one byte.
+pub(crate) fn put_short(tag: u8, n: u8, out: &mut Vec<u8>)
+    requires { vec_len out.old + 2 ≤ vec_capacity out.old }
+    ensures items { out.new.items ≡ out.old.items ++ tag ∷ n ∷ [] }
+    ensures capacity { vec_capacity out.old ≤ vec_capacity out.new }
+{
+    put(&[tag, n], out);
+}
+
+/// Appends a tag and a number of two bytes.
+pub(crate) fn put_medium(tag: u8, n: usize, out: &mut Vec<u8>)
+    requires { vec_len out.old + 3 ≤ vec_capacity out.old }
+    ensures items { out.new.items ≡ out.old.items ++ tag ∷ big2 n }
+    ensures capacity { vec_capacity out.old ≤ vec_capacity out.new }
+{
+    put(&[tag, byte_of(n, 256), byte_of(n, 1)], out);
+}
+
+/// Appends a number of four bytes.
+pub(crate) fn put_number(n: usize, out: &mut Vec<u8>)
+    requires { vec_len out.old + 4 ≤ vec_capacity out.old }
+    ensures items { out.new.items ≡ out.old.items ++ big4 n }
+    ensures capacity { vec_capacity out.old ≤ vec_capacity out.new }
+{
+    put(
+        &[
+            byte_of(n, 16777216),
+            byte_of(n, 65536),
+            byte_of(n, 256),
+            byte_of(n, 1),
+        ],
+        out,
+    );
+}
+
+/// Appends a tag and a number of four bytes.
+pub(crate) fn put_long(tag: u8, n: usize, out: &mut Vec<u8>)
+    requires { vec_len out.old + 5 ≤ vec_capacity out.old }
+    ensures items { out.new.items ≡ out.old.items ++ tag ∷ big4 n }
+    ensures capacity { vec_capacity out.old ≤ vec_capacity out.new }
+{
+    out.push_reserved(tag);
+    put_number(n, out);
+}
+
+/// Returns the number of bytes of a magnitude.
+#[tactic(auto, using(crate::proofs::Digits::low_none, crate::proofs::Digits::low_more, crate::proofs::Digits::low_end))]
+pub(crate) fn digit_count(n: Magnitude) -> usize
+    ensures count { result ≡ length (digits_of n) }
+    ensures few { result ≤ MAX_DIGITS }
+{
+    let mut left = n;
+    for i in 0..MAX_DIGITS {
+        if left == 0 {
+            return i;
+        }
+        left /= 256;
+    }
+    MAX_DIGITS
+}
+
+/// Appends the bytes of a magnitude, the low byte first.
+#[tactic(auto, using(crate::proofs::Digits::low_none, crate::proofs::Digits::low_more, crate::proofs::Digits::low_end))]
+pub(crate) fn put_digits(n: Magnitude, out: &mut Vec<u8>)
+    requires { vec_len out.old + length (digits_of n) ≤ vec_capacity out.old }
+    ensures items { out.new.items ≡ out.old.items ++ digits_of n }
+    ensures capacity { vec_capacity out.old ≤ vec_capacity out.new }
+{
+    let mut left = n;
+    for i in 0..MAX_DIGITS {
+        if left == 0 {
+            return;
+        }
+        out.push_reserved((left % 256) as u8);
+        left /= 256;
+    }
+}

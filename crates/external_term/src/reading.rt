@@ -1,0 +1,160 @@
+//! Reads terms by recursive descent, and counts the levels left.
+ghost use Rattle.std.specs.Prelude.{◌≡◌, ◌+◌, ◌≤◌, ◌<◌, ◌^◌, length, IfOk};
+ghost use Rattle.external_term.specs.Faults.{Returns};
+ghost use Rattle.external_term.specs.Reader.{term_at as read_term, items_at as read_items, tuple_at as read_tuple, list_at as read_list, form, read};
+
+use crate::fault::ExternalFault;
+use crate::field::{Width, number_at};
+use crate::identifier::{old_reference_at, pid_at, reference_at};
+use crate::integer::{big_at, integer_at, small_integer_at};
+use crate::tag::{Tag, tag_of};
+use crate::text::{atom_at, binary_at, string_at};
+use ets_term::{Items, MAX_DEPTH, Term};
+use std::alloc::Global;
+
+/// The version of the format, its first byte.
+pub(crate) const VERSION: usize = 131;
+
+/// The tag of the empty list.
+pub(crate) const NIL: usize = 106;
+
+/// The greatest number of items for which memory is taken before they are read.
+const MAX_RESERVED: usize = 64;
+
+/// Reads the version and the term at the front of the bytes. Returns the term with the number of bytes that it and the
+/// version take, or the first fault. Returns `Memory` if memory runs out.
+pub fn read_external(alloc: Global, bytes: &[u8]) -> Result<(Term, usize), ExternalFault>
+    ensures { Returns (read bytes.now) result }
+{
+    let (version, next) = number_at(bytes, 0, Width::One)?;
+    if version != VERSION {
+        return Err(ExternalFault::BadVersion(0));
+    }
+    term_at(alloc, bytes, next, MAX_DEPTH)
+}
+
+/// Reads the term whose tag is at the offset, with `levels_left` levels left.
+#[cycle(term)]
+fn term_at(
+    alloc: Global,
+    bytes: &[u8],
+    at: usize,
+    levels_left: usize,
+) -> Result<(Term, usize), ExternalFault>
+    requires { at ≤ length bytes.now }
+    ensures within { IfOk result (λ x. x.1 ≤ length bytes.now) }
+    ensures reads { Returns (read_term bytes.now levels_left at) result }
+{
+    if levels_left == 0 {
+        return Err(ExternalFault::TooDeep(at));
+    }
+    if at >= bytes.len() {
+        return Err(ExternalFault::Truncated(at));
+    }
+    form_at(alloc, bytes, at, tag_of(bytes[at]), levels_left - 1)
+}
+
+/// Reads the form of the tag at the offset, with `levels_left` levels left inside.
+#[cycle(term)]
+fn form_at(
+    alloc: Global,
+    bytes: &[u8],
+    at: usize,
+    tag: Tag,
+    levels_left: usize,
+) -> Result<(Term, usize), ExternalFault>
+    requires { at < length bytes.now }
+    ensures within { IfOk result (λ x. x.1 ≤ length bytes.now) }
+    ensures reads { Returns (form bytes.now levels_left (read_term bytes.now levels_left) at tag) result }
+{
+    match tag {
+        Tag::SmallInteger => small_integer_at(bytes, at),
+        Tag::Integer => integer_at(bytes, at),
+        Tag::SmallBig => big_at(bytes, at),
+        Tag::Atom(width) => atom_at(alloc, bytes, at, width),
+        Tag::Tuple(width) => tuple_at(alloc, bytes, at, width, levels_left),
+        Tag::Nil => Ok((Term::List(Items::new(alloc)), at + 1)),
+        Tag::String => string_at(alloc, bytes, at, levels_left),
+        Tag::List => list_at(alloc, bytes, at, levels_left),
+        Tag::Binary => binary_at(alloc, bytes, at),
+        Tag::NewPid => pid_at(bytes, at, 8),
+        Tag::Pid => pid_at(bytes, at, 5),
+        Tag::NewerReference => reference_at(bytes, at, 4),
+        Tag::NewReference => reference_at(bytes, at, 1),
+        Tag::Reference => old_reference_at(bytes, at),
+        Tag::Unknown => Err(ExternalFault::UnknownTag(at)),
+    }
+}
+
+/// Reads the tuple whose tag is at the offset, with `levels_left` levels left inside.
+#[cycle(term)]
+fn tuple_at(
+    alloc: Global,
+    bytes: &[u8],
+    at: usize,
+    width: Width,
+    levels_left: usize,
+) -> Result<(Term, usize), ExternalFault>
+    requires { at < length bytes.now }
+    ensures within { IfOk result (λ x. x.1 ≤ length bytes.now) }
+    ensures reads { Returns (read_tuple width bytes.now (read_term bytes.now levels_left) at) result }
+{
+    let (count, next) = number_at(bytes, at + 1, width)?;
+    match items_at(alloc, bytes, next, count, levels_left) {
+        Ok((items, end)) => Ok((Term::Tuple(items), end)),
+        Err(fault) => Err(fault),
+    }
+}
+
+/// Reads the list whose tag is at the offset, with `levels_left` levels left inside.
+#[cycle(term)]
+fn list_at(
+    alloc: Global,
+    bytes: &[u8],
+    at: usize,
+    levels_left: usize,
+) -> Result<(Term, usize), ExternalFault>
+    requires { at < length bytes.now }
+    ensures within { IfOk result (λ x. x.1 ≤ length bytes.now) }
+    ensures reads { Returns (read_list bytes.now (read_term bytes.now levels_left) at) result }
+{
+    let (count, next) = number_at(bytes, at + 1, Width::Four)?;
+    let (items, last) = match items_at(alloc, bytes, next, count, levels_left) {
+        Ok(found) => found,
+        Err(fault) => return Err(fault),
+    };
+    let (tail, end) = number_at(bytes, last, Width::One)?;
+    if tail != NIL {
+        return Err(ExternalFault::ImproperList(last));
+    }
+    Ok((Term::List(items), end))
+}
+
+/// Reads some items, with `levels_left` levels left.
+#[cycle(term)]
+fn items_at(
+    alloc: Global,
+    bytes: &[u8],
+    at: usize,
+    count: usize,
+    levels_left: usize,
+) -> Result<(Items<Term>, usize), ExternalFault>
+    requires { at ≤ length bytes.now }
+    ensures within { IfOk result (λ x. x.1 ≤ length bytes.now) }
+    ensures reads { Returns (read_items bytes.now (read_term bytes.now levels_left) count at) result }
+{
+    if count > bytes.len() - at {
+        return Err(ExternalFault::Truncated(at));
+    }
+    let mut items = Vec::with_capacity(alloc, count.min(MAX_RESERVED))?;
+    let mut next = at;
+    for _ in 0..count {
+        let (item, end) = match term_at(alloc, bytes, next, levels_left) {
+            Ok(found) => found,
+            Err(fault) => return Err(fault),
+        };
+        items.push(item)?;
+        next = end;
+    }
+    Ok((Items::from_vec(items), next))
+}

@@ -1,0 +1,108 @@
+//! The numbers of bytes that are written.
+ghost use Rattle.std.specs.Prelude.{◌≡◌, ◌≤◌, ◌<◌, ◌^◌, length, map, min, pos, negsuc};
+ghost use Rattle.ets_term.specs.Encoding.{joined};
+ghost use Rattle.external_term.specs.Encoding.{encode, integer_bytes, tuple_header, tuple_bytes, list_bytes};
+
+use crate::integer::Magnitude;
+use crate::put::digit_count;
+use crate::small::is_string;
+use ets_term::{Integer, Term};
+
+/// Returns the number of bytes of the integer `n`.
+#[tactic(auto, using(crate::proofs::SmallIntegers::byte_bytes, crate::proofs::SmallIntegers::word_bytes, crate::proofs::SmallIntegers::wide_bytes))]
+fn positive_size(n: Magnitude) -> usize
+    ensures size { result ≡ length (integer_bytes (pos n)) }
+    ensures few { result < 20 }
+{
+    if n < 256 {
+        2
+    } else if n < 0x8000_0000 {
+        5
+    } else {
+        digit_count(n) + 3
+    }
+}
+
+/// Returns the number of bytes of the integer `-1 - n`.
+#[tactic(auto, using(crate::proofs::SmallIntegers::negative_word, crate::proofs::SmallIntegers::negative_wide))]
+fn negative_size(n: Magnitude) -> usize
+    requires { n < 2 ^ 127 }
+    ensures size { result ≡ length (integer_bytes (negsuc n)) }
+    ensures few { result < 20 }
+{
+    if n < 0x8000_0000 {
+        5
+    } else {
+        digit_count(n + 1) + 3
+    }
+}
+
+/// Returns the number of bytes of an integer.
+fn integer_size(n: Integer) -> usize
+    ensures size { result ≡ length (integer_bytes n) }
+    ensures few { result < 20 }
+{
+    if n >= 0 {
+        positive_size(n as Magnitude)
+    } else {
+        negative_size(-(n + 1) as Magnitude)
+    }
+}
+
+/// Returns the number of bytes of the tag of a tuple with its number of elements.
+#[tactic(auto, using(crate::proofs::Encoded::header_short, crate::proofs::Encoded::header_long))]
+fn header_size(n: usize) -> usize
+    ensures { result ≡ length (tuple_header n) }
+{
+    if n < 256 { 2 } else { 5 }
+}
+
+/// Returns the number of bytes of a term, at most `usize::MAX`.
+#[cycle(size)]
+pub(crate) fn size_of_term(term: &Term) -> usize
+    ensures { result ≡ min (length (encode term.now)) usize.MAX }
+{
+    match term {
+        Term::Int(n) => integer_size(*n),
+        Term::Atom(name) => name.text().len() + 2,
+        Term::Pid(_) => 28,
+        Term::Tid(_) => 26,
+        Term::Tuple(items) => tuple_size(items.as_slice()),
+        Term::List(items) => list_size(items.as_slice()),
+        Term::Binary(bytes) => bytes.as_slice().len().saturating_add(5),
+    }
+}
+
+/// Returns the number of bytes of the tuple of these elements, at most `usize::MAX`.
+#[cycle(size)]
+fn tuple_size(items: &[Term]) -> usize
+    ensures { result ≡ min (length (tuple_bytes (map encode items.now))) usize.MAX }
+{
+    sizes_of(items).saturating_add(header_size(items.len()))
+}
+
+/// Returns the number of bytes of the list of these elements, at most `usize::MAX`.
+#[cycle(size)]
+fn list_size(items: &[Term]) -> usize
+    ensures { result ≡ min (length (list_bytes (map encode items.now))) usize.MAX }
+{
+    if items.is_empty() {
+        return 1;
+    }
+    if is_string(items) {
+        return items.len().saturating_add(3);
+    }
+    sizes_of(items).saturating_add(6)
+}
+
+/// Returns the number of bytes of some terms, at most `usize::MAX`.
+#[cycle(size)]
+fn sizes_of(items: &[Term]) -> usize
+    ensures { result ≡ min (length (joined (map encode items.now))) usize.MAX }
+{
+    let mut total = 0usize;
+    for item in items {
+        total = total.saturating_add(size_of_term(item));
+    }
+    total
+}

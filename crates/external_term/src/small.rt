@@ -1,0 +1,83 @@
+//! Elements that are bytes, of lists that are written as strings.
+ghost use Rattle.std.specs.Prelude.{◌≡◌, map};
+ghost use Rattle.external_term.specs.Encoding.{encode, integer_bytes, is_small, is_string as is_written_short, char_of};
+
+use ets_term::{Integer, Term};
+
+/// The greatest number of elements of a string.
+const MAX_STRING: usize = 0xFFFF;
+
+/// Returns whether the integer is a byte.
+#[tactic(auto, using(crate::proofs::SmallIntegers::byte_is_small, crate::proofs::SmallIntegers::negative_not_small, crate::proofs::SmallIntegers::large_not_small))]
+fn is_byte(n: Integer) -> bool
+    ensures { result ≡ is_small (integer_bytes n) }
+{
+    if n < 0 {
+        return false;
+    }
+    if n > 255 {
+        return false;
+    }
+    true
+}
+
+/// Returns the integer if it is a byte, else 0.
+#[tactic(auto, using(crate::proofs::SmallIntegers::byte_char, crate::proofs::SmallIntegers::negative_char, crate::proofs::SmallIntegers::large_char))]
+fn byte_or_zero(n: Integer) -> u8
+    ensures { result ≡ char_of (integer_bytes n) }
+{
+    if n < 0 {
+        return 0;
+    }
+    if n > 255 {
+        return 0;
+    }
+    n as u8
+}
+
+/// Returns whether the term is a byte.
+#[tactic(auto, using(crate::proofs::Encoded::tuple_not_small, crate::proofs::Encoded::list_not_small))]
+fn is_byte_term(term: &Term) -> bool
+    ensures { result ≡ is_small (encode term.now) }
+{
+    match term {
+        Term::Int(n) => is_byte(*n),
+        Term::Atom(_) => false,
+        Term::Pid(_) => false,
+        Term::Tid(_) => false,
+        Term::Tuple(_) => false,
+        Term::List(_) => false,
+        Term::Binary(_) => false,
+    }
+}
+
+/// Returns the term if it is a byte, else 0.
+#[tactic(auto, using(crate::proofs::Encoded::tuple_not_small, crate::proofs::Encoded::list_not_small))]
+pub(crate) fn byte_of_term(term: &Term) -> u8
+    ensures { result ≡ char_of (encode term.now) }
+{
+    match term {
+        Term::Int(n) => byte_or_zero(*n),
+        Term::Atom(_) => 0,
+        Term::Pid(_) => 0,
+        Term::Tid(_) => 0,
+        Term::Tuple(_) => 0,
+        Term::List(_) => 0,
+        Term::Binary(_) => 0,
+    }
+}
+
+/// Returns whether the elements are written as a string.
+pub(crate) fn is_string(items: &[Term]) -> bool
+    ensures { result ≡ is_written_short (map encode items.now) }
+{
+    if items.len() > MAX_STRING {
+        return false;
+    }
+    for item in items {
+        if !is_byte_term(item) {
+            return false;
+        }
+    }
+    true
+}

@@ -1,0 +1,65 @@
+//! Tags: the first byte of each form of term.
+ghost use Rattle.std.specs.Prelude.{◌≡◌};
+ghost use Rattle.external_term.specs.Tags.{tag_of as meaning};
+
+use crate::field::Width;
+
+/// What a tag says of the bytes after it. A width is that of a length.
+#[derive(Clone, Copy)]
+pub(crate) enum Tag {
+    /// SMALL_INTEGER_EXT.
+    SmallInteger,
+    /// INTEGER_EXT.
+    Integer,
+    /// SMALL_BIG_EXT.
+    SmallBig,
+    /// SMALL_ATOM_UTF8_EXT, ATOM_UTF8_EXT, SMALL_ATOM_EXT or ATOM_EXT.
+    Atom(Width),
+    /// SMALL_TUPLE_EXT or LARGE_TUPLE_EXT.
+    Tuple(Width),
+    /// NIL_EXT, the empty list.
+    Nil,
+    /// STRING_EXT, a list of bytes.
+    String,
+    /// LIST_EXT.
+    List,
+    /// BINARY_EXT.
+    Binary,
+    /// NEW_PID_EXT.
+    NewPid,
+    /// PID_EXT.
+    Pid,
+    /// NEWER_REFERENCE_EXT.
+    NewerReference,
+    /// NEW_REFERENCE_EXT.
+    NewReference,
+    /// REFERENCE_EXT.
+    Reference,
+    /// Any other byte.
+    Unknown,
+}
+
+/// Returns what the byte says as a tag.
+pub(crate) fn tag_of(b: u8) -> Tag
+    ensures { result ≡ meaning b }
+{
+    match b {
+        97 => Tag::SmallInteger,
+        98 => Tag::Integer,
+        110 => Tag::SmallBig,
+        119 | 115 => Tag::Atom(Width::One),
+        118 | 100 => Tag::Atom(Width::Two),
+        104 => Tag::Tuple(Width::One),
+        105 => Tag::Tuple(Width::Four),
+        106 => Tag::Nil,
+        107 => Tag::String,
+        108 => Tag::List,
+        109 => Tag::Binary,
+        88 => Tag::NewPid,
+        103 => Tag::Pid,
+        90 => Tag::NewerReference,
+        114 => Tag::NewReference,
+        101 => Tag::Reference,
+        _ => Tag::Unknown,
+    }
+}

@@ -1,0 +1,124 @@
+//! Writes terms.
+ghost use Rattle.std.specs.Prelude.{◌≡◌, ◌+◌, ◌≤◌, ◌++◌, ◌↔◌, ◌^◌, length, map, min, vec_len, vec_capacity, OnOk, OnErr, IsErrOf};
+ghost use Rattle.ets_term.specs.Encoding.{joined};
+ghost use Rattle.external_term.specs.Encoding.{encode, tuple_bytes, list_bytes, string_bytes, long_list_bytes, written};
+
+use crate::append::{
+    append_atom, append_binary, append_integer, append_pid, append_reference, append_tuple_header,
+};
+use crate::fault::ExternalWriteFault;
+use crate::put::{put, put_long, put_medium};
+use crate::sizes::size_of_term;
+use crate::small::{byte_of_term, is_string};
+use ets_term::Term;
+
+/// The greatest number of bytes of a written term.
+pub const MAX_BYTES: usize = 0xFFFF_FFFF;
+
+/// Returns the number of bytes that `write_external` appends for a term, or `usize::MAX` if it is greater.
+pub fn external_size(term: &Term) -> usize
+    ensures { result ≡ min (length (written term.now)) usize.MAX }
+{
+    size_of_term(term).saturating_add(1)
+}
+
+/// Appends the version and the term. Takes memory for all of it first, and changes nothing if that is refused, or if
+/// it is more than `MAX_BYTES`.
+pub fn write_external(term: &Term, out: &mut Vec<u8>) -> Result<(), ExternalWriteFault>
+    ensures ok { OnOk result (out.new.items ≡ out.old.items ++ written term.now) }
+    ensures err { OnErr result (out.new.items ≡ out.old.items) }
+    ensures large { IsErrOf result ExternalWriteFault.TooLarge ↔ 2 ^ 32 ≤ length (written term.now) }
+{
+    let size = external_size(term);
+    if size > MAX_BYTES {
+        return Err(ExternalWriteFault::TooLarge);
+    }
+    if out.reserve(size).is_err() {
+        return Err(ExternalWriteFault::Memory);
+    }
+    put(&[131], out);
+    append_term(term, out);
+    Ok(())
+}
+
+/// Appends a term.
+#[cycle(append)]
+fn append_term(term: &Term, out: &mut Vec<u8>)
+    requires { vec_len out.old + length (encode term.now) ≤ vec_capacity out.old }
+    ensures items { out.new.items ≡ out.old.items ++ encode term.now }
+    ensures capacity { vec_capacity out.old ≤ vec_capacity out.new }
+{
+    match term {
+        Term::Int(n) => append_integer(*n, out),
+        Term::Atom(name) => append_atom(name, out),
+        Term::Pid(n) => append_pid(*n, out),
+        Term::Tid(n) => append_reference(*n, out),
+        Term::Tuple(items) => append_tuple(items.as_slice(), out),
+        Term::List(items) => append_list(items.as_slice(), out),
+        Term::Binary(bytes) => append_binary(bytes.as_slice(), out),
+    }
+}
+
+/// Appends the tuple of these elements.
+#[cycle(append)]
+fn append_tuple(items: &[Term], out: &mut Vec<u8>)
+    requires { vec_len out.old + length (tuple_bytes (map encode items.now)) ≤ vec_capacity out.old }
+    ensures items { out.new.items ≡ out.old.items ++ tuple_bytes (map encode items.now) }
+    ensures capacity { vec_capacity out.old ≤ vec_capacity out.new }
+{
+    append_tuple_header(items.len(), out);
+    append_items(items, out);
+}
+
+/// Appends the list of these elements.
+#[cycle(append)]
+#[tactic(auto, using(crate::proofs::Encoded::list_empty, crate::proofs::Encoded::list_string, crate::proofs::Encoded::list_long))]
+fn append_list(items: &[Term], out: &mut Vec<u8>)
+    requires { vec_len out.old + length (list_bytes (map encode items.now)) ≤ vec_capacity out.old }
+    ensures items { out.new.items ≡ out.old.items ++ list_bytes (map encode items.now) }
+    ensures capacity { vec_capacity out.old ≤ vec_capacity out.new }
+{
+    if items.is_empty() {
+        put(&[106], out);
+    } else if is_string(items) {
+        append_string(items, out);
+    } else {
+        append_long_list(items, out);
+    }
+}
+
+/// Appends the elements as a string.
+fn append_string(items: &[Term], out: &mut Vec<u8>)
+    requires { vec_len out.old + length (string_bytes (map encode items.now)) ≤ vec_capacity out.old }
+    ensures items { out.new.items ≡ out.old.items ++ string_bytes (map encode items.now) }
+    ensures capacity { vec_capacity out.old ≤ vec_capacity out.new }
+{
+    put_medium(107, items.len(), out);
+    for item in items {
+        put(&[byte_of_term(item)], out);
+    }
+}
+
+/// Appends the elements and the empty list as the tail.
+#[cycle(append)]
+fn append_long_list(items: &[Term], out: &mut Vec<u8>)
+    requires { vec_len out.old + length (long_list_bytes (map encode items.now)) ≤ vec_capacity out.old }
+    ensures items { out.new.items ≡ out.old.items ++ long_list_bytes (map encode items.now) }
+    ensures capacity { vec_capacity out.old ≤ vec_capacity out.new }
+{
+    put_long(108, items.len(), out);
+    append_items(items, out);
+    put(&[106], out);
+}
+
+/// Appends some terms, one after another.
+#[cycle(append)]
+fn append_items(items: &[Term], out: &mut Vec<u8>)
+    requires { vec_len out.old + length (joined (map encode items.now)) ≤ vec_capacity out.old }
+    ensures items { out.new.items ≡ out.old.items ++ joined (map encode items.now) }
+    ensures capacity { vec_capacity out.old ≤ vec_capacity out.new }
+{
+    for item in items {
+        append_term(item, out);
+    }
+}
