@@ -24,8 +24,9 @@ OPERATIONS = {
 }
 COUNTS = (1_000, 100_000, 1_000_000, 4_000_000)  # objects in a table
 FIELD = ("Mutex<HashMap>", "HashMap", "cds_lfht", "oneTBB")
-OURS = {"calls": "Node::step", "table": "Table<SplitRows<Fnv>>", "rows": "SplitRows<Fnv>"}
-PEERS = {"calls": ("Mutex<HashMap>,copies", "HashMap,copies", "ets"), "table": FIELD, "rows": FIELD}
+OURS = {"calls": "Node::step", "calls-into": "Node::step_into", "table": "Table<SplitRows<Fnv>>", "rows": "SplitRows<Fnv>"}
+WHOLE = ("Mutex<HashMap>,copies", "HashMap,copies", "ets")
+PEERS = {"calls": WHOLE, "calls-into": WHOLE, "table": FIELD, "rows": FIELD}
 CLIENTS = (1, 2, 4)
 CROWD = {
     "shared": "Shared",
@@ -60,14 +61,14 @@ Part = tuple[str, ...]  # the words that run one part of a program, but for the 
 
 
 def ours_of(name: str, programs: Programs) -> list[Part]:
-    if name == "calls":
-        return [(programs.program("bench_calls"), "times")]
+    if PEERS[name] is WHOLE:
+        return [(programs.program("bench_calls"), "into" if name == "calls-into" else "times")]
     return [(programs.program("bench_tables"), part, name) for part in ("times", "bytes", "longest")]
 
 
 def peers_of(name: str) -> list[list[Part]]:
     maps, field, ets = rust("maps"), built_tables(), erlang("ets_calls")
-    if name == "calls":
+    if PEERS[name] is WHOLE:
         return [[(maps, "copies")] if maps else [], [(*ets, "times")] if ets else []]
     ours = [(maps, part) for part in ("times", "bytes", "longest")] if maps else []
     theirs = ("cds_lfht", "cds_lfht-bytes", "oneTBB", "oneTBB-bytes", "oneTBB-longest")

@@ -1,5 +1,5 @@
 //! Times whole calls of a node, of one caller and of clients in threads, and prints lines of WHO OPERATION FIGURE:
-//! bench_calls times|walks|alone|clients|check COUNT CALLS.
+//! bench_calls times|into|walks|alone|clients|server|reads|check COUNT CALLS.
 #![tactic(auto)]
 
 mod calls;
@@ -9,9 +9,12 @@ mod node;
 mod order;
 mod phases;
 mod report;
+mod servers;
 mod walks;
 
-use report::{check, time_alone, time_crowd, times};
+use phases::Way;
+use report::{check, time_alone, time_crowd, time_servers, times};
+use servers::Load;
 use std::alloc::Global;
 use std::rt::Clock;
 use std::sync::Wait;
@@ -21,8 +24,8 @@ use std::{env, io};
 /// What is taken where no number is given.
 const COUNT: u32 = 1_000;
 
-/// Does one part of the measuring: `clients` with a number of threads, each with a number of calls; the others with a
-/// number of objects or calls.
+/// Does one part of the measuring: `clients`, `server` and `reads` with a number of threads, each with a number of calls;
+/// the others with a number of objects or calls.
 fn run<R: Print + Alloc<A = Global> + Clock + Threads + Wait + Sync>(
     rt: &R,
     part: &str,
@@ -30,10 +33,13 @@ fn run<R: Print + Alloc<A = Global> + Clock + Threads + Wait + Sync>(
     calls: u32,
 ) -> io::Result<()> {
     match part {
-        "times" => times(rt, count),
+        "times" => times(rt, Way::Step, count),
+        "into" => times(rt, Way::StepInto, count),
         "walks" => walks::time_walks(rt, count),
         "alone" => time_alone(rt, count),
         "clients" => time_crowd(rt, count.max(1), calls),
+        "server" => time_servers(rt, Load::Mixture, count.max(1), calls),
+        "reads" => time_servers(rt, Load::Reads, count.max(1), calls),
         _ => check(rt, count),
     }
 }

@@ -40,8 +40,29 @@ impl Outcome {
         callers: u32,
         calls: u32,
     ) -> io::Result<()> {
-        let lookups = u64::from(calls - calls / 10);
-        if self.found != lookups.saturating_mul(u64::from(callers)) {
+        self.show_of(rt, who, callers, calls, calls - calls / 10)
+    }
+
+    /// Does so for callers that made lookups alone.
+    pub(crate) fn show_lookups(
+        self,
+        rt: &impl Print,
+        who: &str,
+        callers: u32,
+        calls: u32,
+    ) -> io::Result<()> {
+        self.show_of(rt, who, callers, calls, calls)
+    }
+
+    fn show_of(
+        self,
+        rt: &impl Print,
+        who: &str,
+        callers: u32,
+        calls: u32,
+        lookups: u32,
+    ) -> io::Result<()> {
+        if self.found != u64::from(lookups).saturating_mul(u64::from(callers)) {
             println!(rt; "{who} mixture went wrong")?;
         }
         let all = u64::from(calls).saturating_mul(u64::from(callers)).max(1);

@@ -37,17 +37,11 @@ pub(crate) fn asks(call: Call) -> Step {
     Step::Ask(PID, call)
 }
 
-/// Does two steps of growth, if they are pending.
+/// Runs at most two pending growth steps.
 pub(crate) fn grow(node: &mut Node<Fnv>) -> Result<(), AllocError> {
-    tend(node)?;
-    tend(node)
-}
-
-fn tend(node: &mut Node<Fnv>) -> Result<(), AllocError> {
-    match node.due() {
-        Some(step) => run_step(node, step),
-        None => Ok(()),
-    }
+    node.run_pending()?;
+    node.run_pending()?;
+    Ok(())
 }
 
 /// Puts the object of a key in, and does two steps of growth.

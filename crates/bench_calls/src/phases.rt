@@ -28,6 +28,23 @@ pub const PHASES: [Phase; 7] = [
     Phase::Delete,
 ];
 
+/// How a step is made: with a reply of its own, or over the reply before.
+#[derive(Clone, Copy)]
+pub enum Way {
+    Step,
+    StepInto,
+}
+
+impl Way {
+    /// Returns the first word of the lines with its figures.
+    pub(crate) fn name(self) -> &'static str {
+        match self {
+            Way::Step => "calls",
+            Way::StepInto => "calls-into",
+        }
+    }
+}
+
 impl Phase {
     pub(crate) fn name(self) -> &'static str {
         match self {
@@ -50,8 +67,21 @@ impl Phase {
         Ok(steps)
     }
 
-    /// Does the steps, each insertion with two steps of growth, and answers how many were answered as they should be.
-    pub(crate) fn run(self, node: &mut Node<Fnv>, steps: &[Step]) -> Result<u64, AllocError> {
+    /// Runs the steps, each insertion with two growth steps, and returns the number of right replies.
+    pub(crate) fn run(
+        self,
+        way: Way,
+        node: &mut Node<Fnv>,
+        steps: &[Step],
+    ) -> Result<u64, AllocError> {
+        let mut reply = Reply::NoProcess;
+        match way {
+            Way::Step => self.run_steps(node, steps),
+            Way::StepInto => self.run_steps_into(node, steps, &mut reply),
+        }
+    }
+
+    fn run_steps(self, node: &mut Node<Fnv>, steps: &[Step]) -> Result<u64, AllocError> {
         let mut done: u64 = 0;
         for step in steps {
             done = done.wrapping_add(u64::from(self.is_done(node, step)?));
@@ -62,10 +92,27 @@ impl Phase {
         Ok(done)
     }
 
-    /// Does a step, and says whether it was answered as it should be.
+    /// Runs a step, and returns whether the reply is right.
     fn is_done(self, node: &mut Node<Fnv>, step: &Step) -> Result<bool, AllocError> {
         let reply = node.step(step)?;
         Ok(self.is_right(&reply))
+    }
+
+    fn run_steps_into(
+        self,
+        node: &mut Node<Fnv>,
+        steps: &[Step],
+        reply: &mut Reply,
+    ) -> Result<u64, AllocError> {
+        let mut done: u64 = 0;
+        for step in steps {
+            node.step_into(step, reply)?;
+            done = done.wrapping_add(u64::from(self.is_right(reply)));
+            if matches!(self, Phase::Insert) {
+                grow(node)?;
+            }
+        }
+        Ok(done)
     }
 
     fn seed(self) -> u64 {

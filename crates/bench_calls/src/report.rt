@@ -3,7 +3,8 @@ ghost use Rattle.std.specs.Prelude.{◌<◌};
 use crate::clients::crowd;
 use crate::mixture::Outcome;
 use crate::node::{ask_all, fill, mixture_steps, with_table};
-use crate::phases::{PHASES, Phase};
+use crate::phases::{PHASES, Phase, Way};
+use crate::servers::{Load, serve};
 use crate::walks;
 use ets_term::Fnv;
 use node_core::Node;
@@ -36,12 +37,13 @@ impl PhaseTime {
     fn turn(
         &mut self,
         rt: &(impl Print + Alloc<A = Global> + Clock),
+        way: Way,
         node: &mut Node<Fnv>,
         count: u32,
     ) -> io::Result<()> {
         let steps = self.phase.steps(rt.alloc(), count)?;
         let start = Instant::now(rt)?;
-        let done = self.phase.run(node, steps.as_slice())?;
+        let done = self.phase.run(way, node, steps.as_slice())?;
         self.best = self.best.min(nanoseconds(start.elapsed(rt)?));
         if done != u64::from(count) {
             println!(rt; "calls {} went wrong", self.phase.name())?;
@@ -62,35 +64,42 @@ fn all_phases(alloc: Global) -> Result<Vec<PhaseTime>, AllocError> {
 /// Takes a table through all phases.
 fn one_life(
     rt: &(impl Print + Alloc<A = Global> + Clock),
+    way: Way,
     phases: &mut [PhaseTime],
     count: u32,
 ) -> io::Result<()> {
     let mut node = with_table(rt.alloc())?;
-    live(rt, &mut node, phases, count)
+    live(rt, way, &mut node, phases, count)
 }
 
 fn live(
     rt: &(impl Print + Alloc<A = Global> + Clock),
+    way: Way,
     node: &mut Node<Fnv>,
     phases: &mut [PhaseTime],
     count: u32,
 ) -> io::Result<()> {
     for time in phases {
-        time.turn(rt, node, count)?;
+        time.turn(rt, way, node, count)?;
     }
     Ok(())
 }
 
-/// Prints nanoseconds a step of each phase of a table of a number of objects.
-pub(crate) fn times(rt: &(impl Print + Alloc<A = Global> + Clock), count: u32) -> io::Result<()> {
+/// Prints nanoseconds per step for each phase of a table with a number of objects.
+pub(crate) fn times(
+    rt: &(impl Print + Alloc<A = Global> + Clock),
+    way: Way,
+    count: u32,
+) -> io::Result<()> {
     let mut phases = all_phases(rt.alloc())?;
     for _turn in 0..repeats(count) {
-        one_life(rt, phases.as_mut_slice(), count)?;
+        one_life(rt, way, phases.as_mut_slice(), count)?;
     }
     for time in phases.as_slice() {
         let tenths = time.best.saturating_mul(10) / u64::from(count.max(1));
         println!(rt;
-            "calls {} {}.{}",
+            "{} {} {}.{}",
+            way.name(),
             time.phase.name(),
             tenths / 10,
             tenths % 10
@@ -132,6 +141,22 @@ pub(crate) fn time_crowd<R: Print + Alloc<A = Global> + Clock + Threads + Wait +
     crowd(rt, clients, calls)?.show(rt, "shared", clients, calls)
 }
 
+/// Prints nanoseconds per call of a number of callers of a server, which make a number of calls each in parallel.
+pub(crate) fn time_servers<R: Print + Alloc<A = Global> + Clock + Threads + Wait + Sync>(
+    rt: &R,
+    load: Load,
+    callers: u32,
+    calls: u32,
+) -> io::Result<()>
+    requires { 0 < callers }
+{
+    let outcome = serve(rt, load, callers, calls)?;
+    match load {
+        Load::Reads => outcome.show_lookups(rt, load.name(), callers, calls),
+        Load::Mixture => outcome.show(rt, load.name(), callers, calls),
+    }
+}
+
 pub(crate) fn nanoseconds(spent: Duration) -> u64 {
     u64::try_from(spent.as_nanos()).unwrap_or(u64::MAX)
 }
@@ -141,26 +166,31 @@ pub(crate) fn check<R: Print + Alloc<A = Global> + Clock + Threads + Wait + Sync
     rt: &R,
     count: u32,
 ) -> io::Result<()> {
-    check_phases(rt, count)?;
+    check_phases(rt, Way::Step, count)?;
+    check_phases(rt, Way::StepInto, count)?;
     walks::check(rt, count)?;
     let outcome = crowd(rt, CLIENTS, count)?;
-    println!(rt; "clients found {}", outcome.found)
+    println!(rt; "clients found {}", outcome.found)?;
+    let mixed = serve(rt, Load::Mixture, CLIENTS, count)?;
+    let read = serve(rt, Load::Reads, CLIENTS, count)?;
+    println!(rt; "callers found {} and {}", mixed.found, read.found)
 }
 
-fn check_phases(rt: &(impl Print + Alloc<A = Global>), count: u32) -> io::Result<()> {
+fn check_phases(rt: &(impl Print + Alloc<A = Global>), way: Way, count: u32) -> io::Result<()> {
     let mut node = with_table(rt.alloc())?;
-    check_life(rt, &mut node, count)
+    check_life(rt, way, &mut node, count)
 }
 
 fn check_life(
     rt: &(impl Print + Alloc<A = Global>),
+    way: Way,
     node: &mut Node<Fnv>,
     count: u32,
 ) -> io::Result<()> {
     for phase in PHASES {
         let steps = phase.steps(rt.alloc(), count)?;
-        let done = phase.run(node, steps.as_slice())?;
-        println!(rt; "calls {} {}", phase.name(), done)?;
+        let done = phase.run(way, node, steps.as_slice())?;
+        println!(rt; "{} {} {}", way.name(), phase.name(), done)?;
     }
     Ok(())
 }

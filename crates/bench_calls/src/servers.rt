@@ -1,0 +1,243 @@
+//! Callers of one server, each in a thread of its own: lookups in parallel, or nine lookups to an insertion.
+ghost use Rattle.std.specs.Prelude.{◌≡◌, ◌<◌, All, vec_len};
+ghost use Rattle.std.specs.Thread.{IsSync};
+
+use crate::calls::{has_found, insert, new_table, of_key};
+use crate::mixture::{KEYS, Outcome, mixture};
+use crate::order::shuffle;
+use crate::report::nanoseconds;
+use ets_term::{Fnv, KeyHash};
+use node_core::{Call, Limits, Reply};
+use node_shared::{Caller, Drawn, HistoryId, NewHistory, Pids, Seat, Server};
+use std::alloc::{AllocError, Global};
+use std::marker::Brand;
+use std::rt::Clock;
+use std::sync::Wait;
+use std::thread::Threads;
+use std::time::Instant;
+use std::{io, thread};
+
+/// The calls of each caller: lookups alone, or the mixture.
+#[derive(Clone, Copy)]
+pub(crate) enum Load {
+    Reads,
+    Mixture,
+}
+
+impl Load {
+    /// Returns the first word of the line with its figure.
+    pub(crate) fn name(self) -> &'static str {
+        match self {
+            Load::Reads => "server-reads",
+            Load::Mixture => "server",
+        }
+    }
+
+    fn calls(self, alloc: Global, calls: u32) -> Result<Vec<Call>, AllocError> {
+        match self {
+            Load::Reads => lookups(alloc, calls),
+            Load::Mixture => mixture(alloc, calls, 1),
+        }
+    }
+}
+
+fn lookups(alloc: Global, calls: u32) -> Result<Vec<Call>, AllocError> {
+    let mut lookups = Vec::new(alloc);
+    for k in shuffle(alloc, u64::from(calls), 2)? {
+        lookups.push(of_key(alloc, "lookup", k % KEYS)?)?;
+    }
+    Ok(lookups)
+}
+
+/// Times a number of callers, each with a number of calls.
+pub(crate) fn serve<R: Alloc<A = Global> + Clock + Threads + Wait + Sync>(
+    rt: &R,
+    load: Load,
+    callers: u32,
+    calls: u32,
+) -> io::Result<Outcome>
+    requires { 0 < callers }
+{
+    let limits = Limits {
+        processes: callers,
+        ..Limits::usual()
+    };
+    let history = NewHistory::new(rt.alloc())?;
+    serve_limited::<Brand, R>(rt, history, limits, load, calls)
+}
+
+fn serve_limited<B: HistoryId + Send + Sync, R: Alloc<A = Global> + Clock + Threads + Wait + Sync>(
+    rt: &R,
+    history: NewHistory,
+    limits: Limits,
+    load: Load,
+    calls: u32,
+) -> io::Result<Outcome>
+    requires table { history.word.shared.table_id ≡ B.table }
+    requires limits { limits ≡ B.limits }
+    requires some { 0 < limits.processes }
+{
+    let callers = limits.processes;
+    let server = Server::<B, Fnv>::new(rt.alloc(), history, limits, Fnv);
+    call_together(rt, &server, load, callers, calls)
+}
+
+/// Makes the calls before the clock runs.
+fn call_together<B: HistoryId + Send + Sync, R: Alloc<A = Global> + Clock + Threads + Wait + Sync>(
+    rt: &R,
+    server: &Server<B, Fnv>,
+    load: Load,
+    callers: u32,
+    calls: u32,
+) -> io::Result<Outcome>
+    requires { 0 < callers }
+{
+    let work = work(rt, rt.alloc(), server, load, callers, calls)?;
+    let start = Instant::now(rt)?;
+    let found = call_all(rt, server, work);
+    let nanoseconds = nanoseconds(start.elapsed(rt)?);
+    Ok(Outcome { nanoseconds, found })
+}
+
+/// Returns the callers with their calls, over a table that has all keys.
+fn work<B: HistoryId, R: Wait>(
+    rt: &R,
+    alloc: Global,
+    server: &Server<B, Fnv>,
+    load: Load,
+    callers: u32,
+    calls: u32,
+) -> Result<Vec<(Caller<B>, Vec<Call>)>, AllocError>
+    requires { 0 < callers }
+{
+    let mut callers = join_callers(rt, alloc, server, callers)?;
+    if let Some(first) = callers.first_mut() {
+        fill(rt, alloc, server, first)?;
+    }
+    let mut work = Vec::new(alloc);
+    for caller in callers {
+        let calls = load.calls(alloc, calls)?;
+        work.push((caller, calls))?;
+    }
+    Ok(work)
+}
+
+fn join_callers<B: HistoryId, R: Wait>(
+    rt: &R,
+    alloc: Global,
+    server: &Server<B, Fnv>,
+    callers: u32,
+) -> Result<Vec<Caller<B>>, AllocError>
+    requires { 0 < callers }
+{
+    let Ok((pids, seats)) = Pids::open(alloc, callers as usize) else {
+        return Err(AllocError);
+    };
+    callers_of_seats(rt, alloc, server, &pids, seats)
+}
+
+fn callers_of_seats<B: HistoryId, R: Wait>(
+    rt: &R,
+    alloc: Global,
+    server: &Server<B, Fnv>,
+    pids: &Pids,
+    mut seats: Vec<Seat>,
+) -> Result<Vec<Caller<B>>, AllocError>
+    requires { All (λ s. s.seat.table_id ≡ pids.now.table.shared.table_id) seats.items }
+{
+    let mut callers = Vec::new(alloc);
+    while let Some(seat) = seats.pop() {
+        callers.push(caller(rt, server, pids.draw(seat))?)?;
+    }
+    Ok(callers)
+}
+
+fn caller<B: HistoryId, R: Wait>(
+    rt: &R,
+    server: &Server<B, Fnv>,
+    drawn: Drawn,
+) -> Result<Caller<B>, AllocError> {
+    match server.client(rt, drawn) {
+        Ok(caller) => Ok(caller),
+        Err(_) => Err(AllocError),
+    }
+}
+
+/// Makes the table, and inserts an object of each of the `KEYS`.
+fn fill<B: HistoryId, R: Wait>(
+    rt: &R,
+    alloc: Global,
+    server: &Server<B, Fnv>,
+    caller: &mut Caller<B>,
+) -> Result<(), AllocError> {
+    caller.ask(rt, server, new_table(alloc)?)?;
+    for k in 0..KEYS {
+        caller.ask(rt, server, insert(alloc, k)?)?;
+        server.keep(rt, 2);
+    }
+    Ok(())
+}
+
+/// Makes the calls of each caller in a thread, and returns how many lookups found an object.
+fn call_all<
+    B: HistoryId + Send + Sync,
+    H: KeyHash + Copy + Drop + Send + Sync,
+    R: Threads + Wait + Sync,
+>(rt: &R, server: &Server<B, H>, mut work: Vec<(Caller<B>, Vec<Call>)>) -> u64 {
+    if work.len() < 2 {
+        return match work.pop() {
+            Some((mut caller, calls)) => call_each(rt, server, &mut caller, calls),
+            None => 0,
+        };
+    }
+    let half = work.len() / 2;
+    let Ok(back) = work.split_off(half) else {
+        return 0;
+    };
+    let (front_found, back_found) = thread::join(
+        rt,
+        move || -> u64
+            requires { IsSync R.row }
+        { call_all(rt, server, work) },
+        move || -> u64
+            requires { IsSync R.row }
+        { call_all(rt, server, back) },
+    );
+    front_found.wrapping_add(back_found)
+}
+
+/// Makes the calls of one caller, each by `read` if it can be, and returns how many lookups found an object.
+fn call_each<B: HistoryId, H: KeyHash + Copy + Drop, R: Wait>(
+    rt: &R,
+    server: &Server<B, H>,
+    caller: &mut Caller<B>,
+    calls: Vec<Call>,
+) -> u64 {
+    let mut found: u64 = 0;
+    for call in calls {
+        if has_found_by(rt, server, caller, call) {
+            found = found.wrapping_add(1);
+        }
+    }
+    found
+}
+
+fn has_found_by<B: HistoryId, H: KeyHash + Copy + Drop, R: Wait>(
+    rt: &R,
+    server: &Server<B, H>,
+    caller: &mut Caller<B>,
+    call: Call,
+) -> bool {
+    match caller.read(rt, server, &call) {
+        Ok(Some(reply)) => is_found(reply),
+        Ok(None) => match caller.ask(rt, server, call) {
+            Ok(reply) => is_found(reply),
+            Err(_) => false,
+        },
+        Err(_) => false,
+    }
+}
+
+fn is_found(reply: Reply) -> bool {
+    has_found(&reply)
+}
