@@ -58,6 +58,7 @@ def on_the_program(copy, log):
         Part("command lines and reasons", [f"{TOP}/.ci/door", program], after=[is_there]),
         Part("the examples, cut at every byte", [f"{TOP}/.ci/cuts", program], after=[is_there]),
         Part("failing devices", [f"{TOP}/.ci/devices", program], after=[is_there]),
+        Part("packets", [f"{TOP}/.ci/packets", program], after=[is_there], show=r"^packets: "),
         Part("refused memory", [f"{TOP}/.ci/refusals", program, *tests], after=[is_there, *are_there], show=r"^refusals: "),
         Part("terms compared with Erlang's", [f"{TOP}/.ci/external", external], after=[Proved("test_external", log)], show=r"^external: "),
     ]

@@ -38,9 +38,10 @@ typedef enum yoyoash_status {
     YOYOASH_SYSTEM_LIMIT = 2, /* refused: the call would exceed a limit; open the store with larger ones */
     YOYOASH_NO_PROCESS = 3,   /* refused: the process was never spawned, or has exited */
     YOYOASH_NO_MEMORY = 4,    /* out of memory */
-    YOYOASH_SYNTAX = 5,       /* the text is not a call; *len is the offset of its first fault */
+    YOYOASH_SYNTAX = 5,       /* the text, or the term, is not a call; *len is the offset of its first fault */
     YOYOASH_CLOSED = 6,       /* the store is closed */
-    YOYOASH_UNTOLD = 7        /* the call was made, but there was no memory for its reply's text: try yoyoash_reply */
+    YOYOASH_UNTOLD = 7        /* the call was made, but there was no memory for its reply's bytes: try yoyoash_reply or
+                                 yoyoash_reply_external */
 } yoyoash_status;
 
 /* Opens a store with these limits: processes and tables that it may ever have, and objects in one table. An open store is closed
@@ -58,8 +59,18 @@ int32_t yoyoash_exit(yoyoash_store *store, uint32_t pid);
    fault; after other statuses it is 0. */
 int32_t yoyoash_call(yoyoash_store *store, uint32_t pid, const char *text, size_t text_len, char *out, size_t out_size, size_t *len);
 
-/* Copies the reply of the last call, spawn or exit that was made or refused, for example into a larger buffer. Makes no call. */
+/* Copies the text of the last reply to a call, spawn or exit that was made or refused, for example into a larger buffer. Makes no call. */
 int32_t yoyoash_reply(yoyoash_store *store, char *out, size_t out_size, size_t *len);
+
+/* Makes a call for a process, in Erlang's External Term Format. The bytes are one term, 131 first: a tuple of the call's name
+   and the list of its arguments, such as `{lookup, [t, a]}`, with nothing after it. After VALUE, *len is the number of the reply's bytes in
+   this format, 131 first, and `out` holds the first of them, at most out_size. If *len > out_size, fetch the reply with
+   yoyoash_reply_external into a larger buffer. After SYNTAX, *len is the offset of the fault; after other statuses it is 0.
+   UNTOLD is also returned for a reply of 2^32 bytes or more. */
+int32_t yoyoash_call_external(yoyoash_store *store, uint32_t pid, const uint8_t *call, size_t call_len, uint8_t *out, size_t out_size, size_t *len);
+
+/* Copies the last reply in Erlang's External Term Format, whichever call was made or refused. Makes no call. */
+int32_t yoyoash_reply_external(yoyoash_store *store, uint8_t *out, size_t out_size, size_t *len);
 
 /* Copies the reason why the last call, spawn or exit was refused, such as `argument 1: no such table`; *len is 0 if it was not
    refused. No reason of this version has over 100 bytes. Returns VALUE, CLOSED, or UNTOLD if there was no memory for the text. Makes no call. */

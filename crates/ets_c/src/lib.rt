@@ -1,10 +1,11 @@
-//! The store as a C library: each call on a handle does one step of the store, and returns a status and a text.
+//! The store as a C library: each call on a handle does one step of the store, and returns a status and the reply's text
+//! or its bytes in Erlang's External Term Format.
 //!
 //! bindings/c/include/yoyoash.h declares these functions.
 //!
-//! *Guarantee.* A call on a handle does the step that its text spells, as the specification says, or it is refused and
-//! changes nothing. The status, the length of the reply's text and the bytes in the caller's buffer are those of the
-//! reply. `yoyoash_why` returns why the last call was refused. Each call on a closed handle returns `CLOSED`.
+//! *Guarantee.* A call on a handle does the step that its text or term spells, as the specification says, or it is
+//! refused and changes nothing. The status, the number of the reply's bytes and the bytes in the caller's buffer are
+//! those of the reply. `yoyoash_why` returns why the last call was refused. Each call on a closed handle returns `CLOSED`.
 //!
 //! *Weakness.* Nothing checks what a caller in C must do: move a handle and never copy it, pass buffers that do not
 //! overlap, and let one call at a time use a handle. A handle may move to another thread, since a store is `Send`; the
@@ -13,13 +14,16 @@
 //! *Mechanism.* A handle is a pointer to a box, and whether there is one. A call takes the box out, does its step, and
 //! puts the box back.
 //!
-//! *Limits.* The tuple of a call counts as one of the 128 levels that a text may have, so an argument may have 127.
+//! *Limits.* The tuple of a call counts as one of the 128 levels that a text may have, so an argument may have 127; in a
+//! term the list of the arguments counts too, so an argument may have 126.
 #![tactic(auto)]
 
 ghost use Rattle.std.specs.Prelude.{◌≡◌, None};
+ghost use Rattle.term_text.specs.Printed.{printed};
+ghost use Rattle.external_term.specs.Encoding.{written};
 ghost use Rattle.node_core.specs.declared.step.Step.TheVariants.{Enrol, End};
 ghost use Rattle.node_text.specs.Answers.{written_reply};
-ghost use Rattle.node_text.specs.Calls.{HandleOpens, HandleSteps, HandleCalls, RewritesReply, WritesLastReason};
+ghost use Rattle.node_text.specs.Calls.{HandleOpens, HandleSteps, HandleCalls, HandleCallsExternal, RewritesReply, WritesLastReason};
 
 mod handle;
 mod store_ptr;
@@ -116,13 +120,56 @@ pub extern "C" fn yoyoash_reply(
     len: &mut usize,
 ) -> i32
     ensures same { handle.new.pointer.store ≡ handle.old.pointer.store }
-    ensures writes { RewritesReply handle.old.pointer.store (written_reply result len.new out.old out.new) }
+    ensures writes { RewritesReply printed handle.old.pointer.store (written_reply result len.new out.old out.new) }
 {
     *len = 0;
     let Some(store) = handle.take(alloc) else {
         return CLOSED;
     };
     let status = store.write_reply(alloc, out, len);
+    handle.put(store);
+    status
+}
+
+/// Does the call of a term in Erlang's External Term Format for the process of this number. The term is a tuple of the
+/// call's name and the list of its arguments, such as `{lookup,[t,a]}`. Writes the number of the reply's bytes in this
+/// format to `len`, and as many of them as fit to `out`; after `SYNTAX` it writes the offset of the fault to `len`.
+#[unsafe(no_mangle)]
+pub extern "C" fn yoyoash_call_external(
+    alloc: Global,
+    handle: &mut Handle,
+    pid: u32,
+    bytes: &[u8],
+    out: &mut [u8],
+    len: &mut usize,
+) -> i32
+    ensures { HandleCallsExternal handle.old.pointer.store pid bytes.now handle.new.pointer.store (written_reply result len.new out.old out.new) }
+{
+    *len = 0;
+    let Some(mut store) = handle.take(alloc) else {
+        return CLOSED;
+    };
+    let status = store.call_external(alloc, pid, bytes, out, len);
+    handle.put(store);
+    status
+}
+
+/// Returns the last reply again, as `yoyoash_call_external` returned it.
+#[unsafe(no_mangle)]
+pub extern "C" fn yoyoash_reply_external(
+    alloc: Global,
+    handle: &mut Handle,
+    out: &mut [u8],
+    len: &mut usize,
+) -> i32
+    ensures same { handle.new.pointer.store ≡ handle.old.pointer.store }
+    ensures writes { RewritesReply written handle.old.pointer.store (written_reply result len.new out.old out.new) }
+{
+    *len = 0;
+    let Some(mut store) = handle.take(alloc) else {
+        return CLOSED;
+    };
+    let status = store.write_reply_external(out, len);
     handle.put(store);
     status
 }

@@ -131,14 +131,16 @@ limited_line-of_rules hashes one two three processes tables is adds first adds2 
     let with_first = added one two processes (command_line hashes) (number_option (codes "max-processes") (codes "4096")) adds is first refl in
     added two three tables _ (number_option (codes "max-tables") (codes "65536")) adds2 with_first second refl
 
--- and with that of reasons and a version it is that of a request
-pub request_line-of_rules : (hashes : ValueParser) (three four five : Command) (why : Arg) (version : Bor Text) → app_of three ≡ limited_line hashes
+-- and with those of reasons, packets and a version it is that of a request
+pub request_line-of_rules : (hashes : ValueParser) (three four five six : Command) (why external : Arg) (version : Bor Text) → app_of three ≡ limited_line hashes
     → AddsArg three why four → rule_of why ≡ flag_option (codes "why")
-    → out-Command five ≡ record (out-Command four) { version = Some version } → app_of five ≡ request_line hashes
-request_line-of_rules hashes three four five why version is adds told versioned =
+    → AddsArg four external five → rule_of external ≡ flag_option (codes "external")
+    → out-Command six ≡ record (out-Command five) { version = Some version } → app_of six ≡ request_line hashes
+request_line-of_rules hashes three four five six why external version is adds told adds2 told2 versioned =
     let with_why = added three four why (limited_line hashes) (flag_option (codes "why")) adds is told refl in
-    let as_fields : app_of five ≡ with_version (app_of four) = ap app_of_fields versioned in
-    as_fields ∙ ap with_version with_why
+    let with_both = added four five external _ (flag_option (codes "external")) adds2 with_why told2 refl in
+    let as_fields : app_of six ≡ with_version (app_of five) = ap app_of_fields versioned in
+    as_fields ∙ ap with_version with_both
 
 -- the k-th of these has this name, and no other has it
 abbrev only : List Rule → ℕ → Text → Bool

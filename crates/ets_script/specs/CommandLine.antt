@@ -1,5 +1,5 @@
 -- The command line, by the crate that reads it: its matches are a function of the words.
-use Rattle.std.specs.Prelude.{◌≡◌, ℕ, Bool, true, false, List, [], ◌∷◌, Option, Some, None, Result, IfOk, map, codes, pos, ◌&&◌, if◌then◌else◌}
+use Rattle.std.specs.Prelude.{◌≡◌, ℕ, Bool, true, false, List, [], ◌∷◌, Option, Some, None, Result, IfOk, map, codes, pos, ◌&&◌, ◌||◌, if◌then◌else◌}
 use Rattle.std.specs.Option.{option_map_or}
 use Rattle.std.specs.Str.{bytes_eq}
 use Rattle.std.specs.Str.Parse.{IsNumeral, digits_value, without_leading_plus}
@@ -95,9 +95,10 @@ limited_line hashes =
     (number_option (codes "max-processes") (codes "4096")))
     (number_option (codes "max-tables") (codes "65536"))
 
--- the same command line, with more options: these limits, reasons, and the version
+-- the same command line, with more options: these limits, reasons, packets, and the version
 abbrev pub request_line : ValueParser → App
-request_line hashes = with_version (with_rule (limited_line hashes) (flag_option (codes "why")))
+request_line hashes =
+    with_version (with_rule (with_rule (limited_line hashes) (flag_option (codes "why"))) (flag_option (codes "external")))
 
 -- the options of its matches
 pub record AsksAll (rows : List Row) (request : Request) : Type 0 where
@@ -105,6 +106,7 @@ pub record AsksAll (rows : List Row) (request : Request) : Type 0 where
   pub processes : Spells (one_of (codes "max-processes") rows) request.processes
   pub tables : Spells (one_of (codes "max-tables") rows) request.tables
   pub why : request.why ≡ is_set (codes "why") rows
+  pub external : request.external ≡ is_set (codes "external") rows
 
 -- as `Settles`, each option by itself
 pub record Parses (words : List Text) (result : Result Request Error) : Type 0 where
@@ -113,10 +115,19 @@ pub record Parses (words : List Text) (result : Result Request Error) : Type 0 w
   pub faults : FailsBy (fault_of (request_line hashes) words) result
   pub request : IfOk result (AsksAll (matches_of (request_line hashes) words))
 
--- reasons are not reported for processes in threads
+-- Reasons are not reported for processes in threads. Packets are answered without threads and reasons, and with the
+-- usual hash.
+abbrev pub excluded : Bool → Bool → Bool → Bool → Bool
+excluded external why threads same = if external then why || threads || same else why && threads
+
+abbrev pub excludes : Request → Bool
+excludes request = excluded request.external request.why request.settings.threads request.settings.same
+
 abbrev pub conflict_of : List Row → Kinds
 conflict_of rows =
-    if is_set (codes "why") rows && is_set (codes "threads") rows then ArgumentConflict ∷ [] else []
+    if excluded (is_set (codes "external") rows) (is_set (codes "why") rows) (is_set (codes "threads") rows)
+    (is_named (codes "same") (first_of (codes "hash") rows))
+    then ArgumentConflict ∷ [] else []
 
 -- the faults of the words; if there are none, options that exclude each other
 abbrev pub request_faults : ValueParser → List Text → Kinds

@@ -44,15 +44,40 @@ pub fn settings<S: AsStr>(alloc: Global, words: &[S]) -> Result<Settings, Error>
 }
 
 /// Returns what a command line asks, as `settings` does, with more options: the limits of processes and of tables,
-/// `--why` and `--version`. Refuses `--why` together with `--threads`.
+/// `--why`, `--external` and `--version`. Refuses `--why` together with `--threads`, and `--external` together with
+/// either or with `--hash same`.
 pub fn request<S: AsStr>(alloc: Global, words: &[S]) -> Result<Request, Error>
     ensures { Requests (map S.text words.entry.now) result }
 {
     let request = parse_request(alloc, words)?;
-    if request.why && request.settings.threads {
-        return Err(conflict(alloc)?);
+    if is_conflict(&request) {
+        return Err(conflict(alloc, conflict_words(&request))?);
     }
     Ok(request)
+}
+
+/// Returns whether options exclude each other.
+fn is_conflict(request: &Request) -> bool
+    ensures { result ≡ spec.excludes request.now }
+{
+    if request.external {
+        request.why || request.settings.threads || request.settings.same
+    } else {
+        request.why && request.settings.threads
+    }
+}
+
+/// Returns which options exclude each other, if some do.
+fn conflict_words(request: &Request) -> &'static str {
+    if !request.external {
+        "the argument '--threads' cannot be used with '--why'"
+    } else if request.settings.threads {
+        "the argument '--external' cannot be used with '--threads'"
+    } else if request.why {
+        "the argument '--external' cannot be used with '--why'"
+    } else {
+        "the argument '--external' cannot be used with '--hash same'"
+    }
 }
 
 /// Returns what a command line asks, each option by itself.
@@ -71,10 +96,16 @@ fn parse_request<S: AsStr>(alloc: Global, words: &[S]) -> Result<Request, Error>
         "why",
         "Print on standard error why lines were refused",
     );
+    let external = flag_option(
+        alloc,
+        "external",
+        "Answer packets of Erlang's External Term Format",
+    );
     let command = settings_command(alloc)?
         .arg(processes)?
         .arg(tables)?
         .arg(why)?
+        .arg(external)?
         .version(VERSION);
     let matches = command.try_get_matches_from(words)?;
     Ok(Request {
@@ -82,14 +113,14 @@ fn parse_request<S: AsStr>(alloc: Global, words: &[S]) -> Result<Request, Error>
         processes: matched_number(&matches, "max-processes"),
         tables: matched_number(&matches, "max-tables"),
         why: is_named("true", matches.get_str("why")),
+        external: is_named("true", matches.get_str("external")),
     })
 }
 
 /// Returns the refusal of two options that exclude each other, in the parser's form.
-fn conflict(alloc: Global) -> Result<Error, AllocError>
+fn conflict(alloc: Global, words: &str) -> Result<Error, AllocError>
     ensures { IfOk result (λ error. kind_of error ≡ ArgumentConflict) }
 {
-    let words = "the argument '--threads' cannot be used with '--why'";
     settings_command(alloc)?.error(ErrorKind::ArgumentConflict, words)
 }
 

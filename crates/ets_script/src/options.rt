@@ -11,7 +11,7 @@ pub struct Settings {
     pub objects: u32,
 }
 
-/// All options: `Settings`, the other limits, and reasons.
+/// All options: `Settings`, the other limits, reasons, and packets.
 #[derive(Clone, Copy)]
 pub struct Request {
     /// The options that `settings` parses too.
@@ -22,4 +22,6 @@ pub struct Request {
     pub tables: u32,
     /// Whether reasons of refused lines are reported.
     pub why: bool,
+    /// Whether packets of calls in Erlang's External Term Format are answered, in place of lines.
+    pub external: bool,
 }

@@ -1,7 +1,8 @@
 //! The program, from its options to its status.
 ghost use Rattle.std.specs.Prelude.{◌≡◌, false, true, IfOk, OnOk, IfErr};
+ghost use Rattle.ets_packets.specs.Stops.{PacketsEnd};
 ghost use Rattle.ets_script.specs.CommandLine.{limits_of};
-ghost use Rattle.ets_script.specs.Flows.{flows};
+ghost use Rattle.ets_script.specs.Flows.{flows, packet_traffic};
 ghost use Rattle.ets_script.specs.Script.{ScriptState, at_start};
 ghost use Rattle.ets_script.specs.Stops.{Completes, EndsWithin, ProgramEnds, Stops};
 ghost use Rattle.ets_script.specs.Threads.{ThreadsEnd, ThreadsStop, ThreadsStatus, ProgramThreads};
@@ -12,12 +13,16 @@ use crate::options::{Request, Settings};
 use crate::run::{run_script, run_script_with_reasons};
 use crate::streams::Streams;
 use crate::threads::run_threads;
+use ets_packets::{PacketFault, run_packets};
 use ets_term::{AllSame, Fnv, KeyHash};
 use node_core::{Limits, Node};
 use std::alloc::Global;
 use std::io::{self, Read, Write};
 use std::sync::Wait;
 use std::thread::Threads;
+
+/// The status after a fault.
+const FAILED: u8 = 1;
 
 /// Answers a script by the settings, in threads or alone, and returns the program's status: 0 at the end of the input;
 /// otherwise 1, with one line on standard error. In threads it may wait.
@@ -55,7 +60,7 @@ pub fn answer_alone<R: Read, W: Write, E: Write>(
 /// Returns the options of the settings, with the usual limits.
 fn usual_request(settings: &Settings) -> Request
     ensures { result
-        ≡ record { settings = settings.now; processes = 4096; tables = 65536; why = false } }
+        ≡ record { settings = settings.now; processes = 4096; tables = 65536; why = false; external = false } }
 {
     let usual = Limits::usual();
     Request {
@@ -63,10 +68,11 @@ fn usual_request(settings: &Settings) -> Request
         processes: usual.processes,
         tables: usual.tables,
         why: false,
+        external: false,
     }
 }
 
-/// Does what `answer_input` does, with the limits of the options.
+/// Does what `answer_input` does, with the limits of the options; or answers packets, if an option asks for it.
 pub fn answer_request<T: Threads + Wait + Sync, R: Read, W: Write, E: Write>(
     rt: &T,
     alloc: Global,
@@ -74,18 +80,53 @@ pub fn answer_request<T: Threads + Wait + Sync, R: Read, W: Write, E: Write>(
     streams: &mut Streams<R, W>,
     errors: &mut E,
 ) -> io::Result<u8>
-    ensures alone { request.now.settings.threads ≡ false →
+    ensures alone { request.now.external ≡ false → request.now.settings.threads ≡ false →
         IfOk result (EndsWithin (limits_of request.now)
         (flows R.remaining W.contents streams.old streams.new)) }
-    ensures threads { request.now.settings.threads ≡ true →
+    ensures threads { request.now.external ≡ false → request.now.settings.threads ≡ true →
         IfOk result (ThreadsStatus (limits_of request.now)
         (flows R.remaining W.contents streams.old streams.new)) }
+    ensures external { request.now.external ≡ true →
+        IfOk result (PacketsEnd (limits_of request.now)
+        (packet_traffic (flows R.remaining W.contents streams.old streams.new))) }
 {
+    if request.external {
+        return answer_packets(alloc, request, streams, errors);
+    }
     if request.settings.threads {
         answer_in_threads(rt, alloc, request, streams, errors)
     } else {
         answer_lines(alloc, request, streams, errors)
     }
+}
+
+/// Answers packets with the limits of the options, and returns the status.
+fn answer_packets<R: Read, W: Write, E: Write>(
+    alloc: Global,
+    request: &Request,
+    streams: &mut Streams<R, W>,
+    errors: &mut E,
+) -> io::Result<u8>
+    ensures { IfOk result (PacketsEnd (limits_of request.now)
+        (packet_traffic (flows R.remaining W.contents streams.old streams.new))) }
+{
+    match run_packets(
+        alloc,
+        &mut streams.input,
+        &mut streams.output,
+        limits_of(request),
+    ) {
+        Ok(()) => Ok(0),
+        Err(fault) => report_packets(&fault, errors),
+    }
+}
+
+/// Prints why packets are not answered on a line of standard error, and returns the status.
+fn report_packets<E: Write>(fault: &PacketFault, errors: &mut E) -> io::Result<u8>
+    ensures { IfOk result (λ status. status ≡ 1) }
+{
+    writeln!(errors, "ets_script: {fault}")?;
+    Ok(FAILED)
 }
 
 /// Answers a script line by line with the limits of the options, and returns the status.
@@ -151,7 +192,7 @@ fn report<E: Write>(fault: &ScriptFault, errors: &mut E) -> io::Result<u8>
     ensures { IfOk result (λ status. status ≡ 1) }
 {
     writeln!(errors, "{fault}")?;
-    Ok(1)
+    Ok(FAILED)
 }
 
 /// Answers a script whose processes run in threads of their own, and returns the program's status.

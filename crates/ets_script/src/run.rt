@@ -141,7 +141,9 @@ fn answer_all<R: Read, W: Write, H: KeyHash + Copy + Drop, L: Observer>(
             }
             continue;
         };
-        buffer.consume(print_line(next, output)?);
+        print_line(&next, output)?;
+        buffer.consume(next.taken);
+        script.reuse(next.answer);
     }
 }
 
@@ -152,16 +154,14 @@ struct AnsweredLine {
     taken: usize,
 }
 
-/// Prints the answer to a line, and returns the number of buffered bytes that the line takes.
+/// Prints the answer to a line.
 #[inline(always)]
-fn print_line<W: Write>(line: AnsweredLine, output: &mut Output<'_, W>) -> Result<usize, WriteFault>
-    ensures taken { IfOk result (λ taken. taken ≡ line.taken) }
+fn print_line<W: Write>(line: &AnsweredLine, output: &mut Output<'_, W>) -> Result<(), WriteFault>
     ensures same_writer { HasWriterOf output.old output.new }
-    ensures ok { OnOk result (Prints W.contents output.old output.new (printed line.answer)) }
-    ensures err { OnErr result (Fails W.contents output.old output.new (printed line.answer)) }
+    ensures ok { OnOk result (Prints W.contents output.old output.new (printed line.now.answer)) }
+    ensures err { OnErr result (Fails W.contents output.old output.new (printed line.now.answer)) }
 {
-    line.answer.print(output)?;
-    Ok(line.taken)
+    line.answer.print(output)
 }
 
 /// Answers the next line, if its end is buffered.

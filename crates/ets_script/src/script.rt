@@ -16,12 +16,14 @@ use indexmap::IndexSet;
 use node_core::{Call, Limits, Node, Reply, Step};
 use std::alloc::{AllocError, Global};
 use std::marker::Model;
+use std::mem;
 
-/// The names that were spawned, in order, and the node.
+/// The names that were spawned, in order, and the node. The memory of an earlier reply is used for the next one.
 #[derive(Drop)]
 pub struct Script<H: KeyHash + Copy + Drop> {
     names: IndexSet<Vec<u8>>,
     node: Node<H>,
+    spare: Reply,
 }
 
 impl<H: KeyHash + Copy + Drop> Model for Script<H> {
@@ -48,6 +50,7 @@ impl<H: KeyHash + Copy + Drop> Script<H> {
         Script {
             names: IndexSet::new(alloc),
             node: Node::new(alloc, limits, hasher),
+            spare: Reply::NoProcess,
         }
     }
 
@@ -145,9 +148,20 @@ impl<H: KeyHash + Copy + Drop> Script<H> {
         ensures { Steps self.old step.now result self.new
             ⊎ Unchanged self.old NoMemory result self.new }
     {
-        match self.node.step(step) {
-            Ok(reply) => Answer::Replied(reply),
+        let mut reply = mem::replace(&mut self.spare, Reply::NoProcess);
+        match self.node.step_into(step, &mut reply) {
+            Ok(()) => Answer::Replied(reply),
             Err(_) => Answer::NoMemory,
+        }
+    }
+
+    /// Takes an answer back. The next reply uses its memory.
+    pub fn reuse(&mut self, answer: Answer)
+        ensures { self.new ≡ self.old }
+    {
+        match answer {
+            Answer::Replied(reply) => self.spare = reply,
+            _ => {}
         }
     }
 

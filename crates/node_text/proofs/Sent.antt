@@ -1,8 +1,9 @@
 -- A store may move to another thread.
 use denote.Param.Send.{IsSend, sendable, view_send, recorded_send, struct_send}
+use denote.Builtin.{u8}
 use denote.Struct.Declared.{shape}
 use Rattle.std.specs.Prelude.{⊤}
-use Rattle.std.proofs.Crossing.{crosses}
+use Rattle.std.proofs.Crossing.{crosses, Vec-send}
 use Rattle.ets_term.proofs.term.Term.TheLaws.TheKnot as terms
 use Rattle.ets_term.specs.contracts.fnv.Fnv as Fnv
 use Rattle.node_core.specs.contracts.step.Reply as Reply
@@ -18,6 +19,9 @@ hash_send = search sendable
 reply_send : IsSend Reply.the_field.row
 reply_send = search (crosses, terms.crosses, sendable) depth 60 fits 20000
 
+byte_send : IsSend u8
+byte_send = search sendable
+
 refusal_send : IsSend (Option.the_field LastRefusal.the_row).row
 refusal_send = search (crosses, terms.crosses, sendable) depth 60 fits 20000
 
@@ -25,5 +29,5 @@ pub store_send : IsSend Store.the_row
 store_send =
     view_send store.the_row _ _ _ _ (recorded_send store.the_field.row _ _ store.the_type.to_one (struct_send (shape store.the_type) (
       node_send Fnv.the_row _ (record { is_clone = λ _ _. ⊤; is_infallible = λ _. ⊥ }) hash_send,
-      (reply_send, (refusal_send, tt)),
+      (reply_send, (refusal_send, (reply_send, (Vec-send _ byte_send, tt)))),
     )))

@@ -2,11 +2,12 @@
 use Rattle.std.specs.Prelude.{◌≡◌, ℕ, ℤ, ◌⊎◌, List, ◌++◌, length, take, drop, min, Option, Some, None, codes}
 use Rattle.node_core.specs.declared.step.Reply.{Reply}
 use Rattle.node_core.specs.declared.step.Reply.TheVariants.{Value, Badarg, SystemLimit, NoProcess}
-use Rattle.term_text.specs.Printed.{printed}
+use Rattle.ets_term.specs.declared.term.Term.{Term}
 use Rattle.node_reasons.specs.Words.{reason_text}
 use Rattle.script_reasons.specs.Words.{problem_text}
+use Rattle.node_external.specs.Words.{words_of}
 use Rattle.node_text.specs.declared.last_refusal.LastRefusal.{LastRefusal}
-use Rattle.node_text.specs.declared.last_refusal.LastRefusal.TheVariants.{Broken, Syntax, NoMemory}
+use Rattle.node_text.specs.declared.last_refusal.LastRefusal.TheVariants.{Broken, Syntax, External, NoMemory}
 use Rattle.node_text.specs.declared.status.TheConstants as is
 
 -- the status, the length, and the bytes of the caller's buffer before and after the call
@@ -42,17 +43,18 @@ abbrev pub WritesText : List ℕ → WrittenReply → Type 0
 WritesText text t =
     ((t.status ≡ is.VALUE) × (t.len ≡ length text) × (t.after ≡ overwrite_prefix text t.before)) ⊎ WritesNothing is.UNTOLD t
 
--- what is returned for a reply
-abbrev pub WritesReply : Reply → WrittenReply → Type 0
-WritesReply (Value t) = WritesText (printed t)
-WritesReply Badarg = WritesNothing is.BADARG
-WritesReply SystemLimit = WritesNothing is.SYSTEM_LIMIT
-WritesReply NoProcess = WritesNothing is.NO_PROCESS
+-- what is returned for a reply, whose term has these bytes
+abbrev pub WritesReply : (Term → List ℕ) → Reply → WrittenReply → Type 0
+WritesReply bytes_of (Value t) = WritesText (bytes_of t)
+WritesReply bytes_of Badarg = WritesNothing is.BADARG
+WritesReply bytes_of SystemLimit = WritesNothing is.SYSTEM_LIMIT
+WritesReply bytes_of NoProcess = WritesNothing is.NO_PROCESS
 
 -- the text of a refusal
 abbrev pub refusal_text : LastRefusal → List ℕ
 refusal_text (Broken reason) = reason_text reason
 refusal_text (Syntax problem) = problem_text problem
+refusal_text (External problem) = words_of problem
 refusal_text NoMemory = codes "out of memory"
 
 -- what is returned for why a call was refused: nothing if it was not

@@ -1,5 +1,6 @@
 -- What each call of a store does.
 use Rattle.std.specs.Prelude.{◌≡◌, ℕ, ℤ, ◌⊎◌, not, List, Option, Some, None, is_some, option_map}
+use Rattle.ets_term.specs.declared.term.Term.{Term}
 use Rattle.node_core.specs.State.{State, empty}
 use Rattle.node_core.specs.Machine.{step}
 use Rattle.node_core.specs.rules.Replies.{is_value}
@@ -9,12 +10,18 @@ use Rattle.node_core.specs.declared.step.Step.TheVariants.{Ask}
 use Rattle.node_core.specs.declared.step.Reply.TheVariants.{NoProcess}
 use Rattle.node_reasons.specs.Why.{why}
 use Rattle.script_reasons.specs.SyntaxProblems.{diagnose_in_call}
+use Rattle.term_text.specs.Printed.{printed}
+use Rattle.external_term.specs.Encoding.{written}
+use Rattle.node_external.specs.Calls as external
+use Rattle.node_external.specs.declared.parsed_call.ParsedCall.{ParsedCall as ExternalCall}
+use Rattle.node_external.specs.declared.parsed_call.ParsedCall.TheVariants as external_call
 use Rattle.node_text.specs.StoreState.{StoreState, with_refusal}
 use Rattle.node_text.specs.Texts.{parse_call}
 use Rattle.node_text.specs.Answers.{WrittenReply, status_of, WritesReply, WritesReason, WritesNothing, WritesNumber}
 use Rattle.node_text.specs.declared.parsed_call.ParsedCall.{ParsedCall}
 use Rattle.node_text.specs.declared.parsed_call.ParsedCall.TheVariants.{Call, Faulty}
-use Rattle.node_text.specs.declared.last_refusal.LastRefusal.TheVariants.{Broken, Syntax, NoMemory}
+use Rattle.node_text.specs.declared.last_refusal.LastRefusal.{LastRefusal}
+use Rattle.node_text.specs.declared.last_refusal.LastRefusal.TheVariants.{Broken, Syntax, External, NoMemory}
 use Rattle.node_text.specs.declared.status.TheConstants as is
 
 -- a new store with these limits, before its first step
@@ -32,25 +39,35 @@ pub record Explains (event : Step) (new : StoreState) : Type 0 where
 abbrev pub RunsStep : StoreState → Step → StoreState → Type 0
 RunsStep old event new = step old.node event new.reply new.node × Explains event new
 
--- nothing changes, except that the fault of the text is kept
-abbrev pub KeepsFault : List ℕ → ℕ → StoreState → StoreState → Type 0
-KeepsFault text at old new = new ≡ with_refusal (Syntax (diagnose_in_call text at)) old
-
 -- a step is done; or memory runs out for it, and nothing else changes
 abbrev pub StepReturns : Step → ℤ → StoreState → StoreState → Type 0
 StepReturns event status old new =
     (RunsStep old event new × (status ≡ status_of new.reply))
     ⊎ ((status ≡ is.NO_MEMORY) × (new ≡ with_refusal NoMemory old))
 
--- A call is done, and its reply is returned; or memory runs out for it, and nothing else changes. A text that is not a
--- call changes nothing else, and the offset of its first fault is returned in place of a length.
+-- A call is done, and its reply is returned in these bytes of its term; or memory runs out for it, and nothing else
+-- changes.
+abbrev pub AskReturns : (Term → List ℕ) → ℕ → List ℕ → List Term → WrittenReply → StoreState → StoreState → Type 0
+AskReturns bytes_of pid name args t old new =
+    (RunsStep old (Ask pid (record { name = name; args = args })) new × WritesReply bytes_of new.reply t)
+    ⊎ ((new ≡ with_refusal NoMemory old) × WritesNothing is.NO_MEMORY t)
+
+-- What is not a call is refused in this way and changes nothing else, and the offset of its fault is returned in place
+-- of a length. Or memory runs out for it.
+abbrev pub FaultReturns : LastRefusal → ℕ → WrittenReply → StoreState → StoreState → Type 0
+FaultReturns refusal at t old new =
+    ((new ≡ with_refusal refusal old) × WritesNumber is.SYNTAX at t)
+    ⊎ ((new ≡ with_refusal NoMemory old) × WritesNothing is.NO_MEMORY t)
+
+-- the call of a text, whose reply is a text
 abbrev pub CallReturns : List ℕ → ParsedCall → ℕ → WrittenReply → StoreState → StoreState → Type 0
-CallReturns text (Call name args) pid t old new =
-    (RunsStep old (Ask pid (record { name = name; args = args })) new × WritesReply new.reply t)
-    ⊎ ((new ≡ with_refusal NoMemory old) × WritesNothing is.NO_MEMORY t)
-CallReturns text (Faulty at) pid t old new =
-    (KeepsFault text at old new × WritesNumber is.SYNTAX at t)
-    ⊎ ((new ≡ with_refusal NoMemory old) × WritesNothing is.NO_MEMORY t)
+CallReturns text (Call name args) pid = AskReturns printed pid name args
+CallReturns text (Faulty at) pid = FaultReturns (Syntax (diagnose_in_call text at)) at
+
+-- the call of a term in the external format, whose reply is in this format
+abbrev pub ExternalCallReturns : ExternalCall → ℕ → WrittenReply → StoreState → StoreState → Type 0
+ExternalCallReturns (external_call.Call name args) pid = AskReturns written pid name args
+ExternalCallReturns (external_call.Faulty problem at) pid = FaultReturns (External problem) at
 
 -- A rule on the store of a handle before and after, if the handle has one. A closed handle stays closed, and the status
 -- says so.
@@ -71,10 +88,15 @@ HandleSteps old event status new = OnStore (status ≡ is.CLOSED) (StepReturns e
 abbrev pub HandleCalls : Option StoreState → ℕ → List ℕ → Option StoreState → WrittenReply → Type 0
 HandleCalls old pid text new t = OnStore (WritesNothing is.CLOSED t) (CallReturns text (parse_call text) pid t) old new
 
--- the last reply is returned again
-abbrev pub RewritesReply : Option StoreState → WrittenReply → Type 0
-RewritesReply None = WritesNothing is.CLOSED
-RewritesReply (Some stored) = WritesReply stored.reply
+-- the call of a term in the external format on a handle
+abbrev pub HandleCallsExternal : Option StoreState → ℕ → List ℕ → Option StoreState → WrittenReply → Type 0
+HandleCallsExternal old pid bytes new t =
+    OnStore (WritesNothing is.CLOSED t) (ExternalCallReturns (external.parse_call bytes) pid t) old new
+
+-- the last reply is returned again, in these bytes of its term
+abbrev pub RewritesReply : (Term → List ℕ) → Option StoreState → WrittenReply → Type 0
+RewritesReply bytes_of None = WritesNothing is.CLOSED
+RewritesReply bytes_of (Some stored) = WritesReply bytes_of stored.reply
 
 -- the reason why the last call was refused is returned
 abbrev pub WritesLastReason : Option StoreState → WrittenReply → Type 0

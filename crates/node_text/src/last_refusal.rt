@@ -10,6 +10,7 @@ ghost use Rattle.node_text.specs.declared.last_refusal.LastRefusal.TheVariants.{
 
 use ets_term::Fnv;
 use node_core::{Node, Reply, Step};
+use node_external::CallProblem;
 use node_reasons::{Reason, why};
 use script_reasons::SyntaxProblem;
 use std::alloc::{AllocError, Global};
@@ -22,6 +23,8 @@ pub enum LastRefusal {
     Broken(Reason),
     /// The text is not a call, and this is wrong where it has its first fault.
     Syntax(SyntaxProblem),
+    /// The bytes are not a call, and this is wrong with them.
+    External(CallProblem),
     /// Memory ran out.
     NoMemory,
 }
@@ -40,7 +43,7 @@ impl LastRefusal {
     }
 
     /// Returns its text.
-    pub(crate) fn text(&self, alloc: Global) -> Result<String, AllocError>
+    pub fn text(&self, alloc: Global) -> Result<String, AllocError>
         ensures { IfOk result (λ text. string_bytes text ≡ refusal_text self.now) }
     {
         format!(in alloc; "{self}")
@@ -57,6 +60,7 @@ impl fmt::Display for LastRefusal {
         match self {
             LastRefusal::Broken(reason) => write!(f, "{reason}"),
             LastRefusal::Syntax(problem) => write!(f, "{problem}"),
+            LastRefusal::External(problem) => write!(f, "{}", problem.text()),
             LastRefusal::NoMemory => write!(f, "out of memory"),
         }
     }

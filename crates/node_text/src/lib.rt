@@ -1,18 +1,22 @@
-//! A store that is called by texts: a call is a text, its reply is another, and a refusal has a reason in words.
+//! A store that is called by texts, or by terms in Erlang's External Term Format: the reply is in the form of the call,
+//! and a refusal has a reason in words.
 //!
-//! *Guarantee.* A call makes the step that its text spells, as the specification says, or it is refused and changes
-//! nothing. The status, the length of the reply's text and the bytes in the caller's buffer are those of the reply. A
-//! refused step has the reason that `node_reasons` names. A text that is not a call has the reason that
-//! `script_reasons` finds at its first fault. A store may move to another thread.
+//! *Guarantee.* A call makes the step that its text or term spells, as the specification says, or it is refused and
+//! changes nothing. The status, the number of the reply's bytes and the bytes in the caller's buffer are those of the
+//! reply. A refused step has the reason that `node_reasons` names. A text that is not a call has the reason that
+//! `script_reasons` finds at its first fault, and bytes that are not a call have the problem that `node_external` finds.
+//! A store may move to another thread.
 //!
 //! *Weakness.* What is found at the fault of a text is a guess at what the author meant.
 //!
 //! *Mechanism.* A store keeps the last reply, and the reason of the last refusal in a few machine words. It makes the
-//! reason's text when it is asked for.
+//! reason's text when it is asked for. A step writes its reply over the reply before the last, and uses its memory again.
 //!
-//! *Limits.* The tuple of a call counts as one of the 128 levels that a text may have, so an argument may have 127.
+//! *Limits.* The tuple of a call counts as one of the 128 levels that a text may have, so an argument may have 127; in a
+//! term the list of the arguments counts too, so an argument may have 126.
 #![tactic(auto)]
 
+mod call_fault;
 mod copy;
 mod last_refusal;
 pub mod laws;
@@ -21,6 +25,7 @@ mod print;
 mod status;
 mod store;
 
+pub use call_fault::CallFault;
 pub use last_refusal::LastRefusal;
 pub use print::{call_text, reply_text, step_text, term_text};
 pub use status::{BADARG, CLOSED, NO_MEMORY, NO_PROCESS, SYNTAX, SYSTEM_LIMIT, UNTOLD, VALUE};

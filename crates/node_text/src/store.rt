@@ -1,23 +1,27 @@
-//! A node that is called by texts, its last reply, and why it refused the last call.
-ghost use Rattle.std.specs.Prelude.{◌≡◌, OnOk, OnErr};
-ghost use Rattle.node_text.specs.Answers.{WritesReply, WritesReason, written_reply};
-ghost use Rattle.node_text.specs.Calls.{new_store, RunsStep, StepReturns, CallReturns};
+//! A node that is called by texts or by terms in the external format, its last reply, and why it refused the last call.
+ghost use Rattle.std.specs.Prelude.{◌≡◌, Err, OnOk, OnErr};
+ghost use Rattle.node_text.specs.Answers.{written_reply};
+ghost use Rattle.node_external.specs.Calls as external;
+ghost use Rattle.node_text.specs.Calls.{new_store, RunsStep, StepReturns, CallReturns, ExternalCallReturns};
+ghost use Rattle.node_text.specs.RunsCall.{RunsCall, RunsAsk, RunsExternalCall};
 ghost use Rattle.node_text.specs.Statuses.{AreTheStatuses};
 ghost use Rattle.node_text.specs.StoreState.{with_refusal};
 ghost use Rattle.node_text.specs.Texts as texts;
+ghost use Rattle.node_text.specs.declared.call_fault.CallFault.TheVariants.{Memory};
 ghost use Rattle.node_text.specs.declared.last_refusal.LastRefusal.TheVariants as refusal;
-ghost use Rattle.node_text.specs.inside.RunsCall.{RunsCall};
 
-use crate::copy::copy_prefix;
+mod replies;
+
+use crate::call_fault::CallFault;
 use crate::last_refusal::LastRefusal;
 use crate::parsed_call::{ParsedCall, read_call};
-use crate::status::{NO_MEMORY, SYNTAX, UNTOLD, VALUE, status_of};
-use ets_term::Fnv;
+use crate::status::{NO_MEMORY, status_of};
+use ets_term::{Atom, Fnv, Items, Term};
 use node_core::{Call, Limits, Node, Reply, Step};
 use script_reasons::diagnose_in_call;
 use std::alloc::{AllocError, Global};
 use std::marker::Model;
-use term_text::print_term;
+use std::mem;
 
 /// A node, the reply to the last step that was done, and why the last call was refused, if it was. Contracts see the
 /// observable state of the node. A store may move to another thread, as `laws` proves.
@@ -26,6 +30,10 @@ pub struct Store {
     node: Node<Fnv>,
     reply: Reply,
     refusal: Option<LastRefusal>,
+    /// The reply before the last, which the next step writes over.
+    spare: Reply,
+    /// Memory for a reply's bytes.
+    bytes: Vec<u8>,
 }
 
 impl Model for Store {
@@ -40,26 +48,6 @@ impl Model for Store {
     ghost view = { λ s. record { node = observable s.node; reply = s.reply; refusal = s.refusal } };
 }
 
-/// The reason why a text was not done.
-#[derive(Drop)]
-pub enum CallFault {
-    /// The text is not a call; the offset of its first fault.
-    Syntax(usize),
-    /// Memory ran out.
-    Memory,
-}
-
-impl From<AllocError> for CallFault {
-    ghost use Rattle.std.specs.Prelude.{◌≡◌};
-    ghost use Rattle.node_text.specs.declared.store.CallFault.TheVariants.{Memory};
-
-    ghost from_gives = { λ _ e. e ≡ Memory };
-
-    fn from(_error: AllocError) -> CallFault {
-        CallFault::Memory
-    }
-}
-
 impl Store {
     /// Returns a store without processes and tables, whose last reply is `NoProcess`.
     pub fn new(alloc: Global, limits: Limits) -> Store
@@ -69,6 +57,8 @@ impl Store {
             node: Node::new(alloc, limits, Fnv),
             reply: Reply::NoProcess,
             refusal: None,
+            spare: Reply::NoProcess,
+            bytes: Vec::new(alloc),
         }
     }
 
@@ -98,60 +88,44 @@ impl Store {
         *len = 0;
         match self.run_text(alloc, pid, text) {
             Ok(()) => self.write_reply(alloc, out, len),
-            Err(CallFault::Syntax(at)) => {
-                *len = at;
-                SYNTAX
+            Err(fault) => fault.write(len),
+        }
+    }
+
+    /// Does the call of a term in the external format, and returns its status. Writes as much of the reply's bytes as
+    /// fits to `out`, and their whole number to `len`; after `SYNTAX` that is the offset of the fault.
+    pub fn call_external(
+        &mut self,
+        alloc: Global,
+        pid: u32,
+        bytes: &[u8],
+        out: &mut [u8],
+        len: &mut usize,
+    ) -> i32
+        ensures { ExternalCallReturns (external.parse_call bytes.now) pid (written_reply result len.new out.old out.new) self.old self.new }
+    {
+        *len = 0;
+        match self.run_external(alloc, pid, bytes) {
+            Ok(()) => self.write_reply_external(out, len),
+            Err(fault) => fault.write(len),
+        }
+    }
+
+    /// Does the call of a term in the external format, and at most two pending growth steps. Writes no reply. After a
+    /// fault, keeps only that.
+    pub fn run_external(&mut self, alloc: Global, pid: u32, bytes: &[u8]) -> Result<(), CallFault>
+        ensures { RunsExternalCall (external.parse_call bytes.now) pid self.old result self.new }
+    {
+        let Ok(call) = node_external::read_call(alloc, bytes) else {
+            return self.run_out();
+        };
+        match call {
+            node_external::ParsedCall::Call(name, args) => self.ask(pid, name, args),
+            node_external::ParsedCall::Faulty(problem, at) => {
+                self.refusal = Some(LastRefusal::External(problem));
+                Err(CallFault::Syntax(at))
             }
-            Err(CallFault::Memory) => NO_MEMORY,
         }
-    }
-
-    /// Returns the status of the last reply. Writes as much of its text as fits to `out`, and its whole length to `len`.
-    pub fn write_reply(&self, alloc: Global, out: &mut [u8], len: &mut usize) -> i32
-        ensures { WritesReply self.now.reply (written_reply result len.new out.old out.new) }
-    {
-        *len = 0;
-        let Reply::Value(term) = &self.reply else {
-            return status_of(&self.reply);
-        };
-        let mut text = String::new(alloc);
-        if print_term(alloc, term, &mut text).is_err() {
-            return UNTOLD;
-        }
-        *len = text.len();
-        copy_prefix(text.as_bytes(), out);
-        VALUE
-    }
-
-    /// Writes as much as fits of the reason why the last call was refused to `out`, and its whole length to `len`. The
-    /// length is 0 if the call was not refused.
-    pub fn write_reason(&self, alloc: Global, out: &mut [u8], len: &mut usize) -> i32
-        ensures { WritesReason self.now.refusal (written_reply result len.new out.old out.new) }
-    {
-        *len = 0;
-        let Some(refusal) = self.refusal else {
-            return VALUE;
-        };
-        let Ok(words) = refusal.text(alloc) else {
-            return UNTOLD;
-        };
-        *len = words.len();
-        copy_prefix(words.as_bytes(), out);
-        VALUE
-    }
-
-    /// Does one step, and keeps its reply and the reason of a refusal. If memory runs out, keeps only that.
-    fn step(&mut self, event: &Step) -> Result<(), AllocError>
-        ensures ok { OnOk result (RunsStep self.old event.now self.new) }
-        ensures err { OnErr result (self.new ≡ with_refusal refusal.NoMemory self.old) }
-    {
-        let Ok(reply) = self.node.step(event) else {
-            self.refusal = Some(LastRefusal::NoMemory);
-            return Err(AllocError);
-        };
-        self.refusal = LastRefusal::of(&self.node, event, &reply);
-        self.reply = reply;
-        Ok(())
     }
 
     /// Does the call of a text, and at most two pending growth steps. After a fault, keeps only that.
@@ -159,20 +133,47 @@ impl Store {
         ensures { RunsCall text.now (texts.parse_call text.now) pid self.old result self.new }
     {
         let Ok(call) = read_call(alloc, text) else {
-            self.refusal = Some(LastRefusal::NoMemory);
-            return Err(CallFault::Memory);
+            return self.run_out();
         };
         match call {
-            ParsedCall::Call(name, args) => {
-                self.step(&Step::Ask(pid, Call::new(name, args.into_vec())))?;
-                self.tend();
-                Ok(())
-            }
+            ParsedCall::Call(name, args) => self.ask(pid, name, args),
             ParsedCall::Faulty(at) => {
                 self.refusal = Some(LastRefusal::Syntax(diagnose_in_call(text, at)));
                 Err(CallFault::Syntax(at))
             }
         }
+    }
+
+    /// Keeps that memory ran out for a call.
+    fn run_out(&mut self) -> Result<(), CallFault>
+        ensures fault { result ≡ Err Memory }
+        ensures keeps { self.new ≡ with_refusal refusal.NoMemory self.old }
+    {
+        self.refusal = Some(LastRefusal::NoMemory);
+        Err(CallFault::Memory)
+    }
+
+    /// Makes a call, and runs at most two pending growth steps. If memory runs out for the call, keeps only that.
+    fn ask(&mut self, pid: u32, name: Atom, args: Items<Term>) -> Result<(), CallFault>
+        ensures { RunsAsk pid name args self.old result self.new }
+    {
+        self.step(&Step::Ask(pid, Call::new(name, args.into_vec())))?;
+        self.tend();
+        Ok(())
+    }
+
+    /// Does one step, and keeps its reply and the reason of a refusal. If memory runs out, keeps only that.
+    fn step(&mut self, event: &Step) -> Result<(), AllocError>
+        ensures ok { OnOk result (RunsStep self.old event.now self.new) }
+        ensures err { OnErr result (self.new ≡ with_refusal refusal.NoMemory self.old) }
+    {
+        if self.node.step_into(event, &mut self.spare).is_err() {
+            self.refusal = Some(LastRefusal::NoMemory);
+            return Err(AllocError);
+        }
+        self.refusal = LastRefusal::of(&self.node, event, &self.spare);
+        mem::swap(&mut self.reply, &mut self.spare);
+        Ok(())
     }
 
     /// Runs at most two pending growth steps, which no call observes. A step that runs out of memory stays pending.

@@ -14,7 +14,7 @@ returns-in_err-matches g c =
     let words = map g.S.AsStr.text c.args.words.now in
     let limits = limited_line-of_rules given.0 c.in_ok-settings_command.field-0 c.in_ok-arg.field-0 c.in_ok-arg-2.field-0 c.number_option-processes.result c.number_option-tables.result given.2
     c.in_ok-arg.ensures c.number_option-processes.ensures c.in_ok-arg-2.ensures c.number_option-tables.ensures in
-    let is = request_line-of_rules given.0 c.in_ok-arg-2.field-0 c.in_ok-arg-3.field-0 command c.flag_option-why.result _ limits c.in_ok-arg-3.ensures c.flag_option-why.ensures c.version-command.ensures in
+    let is = request_line-of_rules given.0 c.in_ok-arg-2.field-0 c.in_ok-arg-3.field-0 c.in_ok-arg-4.field-0 command c.flag_option-why.result c.flag_option-external.result _ limits c.in_ok-arg-3.ensures c.flag_option-why.ensures c.in_ok-arg-4.ensures c.flag_option-external.ensures c.version-command.ensures in
     let known = faults line (app_of command) words c.try_get_matches_from.result is refl c.try_get_matches_from.ensures.kinds in
     record {
       hashes = given.0;
@@ -34,7 +34,7 @@ returns g c =
     let words = map g.S.AsStr.text c.args.words.now in
     let limits = limited_line-of_rules given.0 c.in_ok-settings_command.field-0 c.in_ok-arg.field-0 c.in_ok-arg-2.field-0 c.number_option-processes.result c.number_option-tables.result given.2
     c.in_ok-arg.ensures c.number_option-processes.ensures c.in_ok-arg-2.ensures c.number_option-tables.ensures in
-    let is = request_line-of_rules given.0 c.in_ok-arg-2.field-0 c.in_ok-arg-3.field-0 command c.flag_option-why.result _ limits c.in_ok-arg-3.ensures c.flag_option-why.ensures c.version-command.ensures in
+    let is = request_line-of_rules given.0 c.in_ok-arg-2.field-0 c.in_ok-arg-3.field-0 c.in_ok-arg-4.field-0 command c.flag_option-why.result c.flag_option-external.result _ limits c.in_ok-arg-3.ensures c.flag_option-why.ensures c.in_ok-arg-4.ensures c.flag_option-external.ensures c.version-command.ensures in
     let known = faults line (app_of command) words c.try_get_matches_from.result is refl c.try_get_matches_from.ensures.kinds in
     let same = rows line (app_of command) words matches is refl c.in_ok-matches.ensures.matches in
     let top = ap (λ (a : App). a.top) is in
@@ -49,6 +49,7 @@ returns g c =
         settings = subst (λ (rs : List Row). Asks rs c.settings_of.result) same (c.settings_of.ensures objects);
         processes = subst (λ (o : Option Text). Spells o c.matched_number.result) (one_text-rows found (codes "max-processes") ∙ ap (one_of (codes "max-processes")) same) (c.matched_number.ensures processes);
         why = c.is_named.ensures ∙ (ap (is_named (codes "true")) (c.get_str.ensures ∙ first_value-rows found (codes "why")) ∙ ap (λ (rs : List Row). is_named (codes "true") (first_of (codes "why") rs)) same);
+        external = c.is_named-2.ensures ∙ (ap (is_named (codes "true")) (c.get_str-2.ensures ∙ first_value-rows found (codes "external")) ∙ ap (λ (rs : List Row). is_named (codes "true") (first_of (codes "external") rs)) same);
         tables = subst (λ (o : Option Text). Spells o c.matched_number-2.result) (one_text-rows found (codes "max-tables") ∙ ap (one_of (codes "max-tables")) same) (c.matched_number-2.ensures tables);
       };
     }

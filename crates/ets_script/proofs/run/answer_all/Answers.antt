@@ -1,4 +1,4 @@
-use Rattle.std.proofs.Common.{◌≡◌, ◌∙◌, ℕ, drop, refl, sym, subst}
+use Rattle.std.proofs.Common.{◌∙◌, refl, sym, subst}
 use Rattle.std.proofs.lemmas.Result.{err_from_is_err_and}
 use Rattle.ets_script.specs.Script.{ScriptState}
 use Rattle.ets_script.proofs.BufferedLines.{refill-end}
@@ -72,8 +72,8 @@ pub loop-next-preserved : goal.loop-next-preserved
 loop-next-preserved g c =
     let l = c.loop-next in
     let n = c.in-Some.ensures in
-    let held = subst (λ (k : ℕ). c.consume.new.self.bytes ≡ drop k l.buffer.bytes) c.in_ok-print_line.ensures.taken c.consume.ensures.bytes in (
-      progress-line c.args.script.now l.script c.answer_next.new.script (g.R.Read.remaining c.args.reader.now) (g.W.Write.contents c.args.output.now.writer.now) (g.W.Write.contents l.output.writer.now) (g.W.Write.contents c.print_line.new.output.writer.now) l.buffer c.consume.new.self (g.R.Read.remaining l.reader) l.output.bytes.now.items c.print_line.new.output.bytes.now.items c.in-Some.next.taken n.line c.in-Some.next.answer
-          l.invariant.0 n.ends n.answers c.in_ok-print_line.ensures.ok held c.consume.ensures.whole,
+    let now = progress-line c.args.script.now l.script c.answer_next.new.script (g.R.Read.remaining c.args.reader.now) (g.W.Write.contents c.args.output.now.writer.now) (g.W.Write.contents l.output.writer.now) (g.W.Write.contents c.print_line.new.output.writer.now) l.buffer c.consume.new.self (g.R.Read.remaining l.reader) l.output.bytes.now.items c.print_line.new.output.bytes.now.items c.in-Some.next.taken n.line c.in-Some.next.answer
+    l.invariant.0 n.ends n.answers c.in_ok-print_line.ensures.ok c.consume.ensures.bytes c.consume.ensures.whole in (
+      subst (λ (s : ScriptState). Progress c.args.script.now (g.R.Read.remaining c.args.reader.now) (g.W.Write.contents c.args.output.now.writer.now) c.consume.new.self (g.R.Read.remaining l.reader) c.print_line.new.output.bytes.now.items (g.W.Write.contents c.print_line.new.output.writer.now) s) (sym c.reuse.ensures) now,
       c.print_line.ensures.same_writer ∙ l.invariant.1,
     )

@@ -1,0 +1,4 @@
+mod KnownBytes
+mod Exchanges
+mod Held
+mod Progress

@@ -1,0 +1,7 @@
+pub mod Packets
+pub mod Requests
+pub mod Replies
+pub mod Exchanges
+pub mod Traffic
+pub mod Stops
+pub mod inside

@@ -1,0 +1,31 @@
+-- Packets: a length of four bytes, the high byte first, and a body of this length.
+use Rattle.std.specs.Prelude.{◌≡◌, ◌⊎◌, ℕ, ◌+◌, ◌*◌, ◌/◌, ◌%◌, ◌^◌, ◌≤◌, ◌<◌, List, [], ◌∷◌, ◌++◌, length, slice_index}
+
+-- the greatest length of a body
+abbrev pub max_packet : ℕ
+max_packet = 16777216
+
+-- a number below 2^32 in four bytes, the high byte first
+abbrev pub big4 : ℕ → List ℕ
+big4 n = n / 2 ^ 24 % 256 ∷ n / 2 ^ 16 % 256 ∷ n / 2 ^ 8 % 256 ∷ n % 256 ∷ []
+
+-- the number that the four bytes at an offset spell
+abbrev pub number_at : List ℕ → ℕ → ℕ
+number_at bytes at =
+    slice_index bytes at * 2 ^ 24 + slice_index bytes (at + 1) * 2 ^ 16
+    + slice_index bytes (at + 2) * 2 ^ 8 + slice_index bytes (at + 3)
+
+-- the packet of a body
+abbrev pub packet : List ℕ → List ℕ
+packet body = big4 (length body) ++ body
+
+-- bytes in which a packet does not end: fewer than four, or a length and fewer bytes than it says
+abbrev pub IsPart : List ℕ → Type 0
+IsPart part =
+    (length part < 4)
+    ⊎ ((n : ℕ) × (some : List ℕ) × (part ≡ big4 n ++ some) × (length some < n) × (n ≤ max_packet))
+
+-- bytes that begin with a length that is too great
+abbrev pub IsTooLong : List ℕ → Type 0
+IsTooLong part =
+    (n : ℕ) × (some : List ℕ) × (part ≡ big4 n ++ some) × (max_packet < n) × (n < 2 ^ 32)

@@ -1,0 +1,77 @@
+-- The reply to a request. Its body is a status, a byte, and the rest.
+use Rattle.std.specs.Prelude.{◌≡◌, ◌⊎◌, ℕ, List, [], ◌∷◌, Option, Some, None, codes}
+use Rattle.external_term.specs.Encoding.{written}
+use Rattle.node_core.specs.declared.step.Reply.{Reply}
+use Rattle.node_core.specs.declared.step.Reply.TheVariants.{Value, Badarg, SystemLimit, NoProcess}
+use Rattle.node_core.specs.declared.step.Step.{Step}
+use Rattle.node_core.specs.declared.step.Step.TheVariants.{Enrol, End, Ask}
+use Rattle.node_external.specs.Calls.{parse_call}
+use Rattle.node_external.specs.declared.parsed_call.ParsedCall.{ParsedCall}
+use Rattle.node_external.specs.declared.parsed_call.ParsedCall.TheVariants as parsed
+use Rattle.node_text.specs.Answers.{refusal_text}
+use Rattle.node_text.specs.Calls.{RunsStep}
+use Rattle.node_text.specs.StoreState.{StoreState, with_refusal}
+use Rattle.node_text.specs.declared.last_refusal.LastRefusal.{LastRefusal}
+use Rattle.node_text.specs.declared.last_refusal.LastRefusal.TheVariants.{External, NoMemory}
+use Rattle.ets_packets.specs.Requests.{parse_request, call_bytes}
+use Rattle.ets_packets.specs.declared.request.Request.{Request}
+use Rattle.ets_packets.specs.declared.request.Request.TheVariants as request
+
+-- the status of a reply and the rest of its body
+pub record PacketReply : Type 0 where
+  pub status : ℕ
+  pub rest : List ℕ
+
+abbrev pub packet_reply : ℕ → List ℕ → PacketReply
+packet_reply status rest = record { status = status; rest = rest }
+
+abbrev pub reply_body : PacketReply → List ℕ
+reply_body r = r.status ∷ r.rest
+
+-- this status and this text, or no text if there is no memory for it
+abbrev pub Tells : ℕ → List ℕ → PacketReply → Type 0
+Tells status text r = (r.status ≡ status) × ((r.rest ≡ text) ⊎ (r.rest ≡ []))
+
+abbrev pub reason_text : Option LastRefusal → List ℕ
+reason_text None = []
+reason_text (Some refusal) = refusal_text refusal
+
+-- The reply of a step and why it was refused: the term in the external format, or 7 if it has no memory or too many
+-- bytes; or the reason.
+abbrev pub TellsReply : Reply → Option LastRefusal → PacketReply → Type 0
+TellsReply (Value t) why r = (r ≡ packet_reply 0 (written t)) ⊎ (r ≡ packet_reply 7 [])
+TellsReply Badarg why r = Tells 1 (reason_text why) r
+TellsReply SystemLimit why r = Tells 2 (reason_text why) r
+TellsReply NoProcess why r = Tells 3 (reason_text why) r
+
+-- memory ran out, and nothing else changes
+abbrev pub RunsOut : StoreState → PacketReply → StoreState → Type 0
+RunsOut old r new = (new ≡ with_refusal NoMemory old) × Tells 4 (codes "out of memory") r
+
+-- a step is done, and its reply is returned
+abbrev pub Steps : Step → StoreState → PacketReply → StoreState → Type 0
+Steps event old r new = (RunsStep old event new × TellsReply new.reply new.refusal r) ⊎ RunsOut old r new
+
+-- what is no call is refused in this way and changes nothing else
+abbrev pub RefusesCall : LastRefusal → StoreState → PacketReply → StoreState → Type 0
+RefusesCall why old r new = ((new ≡ with_refusal why old) × Tells 5 (refusal_text why) r) ⊎ RunsOut old r new
+
+-- a call is done, or refused
+abbrev pub Calls : ParsedCall → ℕ → StoreState → PacketReply → StoreState → Type 0
+Calls (parsed.Call name args) pid = Steps (Ask pid (record { name = name; args = args }))
+Calls (parsed.Faulty problem at) pid = RefusesCall (External problem)
+
+-- what is no request changes nothing
+abbrev pub RefusesRequest : StoreState → PacketReply → StoreState → Type 0
+RefusesRequest old r new = (new ≡ old) × Tells 5 (codes "not a request") r
+
+-- the answer to a request with these bytes of a call
+abbrev pub AnswersRequest : Request → List ℕ → StoreState → PacketReply → StoreState → Type 0
+AnswersRequest (request.Spawn pid) bytes = Steps (Enrol pid)
+AnswersRequest (request.Exit pid) bytes = Steps (End pid)
+AnswersRequest (request.Call pid) bytes = Calls (parse_call bytes) pid
+AnswersRequest request.NotARequest bytes = RefusesRequest
+
+-- the answer to the body of a packet
+abbrev pub Answers : List ℕ → StoreState → PacketReply → StoreState → Type 0
+Answers body = AnswersRequest (parse_request body) (call_bytes body)

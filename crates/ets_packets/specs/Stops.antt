@@ -1,0 +1,51 @@
+-- What was read and written when a run of packets ends.
+use Rattle.std.specs.Prelude.{◌≡◌, ◌⊎◌, ℕ, ◌<◌, List, [], ◌++◌, length}
+use Rattle.std.specs.Io.KnownBytes.{Appends, Consumes, IsAtEnd}
+use Rattle.node_core.specs.declared.limits.Limits.{Limits}
+use Rattle.node_text.specs.Calls.{new_store}
+use Rattle.node_text.specs.StoreState.{StoreState}
+use Rattle.ets_packets.specs.Packets.{IsPart, IsTooLong}
+use Rattle.ets_packets.specs.Exchanges.{Exchange, Run, requests, replies}
+use Rattle.ets_packets.specs.Traffic.{Traffic}
+use Rattle.ets_packets.specs.declared.fault.PacketFault.{PacketFault}
+use Rattle.ets_packets.specs.declared.fault.PacketFault.TheVariants.{Read, Write, Memory, Truncated, TooLong}
+
+-- packets were read and then this, all of them were answered in a run of the store, and all replies were written
+pub record Answered (start : StoreState) (t : Traffic) (rest : List ℕ) : Type 0 where
+  pub exchanges : List Exchange
+  pub end : StoreState
+  pub run : Run start exchanges end
+  pub consumed : Consumes t.reader.before t.reader.after (requests exchanges ++ rest)
+  pub written : Appends t.writer.before t.writer.after (replies exchanges)
+
+-- the same, where of the replies only a front was written
+pub record Unwritten (start : StoreState) (t : Traffic) : Type 0 where
+  pub exchanges : List Exchange
+  pub end : StoreState
+  pub rest : List ℕ
+  pub sent : List ℕ
+  pub unsent : List ℕ
+  pub run : Run start exchanges end
+  pub consumed : Consumes t.reader.before t.reader.after (requests exchanges ++ rest)
+  pub written : Appends t.writer.before t.writer.after sent
+  pub parts : replies exchanges ≡ sent ++ unsent
+
+-- the input is packets to its end, and all were answered
+abbrev pub Completes : StoreState → Traffic → Type 0
+Completes start t = Answered start t [] × IsAtEnd t.reader.after
+
+-- At a fault all packets that were read are answered, and all replies are written, or a front of them at a write fault.
+-- A part of a packet, or what there was no memory for, is not answered.
+abbrev pub Stops : StoreState → Traffic → PacketFault → Type 0
+Stops start t Read = (part : List ℕ) × Answered start t part × IsPart part
+Stops start t Write = Unwritten start t
+Stops start t Memory = (rest : List ℕ) × Answered start t rest
+Stops start t Truncated =
+    (part : List ℕ) × Answered start t part × IsPart part × (0 < length part) × IsAtEnd t.reader.after
+Stops start t TooLong = (part : List ℕ) × Answered start t part × IsTooLong part
+
+-- a new store's run, and the status: 0 at the end of the input, and else 1
+abbrev pub PacketsEnd : Limits → Traffic → ℕ → Type 0
+PacketsEnd limits t status =
+    ((status ≡ 0) × Completes (new_store limits) t)
+    ⊎ ((status ≡ 1) × (fault : PacketFault) × Stops (new_store limits) t fault)

@@ -1,0 +1,3 @@
+pub mod Output
+pub mod Buffer
+pub mod Answering

@@ -1,0 +1,36 @@
+//! What the buffered bytes begin with.
+ghost use Rattle.std.specs.Prelude.{◌≡◌};
+ghost use Rattle.ets_packets.specs.inside.Buffer.{IsFront};
+
+use crate::number::number_at;
+
+/// The greatest length of a body.
+pub const MAX_PACKET: usize = 16_777_216;
+
+/// What the buffered bytes begin with.
+#[derive(Clone, Copy)]
+pub(crate) enum Front {
+    /// A part of a packet, or nothing.
+    Part,
+    /// A packet that is too long.
+    TooLong,
+    /// A whole packet, whose body has this length.
+    Packet(usize),
+}
+
+/// Returns what bytes begin with.
+pub(crate) fn front_of(bytes: &[u8]) -> Front
+    ensures { IsFront bytes.now result }
+{
+    if bytes.len() < 4 {
+        return Front::Part;
+    }
+    let len = number_at(bytes, 0) as usize;
+    if len > MAX_PACKET {
+        return Front::TooLong;
+    }
+    if bytes.len() - 4 < len {
+        return Front::Part;
+    }
+    Front::Packet(len)
+}

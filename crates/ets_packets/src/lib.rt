@@ -1,0 +1,28 @@
+//! Answers calls of a store in packets, as Erlang's ports send them with `{packet, 4}`: bytes in, bytes out.
+//!
+//! *Guarantee.* From the bytes read to the bytes written: each packet is answered as specs/Replies.antt says, by a store
+//! that starts empty, and the replies are in the order of the requests. All replies to packets that were read are written
+//! before the next read. A run that stops early has answered all whole packets before, or has written a front of their
+//! replies if a write failed. A packet that is too long, and an input that ends inside a packet, are faults.
+//!
+//! *Weakness.* Only tests show that replies are flushed before each read. No contract says when memory is available.
+//!
+//! *Mechanism.* Bytes are read in pieces of at most 65,536 and buffered. Each whole packet is answered into a buffer,
+//! which is written before the next read, and when it has 65,536 bytes.
+//!
+//! *Limits.* The body of a packet has at most 16,777,216 bytes. A reader is asked at most 2^64 - 1 times. A term whose
+//! reply would have 2^32 bytes or more is left out, with status 7.
+#![tactic(auto)]
+
+mod buffer;
+mod fault;
+mod front;
+mod number;
+mod output;
+mod reply;
+mod request;
+mod run;
+
+pub use fault::PacketFault;
+pub use front::MAX_PACKET;
+pub use run::run_packets;

@@ -1,0 +1,99 @@
+//! The output buffer with its writer. Bytes are written in large blocks.
+ghost use Rattle.std.specs.Prelude.{◌≡◌, [], IfOk, OnOk, OnErr};
+ghost use Rattle.std.specs.Io.KnownBytes.{Appends};
+ghost use Rattle.ets_packets.specs.Traffic.{flow};
+ghost use Rattle.ets_packets.specs.inside.Output.{Sends, Breaks, Adds, Fails, HasWriterOf, waiting, writer_flow};
+
+use std::alloc::{AllocError, Global};
+use std::io::Write;
+use term_text::write_bytes;
+
+/// The buffer is written once it has this many bytes.
+const BLOCK_SIZE: usize = 65_536;
+
+/// The writer failed, or took no byte.
+#[derive(Debug, Drop)]
+pub(crate) struct WriteFault;
+
+/// A writer, and before it a buffer with the bytes that are not written yet.
+#[derive(Drop)]
+pub(crate) struct Output<'a, W> {
+    bytes: &'a mut Vec<u8>,
+    writer: &'a mut W,
+}
+
+/// Returns an empty buffer, with capacity for more than a block.
+pub(crate) fn output_buffer(alloc: Global) -> Result<Vec<u8>, AllocError>
+    ensures { IfOk result (λ bytes. bytes.items ≡ []) }
+{
+    Vec::with_capacity(alloc, 2 * BLOCK_SIZE)
+}
+
+impl<'a, W: Write> Output<'a, W> {
+    /// Puts a buffer before a writer.
+    pub(crate) fn new(bytes: &'a mut Vec<u8>, writer: &'a mut W) -> Output<'a, W>
+        ensures bytes { result.bytes.now ≡ bytes.old }
+        ensures writer { result.writer.now ≡ writer.old }
+        ensures same_writer { result.writer.ghost_name ≡ writer.entry.ghost_name }
+    {
+        Output { bytes, writer }
+    }
+
+    /// Writes the buffered bytes, and flushes the writer.
+    pub(crate) fn flush(&mut self) -> Result<(), WriteFault>
+        ensures same_writer { HasWriterOf self.old self.new }
+        ensures ok { OnOk result (Sends (writer_flow W.contents self.old self.new)
+            (waiting self.old) (waiting self.new)) }
+        ensures empty { OnOk result (waiting self.new ≡ []) }
+        ensures err { OnErr result (Breaks (writer_flow W.contents self.old self.new)
+            (waiting self.old)) }
+    {
+        self.send()?;
+        match self.writer.flush() {
+            Ok(()) => Ok(()),
+            Err(_) => Err(WriteFault),
+        }
+    }
+
+    /// Writes the buffered bytes.
+    #[inline(never)]
+    fn send(&mut self) -> Result<(), WriteFault>
+        ensures same_writer { HasWriterOf self.old self.new }
+        ensures ok { OnOk result (Appends (W.contents self.old.writer.now)
+            (W.contents self.new.writer.now) (waiting self.old)) }
+        ensures empty { OnOk result (waiting self.new ≡ []) }
+        ensures err { OnErr result (Breaks (writer_flow W.contents self.old self.new)
+            (waiting self.old)) }
+    {
+        write_whole(self.writer, self.bytes.as_slice())?;
+        self.bytes.clear();
+        Ok(())
+    }
+
+    /// Adds bytes, and writes the buffer if it has a block.
+    pub(crate) fn add(&mut self, bytes: &[u8]) -> Result<(), WriteFault>
+        ensures same_writer { HasWriterOf self.old self.new }
+        ensures ok { OnOk result (Adds W.contents self.old self.new bytes.now) }
+        ensures err { OnErr result (Fails W.contents self.old self.new bytes.now) }
+    {
+        if self.bytes.extend_from_slice(bytes).is_err() {
+            self.send()?;
+            return write_whole(self.writer, bytes);
+        }
+        if self.bytes.len() >= BLOCK_SIZE {
+            self.send()?;
+        }
+        Ok(())
+    }
+}
+
+/// Writes all of the bytes, or a front of them and then returns a fault.
+fn write_whole<W: Write>(writer: &mut W, bytes: &[u8]) -> Result<(), WriteFault>
+    ensures ok { OnOk result (Appends (W.contents writer.old) (W.contents writer.new) bytes.now) }
+    ensures err { OnErr result (Breaks (flow W.contents writer.old writer.new) bytes.now) }
+{
+    match write_bytes(bytes, writer) {
+        Ok(()) => Ok(()),
+        Err(_) => Err(WriteFault),
+    }
+}

@@ -1,0 +1,43 @@
+//! What the body of a packet asks.
+ghost use Rattle.std.specs.Prelude.{◌≡◌};
+ghost use Rattle.ets_packets.specs.Requests as spec;
+
+use crate::number::number_at;
+
+/// What the body of a packet asks.
+#[derive(Clone, Copy)]
+pub(crate) enum Request {
+    /// Spawns the process with this number.
+    Spawn(u32),
+    /// Ends it.
+    Exit(u32),
+    /// Makes a call of this process. Its bytes follow the number in the body.
+    Call(u32),
+    /// The body is no request.
+    NotARequest,
+}
+
+/// The number of bytes before those of a call.
+pub(crate) const CALL_START: usize = 5;
+
+/// Returns what the body of a packet asks.
+pub(crate) fn parse_request(body: &[u8]) -> Request
+    ensures { result ≡ spec.parse_request body.now }
+{
+    if body.len() < CALL_START {
+        return Request::NotARequest;
+    }
+    request_of(body[0], number_at(body, 1), body.len() == CALL_START)
+}
+
+/// Returns the request of this kind and process, whose body is short if nothing follows the process.
+fn request_of(kind: u8, pid: u32, is_short: bool) -> Request
+    ensures { result ≡ spec.request_of kind pid is_short }
+{
+    match kind {
+        0 if is_short => Request::Spawn(pid),
+        1 if is_short => Request::Exit(pid),
+        2 => Request::Call(pid),
+        _ => Request::NotARequest,
+    }
+}

@@ -1,0 +1,170 @@
+//! Packets from the first to the last.
+ghost use Rattle.std.specs.Prelude.{◌≡◌, ◌+◌, ◌<◌, ◌-◌, ◌^◌, [], ◌∷◌, ◌++◌, length, IfErr, IfOk, OnOk, OnErr};
+ghost use Rattle.node_text.specs.Calls.{new_store};
+ghost use Rattle.ets_packets.specs.Packets.{big4, max_packet, packet};
+ghost use Rattle.ets_packets.specs.Stops.{Completes, Stops};
+ghost use Rattle.ets_packets.specs.Traffic.{flow, traffic};
+ghost use Rattle.ets_packets.specs.inside.Answering.{AnswersHeld, AnswersPacket, BreaksHeld, BreaksPacket, EndsAfter};
+ghost use Rattle.ets_packets.specs.inside.Output.{Adds, Fails, HasWriterOf, waiting, writer_flow};
+
+use crate::buffer::Buffer;
+use crate::fault::PacketFault;
+use crate::front::{Front, MAX_PACKET, front_of};
+use crate::number::bytes_of;
+use crate::output::{Output, WriteFault, output_buffer};
+use crate::reply::answer;
+use node_core::Limits;
+use node_text::Store;
+use std::alloc::Global;
+use std::io::{Read, Write};
+
+/// Memory for a reply of more bytes is freed after the reply.
+const MAX_KEPT: usize = 65_536;
+
+/// A store that answers packets.
+#[derive(Drop)]
+struct Server {
+    alloc: Global,
+    store: Store,
+    /// Memory for the rest of a reply's body.
+    rest: Vec<u8>,
+}
+
+/// Answers each packet of the input by a new store with these limits, until the input ends. All replies so far are
+/// written before each read, and at the end.
+pub fn run_packets<R: Read, W: Write>(
+    alloc: Global,
+    input: &mut R,
+    output: &mut W,
+    limits: Limits,
+) -> Result<(), PacketFault>
+    ensures ok { OnOk result (Completes (new_store limits)
+        (traffic (flow R.remaining input.old input.new) (flow W.contents output.old output.new))) }
+    ensures err { IfErr result (Stops (new_store limits)
+        (traffic (flow R.remaining input.old input.new) (flow W.contents output.old output.new))) }
+    ensures most { MAX_PACKET ≡ max_packet }
+{
+    let mut buffer = Buffer::new(alloc)?;
+    let mut bytes = output_buffer(alloc)?;
+    let mut output = Output::new(&mut bytes, output);
+    let mut server = Server {
+        alloc,
+        store: Store::new(alloc, limits),
+        rest: Vec::new(alloc),
+    };
+    answer_all(input, &mut output, &mut buffer, &mut server)?;
+    Ok(())
+}
+
+/// Answers all packets, and writes all replies.
+fn answer_all<R: Read, W: Write>(
+    reader: &mut R,
+    output: &mut Output<'_, W>,
+    buffer: &mut Buffer,
+    server: &mut Server,
+) -> Result<(), PacketFault>
+    requires waiting { waiting output.old ≡ [] }
+    requires held { buffer.old ≡ [] }
+    ensures same_writer { HasWriterOf output.old output.new }
+    ensures ok { OnOk result (Completes server.old.store
+        (traffic (flow R.remaining reader.old reader.new) (writer_flow W.contents output.old output.new))) }
+    ensures err { IfErr result (Stops server.old.store
+        (traffic (flow R.remaining reader.old reader.new) (writer_flow W.contents output.old output.new))) }
+{
+    for _read in 0..u64::MAX {
+        if buffer.refill(reader)? == 0 {
+            return end_after(buffer.bytes());
+        }
+        let is_long = answer_held(output, buffer, server)?;
+        output.flush()?;
+        if is_long {
+            return Err(PacketFault::TooLong);
+        }
+    }
+    Err(PacketFault::Read)
+}
+
+/// Returns what the end of the input means after a part of a packet.
+fn end_after(part: &[u8]) -> Result<(), PacketFault>
+    ensures { EndsAfter part.now result }
+{
+    if part.is_empty() {
+        Ok(())
+    } else {
+        Err(PacketFault::Truncated)
+    }
+}
+
+/// Answers the whole packets that are buffered. Returns whether a packet that is too long follows them.
+fn answer_held<W: Write>(
+    output: &mut Output<'_, W>,
+    buffer: &mut Buffer,
+    server: &mut Server,
+) -> Result<bool, WriteFault>
+    ensures same_writer { HasWriterOf output.old output.new }
+    ensures ok { IfOk result (AnswersHeld (writer_flow W.contents output.old output.new)
+        (waiting output.old) (waiting output.new) buffer.old buffer.new server.old.store server.new.store) }
+    ensures err { OnErr result (BreaksHeld (writer_flow W.contents output.old output.new)
+        (waiting output.old) buffer.old server.old.store) }
+{
+    loop {
+        let len = match front_of(buffer.bytes()) {
+            Front::Packet(len) => len,
+            Front::Part => return Ok(false),
+            Front::TooLong => return Ok(true),
+        };
+        answer_packet(&buffer.bytes()[4..len + 4], output, server)?;
+        buffer.consume(len + 4);
+    }
+}
+
+/// Answers the body of a packet, and adds the packet of the reply to the output.
+fn answer_packet<W: Write>(
+    body: &[u8],
+    output: &mut Output<'_, W>,
+    server: &mut Server,
+) -> Result<(), WriteFault>
+    ensures same_writer { HasWriterOf output.old output.new }
+    ensures ok { OnOk result (AnswersPacket (writer_flow W.contents output.old output.new)
+        (waiting output.old) (waiting output.new) body.now server.old.store server.new.store) }
+    ensures err { OnErr result (BreaksPacket (writer_flow W.contents output.old output.new)
+        (waiting output.old) body.now server.old.store server.new.store) }
+{
+    clear(server.alloc, &mut server.rest);
+    let status = answer(server.alloc, &mut server.store, body, &mut server.rest);
+    add_reply(status, &server.rest, output)
+}
+
+/// Removes all bytes, and frees the memory if it is large.
+fn clear(alloc: Global, bytes: &mut Vec<u8>)
+    ensures { bytes.new.items ≡ [] }
+{
+    if bytes.capacity() > MAX_KEPT {
+        *bytes = Vec::new(alloc);
+    }
+    bytes.clear();
+}
+
+/// Adds the packet of a reply to the output.
+fn add_reply<W: Write>(
+    status: u8,
+    rest: &[u8],
+    output: &mut Output<'_, W>,
+) -> Result<(), WriteFault>
+    requires { length rest.now < 2 ^ 32 - 1 }
+    ensures same_writer { HasWriterOf output.old output.new }
+    ensures ok { OnOk result (Adds W.contents output.old output.new (packet (status ∷ rest.now))) }
+    ensures err { OnErr result (Fails W.contents output.old output.new (packet (status ∷ rest.now))) }
+{
+    output.add(&reply_head(status, rest))?;
+    output.add(rest)
+}
+
+/// Returns the length of a reply's body, and its status.
+fn reply_head(status: u8, rest: &[u8]) -> [u8; 5]
+    requires { length rest.now < 2 ^ 32 - 1 }
+    ensures { result ≡ big4 (length (status ∷ rest.now)) ++ status ∷ [] }
+{
+    let len = bytes_of(rest.len() as u32 + 1);
+    [len[0], len[1], len[2], len[3], status]
+}

@@ -1,0 +1,52 @@
+-- The call that bytes spell.
+use Rattle.std.specs.Prelude.{ℕ, List, [], ◌∷◌, length, ◌==◌, if◌then◌else◌, Option, Some, None, Ok, Err, unwrap_or, option_map}
+use Rattle.ets_term.specs.declared.term.Term.{Term}
+use Rattle.ets_term.specs.Views.{as_atom, as_tuple, as_list}
+use Rattle.external_term.specs.Faults.{offset}
+use Rattle.external_term.specs.Fields.{Read}
+use Rattle.external_term.specs.Reader.{read}
+use Rattle.external_term.specs.declared.fault.ExternalFault.{ExternalFault}
+use Rattle.external_term.specs.declared.fault.ExternalFault.TheVariants as fault
+use Rattle.node_external.specs.declared.call_problem.CallProblem.{CallProblem}
+use Rattle.node_external.specs.declared.call_problem.CallProblem.TheVariants as problem
+use Rattle.node_external.specs.declared.parsed_call.ParsedCall.{ParsedCall}
+use Rattle.node_external.specs.declared.parsed_call.ParsedCall.TheVariants.{Call, Faulty}
+
+-- a whole term that is no call
+abbrev pub no_call : ParsedCall
+no_call = Faulty problem.NotACall 0
+
+-- a name and arguments, if there are both
+abbrev pub call_with : Option (List ℕ) → Option (List Term) → ParsedCall
+call_with (Some name) (Some args) = Call name args
+call_with (Some name) None = no_call
+call_with None args = no_call
+
+-- a name, which is an atom, and a list of arguments
+abbrev pub call_from_elements : List Term → ParsedCall
+call_from_elements (name ∷ args ∷ []) = call_with (as_atom name) (as_list args)
+call_from_elements _ = no_call
+
+-- a tuple of a name and a list is a call
+abbrev pub call_from_term : Term → ParsedCall
+call_from_term term = unwrap_or (option_map call_from_elements (as_tuple term)) no_call
+
+-- what is wrong at a fault of the reader, which never finds that memory ran out
+abbrev pub problem_of : ExternalFault → CallProblem
+problem_of (fault.Truncated at) = problem.Truncated
+problem_of (fault.BadVersion at) = problem.BadVersion
+problem_of (fault.UnknownTag at) = problem.UnknownTag
+problem_of (fault.TooDeep at) = problem.TooDeep
+problem_of (fault.ImproperList at) = problem.ImproperList
+problem_of (fault.BadAtom at) = problem.BadAtom
+problem_of (fault.BadInteger at) = problem.BadInteger
+problem_of (fault.ForeignIdentifier at) = problem.ForeignIdentifier
+problem_of fault.Memory = problem.Truncated
+
+-- what is read from this number of bytes: a term that takes them all is read as a call
+abbrev pub call_from_reading : ℕ → Read Term → ParsedCall
+call_from_reading len (Ok (term, n)) = if n == len then call_from_term term else Faulty problem.TrailingBytes n
+call_from_reading len (Err f) = Faulty (problem_of f) (unwrap_or (offset f) 0)
+
+abbrev pub parse_call : List ℕ → ParsedCall
+parse_call bytes = call_from_reading (length bytes) (read bytes)

@@ -1,0 +1,49 @@
+//! What is wrong with bytes that are no call.
+ghost use Rattle.std.specs.Prelude.{◌≡◌};
+ghost use Rattle.node_external.specs.Words.{words_of};
+
+/// What is wrong with bytes that are no call.
+#[derive(Clone, Copy, Debug, PartialEq, Eq)]
+pub enum CallProblem {
+    /// The bytes end inside a term.
+    Truncated,
+    /// The first byte is not the version, 131.
+    BadVersion,
+    /// No tag has the value of the byte.
+    UnknownTag,
+    /// A term, or a character of a string, is at level 129.
+    TooDeep,
+    /// The tail of a list is not the empty list.
+    ImproperList,
+    /// An atom has more than 255 characters, or one that is not printable ASCII; or no atom is where one must be.
+    BadAtom,
+    /// An integer does not fit 128 bits.
+    BadInteger,
+    /// A pid or reference is of another node, or a part of it other than its number is not 0.
+    ForeignIdentifier,
+    /// A whole term that is no tuple of an atom and a list.
+    NotACall,
+    /// More bytes after the term.
+    TrailingBytes,
+}
+
+impl CallProblem {
+    /// Returns in words what is wrong.
+    pub fn text(self) -> &'static str
+        ensures { result.now ≡ words_of self }
+    {
+        match self {
+            CallProblem::Truncated => "the bytes end inside a term",
+            CallProblem::BadVersion => "the first byte is not the version 131",
+            CallProblem::UnknownTag => "unsupported tag",
+            CallProblem::TooDeep => "more than 128 levels deep",
+            CallProblem::ImproperList => "improper lists are not supported",
+            CallProblem::BadAtom => "not an atom of at most 255 printable ASCII characters",
+            CallProblem::BadInteger => "integer out of range",
+            CallProblem::ForeignIdentifier => "a pid or reference of another node",
+            CallProblem::NotACall =>
+                "expected a tuple of the call's name and the list of its arguments",
+            CallProblem::TrailingBytes => "unexpected bytes after the call",
+        }
+    }
+}

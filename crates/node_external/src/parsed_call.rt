@@ -1,0 +1,91 @@
+//! The call that bytes spell.
+ghost use Rattle.std.specs.Prelude.{◌≡◌, IfOk};
+ghost use Rattle.ets_term.specs.Views.{as_atom, as_list};
+ghost use Rattle.node_external.specs.Calls as spec;
+
+use crate::call_problem::CallProblem;
+use ets_term::{Atom, Items, Term};
+use external_term::{ExternalFault, read_external};
+use std::alloc::{AllocError, Global};
+
+/// The call that bytes spell.
+#[derive(Drop)]
+pub enum ParsedCall {
+    /// A call: its name and its arguments.
+    Call(Atom, Items<Term>),
+    /// The bytes are not a call: what is wrong, and its offset.
+    Faulty(CallProblem, usize),
+}
+
+/// Reads the bytes of a call: the external format of a tuple of its name, an atom, and the list of its arguments, such
+/// as `{lookup,[t,a]}`.
+pub fn read_call(alloc: Global, bytes: &[u8]) -> Result<ParsedCall, AllocError>
+    ensures { IfOk result (λ c. c ≡ spec.parse_call bytes.now) }
+{
+    match read_external(alloc, bytes) {
+        Ok((term, taken)) if taken == bytes.len() => Ok(call_from_term(term)),
+        Ok((_, taken)) => Ok(ParsedCall::Faulty(CallProblem::TrailingBytes, taken)),
+        Err(fault) => match fault.at() {
+            Some(at) => Ok(ParsedCall::Faulty(problem_of(fault), at)),
+            None => Err(AllocError),
+        },
+    }
+}
+
+/// Returns the call that a term is.
+fn call_from_term(term: Term) -> ParsedCall
+    ensures { result ≡ spec.call_from_term term }
+{
+    match term {
+        Term::Tuple(terms) => call_from_elements(terms.into_vec()),
+        _ => no_call(),
+    }
+}
+
+/// Returns the call that the elements of a tuple are.
+fn call_from_elements(mut terms: Vec<Term>) -> ParsedCall
+    ensures { result ≡ spec.call_from_elements terms.items }
+{
+    if terms.len() == 2 {
+        let name = terms.remove(0);
+        call_with(name, terms.remove(0))
+    } else {
+        no_call()
+    }
+}
+
+/// Returns the call of a name and arguments.
+fn call_with(name: Term, args: Term) -> ParsedCall
+    ensures { result ≡ spec.call_with (as_atom name) (as_list args) }
+{
+    let Term::Atom(name) = name else {
+        return no_call();
+    };
+    match args {
+        Term::List(args) => ParsedCall::Call(name, args),
+        _ => no_call(),
+    }
+}
+
+/// Returns that a whole term is no call.
+fn no_call() -> ParsedCall
+    ensures { result ≡ spec.no_call }
+{
+    ParsedCall::Faulty(CallProblem::NotACall, 0)
+}
+
+/// Returns what is wrong at a fault of the reader.
+fn problem_of(fault: ExternalFault) -> CallProblem
+    ensures { result ≡ spec.problem_of fault }
+{
+    match fault {
+        ExternalFault::Truncated(_) | ExternalFault::Memory => CallProblem::Truncated,
+        ExternalFault::BadVersion(_) => CallProblem::BadVersion,
+        ExternalFault::UnknownTag(_) => CallProblem::UnknownTag,
+        ExternalFault::TooDeep(_) => CallProblem::TooDeep,
+        ExternalFault::ImproperList(_) => CallProblem::ImproperList,
+        ExternalFault::BadAtom(_) => CallProblem::BadAtom,
+        ExternalFault::BadInteger(_) => CallProblem::BadInteger,
+        ExternalFault::ForeignIdentifier(_) => CallProblem::ForeignIdentifier,
+    }
+}

@@ -1,0 +1,42 @@
+//! Why no step was done for a call.
+ghost use Rattle.std.specs.Prelude.{◌≡◌};
+ghost use Rattle.node_text.specs.inside.WrittenFault.{WritesFault};
+
+use crate::status::{NO_MEMORY, SYNTAX};
+use std::alloc::AllocError;
+
+/// Why no step was done for a call.
+#[derive(Drop)]
+pub enum CallFault {
+    /// It is not a call; the offset of its first fault.
+    Syntax(usize),
+    /// Memory ran out.
+    Memory,
+}
+
+impl CallFault {
+    /// Returns its status, and writes its offset to `len`.
+    pub(crate) fn write(self, len: &mut usize) -> i32
+        requires { len.old ≡ 0 }
+        ensures { WritesFault self result len.new }
+    {
+        match self {
+            CallFault::Syntax(at) => {
+                *len = at;
+                SYNTAX
+            }
+            CallFault::Memory => NO_MEMORY,
+        }
+    }
+}
+
+impl From<AllocError> for CallFault {
+    ghost use Rattle.std.specs.Prelude.{◌≡◌};
+    ghost use Rattle.node_text.specs.declared.call_fault.CallFault.TheVariants.{Memory};
+
+    ghost from_gives = { λ _ e. e ≡ Memory };
+
+    fn from(_error: AllocError) -> CallFault {
+        CallFault::Memory
+    }
+}

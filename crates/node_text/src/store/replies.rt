@@ -1,0 +1,100 @@
+//! What a store says of its last call.
+ghost use Rattle.std.specs.Prelude.{◌≡◌};
+ghost use Rattle.external_term.specs.Encoding.{written};
+ghost use Rattle.term_text.specs.Printed.{printed};
+ghost use Rattle.node_text.specs.Answers.{WritesReply, WritesText, WritesReason, written_reply};
+
+use crate::copy::copy_prefix;
+use crate::last_refusal::LastRefusal;
+use crate::status::{UNTOLD, VALUE, status_of};
+use crate::store::Store;
+use ets_term::Term;
+use external_term::write_external;
+use node_core::Reply;
+use std::alloc::Global;
+use term_text::print_term;
+
+/// The greatest capacity of the vector for a reply's bytes that is kept after the reply.
+const MAX_KEPT: usize = 65536;
+
+impl Store {
+    /// Returns the reply to the last step that was done.
+    pub fn reply(&self) -> &Reply
+        ensures { result.now ≡ self.now.reply }
+    {
+        &self.reply
+    }
+
+    /// Returns why the last call was refused, if it was.
+    pub fn refusal(&self) -> Option<LastRefusal>
+        ensures { result ≡ self.now.refusal }
+    {
+        self.refusal
+    }
+
+    /// Returns the status of the last reply. Writes as much of its text as fits to `out`, and its whole length to `len`.
+    pub fn write_reply(&self, alloc: Global, out: &mut [u8], len: &mut usize) -> i32
+        ensures { WritesReply printed self.now.reply (written_reply result len.new out.old out.new) }
+    {
+        *len = 0;
+        let Reply::Value(term) = &self.reply else {
+            return status_of(&self.reply);
+        };
+        let mut text = String::new(alloc);
+        if print_term(alloc, term, &mut text).is_err() {
+            return UNTOLD;
+        }
+        *len = text.len();
+        copy_prefix(text.as_bytes(), out);
+        VALUE
+    }
+
+    /// Returns the status of the last reply. Writes as much of its bytes in the external format as fits to `out`, and
+    /// their whole number to `len`. Changes nothing else.
+    pub fn write_reply_external(&mut self, out: &mut [u8], len: &mut usize) -> i32
+        ensures same { self.new ≡ self.old }
+        ensures writes { WritesReply written self.old.reply (written_reply result len.new out.old out.new) }
+    {
+        *len = 0;
+        let Reply::Value(term) = &self.reply else {
+            return status_of(&self.reply);
+        };
+        let status = write_term(term, &mut self.bytes, out, len);
+        if self.bytes.capacity() > MAX_KEPT {
+            self.bytes.shrink_to_fit();
+        }
+        status
+    }
+
+    /// Writes as much as fits of the reason why the last call was refused to `out`, and its whole length to `len`. The
+    /// length is 0 if the call was not refused.
+    pub fn write_reason(&self, alloc: Global, out: &mut [u8], len: &mut usize) -> i32
+        ensures { WritesReason self.now.refusal (written_reply result len.new out.old out.new) }
+    {
+        *len = 0;
+        let Some(refusal) = self.refusal else {
+            return VALUE;
+        };
+        let Ok(words) = refusal.text(alloc) else {
+            return UNTOLD;
+        };
+        *len = words.len();
+        copy_prefix(words.as_bytes(), out);
+        VALUE
+    }
+}
+
+/// Writes as much of a term's bytes in the external format as fits to `out`, and their whole number to `len`. The bytes
+/// are made in a vector, over what it has.
+fn write_term(term: &Term, bytes: &mut Vec<u8>, out: &mut [u8], len: &mut usize) -> i32
+    requires { len.old ≡ 0 }
+    ensures { WritesText (written term.now) (written_reply result len.new out.old out.new) }
+{
+    bytes.clear();
+    if write_external(term, bytes).is_err() {
+        return UNTOLD;
+    }
+    *len = bytes.len();
+    copy_prefix(bytes.as_slice(), out);
+    VALUE
+}
