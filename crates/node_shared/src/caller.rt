@@ -65,13 +65,14 @@ impl<B: HistoryId> Caller<B> {
     }
 
     /// Makes these calls in order, with no step of another process between them, and returns their replies. `ask` says
-    /// what holds of each. If memory runs out, it stops and returns the replies to the calls before. It may wait for
-    /// the lock.
+    /// what holds of each. Then runs at most `growth` pending growth steps, which no call observes, before it lets go of
+    /// the lock. If memory runs out, it stops and returns the replies to the calls before. It may wait for the lock.
     pub fn ask_all<H: KeyHash + Copy + Drop, R: Wait>(
         &mut self,
         rt: &R,
         server: &Server<B, H>,
         calls: Vec<Call>,
+        growth: u32,
     ) -> Result<Vec<Reply>, RunFault>
         ensures ok { IfOk result (λ replies. HasAsked B.limits self.old calls.items replies.items self.new) }
         ensures all { IfOk result (λ replies. length replies.items ≡ length calls.items) }
@@ -82,7 +83,13 @@ impl<B: HistoryId> Caller<B> {
             return Err(fault_after(replies));
         }
         let mut served = server.served.write(rt);
-        self.ask_each(&server.word, &mut *served, calls, replies)
+        let asked = self.ask_each(&server.word, &mut *served, calls, replies)?;
+        for _ in 0..growth {
+            if !served.try_tend(&server.word) {
+                break;
+            }
+        }
+        Ok(asked)
     }
 
     fn ask_each<H: KeyHash + Copy + Drop>(

@@ -20,6 +20,7 @@ mod meeting;
 mod numbering;
 mod reading;
 mod serving;
+mod stressing;
 
 /// The call of this name, with the terms of this list.
 fn call(alloc: Global, name: &str, arguments: &str) -> Result<Call, Fail> {

@@ -42,7 +42,7 @@ fn is_read<B: HistoryId, R: Wait>(
     let mut calls = Vec::new(alloc);
     calls.push(call(alloc, "new", "[t,[named_table]]")?)?;
     calls.push(call(alloc, "insert", "[t,{1,a}]")?)?;
-    let replies = caller.ask_all(rt, server, calls).map_err(|_| "replies")?;
+    let replies = caller.ask_all(rt, server, calls, 0).map_err(|_| "replies")?;
     let found = text_of_read(rt, alloc, server, caller, lookup)?;
     let unknown = text_of_read(rt, alloc, server, caller, ("lookup", "[u,1]"))?;
     let insertion = text_of_read(rt, alloc, server, caller, ("insert", "[t,{2}]"))?;

@@ -24,6 +24,11 @@ const OTHER: [&str; 2] = [
     "[u,[{1},{2},{3},{4},{5},{6},{7},{8},{9}]]",
 ];
 
+const THIRD: [&str; 2] = [
+    "[v,[named_table]]",
+    "[v,[{1},{2},{3},{4},{5},{6},{7},{8},{9}]]",
+];
+
 /// Draws two numbers.
 fn draw_two(alloc: Global) -> Result<(Drawn, Drawn), Fail> {
     let (pids, one, other) = two_seats(alloc)?;
@@ -45,6 +50,22 @@ fn fill<B: HistoryId, R: Wait>(
     Ok(())
 }
 
+/// Makes a table and gives it nine objects under one lock, with three pending growth steps.
+fn fill_at_once<B: HistoryId, R: Wait>(
+    rt: &R,
+    alloc: Global,
+    server: &Server<B, Fnv>,
+    caller: &mut Caller<B>,
+    table: [&str; 2],
+) -> Result<usize, Fail> {
+    let [new, objects] = table;
+    let mut calls = Vec::new(alloc);
+    calls.push(call(alloc, "new", new)?)?;
+    calls.push(call(alloc, "insert", objects)?)?;
+    let replies = caller.ask_all(rt, server, calls, 3).map_err(|_| "replies")?;
+    Ok(replies.len())
+}
+
 /// Returns whether four steps are pending after nine insertions: three turns leave one, and nine turns none.
 fn is_kept<B: HistoryId, R: Wait>(
     rt: &R,
@@ -55,7 +76,9 @@ fn is_kept<B: HistoryId, R: Wait>(
     fill(rt, alloc, server, caller, TABLE)?;
     let three = server.keep(rt, 3) == 3 && server.keep(rt, 9) == 1 && server.keep(rt, 9) == 0;
     fill(rt, alloc, server, caller, OTHER)?;
-    Ok(three && server.keep(rt, 9) == 4)
+    let four = server.keep(rt, 9) == 4;
+    let is_filled = fill_at_once(rt, alloc, server, caller, THIRD)? == 2;
+    Ok(three && four && is_filled && server.keep(rt, 9) == 1)
 }
 
 /// Returns whether the process asks in vain once it has ended.

@@ -1,0 +1,127 @@
+// A reader: it reads the tables of the writers and its own, and traverses fixed tables.
+use super::{KEPT, READS, WRITERS, call, is_done, lists};
+use ets_term::{KeyHash, Term};
+use node_core::Reply;
+use node_shared::{Caller, HistoryId, Server};
+use std::alloc::Global;
+use std::sync::Wait;
+
+/// More than the keys of a table.
+const MAX_KEYS: u32 = 1_000_000;
+
+/// Makes all calls, and returns whether all replies are right.
+pub(super) fn read_all<B: HistoryId, H: KeyHash + Copy + Drop, R: Wait>(
+    rt: &R,
+    alloc: Global,
+    server: &Server<B, H>,
+    mut caller: Caller<B>,
+) -> Option<bool> {
+    for turn in 0..READS {
+        if !is_read(rt, alloc, server, &mut caller, turn)? {
+            return Some(false);
+        }
+    }
+    Some(true)
+}
+
+/// Makes the call of a turn: a traversal, a write, a read of what was written, or mostly a lookup of a kept key.
+fn is_read<B: HistoryId, H: KeyHash + Copy + Drop, R: Wait>(
+    rt: &R,
+    alloc: Global,
+    server: &Server<B, H>,
+    caller: &mut Caller<B>,
+    turn: u32,
+) -> Option<bool> {
+    let [one, other] = WRITERS;
+    let writer = if turn % 2 == 0 { one } else { other };
+    let own = caller.pid();
+    match turn % 20 {
+        0 => {
+            let object = format!(in alloc; "[t{own},{{own,{turn}}}]").ok()?;
+            is_done(rt, alloc, server, caller, ("insert", object.as_str()))
+        }
+        1 => {
+            let written = turn.wrapping_sub(1);
+            let pattern = format!(in alloc; "[t{own},{{own,{written}}}]").ok()?;
+            lists(
+                rt,
+                alloc,
+                server,
+                caller,
+                ("match_object", pattern.as_str()),
+                1,
+            )
+        }
+        _ if turn % 50_000 == 25_002 => is_whole(rt, alloc, server, caller, one),
+        _ if turn % 50_000 == 45_002 => is_whole(rt, alloc, server, caller, other),
+        _ => {
+            let key = turn.wrapping_mul(7) % KEPT;
+            let arguments = format!(in alloc; "[t{writer},{key}]").ok()?;
+            lists(rt, alloc, server, caller, ("lookup", arguments.as_str()), 1)
+        }
+    }
+}
+
+/// Fixes the table of a writer and traverses it. Returns whether each kept key was visited once.
+fn is_whole<B: HistoryId, H: KeyHash + Copy + Drop, R: Wait>(
+    rt: &R,
+    alloc: Global,
+    server: &Server<B, H>,
+    caller: &mut Caller<B>,
+    writer: u32,
+) -> Option<bool> {
+    let fix = format!(in alloc; "[t{writer},true]").ok()?;
+    let release = format!(in alloc; "[t{writer},false]").ok()?;
+    let is_fixed = is_done(rt, alloc, server, caller, ("safe_fixtable", fix.as_str()))?;
+    let visits = visits(rt, alloc, server, caller, writer)?;
+    let is_free = is_done(
+        rt,
+        alloc,
+        server,
+        caller,
+        ("safe_fixtable", release.as_str()),
+    )?;
+    Some(is_fixed && is_free && visits.iter().all(|times| *times == 1))
+}
+
+/// Traverses the table of a writer, and returns how often each kept key was visited.
+fn visits<B: HistoryId, H: KeyHash + Copy + Drop, R: Wait>(
+    rt: &R,
+    alloc: Global,
+    server: &Server<B, H>,
+    caller: &Caller<B>,
+    writer: u32,
+) -> Option<Vec<u8>> {
+    let mut visits = Vec::new(alloc);
+    for _ in 0..KEPT {
+        visits.push(0).ok()?;
+    }
+    let first = format!(in alloc; "[t{writer}]").ok()?;
+    let mut place = key_of(rt, alloc, server, caller, ("first", first.as_str()))?;
+    for _ in 0..MAX_KEYS {
+        let Some(key) = place else {
+            break;
+        };
+        if let Some(times) = visits.get_mut(key as usize) {
+            *times = u8::saturating_add(*times, 1);
+        }
+        let next = format!(in alloc; "[t{writer},{key}]").ok()?;
+        place = key_of(rt, alloc, server, caller, ("next", next.as_str()))?;
+    }
+    Some(visits)
+}
+
+/// Returns the key that a read replies, if it is a number.
+fn key_of<B: HistoryId, H: KeyHash + Copy + Drop, R: Wait>(
+    rt: &R,
+    alloc: Global,
+    server: &Server<B, H>,
+    caller: &Caller<B>,
+    asked: (&str, &str),
+) -> Option<Option<u32>> {
+    let asked = call(alloc, asked)?;
+    Some(match caller.read(rt, server, &asked).ok()? {
+        Some(Reply::Value(Term::Int(key))) => u32::try_from(key).ok(),
+        _ => None,
+    })
+}
