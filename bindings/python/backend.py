@@ -1,8 +1,9 @@
 """Builds the wheel. pip calls this by pyproject.toml; `build-wheel` calls it for a release. It needs nothing but
-Python.
+Python. If a C compiler and CPython's headers are present, the wheel has the extension too.
 
-The wheel is the same, byte for byte, whenever it is built from the same files: names are sorted, times are fixed, and
-nothing is compressed, since compressors differ."""
+The wheel is the same, byte for byte, whenever it is built from the same files by the same compiler: names are sorted,
+times are fixed, and nothing is compressed, since compressors differ. The extension uses the stable ABI of Python 3.10,
+and the package works without it, so the wheel is for every Python."""
 
 import ast
 import base64
@@ -11,13 +12,20 @@ import os
 import pathlib
 import platform
 import re
+import shlex
+import shutil
 import stat
+import subprocess
 import sys
+import sysconfig
+import tempfile
 import zipfile
 
 HERE = pathlib.Path(__file__).resolve().parent
 # What the wheel has of dist/, with its mode.
 COPIES = {"ets_script": 0o755, "libyoyoash.so": 0o755}
+EXTENSION = "_external.abi3.so"
+FLAGS = "-std=c11 -O2 -g0 -fPIC -fvisibility=hidden -shared -Wl,--build-id=none".split()
 GLIBC = (2, 34)
 NATIVE, PURE = f"py3-none-manylinux_{GLIBC[0]}_{GLIBC[1]}_x86_64", "py3-none-any"
 EARLIEST = (1980, 1, 1, 0, 0, 0)
@@ -45,12 +53,44 @@ def copies_of(dist):
     copies = {}
     for name, mode in COPIES.items():
         content = (dist / name).read_bytes()
-        needed = max((tuple(map(int, it)) for it in re.findall(rb"\0GLIBC_(\d+)\.(\d+)", content)), default=GLIBC)
+        needed = glibc_of(content)
         if needed > GLIBC:
             needs, promises = ".".join(map(str, needed)), ".".join(map(str, GLIBC))
             raise SystemExit(f"build-wheel: {dist / name} needs glibc {needs}, and the wheel promises {promises}")
         copies[f"yoyoash/native/{name}"] = (content, mode)
     return copies
+
+
+def glibc_of(content):
+    """Returns the latest version of glibc that a file needs."""
+    return max((tuple(map(int, it)) for it in re.findall(rb"\0GLIBC_(\d+)\.(\d+)", content)), default=GLIBC)
+
+
+def extension():
+    """Returns the extension as a file of the wheel. Returns no file, and says why, if it cannot be built here: the package
+    works without it."""
+    compiler = shlex.split(os.environ.get("CC") or shutil.which("cc") or "")
+    include = sysconfig.get_path("include")
+    if sys.implementation.name != "cpython" or not compiler or not pathlib.Path(include, "Python.h").is_file():
+        return without_extension("there is no C compiler, or CPython's headers are missing")
+    sources = sorted(it.name for it in (HERE / "extension").glob("*.c"))
+    with tempfile.TemporaryDirectory() as folder:
+        made = pathlib.Path(folder, EXTENSION)
+        words = [*compiler, *FLAGS, f"-I{include}", *sources, "-o", str(made)]
+        try:
+            subprocess.run(words, cwd=HERE / "extension", check=True, capture_output=True)
+        except (OSError, subprocess.CalledProcessError):
+            return without_extension(f"{compiler[0]} does not compile it")
+        content = made.read_bytes()
+    if glibc_of(content) > GLIBC:
+        return without_extension("it would need a later glibc than the wheel promises")
+    return {f"yoyoash/{EXTENSION}": (content, 0o755)}
+
+
+def without_extension(why):
+    """Returns no file."""
+    print(f"yoyoash: the wheel has no extension, so calls in process are slower: {why}", file=sys.stderr)
+    return {}
 
 
 def write_wheel(folder, files, tag):
@@ -102,7 +142,7 @@ def build_wheel(wheel_directory, config_settings=None, metadata_directory=None):
     if missing:
         remedy = "'git checkout -- dist' restores it, or set YOYOASH_DIST to the folder that has it"
         raise SystemExit(f"yoyoash: there is no {dist / missing[0]}: {remedy}")
-    return write_wheel(pathlib.Path(wheel_directory), modules() | copies_of(dist), NATIVE)
+    return write_wheel(pathlib.Path(wheel_directory), modules() | copies_of(dist) | extension(), NATIVE)
 
 
 def build_editable(wheel_directory, config_settings=None, metadata_directory=None):

@@ -1,7 +1,9 @@
 #!/usr/bin/env python3
-"""Measures lookups a second: by pipe one by one, in a pipeline and with asyncio, and in this process; and the same
-calls as texts, without the conversion of terms. The ways are interleaved in one run.
+"""Measures lookups a second: by pipe one by one, in a pipeline and with asyncio, and in this process with the
+extension and without it; and the same calls as texts, without the conversion of terms. The ways are interleaved in one
+run.
 
+    bindings/python/build-extension     (once)
     python3 bindings/python/measure.py [LIBRARY [PROGRAM]]     (found as docs/python.md says)"""
 
 import asyncio
@@ -11,7 +13,7 @@ import platform
 import sys
 import time
 
-from yoyoash import Atom, Process, Store, aio, finding
+from yoyoash import Atom, Process, Store, aio, calling, finding
 from yoyoash.library import Library
 from yoyoash.pipe import Pipe
 
@@ -59,6 +61,15 @@ async def filled_for_asyncio(store: aio.Store) -> aio.Process:
     return process
 
 
+def by_ctypes(library: str | None) -> Store:
+    """Opens a store in this process that does not use the extension."""
+    extension, calling.extension = calling.extension, None
+    try:
+        return Store.in_process(library)
+    finally:
+        calling.extension = extension
+
+
 def seconds(work, *given) -> float:
     began = time.perf_counter()
     work(*given)
@@ -68,13 +79,15 @@ def seconds(work, *given) -> float:
 def main(library=None, program=None):
     program = finding.program(program)
     loop, other = asyncio.new_event_loop(), aio.Store([program])
-    with Store.in_process(library) as near, Store([program]) as far:
+    with Store.in_process(library) as near, by_ctypes(library) as plain, Store([program]) as far:
         here, there, soon = filled(near), filled(far), loop.run_until_complete(filled_for_asyncio(other))
+        by_extension = {"in process, by the extension": (one_by_one, here)} if calling.extension else {}
         ways = {
             "by pipe, one by one": (one_by_one, there),
             "by pipe, in a pipeline": (together, there),
             "by pipe, asyncio, 200 at once": (awaited, loop, soon),
-            "in process": (one_by_one, here),
+            **by_extension,
+            "in process, by ctypes": (one_by_one, filled(plain)),
             "texts by pipe, one by one": (as_texts, there, far._way),
             "texts in process": (as_texts, here, near._way),
         }

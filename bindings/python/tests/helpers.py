@@ -5,8 +5,9 @@ import pathlib
 import random
 import re
 import sys
+from unittest import mock
 
-from yoyoash import Atom, Pid, Tid, Unavailable, aio, finding, pipe, reasons, spell
+from yoyoash import Atom, Pid, Tid, Unavailable, aio, calling, finding, pipe, reasons, spell
 
 # A busy machine makes steps slow: asyncio would report them, and a reason may arrive late.
 logging.getLogger("asyncio").setLevel(logging.ERROR)
@@ -32,6 +33,12 @@ def found(find):
 
 
 PROGRAM, LIBRARY = found(finding.program), found(finding.library)
+EXTENSION = calling.extension
+
+
+def without_extension():
+    """Returns a context in which stores are opened without the extension."""
+    return mock.patch.object(calling, "extension", None)
 
 
 def printing(*answers):

@@ -3,7 +3,7 @@
 import asyncio
 import unittest
 
-from helpers import LIBRARY, PROGRAM, RECORDED
+from helpers import EXTENSION, LIBRARY, PROGRAM, RECORDED, without_extension
 from yoyoash import Atom, BadArg, NoProcess, Pid, Store, Tid, aio
 
 PRICES, APPLE = Atom("prices"), Atom("apple")
@@ -55,6 +55,13 @@ class ByPipe(Recorded):
 class InProcess(ByPipe):
     def open(self):
         return Store.in_process()
+
+
+@unittest.skipUnless(LIBRARY and EXTENSION, "the extension was not built")
+class WithoutExtension(ByPipe):
+    def open(self):
+        with without_extension():
+            return Store.in_process()
 
 
 @unittest.skipUnless(PROGRAM, "no ets_script found: set YOYOASH_PROGRAM")

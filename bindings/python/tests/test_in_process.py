@@ -1,15 +1,20 @@
 """What differs for a store in this process."""
 
+import collections
+import enum
 import random
 import threading
 import unittest
+import weakref
 
-from helpers import LIBRARY, any_term
+from helpers import EXTENSION, LIBRARY, any_term, without_extension
 from yoyoash import Atom, BadArg, Gone, NoProcess, Store, Syntax, SystemLimit, Tid
 
 
 @unittest.skipUnless(LIBRARY, "no libyoyoash.so found: set YOYOASH_LIBRARY")
 class InProcess(unittest.TestCase):
+    """By the extension if there is one, else by ctypes."""
+
     def open(self, **limits):
         return Store.in_process(**limits)
 
@@ -45,6 +50,58 @@ class InProcess(unittest.TestCase):
             p.insert(t, (0, list(range(10_000))))
             self.assertEqual(p.take(t, 0), [(0, list(range(10_000)))])
             self.assertEqual(p.take(t, 0), [])
+
+    def test_replies_about_as_long_as_the_buffer(self):
+        with self.open() as store:
+            p, t = self.table(store)
+            for size in range(4_050, 4_110):
+                p.insert(t, (0, bytes(size)))
+                self.assertEqual(p.lookup(t, 0), [(0, bytes(size))])
+
+    def test_deep_arguments(self):
+        def deep(levels):
+            term = 0
+            for _ in range(levels - 1):
+                term = (term,)
+            return term
+
+        with self.open() as store:
+            p, t = self.table(store)
+            for levels in range(120, 128):
+                p.insert(t, deep(levels))
+                self.assertEqual(p.lookup(t, deep(levels)[0]), [deep(levels)])
+            for levels in (128, 129, 5_000):
+                with self.assertRaises(Syntax) as refused:
+                    p.insert(t, deep(levels))
+                self.assertEqual(refused.exception.line, f"p insert('t',{'{' * (levels - 1)}0{'}' * (levels - 1)})")
+                self.assertEqual((refused.exception.at, bool(refused.exception.reason)), (len("p insert('t',") + 127, True))
+
+    def test_values_of_other_types_are_refused_before_the_call(self):
+        with self.open() as store:
+            p, t = self.table(store)
+            for value, error in [(True, TypeError), ("text", TypeError), (1.5, TypeError), (2**127, ValueError), (-(2**127) - 1, ValueError)]:
+                for term in [value, (1, value), [[value]]]:
+                    with self.assertRaises(error):
+                        p.insert(t, (0, term))
+            self.assertEqual(p.info(t, Atom("size")), 0)
+
+    def test_a_value_of_a_derived_type_is_sent_as_its_base(self):
+        point, colour = collections.namedtuple("Point", "x y"), enum.IntEnum("Colour", "RED GREEN")
+        with self.open() as store:
+            p, t = self.table(store)
+            p.insert(t, point(1, [colour.GREEN, (colour.RED,)]))
+            self.assertEqual(p.lookup(t, 1), [(1, [2, (1,)])])
+
+    def test_refused_calls_have_their_line_and_a_reason(self):
+        with self.open(max_objects=1) as store:
+            p, t = self.table(store)
+            with self.assertRaises(SystemLimit) as refused:
+                p.insert(t, [(1,), (Atom("it's"), [b"x"])])
+            self.assertEqual(str(refused.exception), "system_limit: p insert('t',[{1},{'it\\'s',[<<120>>]}]) (object limit reached; open the store with a larger max_objects=)")
+            p.exit()
+            with self.assertRaises(NoProcess) as refused:
+                p.receive()
+            self.assertEqual((refused.exception.line, bool(refused.exception.reason)), ("p receive()", True))
 
     def test_refused_lines_have_their_class_and_a_reason(self):
         calls = {
@@ -133,3 +190,32 @@ class InProcess(unittest.TestCase):
                 for number in range(100):
                     calls.insert(t, (number,))
             self.assertEqual(calls.answers, [Atom("true")] * 100)
+
+    def test_a_pipeline_sends_what_it_collected(self):
+        with self.open() as store:
+            p, t = self.table(store)
+            numbers = [1, 2]
+            with p.pipeline() as calls:
+                calls.insert(t, (0, numbers))
+                numbers.append(3)
+                calls.lookup(Atom("nowhere"), 0)
+                calls.lookup(t, 0)
+            self.assertEqual([type(it) for it in calls.answers], [Atom, BadArg, list])
+            self.assertEqual(calls.answers[1].line, "p lookup('nowhere',0)")
+            self.assertEqual((calls.answers[1].reason, calls.answers[2]), ("argument 1: no such table", [(0, [1, 2])]))
+
+    def test_stores_are_freed(self):
+        with self.open() as store:
+            p, t = self.table(store)
+            dropped = weakref.ref(store), weakref.ref(store._way)
+        del p, t, store
+        self.assertEqual([it() for it in dropped], [None, None])
+
+
+@unittest.skipUnless(EXTENSION, "the extension was not built")
+class WithoutExtension(InProcess):
+    """By ctypes."""
+
+    def open(self, **limits):
+        with without_extension():
+            return super().open(**limits)

@@ -1,9 +1,11 @@
 """The wheel: what it has, and that it is the same whenever it is built."""
 
 import base64
+import contextlib
 import csv
 import hashlib
 import importlib.util
+import io
 import os
 import pathlib
 import re
@@ -19,6 +21,7 @@ from helpers import PACKAGE, REPOSITORY
 
 DIST = pathlib.Path(os.environ.get("YOYOASH_DIST", REPOSITORY / "dist/x86_64-linux"))
 COPIES = ("ets_script", "libyoyoash.so")
+EXTENSION = "yoyoash/_external.abi3.so"
 
 
 def backend():
@@ -26,6 +29,15 @@ def backend():
     module = importlib.util.module_from_spec(spec)
     spec.loader.exec_module(module)
     return module
+
+
+def can_build():
+    """Returns whether the extension can be built here."""
+    with contextlib.redirect_stderr(io.StringIO()):
+        return bool(backend().extension())
+
+
+CAN_BUILD = can_build()
 
 
 class Wheel(unittest.TestCase):
@@ -42,19 +54,27 @@ class Wheel(unittest.TestCase):
             (dist / name).write_bytes(contents.get(name.partition(".")[0], b"\x7fELF \0GLIBC_2.34\0"))
         return dist
 
-    def build(self, dist, outdir):
+    def build(self, dist, outdir, **variables):
         words = [sys.executable, "-B", str(PACKAGE / "build-wheel"), str(dist), str(self.folder / outdir)]
-        return subprocess.run(words, capture_output=True, text=True)
+        return subprocess.run(words, capture_output=True, text=True, env=os.environ | variables)
 
     def test_a_wheel_has_the_package_and_the_copies(self):
-        built = self.build(self.dist(), "out")
-        self.assertEqual((built.returncode, built.stderr), (0, ""))
+        self.check_wheel(self.build(self.dist(), "out"), CAN_BUILD)
+
+    def test_a_wheel_without_a_compiler_has_no_extension(self):
+        built = self.build(self.dist(), "out", CC=str(self.folder / "no-cc"))
+        self.check_wheel(built, False)
+
+    def check_wheel(self, built, has_extension):
+        without = "" if has_extension else "yoyoash: the wheel has no extension, so calls in process are slower: "
+        self.assertEqual((built.returncode, built.stderr[: len(without)], bool(built.stderr)), (0, without, not has_extension))
         path = pathlib.Path(built.stdout.strip())
         self.assertEqual(path.name, f"yoyoash-{yoyoash.__version__}-py3-none-manylinux_2_34_x86_64.whl")
         with zipfile.ZipFile(path) as wheel:
             names = set(wheel.namelist())
             sources = {f"yoyoash/{it.name}" for it in (PACKAGE / "yoyoash").glob("*.py")} | {"yoyoash/py.typed"}
-            self.assertEqual({it for it in names if ".dist-info/" not in it}, sources | {f"yoyoash/native/{it}" for it in COPIES})
+            sources |= {f"yoyoash/native/{it}" for it in COPIES} | ({EXTENSION} if has_extension else set())
+            self.assertEqual({it for it in names if ".dist-info/" not in it}, sources)
             self.assertEqual(wheel.getinfo("yoyoash/native/ets_script").external_attr >> 16 & 0o777, 0o755)
             info = f"yoyoash-{yoyoash.__version__}.dist-info"
             for name, checksum, size in csv.reader(wheel.read(f"{info}/RECORD").decode().splitlines()):
@@ -117,7 +137,7 @@ class Wheel(unittest.TestCase):
         self.assertTrue(about["description"] and len(about["classifiers"]) > 5)
 
     @unittest.skipUnless(all((DIST / name).is_file() for name in COPIES), f"there is no {DIST}")
-    def test_the_copies_link_to_glibc_alone(self):
-        for name in COPIES:
-            needed = set(re.findall(rb"\0(lib[a-z_]+\.so\.\d+)(?=\0)", (DIST / name).read_bytes()))
+    def test_the_copies_and_the_extension_link_to_glibc_alone(self):
+        for content in [(DIST / name).read_bytes() for name in COPIES] + ([it for it, _ in backend().extension().values()] if CAN_BUILD else []):
+            needed = set(re.findall(rb"\0(lib[a-z_]+\.so\.\d+)(?=\0)", content))
             self.assertLessEqual(needed, {b"libc.so.6", b"libm.so.6", b"libgcc_s.so.1", b"libpthread.so.0", b"libyoyoash.so.0"})

@@ -13,6 +13,8 @@
 from typing import TYPE_CHECKING
 
 from .calls import CALLS
+from .decoding import decode
+from .external import encode
 from .faults import BadArg, Fault, Gone, LineTooLong, NoMemory, NoProcess, Syntax, SystemLimit, Untold
 from .finding import Unavailable
 from .reading import parse
@@ -27,7 +29,7 @@ __version__ = "0.1.0"
 __all__ = [
     "ABSENT", "Atom", "BadArg", "CALLS", "END_OF_TABLE", "Fault", "Gone", "LineTooLong", "NoMemory", "NoProcess", "Pid",
     "Pipeline", "Process", "Store", "Syntax", "SystemLimit", "Table", "Term", "Tid", "Unavailable", "Untold", "aio",
-    "parse", "spell",
+    "decode", "encode", "parse", "spell",
 ]  # fmt: skip
 
 

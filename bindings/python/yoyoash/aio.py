@@ -20,10 +20,10 @@ from typing import Any
 
 from . import finding
 from .calls import AwaitedCalls
-from .faults import CLOSED, BadArg, Fault, NoProcess, Refused, gone
-from .pipe import BLOCK, TOO_MANY, how_it_ended, line_of
+from .faults import CLOSED, BadArg, Fault, NoProcess, Refused, gone, line_of, result_of
+from .pipe import BLOCK, TOO_MANY, how_it_ended
 from .reasons import PATIENCE, Heard, reason_of
-from .store import checked_line, checked_name, result_of
+from .store import checked_line, checked_name
 from .terms import END_OF_TABLE, FALSE, TRUE, Pid, Table, Term, spell_all
 
 UNOPENED = "the store is not open: use `async with`, or call open()"

@@ -4,6 +4,9 @@ from __future__ import annotations
 
 import re
 from collections.abc import Callable
+from typing import Any
+
+from .reading import parse
 
 CLOSED = "the store is closed"
 
@@ -82,7 +85,7 @@ class LineTooLong(Fault):
 
 
 class Untold(Fault):
-    """The call was done in this process, but there was no memory for the text of its reply."""
+    """The call was done in this process, but there was no memory for its reply."""
 
 
 class Gone(Fault):
@@ -112,3 +115,15 @@ def fault(line: str, answer: Refused) -> Fault:
 def gone(line: str, why: str) -> Gone:
     """Returns the exception of a line that got no answer."""
     return Gone(line, "gone", why)
+
+
+def line_of(process: str, name: str, arguments: str) -> str:
+    """Returns the line of a process's call."""
+    return f"{process} {name}({arguments})"
+
+
+def result_of(line: str, answer: str | None, ended: str) -> Any:
+    """Returns the term or the Fault of an answer. `ended` says why there is none if it is None."""
+    if answer is None:
+        return gone(line, ended)
+    return fault(line, answer) if isinstance(answer, Refused) else parse(answer)

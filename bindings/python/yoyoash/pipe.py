@@ -7,13 +7,15 @@ import select
 import signal
 import subprocess
 import threading
-from collections.abc import Sequence
+from collections.abc import Callable, Sequence
 from functools import partial
+from typing import Any
 
 from . import finding
-from .faults import CLOSED, Refused
+from .faults import CLOSED, Refused, line_of, result_of
+from .reading import parse
 from .reasons import PATIENCE, Reasons
-from .terms import Pid
+from .terms import Pid, Term, spell_all
 
 # This many bytes are read at once, since a pipe rarely holds more.
 BLOCK = 65_536
@@ -56,11 +58,31 @@ class Pipe:
 
     def call(self, process: str, pid: Pid, name: str, arguments: str) -> str | None:
         """Returns the text of the answer to a process's call, or None if there was none."""
-        return self._exchange(f"{process} {name}({arguments})\n", 1)[0]
+        return self._exchange(f"{line_of(process, name, arguments)}\n", 1)[0]
 
-    def calls(self, process: str, pid: Pid, calls: Sequence[tuple[str, str]]) -> list[str | None]:
-        """Returns the texts of the answers to calls, each a name and its arguments, in one exchange."""
-        return self._exchange("".join([f"{process} {name}({arguments})\n" for name, arguments in calls]), len(calls))
+    def asker(self, process: str, pid: Pid) -> Callable[..., Any]:
+        """Returns a function that makes calls of a process, each a name and terms. It returns the reply or raises a
+        Fault."""
+        return partial(self._ask, process)
+
+    def _ask(self, process: str, name: str, *terms: Term) -> Any:
+        line = line_of(process, name, spell_all(terms))
+        (answer,) = self._exchange(f"{line}\n", 1)
+        if answer and answer[0] != "*":
+            return parse(answer)
+        raise result_of(line, answer, self.ended)
+
+    def collected(self, name: str, terms: Sequence[Term]) -> tuple[str, str]:
+        """Returns what `results` takes of a call."""
+        return name, spell_all(terms)
+
+    def results(self, process: str, pid: Pid, calls: Sequence[tuple[str, str]]) -> list[Any]:
+        """Makes calls in one exchange. Returns a reply or a Fault for each."""
+        lines = "".join([f"{process} {name}({arguments})\n" for name, arguments in calls])
+        return [
+            parse(it) if it and it[0] != "*" else result_of(line_of(process, *call), it, self.ended)
+            for call, it in zip(calls, self._exchange(lines, len(calls)), strict=True)
+        ]
 
     def lines(self, lines: Sequence[str]) -> list[str | None]:
         """Returns the texts of the answers to lines, in one exchange."""
@@ -141,8 +163,3 @@ def how_it_ended(status: int, last_line: str) -> str:
     else:
         how = f"the program ended with exit status {status}"
     return f"{how}: {last_line}" if last_line else how
-
-
-def line_of(process: str, name: str, arguments: str) -> str:
-    """Returns the line of a process's call."""
-    return f"{process} {name}({arguments})"

@@ -12,11 +12,10 @@ from typing import Any
 
 from . import finding
 from .calls import Calls, CollectedCalls
-from .faults import BadArg, Fault, NoProcess, Refused, fault, gone
+from .faults import BadArg, Fault, NoProcess, result_of
 from .library import Library
-from .pipe import Pipe, line_of
-from .reading import parse
-from .terms import END_OF_TABLE, FALSE, TRUE, Pid, Table, Term, spell_all
+from .pipe import Pipe
+from .terms import END_OF_TABLE, FALSE, TRUE, Pid, Table, Term
 
 # Holds the stores that exist, for `close_all`.
 _stores: weakref.WeakSet[Store] = weakref.WeakSet()
@@ -126,19 +125,12 @@ def checked_line(line: str) -> str:
     return line
 
 
-def result_of(line: str, answer: str | None, ended: str) -> Any:
-    """Returns the term or the Fault of an answer. `ended` says why there is none if it is None."""
-    if answer is None:
-        return gone(line, ended)
-    return fault(line, answer) if isinstance(answer, Refused) else parse(answer)
-
-
 class Process(Calls):
     """A process of the store. Each call of docs/calls.md is a method that returns the reply or raises a Fault."""
 
     def __init__(self, store: Store, name: str, pid: Pid):
         self.store, self.name, self.pid = store, name, pid
-        self._ask = store._way.call
+        self._call = store._way.asker(name, pid)  # type: ignore[method-assign]
 
     def exit(self) -> Any:
         """Ends the process. Its tables go to their heirs, or are deleted."""
@@ -177,13 +169,6 @@ class Process(Calls):
                 yield from objects
                 found = self.next_lookup(table, key)
 
-    def _call(self, call: str, *terms: Term) -> Any:
-        arguments = spell_all(terms)
-        answer = self._ask(self.name, self.pid, call, arguments)
-        if answer and answer[0] != "*":
-            return parse(answer)
-        raise result_of(line_of(self.name, call, arguments), answer, self.store._way.ended)
-
     def __repr__(self) -> str:
         return f"<process {self.name} {self.pid!r}>"
 
@@ -194,23 +179,17 @@ class Pipeline(CollectedCalls):
 
     def __init__(self, store: Store, name: str, pid: Pid):
         self.store, self.name, self.pid = store, name, pid
-        self.calls: list[tuple[str, str]] = []
+        self.calls: list[Any] = []
         self.answers: list[Any] = []
 
     def run(self) -> list[Any]:
         """Sends the collected calls. Returns a reply or a Fault for each, in order."""
         calls, self.calls = self.calls, []
-        answers = self.store._way.calls(self.name, self.pid, calls)
-        self.answers = [self._result(call, answer) for call, answer in zip(calls, answers, strict=True)]
+        self.answers = self.store._way.results(self.name, self.pid, calls)
         return self.answers
 
-    def _result(self, call: tuple[str, str], answer: str | None) -> Any:
-        if answer and answer[0] != "*":
-            return parse(answer)
-        return result_of(line_of(self.name, *call), answer, self.store._way.ended)
-
     def _collect(self, call: str, *terms: Term) -> None:
-        self.calls.append((call, spell_all(terms)))
+        self.calls.append(self.store._way.collected(call, terms))
 
     def __enter__(self) -> Pipeline:
         return self

@@ -82,9 +82,14 @@ ABSENT: Final = Absent()
 def _integer(number: int) -> str:
     text = repr(number)
     # Fewer than 39 digits are at most 10^38, which is in range.
-    if len(text) < 39 or LEAST <= number <= GREATEST:
-        return text
-    raise ValueError(f"{text} is out of range: integers go from -2**127 to 2**127 - 1")
+    return text if len(text) < 39 else str(in_range(number))
+
+
+def in_range(number: int) -> int:
+    """Returns an integer that terms can have. Raises a ValueError otherwise."""
+    if LEAST <= number <= GREATEST:
+        return number
+    raise ValueError(f"{number!r} is out of range: integers go from -2**127 to 2**127 - 1")
 
 
 _BYTES = tuple(map(str, range(256)))
@@ -139,15 +144,15 @@ def _nest(nest: tuple | list) -> str:
     return "".join(parts)
 
 
-class _SpelledBy(dict):
-    """Maps each type to the function that spells it. A derived type is spelled as its base."""
+class ByType(dict):
+    """Maps each type to what its values are made into. A derived type is taken as its base."""
 
     def __missing__(self, kind: type):
         if issubclass(kind, bool):
             return _refuse
         if issubclass(kind, int):
-            return lambda it: _integer(int(it))
-        return next((spelled for base, spelled in self.items() if issubclass(kind, base)), _refuse)
+            return lambda it: self[int](int(it))
+        return next((made for base, made in self.items() if issubclass(kind, base)), _refuse)
 
 
 def _refuse(it):
@@ -155,7 +160,7 @@ def _refuse(it):
     raise TypeError(f"{it!r} is not a term{hint}")
 
 
-SPELLED_BY = _SpelledBy(LEAVES | {tuple: _tuple, list: _list})
+SPELLED_BY = ByType(LEAVES | {tuple: _tuple, list: _list})
 
 
 def spell_all(terms: Iterable[Term]) -> str:

@@ -12,7 +12,7 @@ const CALLS: [&str; 7] = [
 ];
 
 fn main() -> Result<(), Error> {
-    let mut store = Store::new()?;
+    let store = Store::new()?;
     store.spawn(0)?;
     for text in CALLS {
         match store.call(0, text) {

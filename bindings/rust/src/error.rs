@@ -13,12 +13,12 @@ pub enum ErrorKind {
     NoProcess,
     /// Out of memory.
     NoMemory,
-    /// The text is not a call. The offset of its first fault is in bytes, from 0.
+    /// The text or the bytes are not a call. The offset of their first fault is in bytes, from 0.
     Syntax {
-        /// The offset of the fault in the text.
+        /// The offset of the fault.
         offset: usize,
     },
-    /// The call was made, but there was no memory for the text of its reply.
+    /// The call was made, but there was no memory for the text or the bytes of its reply.
     Untold,
     /// The library returned a status that this crate does not know, or a reply that it cannot read.
     Unknown,
@@ -65,7 +65,7 @@ impl fmt::Display for ErrorKind {
             ErrorKind::NoProcess => f.write_str("no process"),
             ErrorKind::NoMemory => f.write_str("out of memory"),
             ErrorKind::Syntax { offset } => write!(f, "syntax error at byte {offset}"),
-            ErrorKind::Untold => f.write_str("no memory for the reply's text"),
+            ErrorKind::Untold => f.write_str("no memory for the reply"),
             ErrorKind::Unknown => f.write_str("unknown status"),
         }
     }

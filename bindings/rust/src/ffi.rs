@@ -13,6 +13,8 @@ unsafe extern "C" {
     pub fn yoyoash_exit(store: *mut RawStore, pid: u32) -> i32;
     pub fn yoyoash_call(store: *mut RawStore, pid: u32, text: *const u8, text_len: usize, out: *mut u8, out_size: usize, len: *mut usize) -> i32;
     pub fn yoyoash_reply(store: *mut RawStore, out: *mut u8, out_size: usize, len: *mut usize) -> i32;
+    pub fn yoyoash_call_external(store: *mut RawStore, pid: u32, call: *const u8, call_len: usize, out: *mut u8, out_size: usize, len: *mut usize) -> i32;
+    pub fn yoyoash_reply_external(store: *mut RawStore, out: *mut u8, out_size: usize, len: *mut usize) -> i32;
     pub fn yoyoash_why(store: *mut RawStore, out: *mut u8, out_size: usize, len: *mut usize) -> i32;
     pub fn yoyoash_close(store: *mut RawStore);
 }

@@ -6,14 +6,14 @@
 //! use yoyoash::{Store, Term};
 //!
 //! # fn main() -> Result<(), yoyoash::Error> {
-//! let mut store = Store::new()?;
+//! let store = Store::new()?;
 //! store.spawn(0)?;
 //! store.call(0, "{new,prices,[named_table]}")?;
 //! store.call(0, "{insert,prices,{apple,30}}")?;
 //! let found = store.call(0, "{lookup,prices,apple}")?;
 //! assert_eq!(found.to_string(), "[{apple,30}]");
 //!
-//! let price = store.call_with(0, "lookup_element", &["prices".into(), "apple".into(), Term::Int(2)])?;
+//! let price = store.ask(0, "lookup_element", &["prices".into(), "apple".into(), Term::Int(2)])?;
 //! assert_eq!(price, Term::Int(30));
 //! # Ok(())
 //! # }
@@ -22,7 +22,7 @@
 //! A refused call is an [`Error`] with its kind and the reason in words. It changes nothing:
 //!
 //! ```
-//! # let mut store = yoyoash::Store::new().unwrap();
+//! # let store = yoyoash::Store::new().unwrap();
 //! # store.spawn(0).unwrap();
 //! let error = store.call(0, "{lookup,shops,apple}").unwrap_err();
 //! assert_eq!(error.kind(), yoyoash::ErrorKind::BadArg);
@@ -30,13 +30,17 @@
 //! ```
 #![warn(missing_docs)]
 
+mod decode;
 mod error;
+mod external;
 mod ffi;
+mod library;
 mod parse;
 mod store;
 mod term;
 
 pub use error::{Error, ErrorKind};
+pub use external::ExternalTermError;
 pub use parse::ParseTermError;
 pub use store::{Limits, Store};
 pub use term::Term;

@@ -3,8 +3,8 @@ use crate::term::{is_name_byte, Term};
 use std::fmt;
 use std::str::FromStr;
 
-/// The most levels of a term, as in the store.
-const MAX_DEPTH: usize = 256;
+/// The most levels of a term that is read.
+pub(crate) const MAX_DEPTH: usize = 256;
 /// The most characters of an atom.
 const MAX_ATOM: usize = 255;
 

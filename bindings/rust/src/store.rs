@@ -1,12 +1,10 @@
 //! A store in this process.
 use crate::error::{Error, ErrorKind};
-use crate::ffi::{self, RawStore};
+use crate::external::{self, ExternalTermError};
+use crate::library::Library;
 use crate::term::Term;
 use std::fmt::Write;
-use std::ptr::null_mut;
-
-/// The longest reason, in bytes.
-const MAX_REASON: usize = 100;
+use std::sync::{Mutex, MutexGuard, PoisonError};
 
 /// What a store may hold. The default is that of the program `ets_script`.
 #[derive(Clone, Copy, Debug, PartialEq, Eq)]
@@ -25,20 +23,11 @@ impl Default for Limits {
     }
 }
 
-/// A store. It may move to another thread; to share it between threads, put it into a `Mutex`.
+/// A store, which threads may share: its methods take `&self`. One call runs at a time; a call is encoded before the lock is
+/// taken, and its reply is decoded after.
 #[derive(Debug)]
 pub struct Store {
-    raw: Box<RawStore>,
-    buffer: Vec<u8>,
-}
-
-// A store may be used by any thread, one at a time: the library keeps no thread's identity, and a `&mut Store` is exclusive.
-unsafe impl Send for Store {}
-
-impl std::fmt::Debug for RawStore {
-    fn fmt(&self, f: &mut std::fmt::Formatter<'_>) -> std::fmt::Result {
-        f.write_str("RawStore")
-    }
+    library: Mutex<Library>,
 }
 
 impl Store {
@@ -49,33 +38,52 @@ impl Store {
 
     /// Opens a store with these limits.
     pub fn with_limits(limits: Limits) -> Result<Store, Error> {
-        let mut store = Store { raw: Box::new(RawStore { opaque: [null_mut(); 2] }), buffer: vec![0; 256] };
-        let status = unsafe { ffi::yoyoash_open(&mut *store.raw, limits.processes, limits.tables, limits.objects) };
-        store.check(status, 0)?;
-        Ok(store)
+        Ok(Store { library: Mutex::new(Library::open(limits)?) })
     }
 
     /// Starts the process of a number. A number is used once.
-    pub fn spawn(&mut self, pid: u32) -> Result<(), Error> {
-        let status = unsafe { ffi::yoyoash_spawn(&mut *self.raw, pid) };
-        self.check(status, 0)
+    pub fn spawn(&self, pid: u32) -> Result<(), Error> {
+        self.lock().spawn(pid)
     }
 
     /// Ends a process. Each of its tables goes to its heir or is deleted.
-    pub fn exit(&mut self, pid: u32) -> Result<(), Error> {
-        let status = unsafe { ffi::yoyoash_exit(&mut *self.raw, pid) };
-        self.check(status, 0)
+    pub fn exit(&self, pid: u32) -> Result<(), Error> {
+        self.lock().exit(pid)
+    }
+
+    /// Makes a call with this name and these arguments, and returns its reply. Both go in Erlang's External Term Format, so
+    /// nothing is printed or parsed. An argument may be 126 levels deep.
+    ///
+    /// ```
+    /// # use yoyoash::{Store, Term};
+    /// # let store = Store::new().unwrap();
+    /// # store.spawn(0).unwrap();
+    /// # store.call(0, "{new,prices,[named_table]}").unwrap();
+    /// store.ask(0, "insert", &["prices".into(), Term::Tuple(vec!["apple".into(), Term::Int(30)])]).unwrap();
+    /// assert_eq!(store.ask(0, "lookup", &["prices".into(), "apple".into()]).unwrap().to_string(), "[{apple,30}]");
+    /// ```
+    pub fn ask(&self, pid: u32, name: &str, arguments: &[Term]) -> Result<Term, Error> {
+        let mut call = Vec::with_capacity(128);
+        external::put_call(&mut call, name, arguments).map_err(unsent)?;
+        let reply = self.call_external(pid, &call)?;
+        Term::from_external(&reply).map_err(|fault| Error::new(ErrorKind::Unknown, fault.to_string()))
+    }
+
+    /// Makes the call of these bytes for a process, and returns the bytes of its reply, both in Erlang's External Term Format.
+    /// A call is `{Name,Arguments}`, an atom and a list.
+    pub fn call_external(&self, pid: u32, call: &[u8]) -> Result<Vec<u8>, Error> {
+        self.lock().call_external(pid, call).map(<[u8]>::to_vec)
     }
 
     /// Makes a call for a process, and returns its reply. The text is a tuple of the call's name and its arguments, such as
     /// `{lookup,prices,apple}`.
-    pub fn call(&mut self, pid: u32, text: &str) -> Result<Term, Error> {
+    pub fn call(&self, pid: u32, text: &str) -> Result<Term, Error> {
         let reply = self.call_text(pid, text)?;
         reply.parse().map_err(|_| Error::new(ErrorKind::Unknown, reply))
     }
 
-    /// Makes a call with this name and these arguments, and returns its reply.
-    pub fn call_with(&mut self, pid: u32, name: &str, arguments: &[Term]) -> Result<Term, Error> {
+    /// Makes a call like `ask`, but by a text. An argument may be 127 levels deep.
+    pub fn call_with(&self, pid: u32, name: &str, arguments: &[Term]) -> Result<Term, Error> {
         let mut text = String::from("{");
         let _ = write!(text, "{}", Term::Atom(name.to_owned()));
         for argument in arguments {
@@ -86,46 +94,17 @@ impl Store {
     }
 
     /// Makes a call for a process, and returns the text of its reply.
-    pub fn call_text(&mut self, pid: u32, text: &str) -> Result<String, Error> {
-        let mut len = 0;
-        let status = unsafe {
-            ffi::yoyoash_call(&mut *self.raw, pid, text.as_ptr(), text.len(), self.buffer.as_mut_ptr(), self.buffer.len(), &mut len)
-        };
-        self.check(status, len)?;
-        if len > self.buffer.len() {
-            self.buffer.resize(len, 0);
-            let status = unsafe { ffi::yoyoash_reply(&mut *self.raw, self.buffer.as_mut_ptr(), self.buffer.len(), &mut len) };
-            self.check(status, len)?;
-        }
-        Ok(String::from_utf8_lossy(&self.buffer[..len]).into_owned())
+    pub fn call_text(&self, pid: u32, text: &str) -> Result<String, Error> {
+        self.lock().call(pid, text).map(|reply| String::from_utf8_lossy(reply).into_owned())
     }
 
-    /// Turns a status into a result; an error has the reason that the library gives.
-    fn check(&mut self, status: i32, len: usize) -> Result<(), Error> {
-        let kind = match status {
-            0 => return Ok(()),
-            1 => ErrorKind::BadArg,
-            2 => ErrorKind::SystemLimit,
-            3 => ErrorKind::NoProcess,
-            4 => ErrorKind::NoMemory,
-            5 => ErrorKind::Syntax { offset: len },
-            7 => ErrorKind::Untold,
-            _ => ErrorKind::Unknown,
-        };
-        Err(Error::new(kind, self.reason()))
-    }
-
-    /// Returns the reason of the last refusal, or nothing if there is none.
-    fn reason(&mut self) -> String {
-        let (mut words, mut len) = ([0; MAX_REASON], 0);
-        let status = unsafe { ffi::yoyoash_why(&mut *self.raw, words.as_mut_ptr(), words.len(), &mut len) };
-        let known = if status == 0 { len.min(words.len()) } else { 0 };
-        String::from_utf8_lossy(&words[..known]).into_owned()
+    /// Waits for the lock. A thread that panics while it holds the lock leaves a whole store.
+    fn lock(&self) -> MutexGuard<'_, Library> {
+        self.library.lock().unwrap_or_else(PoisonError::into_inner)
     }
 }
 
-impl Drop for Store {
-    fn drop(&mut self) {
-        unsafe { ffi::yoyoash_close(&mut *self.raw) }
-    }
+/// Returns the error of a call that has no bytes, as the store refuses a call.
+fn unsent(fault: ExternalTermError) -> Error {
+    Error::new(ErrorKind::Syntax { offset: fault.offset() }, fault.problem().to_owned())
 }

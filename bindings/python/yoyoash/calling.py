@@ -1,0 +1,104 @@
+"""Makes calls of a store in this process, in Erlang's External Term Format."""
+
+from __future__ import annotations
+
+import ctypes
+from collections.abc import Callable, Sequence
+from ctypes import byref, c_size_t, c_void_p
+from threading import Lock
+from typing import Any
+
+from .decoding import decode
+from .external import encode_call
+from .terms import Term
+
+try:
+    from . import _external as extension  # type: ignore[attr-defined]
+except ImportError:
+    # It was not built, or for another Python.
+    extension = None
+
+VALUE = 0
+
+
+class Handle(ctypes.Structure):
+    """yoyoash_store: 16 bytes that only the library reads. Zeros are a closed store."""
+
+    _fields_ = [("opaque", c_void_p * 2)]
+
+
+class Sizes(dict):
+    """Sizes as the library's functions take them. Small ones are kept."""
+
+    def __missing__(self, size: int):
+        return c_size_t.from_param(size)
+
+
+SIZES = Sizes({size: c_size_t.from_param(size) for size in range(1_024)})
+
+
+class Buffer:
+    """What the library writes: bytes, and the length of all that it has. Pointers and sizes are made once, since ctypes
+    takes long for them."""
+
+    def __init__(self, size: int):
+        self.bytes, self.size, self.length = ctypes.create_string_buffer(size), size, c_size_t()
+        self.words = byref(self.bytes), SIZES[size], byref(self.length)
+
+    def read(self) -> bytes:
+        """Returns what was written."""
+        return self.bytes[: self.length.value]
+
+
+def encoded(name: str, terms: Sequence[Term]) -> bytes:
+    """Returns the bytes of a call, `{Name,Arguments}`. Raises as `spell` does."""
+    return (extension and extension.encode_call(name, *terms)) or encode_call(name, terms)
+
+
+def caller(library: ctypes.CDLL, handle: Handle) -> Any:
+    """Returns what makes calls of a store. It has the lock of the store too."""
+    if not extension:
+        return Caller(library, handle)
+    functions = library.yoyoash_call_external, library.yoyoash_reply_external, library.yoyoash_why
+    return extension.Caller(handle, ctypes.addressof(handle), *[ctypes.cast(it, c_void_p).value for it in functions])
+
+
+class Caller:
+    """Makes calls by ctypes. The extension has the same in C."""
+
+    def __init__(self, library: ctypes.CDLL, handle: Handle):
+        # No `argtypes` are set: ctypes would convert every argument at every call.
+        self._store, self._turn = byref(handle), Lock()
+        self._do, self._again, self._why = library.yoyoash_call_external, library.yoyoash_reply_external, library.yoyoash_why
+        self._buffer, self._reason = Buffer(4_096), Buffer(256)
+        self._words, self._length = self._buffer.words, self._buffer.length
+
+    def call(self, report: Callable[..., Any], process: str, pid: int, name: str, *terms: Term) -> Any:
+        """Makes a call, and returns its reply. Returns what `report` does if there is no reply: that gets the process,
+        its number, the name and the terms of the call, the status, the length and the reason."""
+        return self._made(report, process, pid, encode_call(name, terms), (name, *terms))
+
+    def send(self, report: Callable[..., Any], process: str, pid: int, call: bytes) -> Any:
+        """Makes the call of these bytes. `report` gets them instead of the name and the terms."""
+        return self._made(report, process, pid, call, call)
+
+    def _made(self, report: Callable[..., Any], process: str, pid: int, data: bytes, call: Any) -> Any:
+        why, size, buffer = None, SIZES[len(data)], self._buffer
+        with self._turn:
+            status = self._do(self._store, pid, data, size, *self._words)
+            length = self._length.value
+            if status == VALUE and length > buffer.size:
+                buffer = Buffer(length)
+                status = self._again(self._store, *buffer.words)
+            if status == VALUE:
+                reply = buffer.bytes[:length]
+            elif self._why(self._store, *self._reason.words) == VALUE:
+                why = self._reason.read().decode()
+        return report(process, pid, call, status, length, why) if status else decode(reply)
+
+    def __enter__(self) -> Caller:
+        self._turn.acquire()
+        return self
+
+    def __exit__(self, *raised: object) -> None:
+        self._turn.release()
