@@ -1,11 +1,11 @@
 %% @doc Tables with the calls of `ets', in a proved correct store.
 %%
 %% A program that says `yoyoash' where it said `ets' has its tables in the program `ets_script', which one process runs
-%% through a port. Start that process by {@link start_link/1}, by {@link child_spec/1} under a supervisor, or by the
-%% application `yoyoash'. The functions have the arguments, the answers and the errors of those of
+%% through a port, or inside this node by a NIF. Start that process by {@link start_link/1}, by {@link child_spec/1} under
+%% a supervisor, or by the application `yoyoash'. The functions have the arguments, the answers and the errors of those of
 %% <a href="https://www.erlang.org/doc/apps/stdlib/ets.html">ets</a>; `docs/differences-from-ets.md' lists what differs.
 %%
-%% A refused call raises `badarg' or `system_limit', as in `ets', and `enomem' if the program runs out of memory.
+%% A refused call raises `badarg' or `system_limit', as in `ets', and `enomem' if the store runs out of memory.
 %% The shell shows the reason.
 -module(yoyoash).
 
@@ -24,7 +24,7 @@
 
 -export_type([options/0, ended/0, table/0, access/0, type/0, option/0, heir/0, item/0, update/0, value/0]).
 
--type options() :: #{program => file:filename_all(), args => [string()]}.
+-type options() :: #{backend => port | nif, program => file:filename_all(), args => [string()]}.
 %% How a program ended: its exit status (128 and the number of a signal), or why its port was closed.
 -type ended() :: {status, non_neg_integer()} | {closed, term()}.
 -type table() :: atom() | reference().
@@ -47,7 +47,7 @@
 
 %% Does a call of the store for this process. A macro, so that an exception has the caller's function on top.
 -define(CALL(Name, Args),
-    case yoyoash_server:call(self(), Name, Args) of
+    case yoyoash_caller:call(self(), Name, Args) of
         {ok, Value} -> Value;
         {error, Reason, Cause} -> error(Reason, Args, [{error_info, #{cause => Cause, module => yoyoash_errors}}])
     end
@@ -61,11 +61,14 @@ start_link() -> start_link(#{}).
 
 %% @doc Starts the store and links it to the caller.
 %%
+%% `backend' is `port' or `nif'. Without it that is `backend' in the environment of the application, or the NIF if it was
+%% loaded and no program is named, or the port.
+%%
 %% `program' is the path of `ets_script'. Without it that is the variable `YOYOASH_PROGRAM', or `program' in the
 %% environment of the application, or the program of the repository that holds this module, or `ets_script' on `PATH'.
-%% `args' are options of the program, such as `["--max-objects", "5000000"]'.
+%% `args' are options of the program, such as `["--max-objects", "5000000"]'. The NIF takes the three limits.
 %%
-%% The function returns when the program has given its first answer. {@link format_error/1} explains an error.
+%% The function returns when the store can be called. {@link format_error/1} explains an error.
 -spec start_link(options()) -> {ok, pid()} | {error, term()}.
 start_link(Options) -> yoyoash_server:start(link, Options).
 
@@ -100,7 +103,7 @@ format_error(Reason) -> yoyoash_program:format_error(Reason).
 call_as(Pid, Name, Args) ->
     case is_pid(Pid) andalso lists:member({Name, length(Args)}, calls()) of
         true ->
-            case yoyoash_server:call(Pid, Name, Args) of
+            case yoyoash_caller:call(Pid, Name, Args) of
                 {ok, Value} -> Value;
                 {error, Reason, Cause} ->
                     Info = #{cause => general(Cause), module => yoyoash_errors},

@@ -17,13 +17,12 @@ format_error(_Reason, [{_Module, _Function, _Args, Info} | _]) ->
     end;
 format_error(_Reason, _Stacktrace) -> #{}.
 
-%% @doc Reads a reason as the program writes it, such as `lookup/2: argument 1: no such table'.
+%% @doc Reads a reason as the store writes it, such as `argument 1: no such table'.
 -spec cause(binary()) -> cause().
-cause(Reason) ->
-    case binary:split(Reason, <<": ">>, [global]) of
-        [_Call, <<"argument ", Number/binary>> | Text] -> {argument, binary_to_integer(Number), rejoin(Text)};
-        [_Call | [_ | _] = Text] -> {general, rejoin(Text)};
-        [Text] -> {general, Text}
-    end.
-
-rejoin(Parts) -> iolist_to_binary(lists:join(<<": ">>, Parts)).
+cause(<<>>) -> none;
+cause(<<"argument ", Rest/binary>> = Reason) ->
+    case binary:split(Rest, <<": ">>) of
+        [Number, Text] -> {argument, binary_to_integer(Number), Text};
+        [_] -> {general, Reason}
+    end;
+cause(Reason) -> {general, Reason}.

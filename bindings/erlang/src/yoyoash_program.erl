@@ -1,6 +1,6 @@
 %% @doc Finds the program `ets_script' and explains what to do if it cannot be started.
 -module(yoyoash_program).
--export([are_options/1, find/1, args/1, check_platform/2, format_error/1]).
+-export([is_named/1, find/1, args/1, check_platform/2, format_error/1]).
 -export_type([error/0]).
 
 -type error() ::
@@ -8,22 +8,20 @@
     | {no_program, file:filename_all()}
     | {not_executable, file:filename_all()}
     | {wrong_platform, string()}
+    | no_nif
+    | {no_limit, string()}
     | {cannot_start, file:filename_all(), term()}
     | {program_ended, file:filename_all(), yoyoash:ended(), [binary()]}
     | {no_answer, file:filename_all(), [binary()]}.
 
-%% The store's own limits are for scripts; callers in Erlang come and go, and a number is never used again.
+%% The greatest limit of the program. Its own limits are for scripts; callers in Erlang come and go, and a number is never
+%% used again.
 -define(MOST, "4294967295").
 
-%% @doc Says whether a term is a map of the known options, with a list of strings as `args'.
--spec are_options(term()) -> boolean().
-are_options(Options) when is_map(Options) ->
-    maps:size(maps:without([program, args], Options)) =:= 0 andalso are_strings(given_args(Options));
-are_options(_NoMap) -> false.
-
-are_strings(Args) -> is_list(Args) andalso lists:all(fun io_lib:char_list/1, Args).
-
-given_args(Options) -> maps:get(args, Options, application:get_env(yoyoash, args, [])).
+%% @doc Says whether the options or an environment name a program.
+-spec is_named(yoyoash:options()) -> boolean().
+is_named(#{program := _}) -> true;
+is_named(_Options) -> os:getenv("YOYOASH_PROGRAM", "") =/= "" orelse application:get_env(yoyoash, program) =/= undefined.
 
 %% @doc Returns the path of the program, from the options or from the first place that has one.
 -spec find(yoyoash:options()) -> {ok, file:filename_all()} | {error, error()}.
@@ -88,10 +86,9 @@ filename_string(Path) when is_list(Path) -> Path;
 filename_string(Path) -> unicode:characters_to_list(Path, file:native_name_encoding()).
 
 %% @doc Returns the arguments of the program: the caller's, and those that this binding needs.
--spec args(yoyoash:options()) -> [string()].
-args(Options) ->
-    Given = given_args(Options),
-    Added = [{"--why", []}, {"--max-processes", [?MOST]}, {"--max-tables", [?MOST]}],
+-spec args([string()]) -> [string()].
+args(Given) ->
+    Added = [{"--external", []}, {"--max-processes", [?MOST]}, {"--max-tables", [?MOST]}],
     Given ++ lists:append([[Option | Value] || {Option, Value} <- Added, not given(Option, Given)]).
 
 given(Option, Given) ->
@@ -103,6 +100,13 @@ format_error({yoyoash, {{shutdown, {failed_to_start_child, yoyoash, Reason}}, _S
     format_error(Reason);
 format_error(no_program) ->
     "the program ets_script was not found: set YOYOASH_PROGRAM to its path";
+format_error(no_nif) ->
+    "the NIF is not built: run c_src/build, or use #{backend => port}";
+format_error({no_limit, Arg}) ->
+    text("the option args has ~ts: the NIF takes --max-processes, --max-tables and --max-objects, each with a number",
+         [Arg]);
+format_error(enomem) ->
+    "there is no memory for a store: free some";
 format_error({no_program, Path}) ->
     text("there is no program ~ts: set YOYOASH_PROGRAM to the path of ets_script", [Path]);
 format_error({not_executable, Path}) ->
@@ -113,8 +117,11 @@ format_error({wrong_platform, Architecture}) ->
 format_error({cannot_start, Path, Reason}) ->
     text("~ts cannot be started (~0tp): run ~ts --version to see why", [Path, Reason, Path]);
 format_error({program_ended, Path, Ended, Notes}) ->
-    text("~ts ended before its first answer (~ts)~ts: correct the option args, or run ~ts --version to see why",
-         [Path, ended(Ended), telling_note(Notes), Path]);
+    case [Note || Note <- Notes, binary:match(Note, <<"unexpected argument '--external'">>) =/= nomatch] of
+        [] -> not_started(Path, Ended, Notes);
+        _ -> text("~ts is older than this binding, since it has no option --external: "
+                  "set YOYOASH_PROGRAM to the ets_script of this version", [Path])
+    end;
 format_error({no_answer, Path, Notes}) ->
     text("~ts does not answer~ts: set YOYOASH_PROGRAM to the path of ets_script", [Path, telling_note(Notes)]);
 format_error({already_started, Pid}) ->
@@ -124,6 +131,10 @@ format_error({program_ended, Ended}) ->
     text("the program ended (~ts): start a store again", [ended(Ended)]);
 format_error(Other) ->
     text("~0tp", [Other]).
+
+not_started(Path, Ended, Notes) ->
+    text("~ts ended before its first answer (~ts)~ts: correct the option args, or run ~ts --version to see why",
+         [Path, ended(Ended), telling_note(Notes), Path]).
 
 ended({status, Status}) -> text("status ~b", [Status]);
 ended({closed, Reason}) -> text("~0tp", [Reason]).

@@ -1,327 +1,270 @@
-%% @doc Owns the port of the program, and does all calls one after another.
+%% @doc Owns the store, and follows its processes.
 %%
 %% Each process that calls, and each whose pid is in a call, is a process of the store. It ends there when it ends here.
+%% Requests are sent at once, and the server keeps who waits for the replies, which come in the same order.
 -module(yoyoash_server).
 -behaviour(gen_server).
--export([start/2, call/3]).
--export([init/1, handle_call/3, handle_cast/2, handle_info/2, format_status/1]).
--export_type([result/0]).
--include_lib("kernel/include/logger.hrl").
-
--type result() :: {ok, term()} | {error, badarg | system_limit | enomem, yoyoash_errors:cause()}.
+-export([start/2]).
+-export([init/1, handle_call/3, handle_cast/2, handle_info/2, terminate/2, format_status/1]).
 
 %% The registered name of the server.
 -define(NAME, yoyoash).
-%% The longest line that the program reads.
--define(LONGEST_LINE, 65536).
-%% How long the first answer may take, since a program of changed sources is built first, in milliseconds.
--define(FIRST_ANSWER, 600_000).
-%% How many of the last notes before the first answer are kept.
--define(NOTES, 20).
-%% How long to wait for the reason of a refused call, in milliseconds.
--define(REASON, 1_000).
-%% When to try again to end a process or to read its messages, if the program had no memory for it, in milliseconds.
+%% When to try again to end a process or to read its messages, if there was no memory for it, in milliseconds.
 -define(AGAIN, 1_000).
 
+%% What a reply is for.
+-type purpose() ::
+    {caller, gen_server:from()}
+    | {spawned, pid()}
+    | {made, gen_server:from(), pid(), Named :: [pid()]}
+    | gift
+    | {given, gen_server:from()}
+    | {ended, non_neg_integer(), Owned :: boolean()}
+    | {messages, pid()}.
+
 -record(store, {
-    port :: port(),
-    %% The number of the last line that was sent.
-    line :: non_neg_integer(),
-    terms = yoyoash_text:new() :: yoyoash_text:known(),
-    %% The processes that have not ended.
-    live = #{} :: #{pid() => true},
-    %% The processes that were named as heirs: the only ones to which a table may come when another process ends.
-    heirs = #{} :: #{pid() => true},
-    %% The processes that may have owned a table: the only ones whose end may send a table to an heir.
-    owners = #{} :: #{pid() => true}
+    known :: yoyoash_known:known(),
+    requests :: yoyoash_requests:requests(),
+    processes = yoyoash_processes:new() :: yoyoash_processes:processes(),
+    %% The reply to a gift, until the gift is delivered.
+    held = none :: binary() | none
 }).
 
 %% @doc Starts a store under the name `yoyoash'; `link' links it to the caller.
 -spec start(link | nolink, yoyoash:options()) -> {ok, pid()} | {error, term()}.
 start(Link, Options) ->
-    yoyoash_program:are_options(Options) orelse error(badarg, [Options]),
-    case yoyoash_program:find(Options) of
-        {ok, Program} -> unwrapped(start(Link, Program, yoyoash_program:args(Options)));
+    yoyoash_backend:are_options(Options) orelse error(badarg, [Options]),
+    case yoyoash_backend:find(Options) of
+        {ok, Backend} -> unwrapped(started(Link, Backend));
         Error -> Error
     end.
 
-start(link, Program, Args) -> gen_server:start_link({local, ?NAME}, ?MODULE, {Program, Args}, []);
-start(nolink, Program, Args) -> gen_server:start({local, ?NAME}, ?MODULE, {Program, Args}, []).
+started(link, Backend) -> gen_server:start_link({local, ?NAME}, ?MODULE, Backend, []);
+started(nolink, Backend) -> gen_server:start({local, ?NAME}, ?MODULE, Backend, []).
 
 %% A store that does not start ends by `shutdown', so that no crash report is written for a mistake of the user's.
 unwrapped({error, {shutdown, Reason}}) -> {error, Reason};
 unwrapped(Result) -> Result.
 
-%% @doc Does a call for a process. A store that does not run has no tables, so each call is a `badarg'.
--spec call(pid(), atom(), [term()]) -> result().
-call(Pid, Name, Args) ->
-    try
-        gen_server:call(?NAME, {Pid, Name, Args}, infinity)
-    catch
-        exit:{noproc, _} -> {error, badarg, {general, <<"no store is running: start one by yoyoash:start_link()">>}};
-        exit:{_Reason, {gen_server, call, _}} -> {error, badarg, {general, <<"the store has ended: start it again">>}}
-    end.
-
 %% @private
--spec init({file:filename_all(), [string()]}) -> {ok, #store{}} | {stop, term()}.
-init({Program, Args}) ->
+-spec init(yoyoash_backend:plan()) -> {ok, #store{}} | {stop, term()}.
+init(Plan) ->
     process_flag(trap_exit, true),
-    try open_port({spawn_executable, Program}, port_options(Args)) of
-        Port -> greet(Port, Program)
-    catch
-        error:Reason -> {stop, {shutdown, {cannot_start, Program, Reason}}}
+    case yoyoash_backend:open(Plan) of
+        {ok, Backend} ->
+            Known = yoyoash_known:new(),
+            ok = yoyoash_caller:publish(Known, self(), published(Backend)),
+            {ok, #store{requests = yoyoash_requests:new(Backend), known = Known}};
+        {error, Reason} ->
+            {stop, {shutdown, Reason}}
     end.
 
-port_options(Args) ->
-    [{args, Args}, {line, ?LONGEST_LINE}, binary, use_stdio, stderr_to_stdout, exit_status, hide].
-
-%% Sends a call of a process that does not exist, and waits for its answer, which shows that the program runs.
-greet(Port, Program) ->
-    port_command(Port, "yoyoash whereis(yoyoash)\n"),
-    case greeting(Port, [], [], erlang:monotonic_time(millisecond) + ?FIRST_ANSWER) of
-        ok -> {ok, #store{port = Port, line = 1}};
-        {no_answer, Notes} -> {stop, {shutdown, {no_answer, Program, Notes}}};
-        {Ended, Notes} -> {stop, {shutdown, {program_ended, Program, Ended, Notes}}}
-    end.
-
-%% Waits for the first answer until the deadline. What the program writes before it are notes, such as that it is built
-%% first. They are logged if the program takes more than a second, or when it answers. The last note is the first in the
-%% lists.
-greeting(Port, Notes, Unlogged, Deadline) ->
-    case erlang:monotonic_time(millisecond) > Deadline of
-        true -> {no_answer, lists:reverse(Notes)};
-        false -> greeting_in_time(Port, Notes, Unlogged, Deadline)
-    end.
-
-greeting_in_time(Port, Notes, Unlogged, Deadline) ->
-    try next_line(Port, 1_000) of
-        <<"** noproc">> -> log(Unlogged);
-        <<"line 1: ", _/binary>> -> greeting(Port, Notes, Unlogged, Deadline);
-        Note -> greeting(Port, with(Note, Notes), with(Note, Unlogged), Deadline)
-    catch
-        throw:no_line ->
-            log(Unlogged),
-            greeting(Port, Notes, [], Deadline);
-        throw:{stop, {program_ended, Ended}} ->
-            {Ended, lists:reverse(Notes)}
-    end.
-
-with(Note, Notes) -> lists:sublist([Note | Notes], ?NOTES).
-
-log(Notes) -> lists:foreach(fun(Note) -> ?LOG_NOTICE("yoyoash: ~ts", [Note]) end, lists:reverse(Notes)).
+published({port, _Connection}) -> port;
+published({nif, Handle}) -> {nif, Handle}.
 
 %% @private
 -spec handle_call(term(), gen_server:from(), #store{}) ->
-    {reply, result(), #store{}} | {stop, term(), result(), #store{}}.
-handle_call({Pid, Name, Args}, _From, S0) when is_pid(Pid), is_atom(Name), is_list(Args) ->
-    try
-        {Result, S} = request(Pid, Name, Args, S0),
-        {reply, Result, S}
-    catch
-        throw:{stop, Reason} ->
-            Text = unicode:characters_to_binary(yoyoash_program:format_error(Reason)),
-            {stop, Reason, {error, badarg, {general, Text}}, S0}
-    end;
-handle_call(_Unknown, _From, S) ->
-    {reply, {error, badarg, {general, <<"not a call of the store">>}}, S}.
+    {noreply, #store{}} | {noreply, #store{}, 0} | {reply, term(), #store{}} | {stop, term(), term(), #store{}}.
+handle_call(Request, From, S) -> safely(fun() -> called(Request, From, S) end, S).
 
-%% @private
--spec handle_cast(term(), #store{}) -> {noreply, #store{}}.
-handle_cast(_Message, S) -> {noreply, S}.
-
-%% @private
--spec handle_info(term(), #store{}) -> {noreply, #store{}} | {stop, term(), #store{}}.
-handle_info(Message, S) ->
+%% Runs a step of the server. If the program has ended, all who wait get this as their reply.
+safely(Do, S) ->
     try
-        {noreply, heard(Message, S)}
+        waits(Do())
     catch
-        throw:{stop, Reason} -> {stop, Reason, S}
+        throw:{stop, Reason} -> {stop, Reason, told(Reason, S)}
     end.
 
-heard({'DOWN', _Ref, process, Pid, noconnection}, S) -> forgotten(Pid, ended(Pid, S));
-heard({'DOWN', _Ref, process, Pid, _Reason}, S) -> ended(Pid, S);
-heard({exit_again, Process, Owned}, S) -> exited(Process, Owned, S);
-heard({deliver, Pid}, S) -> deliver(Pid, S);
-heard({Port, {exit_status, Status}}, #store{port = Port}) -> throw({stop, {program_ended, {status, Status}}});
-heard({'EXIT', Port, Reason}, #store{port = Port}) -> throw({stop, {program_ended, {closed, Reason}}});
-%% (a reason that came late, or a note)
-heard(_Message, S) -> S.
+%% While requests are unsent, the server takes the messages that are there, and sends all requests at once.
+waits(S = #store{requests = Requests}) ->
+    case yoyoash_requests:is_unsent(Requests) of
+        true -> {noreply, S, 0};
+        false -> {noreply, S}
+    end.
+
+%% Tells all who wait that the store has ended.
+told(Reason, S = #store{requests = Requests, processes = Processes}) ->
+    Callers = lists:flatmap(fun waits_for/1, yoyoash_requests:waiting(Requests)),
+    lists:foreach(
+        fun(From) -> gen_server:reply(From, {ended, Reason}) end, Callers ++ yoyoash_processes:waiters(Processes)
+    ),
+    S.
+
+waits_for({caller, From}) -> [From];
+waits_for({made, From, _, _}) -> [From];
+waits_for({messages, _, {gift, From}}) -> [From];
+waits_for(_Purpose) -> [].
+
+%% @private
+-spec handle_cast(term(), #store{}) -> {noreply, #store{}} | {noreply, #store{}, 0} | {stop, term(), #store{}}.
+handle_cast(_Message, S) -> waits(S).
+
+%% @private
+-spec handle_info(term(), #store{}) -> {noreply, #store{}} | {noreply, #store{}, 0} | {stop, term(), #store{}}.
+handle_info(Message, S) -> safely(fun() -> heard(Message, S) end, S).
+
+%% @private
+-spec terminate(term(), #store{}) -> ok.
+terminate(_Reason, #store{requests = Requests}) ->
+    _ = yoyoash_caller:retract(),
+    yoyoash_requests:close(Requests).
 
 %% @private
 %% Shortens the state in reports: it has a number for each process that ever called.
 -spec format_status(gen_server:format_status()) -> gen_server:format_status().
-format_status(Status = #{state := #store{line = Line, live = Live}}) ->
-    Status#{state := #{lines => Line, live_processes => map_size(Live)}};
+format_status(Status = #{state := #store{requests = Requests, processes = Processes}}) ->
+    Live = length(yoyoash_processes:live(Processes)),
+    Status#{state := #{requests => yoyoash_requests:count(Requests), live_processes => Live}};
 format_status(Status) -> Status.
 
-%% Does a call: first the processes in it become processes of the store.
-request(Pid, Name, Args, S0) ->
-    Named = yoyoash_text:pids(Args),
-    case enrol_all([Pid | Named], S0) of
-        {ok, S1} -> request(Pid, Name, Args, Named, S1);
-        {Refused, S1} -> {Refused, S1}
-    end.
+%%% What callers ask for
 
-request(Pid, Name, Args, Named, S0 = #store{terms = Terms}) ->
-    case yoyoash_text:arguments(Args, Terms) of
-        {ok, Text} ->
-            {Result, S} = ask([process(Pid, S0), " ", atom_to_list(Name), "(", Text, ")"], S0),
-            {Result, followed(Name, Result, Pid, Named, S)};
-        {error, Cause} ->
-            {{error, badarg, Cause}, S0}
-    end.
-
-%% Does what follows from a call that was done: a gift is delivered, the owner and the heir are remembered.
-followed(give_away, {ok, _}, _Pid, Named, S) -> lists:foldl(fun deliver/2, S, Named);
-followed(Name, {ok, _}, Pid, Named, S = #store{heirs = Heirs}) when Name =:= new; Name =:= setopts ->
-    owns(Pid, S#store{heirs = maps:merge(Heirs, maps:from_keys(Named, true))});
-followed(_Name, _Result, _Pid, _Named, S) -> S.
-
-owns(Pid, S = #store{owners = Owners}) -> S#store{owners = Owners#{Pid => true}}.
-
-enrol_all([], S) -> {ok, S};
-enrol_all([Pid | Pids], S0) ->
-    case enrol(Pid, S0) of
-        {ok, S1} -> enrol_all(Pids, S1);
-        Refused -> Refused
-    end.
+called({ask, N, Bytes}, From, S) when is_integer(N), is_binary(Bytes) -> send(2, N, Bytes, {caller, From}, S);
+called({enrol, Pid}, From, S) when is_pid(Pid) -> enrol(Pid, From, S);
+called({serve, Name, N, Pid, Named, Bytes}, From, S) when is_integer(N), is_binary(Bytes) ->
+    served(Name, N, Pid, Named, Bytes, From, S);
+called(ready, From, S) ->
+    gen_server:reply(From, ready),
+    S;
+called({no_term, Bytes}, From, _S) ->
+    gen_server:reply(From, {ended, {no_term, Bytes}}),
+    throw({stop, {no_term, Bytes}});
+called(_Unknown, From, S) ->
+    gen_server:reply(From, {error, badarg, {general, <<"not a call of the store">>}}),
+    S.
 
 %% Spawns a new pid in the store, under the next number. If the store refuses, the pid stays unknown.
-enrol(Pid, S = #store{terms = Terms}) ->
-    case yoyoash_text:number(Pid, Terms) of
+enrol(Pid, From, S = #store{known = Known, processes = Processes}) ->
+    case yoyoash_known:number(Pid, Known) of
         none ->
-            {N, Numbered} = yoyoash_text:add(Pid, Terms),
-            case ask(["spawn p", integer_to_list(N)], S#store{terms = Numbered}) of
-                {{ok, Pid}, Now = #store{live = Live}} ->
-                    _ = monitor(process, Pid),
-                    {ok, Now#store{live = Live#{Pid => true}}};
-                {Refused, Now} ->
-                    {Refused, Now#store{terms = Terms}}
+            case yoyoash_processes:enrol(Pid, From, Processes) of
+                {spawn, N, Now} -> send(0, N, <<>>, {spawned, Pid}, S#store{processes = Now});
+                {waits, Now} -> S#store{processes = Now}
             end;
         _ ->
-            {ok, S}
+            gen_server:reply(From, true),
+            S
     end.
 
-process(Pid, #store{terms = Terms}) -> ["p", integer_to_list(yoyoash_text:number(Pid, Terms))].
-
-%% Ends a process that has ended here.
-ended(Pid, S = #store{live = Live, heirs = Heirs, owners = Owners}) when is_map_key(Pid, Live) ->
-    Left = S#store{
-        live = maps:remove(Pid, Live), heirs = maps:remove(Pid, Heirs), owners = maps:remove(Pid, Owners)
-    },
-    exited(process(Pid, S), is_map_key(Pid, Owners), Left);
-ended(_Pid, S) -> S.
-
-%% Forgets the number of a process whose connection was lost: if it comes back, it is a new process of the store.
-forgotten(Pid, S = #store{terms = Terms}) -> S#store{terms = yoyoash_text:forget(Pid, Terms)}.
-
-%% Ends a process of the store. If it may have owned tables, delivers them to their heirs.
-exited(Process, Owned, S0) ->
-    case ask(["exit ", Process], S0) of
-        {{error, enomem, _}, S} -> again({exit_again, Process, Owned}, S);
-        {_, S} when Owned -> lists:foldl(fun deliver/2, S, maps:keys(S#store.heirs));
-        {_, S} -> S
-    end.
-
-%% Sends a process the messages that the store has for it.
-deliver(Pid, S0 = #store{live = Live}) when is_map_key(Pid, Live) ->
-    case ask([process(Pid, S0), " receive()"], S0) of
-        {{ok, []}, S} -> S;
-        {{ok, Messages}, S} ->
-            lists:foreach(fun(Message) -> Pid ! Message end, Messages),
-            owns(Pid, S);
-        {{error, enomem, _}, S} -> again({deliver, Pid}, owns(Pid, S));
-        {_, S} -> S
+%% Does a call that makes owners or heirs. The messages of a gift are read before any other call.
+served(give_away, N, _Pid, Named, Bytes, From, S = #store{processes = Processes}) ->
+    case [To || To <- Named, yoyoash_processes:is_live(To, Processes)] of
+        [] -> send(2, N, Bytes, {caller, From}, S);
+        [To | _] -> messages(To, {gift, From}, send(2, N, Bytes, gift, S))
     end;
-deliver(_Pid, S) -> S.
+served(_Name, N, Pid, Named, Bytes, From, S) -> send(2, N, Bytes, {made, From, Pid, Named}, S).
+
+%% Reads the messages that the store has for a process.
+messages(Pid, For, S = #store{known = Known}) ->
+    case yoyoash_known:number(Pid, Known) of
+        none -> S;
+        N -> send(2, N, yoyoash_term:plain('receive', []), {messages, Pid, For}, S)
+    end.
+
+%%% Requests and replies
+
+send(Kind, N, Bytes, Purpose, S = #store{requests = Requests}) ->
+    case yoyoash_requests:send(Kind, N, Bytes, Purpose, Requests) of
+        {waits, Now} -> S#store{requests = Now};
+        {reply, Body, Now} -> replied(Purpose, Body, S#store{requests = Now})
+    end.
+
+%% Does what follows from a reply.
+-spec replied(purpose(), binary(), #store{}) -> #store{}.
+replied({caller, From}, Body, S) ->
+    gen_server:reply(From, Body),
+    S;
+replied({spawned, Pid}, Body, S) ->
+    spawned(Pid, Body, S);
+replied({made, From, Pid, Named}, Body, S) ->
+    gen_server:reply(From, Body),
+    made(Body, Pid, Named, S);
+replied(gift, Body, S) ->
+    S#store{held = Body};
+replied({messages, Pid, For}, Body, S) ->
+    delivered(For, deliver(Body, Pid, S));
+replied({ended, N, Owned}, <<4, _/binary>>, S) ->
+    again({exit_again, N, Owned}, S);
+replied({ended, _, _}, _Body, S) ->
+    S.
+
+spawned(Pid, <<0, _/binary>>, S = #store{known = Known, processes = Processes}) ->
+    {N, Froms, Now} = yoyoash_processes:spawned(Pid, Processes),
+    true = yoyoash_known:add(Pid, N, Known),
+    _ = monitor(process, Pid),
+    lists:foreach(fun(From) -> gen_server:reply(From, true) end, Froms),
+    S#store{processes = Now};
+spawned(Pid, Refusal, S = #store{processes = Processes}) ->
+    {Froms, Now} = yoyoash_processes:refused(Pid, Processes),
+    lists:foreach(fun(From) -> gen_server:reply(From, Refusal) end, Froms),
+    S#store{processes = Now}.
+
+%% Remembers the owner and the heirs of a call that was made.
+made(<<Status, _/binary>>, Pid, Named, S = #store{processes = Processes}) when Status =:= 0; Status =:= 7 ->
+    owns(Pid, S#store{processes = yoyoash_processes:may_inherit(Named, Processes)});
+made(_Refusal, _Pid, _Named, S) -> S.
+
+owns(Pid, S = #store{processes = Processes}) -> S#store{processes = yoyoash_processes:owns(Pid, Processes)}.
+
+%% Sends a process the messages that the store had for it.
+deliver(<<0, Bytes/binary>>, Pid, S = #store{known = Known}) ->
+    case read(Bytes, Known) of
+        [] ->
+            S;
+        Messages ->
+            lists:foreach(fun(Message) -> Pid ! Message end, Messages),
+            owns(Pid, S)
+    end;
+deliver(<<4, _/binary>>, Pid, S) -> again({messages, Pid}, owns(Pid, S));
+deliver(_Refusal, _Pid, S) -> S.
+
+read(Bytes, Known) ->
+    try yoyoash_term:read(Bytes, Known)
+    catch error:_ -> throw({stop, {no_term, Bytes}})
+    end.
+
+%% Tells the giver that the gift was made, after it was delivered.
+delivered({gift, From}, S = #store{held = Body}) ->
+    gen_server:reply(From, Body),
+    S#store{held = none};
+delivered(none, S) -> S.
+
+%%% What the server hears
+
+heard(timeout, S = #store{requests = Requests}) ->
+    S#store{requests = yoyoash_requests:flush(Requests)};
+heard({Port, {data, Data}}, S = #store{requests = Requests}) when is_port(Port) ->
+    {Replies, Now} = yoyoash_requests:replies(Data, Requests),
+    lists:foldl(fun({Purpose, Body}, Then) -> replied(Purpose, Body, Then) end, S#store{requests = Now}, Replies);
+heard({'DOWN', _Ref, process, Pid, Reason}, S = #store{known = Known}) ->
+    N = yoyoash_known:number(Pid, Known),
+    _ = Reason =:= noconnection andalso yoyoash_known:forget(Pid, Known),
+    ended(Pid, N, S);
+heard({exit_again, N, Owned}, S) -> exited(N, Owned, S);
+heard({messages, Pid}, S) -> messages(Pid, none, S);
+heard({Port, {exit_status, Status}}, _S) when is_port(Port) -> throw({stop, {program_ended, {status, Status}}});
+heard({'EXIT', Port, Reason}, _S) when is_port(Port) -> throw({stop, {program_ended, {closed, Reason}}});
+heard(_Message, S) -> S.
+
+%% Ends a process that has ended here. If the connection to it was lost, its number is forgotten first: if it comes back,
+%% it is a new process of the store.
+ended(Pid, N, S = #store{processes = Processes}) ->
+    case yoyoash_processes:ended(Pid, Processes) of
+        {ended, MayOwn, Left} -> exited(N, MayOwn, S#store{processes = Left});
+        not_live -> S
+    end.
+
+%% Ends a process of the store. If it may have owned tables, their heirs get messages.
+exited(N, Owned, S) ->
+    Now = send(1, N, <<>>, {ended, N, Owned}, S),
+    case Owned of
+        true -> lists:foldl(fun(Heir, Then) -> messages(Heir, none, Then) end, Now, heirs(Now));
+        false -> Now
+    end.
+
+heirs(#store{processes = Processes}) -> yoyoash_processes:heirs(Processes).
 
 %% Sends this server a message later.
 again(Message, S) ->
     _ = erlang:send_after(?AGAIN, self(), Message),
     S.
-
-%% Sends a line and returns its answer.
-ask(Text, S = #store{port = Port, line = Line}) ->
-    case iolist_size(Text) > ?LONGEST_LINE of
-        true -> {{error, system_limit, {general, <<"the text of the call is longer than 65,536 bytes">>}}, S};
-        false ->
-            send(Port, [Text, "\n"]),
-            answer(none, S#store{line = Line + 1})
-    end.
-
-%% A program that has ended leaves a closed port, and a message that says how it ended.
-send(Port, Text) ->
-    try port_command(Port, Text) of
-        true -> ok
-    catch
-        error:badarg -> throw({stop, {program_ended, how_it_ended(Port)}})
-    end.
-
-how_it_ended(Port) ->
-    receive
-        {Port, {exit_status, Status}} -> {status, Status};
-        {'EXIT', Port, Reason} -> {closed, Reason}
-    after ?REASON -> {closed, unknown}
-    end.
-
-%% Reads up to the answer of the last line. The reason of a refusal may come before it or after it.
-answer(Cause, S = #store{port = Port, terms = Terms}) ->
-    case classified(next_line(Port, infinity), S) of
-        {reason, Found} -> answer(Found, S);
-        other -> answer(Cause, S);
-        {refused, Kind} -> {refusal(Kind, Cause, S), S};
-        {term, Text} ->
-            {Term, Now} = read(Text, Terms),
-            {{ok, Term}, S#store{terms = Now}}
-    end.
-
-read(Text, Terms) ->
-    try yoyoash_text:read(Text, Terms)
-    catch error:_ -> throw({stop, {no_term, Text}})
-    end.
-
-refusal(Kind, none, S) -> {error, kind(Kind), reason(S)};
-refusal(Kind, Cause, _S) -> {error, kind(Kind), Cause}.
-
-kind(<<"system_limit">>) -> system_limit;
-kind(<<"line too long">>) -> system_limit;
-kind(<<"nomem">>) -> enomem;
-kind(_) -> badarg.
-
-%% Waits for the reason of the last line. The program leaves it out if it has no memory for it.
-reason(S = #store{port = Port}) ->
-    try classified(next_line(Port, ?REASON), S) of
-        {reason, Cause} -> Cause;
-        _ -> reason(S)
-    catch
-        throw:no_line -> none
-    end.
-
-%% Says what a line of the program is: no term begins as a reason or as a note does.
-classified(<<"** ", Kind/binary>>, _S) -> {refused, Kind};
-classified(<<"ets_script: ", _/binary>> = Note, _S) -> log([Note]), other;
-classified(<<"line ", Rest/binary>>, #store{line = Line}) ->
-    [Number, Reason] = binary:split(Rest, <<": ">>),
-    case binary_to_integer(Number) of
-        Line -> {reason, yoyoash_errors:cause(Reason)};
-        _ -> other
-    end;
-classified(Text, _S) -> {term, Text}.
-
-%% Returns the next line that the program writes.
-next_line(Port, Timeout) ->
-    receive
-        {Port, {data, {eol, Text}}} -> Text;
-        {Port, {data, {noeol, Text}}} -> iolist_to_binary([Text | rest_of_line(Port)]);
-        {Port, {exit_status, Status}} -> throw({stop, {program_ended, {status, Status}}});
-        {'EXIT', Port, Reason} -> throw({stop, {program_ended, {closed, Reason}}})
-    after Timeout -> throw(no_line)
-    end.
-
-rest_of_line(Port) ->
-    receive
-        {Port, {data, {eol, Text}}} -> [Text];
-        {Port, {data, {noeol, Text}}} -> [Text | rest_of_line(Port)];
-        {Port, {exit_status, Status}} -> throw({stop, {program_ended, {status, Status}}});
-        {'EXIT', Port, Reason} -> throw({stop, {program_ended, {closed, Reason}}})
-    end.

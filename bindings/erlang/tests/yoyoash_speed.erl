@@ -1,4 +1,5 @@
-%% Measures calls through the port: yoyoash_speed:main() prints calls a second, for docs/erlang.md.
+%% Measures calls through the port, and through the NIF if it is built: yoyoash_speed:main() prints calls a second, for
+%% docs/erlang.md.
 -module(yoyoash_speed).
 -export([main/0]).
 
@@ -6,23 +7,26 @@
 
 -spec main() -> no_return().
 main() ->
-    {ok, _} = yoyoash:start(),
-    t = yoyoash:new(t, [named_table, public]),
-    measure("insert, one caller", 1, fun(N) -> yoyoash:insert(t, {N, N}) end),
-    measure("lookup, one caller", 1, fun(N) -> [{N, N}] = yoyoash:lookup(t, N) end),
-    measure("lookup, eight callers", 8, fun(N) -> [{N, N}] = yoyoash:lookup(t, N) end),
-    measure("lists of 100 objects, one caller, per object", 1, ?CALLS div 100, fun insert_100/1),
-    yoyoash:stop(),
+    lists:foreach(fun measure/1, [port | [nif || yoyoash_nif:is_loaded()]]),
     halt(0).
+
+measure(Backend) ->
+    {ok, _} = yoyoash:start(#{backend => Backend}),
+    t = yoyoash:new(t, [named_table, public]),
+    measure(Backend, "insert, one caller", 1, fun(N) -> yoyoash:insert(t, {N, N}) end),
+    [measure(Backend, What, Callers, fun(N) -> [{N, N}] = yoyoash:lookup(t, N) end)
+     || {What, Callers} <- [{"lookup, one caller", 1}, {"lookup, 8 callers", 8}, {"lookup, 100 callers", 100}]],
+    measure(Backend, "lists of 100 objects, one caller, per object", 1, ?CALLS div 100, fun insert_100/1),
+    yoyoash:stop().
 
 insert_100(N) -> yoyoash:insert(t, [{{N, M}, M} || M <- lists:seq(1, 100)]).
 
-measure(What, Callers, Call) -> measure(What, Callers, ?CALLS, Call).
+measure(Backend, What, Callers, Call) -> measure(Backend, What, Callers, ?CALLS, Call).
 
-%% Shares the calls among the callers, and takes the best of three runs.
-measure(What, Callers, Calls, Call) ->
-    Best = lists:min([run(Callers, Calls div Callers, Call) || _ <- [1, 2, 3]]),
-    io:format("~s: ~b a second~n", [What, ?CALLS * 1_000_000 div Best]).
+%% Shares the calls among the callers, and takes the best of five runs.
+measure(Backend, What, Callers, Calls, Call) ->
+    Best = lists:min([run(Callers, Calls div Callers, Call) || _ <- lists:seq(1, 5)]),
+    io:format("~s, ~s: ~b a second~n", [Backend, What, ?CALLS * 1_000_000 div Best]).
 
 run(Callers, Calls, Call) ->
     {Time, _} = timer:tc(fun() ->

@@ -1,13 +1,17 @@
-%% Tests of the binding over the program that YOYOASH_PROGRAM names, or that the repository holds: rebar3 eunit.
+%% Tests of the calls, over the NIF if it is built, and over the program that YOYOASH_PROGRAM names or that the repository
+%% holds: rebar3 eunit.
 -module(yoyoash_tests).
 -include_lib("eunit/include/eunit.hrl").
+-import(yoyoash_help, [backends/0, shown/1, contains/2, eventually/1, quietly/1, in_file/3]).
 
 %%% Over a store that is started for each group
 
 store_test_() ->
-    {foreach, fun started/0, fun stopped/1, [
-        fun(_) -> {Name, {timeout, 60, fun() -> ok = Test() end}} end || {Name, Test} <- tests()
-    ]}.
+    [{foreach, fun() -> started(Backend) end, fun stopped/1, [each(Test, Backend) || Test <- tests() ++ tests(Backend)]}
+     || Backend <- backends()].
+
+each({Name, Test}, Backend) ->
+    fun(_) -> {lists:concat([Name, ", ", Backend]), {timeout, 60, fun() -> ok = Test() end}} end.
 
 tests() ->
     [
@@ -15,7 +19,7 @@ tests() ->
         {"functions without a call of their own", fun other_functions/0},
         {"an error has its reason", fun reasons/0},
         {"a term that is not supported", fun unsupported_terms/0},
-        {"a call that is too long", fun long_call/0},
+        {"terms that are too deep", fun deep_terms/0},
         {"terms there and back", fun random_terms/0},
         {"a table goes to its heir", fun heir/0},
         {"a table ends with its owner", fun owner_ends/0},
@@ -24,13 +28,25 @@ tests() ->
         {"a message that is no call", fun no_call/0},
         {"a call for another process", fun for_another/0},
         {"callers at once", fun callers_at_once/0},
-        {"a program that ends", fun program_ends/0},
-        {"a program that ends under load", fun program_ends_under_load/0},
+        {"replies to many callers", fun replies_in_order/0},
+        {"a long reply", fun long_reply/0},
         {"a second store", fun second_store/0}
     ].
 
-started() ->
-    {ok, Pid} = yoyoash:start(),
+tests(port) ->
+    [
+        {"a call that is too long", fun long_call/0},
+        {"a program that ends", fun program_ends/0},
+        {"a program that ends under load", fun program_ends_under_load/0}
+    ];
+tests(nif) ->
+    [
+        {"long calls beside short ones", fun long_beside_short/0},
+        {"a server that is killed", fun server_killed/0}
+    ].
+
+started(Backend) ->
+    {ok, Pid} = yoyoash:start(#{backend => Backend}),
     Pid.
 
 stopped(Pid) ->
@@ -42,9 +58,10 @@ stopped(Pid) ->
 %%% The ten examples by ets and by the store
 
 examples_test_() ->
-    {setup, fun started/0, fun stopped/1, [
-        {Name, {timeout, 60, fun() -> same_by_both(Example) end}} || {Name, Example} <- yoyoash_examples:examples()
-    ]}.
+    [{setup, fun() -> started(Backend) end, fun stopped/1, [
+        {lists:concat([Name, ", ", Backend]), {timeout, 60, fun() -> same_by_both(Example) end}}
+     || {Name, Example} <- yoyoash_examples:examples()
+    ]} || Backend <- backends()].
 
 same_by_both(Example) ->
     ?assertEqual(yoyoash_examples:result(Example, ets), yoyoash_examples:result(Example, yoyoash)).
@@ -132,11 +149,24 @@ unsupported_terms() ->
 
 long_call() ->
     t = yoyoash:new(t, [named_table]),
-    {system_limit, Shown} = shown(fun() -> yoyoash:insert(t, {a, binary:copy(<<"x">>, 70_000)}) end),
-    contains(Shown, "65,536"),
-    true = yoyoash:insert(t, {a, binary:copy(<<"x">>, 60_000)}),
+    {system_limit, Shown} = shown(fun() -> yoyoash:insert(t, {a, binary:copy(<<"x">>, 16_777_200)}) end),
+    contains(Shown, "16,777,211"),
+    true = yoyoash:insert(t, {a, binary:copy(<<"x">>, 1_000_000)}),
     [{a, <<"xx", _/binary>>}] = yoyoash:lookup(t, a),
     ok.
+
+%% An object may have 126 levels, since the call is two more.
+deep_terms() ->
+    t = yoyoash:new(t, [named_table]),
+    true = yoyoash:insert(t, {a, deep(125)}),
+    ?assertEqual([{a, deep(125)}], yoyoash:lookup(t, a)),
+    ?assertEqual([{a, deep(125)}], yoyoash:tab2list(t)),
+    {badarg, Shown} = shown(fun() -> yoyoash:insert(t, {a, deep(126)}) end),
+    contains(Shown, "128 levels"),
+    ok.
+
+deep(1) -> x;
+deep(Levels) -> [deep(Levels - 1)].
 
 random_terms() ->
     _ = rand:seed(exsss, 7),
@@ -182,26 +212,26 @@ owner_ends() ->
     receive {'DOWN', Ref, process, _, normal} -> ok end,
     eventually(fun() -> yoyoash:whereis(t) =:= undefined end).
 
-%% Ends a process that owned nothing: this takes one line of the program, for any number of heirs.
+%% Ends a process that owned nothing: this takes one request, for any number of heirs.
 reader_ends() ->
     t = yoyoash:new(t, [named_table]),
     Heirs = [spawn(fun() -> receive stop -> ok end end) || _ <- lists:seq(1, 20)],
     [true = yoyoash:setopts(t, {heir, Heir, data}) || Heir <- Heirs],
     {Reader, Ref} = spawn_monitor(fun() -> [] = yoyoash:lookup(t, a), receive stop -> ok end end),
     ok = eventually(fun() -> lists:member(Reader, live()) end),
-    Before = lines(),
+    Before = requests(),
     Reader ! stop,
     receive {'DOWN', Ref, process, _, normal} -> ok end,
     ok = eventually(fun() -> not lists:member(Reader, live()) end),
-    ?assertEqual(Before + 1, lines()),
+    ?assertEqual(Before + 1, requests()),
     [Heir ! stop || Heir <- Heirs],
     ok.
 
-%% Returns the number of lines that the store has sent, from the field `line' of its state.
-lines() -> element(3, sys:get_state(yoyoash)).
+%% Returns the number of requests that the server has made, from the field `requests' of its state.
+requests() -> yoyoash_requests:count(element(3, sys:get_state(yoyoash))).
 
-%% Returns the processes that have not ended, from the field `live'.
-live() -> maps:keys(element(5, sys:get_state(yoyoash))).
+%% Returns the processes that have not ended, from the field `processes'.
+live() -> yoyoash_processes:live(element(4, sys:get_state(yoyoash))).
 
 %% Reports a lost connection of this process: it ends in the store, and its next call is that of a new process.
 comes_back() ->
@@ -209,7 +239,7 @@ comes_back() ->
     true = yoyoash:insert(t, {self()}),
     Self = self(),
     yoyoash ! {'DOWN', make_ref(), process, Self, noconnection},
-    undefined = yoyoash:whereis(t),
+    ok = eventually(fun() -> yoyoash:whereis(t) =:= undefined end),
     t = yoyoash:new(t, [named_table]),
     Self = yoyoash:info(t, owner),
     true = yoyoash:insert(t, {Self}),
@@ -245,6 +275,65 @@ callers_at_once() ->
     1500 = yoyoash:foldl(fun({_, N}, Sum) -> N + Sum end, 0, t),
     ok.
 
+%% Each of many callers gets the replies to its own calls, also while processes come and end.
+replies_in_order() ->
+    t = yoyoash:new(t, [named_table, public]),
+    Refs = [element(2, spawn_monitor(fun() -> [own_object({N, M}) || M <- lists:seq(1, 20)] end)) || N <- lists:seq(1, 100)],
+    [receive {'DOWN', Ref, process, _, Why} -> normal = Why end || Ref <- Refs],
+    2_000 = yoyoash:info(t, size),
+    ok.
+
+own_object(Key) ->
+    true = yoyoash:insert_new(t, {Key, self()}),
+    Self = self(),
+    [{Key, Self}] = yoyoash:lookup(t, Key),
+    {undef, _} = shown(fun() -> yoyoash:call_as(Self, no_call, [Key]) end),
+    {badarg, _} = shown(fun() -> yoyoash:update_counter(t, Key, 1) end).
+
+%% A reply that comes in many parts, and short ones after it.
+long_reply() ->
+    t = yoyoash:new(t, [named_table, public]),
+    Objects = [{N, binary:copy(<<N:32>>, 100)} || N <- lists:seq(1, 2_000)],
+    true = yoyoash:insert(t, Objects),
+    Refs = [element(2, spawn_monitor(fun() -> [look_up(N) || N <- lists:seq(1, 50)] end)) || _ <- lists:seq(1, 10)],
+    ?assertEqual(Objects, lists:sort(yoyoash:tab2list(t))),
+    [receive {'DOWN', Ref, process, _, Why} -> normal = Why end || Ref <- Refs],
+    ok.
+
+look_up(N) ->
+    Bytes = binary:copy(<<N:32>>, 100),
+    [{N, Bytes}] = yoyoash:lookup(t, N).
+
+%% While some processes list a table, others look up and end, and the store is closed in the middle.
+long_beside_short() ->
+    t = yoyoash:new(t, [named_table, public]),
+    true = yoyoash:insert(t, [{N, binary:copy(<<N:32>>, 100)} || N <- lists:seq(1, 2_000)]),
+    Listing = [element(2, spawn_monitor(fun() -> until_refused(fun() -> yoyoash:tab2list(t) end) end)) || _ <- [1, 2, 3]],
+    Looking = [element(2, spawn_monitor(fun() -> [look_up(N) || N <- lists:seq(1, 500)] end)) || _ <- lists:seq(1, 20)],
+    [receive {'DOWN', Ref, process, _, Why} -> normal = Why end || Ref <- Looking],
+    yoyoash:stop(),
+    lists:foreach(fun ended_normally/1, Listing).
+
+until_refused(Call) ->
+    try Call() of
+        _ -> until_refused(Call)
+    catch
+        error:badarg -> ok
+    end.
+
+%% A killed server leaves no store: calls say so, and a new store has other numbers and tables.
+server_killed() ->
+    Old = yoyoash:new(t, [named_table]),
+    Server = erlang:whereis(yoyoash),
+    Ref = monitor(process, Server),
+    exit(Server, kill),
+    receive {'DOWN', Ref, process, _, killed} -> ok end,
+    {badarg, Shown} = shown(fun() -> yoyoash:lookup(Old, a) end),
+    contains(Shown, "the store has ended"),
+    {ok, _} = yoyoash:start(#{backend => nif}),
+    undefined = yoyoash:whereis(t),
+    yoyoash:stop().
+
 %% The program is killed: its server ends and says how, and calls say that there is no store.
 program_ends() ->
     t = yoyoash:new(t, [named_table]),
@@ -260,7 +349,7 @@ program_ends_under_load() ->
     ok.
 
 killed_under_load() ->
-    {ok, _} = yoyoash:start(),
+    _ = started(port),
     t = yoyoash:new(t, [named_table, public]),
     Binary = binary:copy(<<"x">>, 20_000),
     Refs = [element(2, spawn_monitor(fun() -> insert_until_refused(0, Binary) end)) || _ <- [1, 2, 3]],
@@ -297,179 +386,3 @@ second_store() ->
     contains(yoyoash:format_error(Reason), "application:stop(yoyoash)"),
     ok.
 
-%%% Starting
-
-start_test_() ->
-    [
-        {Name, {timeout, 60, Test}}
-     || {Name, Test} <- [
-            {"programs that cannot be started", fun bad_programs/0},
-            {"the platform", fun platform/0},
-            {"limits", fun limits/0},
-            {"an application", fun application/0},
-            {"an application that does not start", fun application_fails/0},
-            {"a child of a supervisor", fun supervised/0},
-            {"options", fun options/0},
-            {"a message for which memory lacked", fun message_later/0}
-        ]
-    ].
-
-%% Each mistake is one line with a remedy, and no report.
-bad_programs() ->
-    bad_program("/no/such/program", no_program, "YOYOASH_PROGRAM"),
-    in_file("#!/bin/sh\n", 8#644, fun(File) -> bad_program(File, not_executable, "chmod +x") end),
-    in_file("#!/bin/sh\necho 'ets_script: rt not found' >&2; exit 3\n", 8#755, fun(File) ->
-        Error = bad_program(File, program_ended, "--version"),
-        contains(yoyoash:format_error(Error), "rt not found"),
-        contains(yoyoash:format_error(Error), "status 3")
-    end),
-    in_file("\177ELF no program", 8#755, fun(File) -> bad_program(File, program_ended, "--version") end),
-    in_file("#!/bin/sh\nseq 1000; exit 3\n", 8#755, fun(File) ->
-        {program_ended, _, {status, 3}, Notes} = bad_program(File, program_ended, "1000"),
-        ?assertEqual([integer_to_binary(N) || N <- lists:seq(981, 1000)], Notes)
-    end),
-    {error, Reason} = yoyoash:start(#{args => ["--no-such-option"]}),
-    contains(yoyoash:format_error(Reason), "unexpected argument '--no-such-option'"),
-    contains(yoyoash:format_error(Reason), "correct the option args"),
-    ok.
-
-bad_program(Program, Kind, Remedy) ->
-    {error, Reason} = yoyoash:start(#{program => Program}),
-    ?assertEqual(Kind, element(1, Reason)),
-    Line = yoyoash:format_error(Reason),
-    contains(Line, Remedy),
-    ?assertEqual(nomatch, string:find(Line, "\n")),
-    Reason.
-
-platform() ->
-    ok = yoyoash_program:check_platform({unix, linux}, "x86_64-pc-linux-gnu"),
-    {error, Reason} = yoyoash_program:check_platform({unix, darwin}, "aarch64-apple-darwin22.1.0"),
-    contains(yoyoash:format_error(Reason), "aarch64-apple-darwin22.1.0"),
-    contains(yoyoash:format_error(Reason), "YOYOASH_PROGRAM").
-
-limits() ->
-    {ok, _} = yoyoash:start(#{args => ["--max-objects=1", "--max-tables", "1"]}),
-    t = yoyoash:new(t, [named_table]),
-    {system_limit, _} = shown(fun() -> yoyoash:insert(t, [{a}, {b}]) end),
-    {system_limit, _} = shown(fun() -> yoyoash:new(u, []) end),
-    yoyoash:stop().
-
-application() ->
-    ok = application:load(yoyoash),
-    {ok, _} = application:ensure_all_started(yoyoash),
-    t = yoyoash:new(t, [named_table]),
-    quietly(fun() -> ok = application:stop(yoyoash), ok = application:unload(yoyoash) end),
-    undefined = erlang:whereis(yoyoash).
-
-application_fails() ->
-    ok = application:load(yoyoash),
-    Program = os:getenv("YOYOASH_PROGRAM", ""),
-    true = os:putenv("YOYOASH_PROGRAM", "/no/such/program"),
-    quietly(fun() ->
-        {error, Reason} = application:ensure_all_started(yoyoash),
-        contains(yoyoash:format_error(Reason), "/no/such/program")
-    end),
-    true = os:putenv("YOYOASH_PROGRAM", Program),
-    ok = application:unload(yoyoash).
-
-supervised() ->
-    process_flag(trap_exit, true),
-    {ok, Sup} = yoyoash_sup:start_link(),
-    First = erlang:whereis(yoyoash),
-    quietly(fun() ->
-        exit(First, kill),
-        ok = eventually(fun() -> is_pid(erlang:whereis(yoyoash)) andalso erlang:whereis(yoyoash) =/= First end)
-    end),
-    t = yoyoash:new(t, [named_table]),
-    exit(Sup, shutdown),
-    receive {'EXIT', Sup, shutdown} -> ok end,
-    undefined = erlang:whereis(yoyoash).
-
-options() ->
-    [
-        {badarg, _} = shown(fun() -> yoyoash:start(Options) end)
-     || Options <- [#{progam => "x"}, [], #{args => "--why"}, #{args => [<<"--why">>]}, #{args => none}]
-    ],
-    ok.
-
-%% Runs a program that has no memory for the messages of a process at first: they are sent later.
-message_later() ->
-    in_file(forgetful_program(), 8#755, fun(File) ->
-        {ok, _} = yoyoash:start(#{program => File}),
-        Self = self(),
-        Giver = spawn(fun() -> true = yoyoash:give_away(t, Self, gift), receive stop -> ok end end),
-        receive {'ETS-TRANSFER', t, Giver, gift} -> ok after 10_000 -> error(no_transfer) end,
-        yoyoash:stop(),
-        Giver ! stop
-    end).
-
-%% Returns a program that has no memory for the first `receive()'.
-forgetful_program() ->
-    "#!/bin/sh
-line=0 spawned=0 gift='** nomem'
-while read -r call; do
-  line=$((line + 1))
-  case $call in
-    spawn*) echo \"<0.$spawned.0>\"; spawned=$((spawned + 1));;
-    *give_away*) echo true;;
-    *'receive()')
-      echo \"line $line: receive/0: out of memory\"
-      echo \"$gift\"; gift=\"[{'ETS-TRANSFER',t,<0.0.0>,gift}]\";;
-    *) echo '** noproc';;
-  esac
-done
-".
-
-%%% Text
-
-%% An atom that the node does not have is not made.
-atom_test() ->
-    Name = <<"never_an_atom_", (integer_to_binary(erlang:unique_integer([positive])))/binary>>,
-    ?assertError(badarg, yoyoash_text:read(Name, yoyoash_text:new())),
-    ?assertError(badarg, binary_to_existing_atom(Name)).
-
-cause_test_() ->
-    [
-        ?_assertEqual({argument, 2, <<"a: b">>}, yoyoash_errors:cause(<<"f/2: argument 2: a: b">>)),
-        ?_assertEqual({general, <<"gone">>}, yoyoash_errors:cause(<<"f/2: gone">>)),
-        ?_assertEqual({general, <<"gone">>}, yoyoash_errors:cause(<<"gone">>))
-    ].
-
-%%% Helpers
-
-%% Returns the reason of an error and what the shell shows of it.
-shown(Call) ->
-    try Call() of
-        Value -> {no_error, Value}
-    catch
-        error:Reason:Stack -> {Reason, lists:flatten(erl_error:format_exception(error, Reason, Stack))}
-    end.
-
-contains(Text, Part) ->
-    case string:find(Text, Part) of
-        nomatch -> error({no, Part, in, Text});
-        _ -> ok
-    end.
-
-%% Waits until a function is true, ten seconds at most.
-eventually(Is) -> eventually(Is, 1_000).
-
-eventually(_Is, 0) -> error(never);
-eventually(Is, Left) ->
-    case Is() of
-        true -> ok;
-        false -> timer:sleep(10), eventually(Is, Left - 1)
-    end.
-
-%% Runs what ends processes on purpose, without reports of it.
-quietly(Do) ->
-    #{level := Level} = logger:get_primary_config(),
-    ok = logger:set_primary_config(level, none),
-    try Do() after logger:set_primary_config(level, Level) end.
-
-in_file(Text, Mode, Do) ->
-    Name = lists:concat(["yoyoash_", os:getpid(), "_", erlang:unique_integer([positive])]),
-    File = filename:join(os:getenv("TMPDIR", "/tmp"), Name),
-    ok = file:write_file(File, Text),
-    ok = file:change_mode(File, Mode),
-    try Do(File) after file:delete(File) end.

@@ -1,0 +1,49 @@
+%% Helpers of the tests.
+-module(yoyoash_help).
+-export([backends/0, shown/1, contains/2, eventually/1, quietly/1, in_file/3]).
+
+%% Returns the backends that can be tested here.
+-spec backends() -> [port | nif].
+backends() -> [port | [nif || yoyoash_nif:is_loaded()]].
+
+%% Returns the reason of an error and what the shell shows of it.
+-spec shown(fun(() -> term())) -> {term(), term()}.
+shown(Call) ->
+    try Call() of
+        Value -> {no_error, Value}
+    catch
+        error:Reason:Stack -> {Reason, lists:flatten(erl_error:format_exception(error, Reason, Stack))}
+    end.
+
+-spec contains(string(), string()) -> ok.
+contains(Text, Part) ->
+    case string:find(Text, Part) of
+        nomatch -> error({no, Part, in, Text});
+        _ -> ok
+    end.
+
+%% Waits until a function is true, ten seconds at most.
+-spec eventually(fun(() -> boolean())) -> ok.
+eventually(Is) -> eventually(Is, 1_000).
+
+eventually(_Is, 0) -> error(never);
+eventually(Is, Left) ->
+    case Is() of
+        true -> ok;
+        false -> timer:sleep(10), eventually(Is, Left - 1)
+    end.
+
+%% Runs what ends processes on purpose, without reports of it.
+-spec quietly(fun(() -> Result)) -> Result.
+quietly(Do) ->
+    #{level := Level} = logger:get_primary_config(),
+    ok = logger:set_primary_config(level, none),
+    try Do() after logger:set_primary_config(level, Level) end.
+
+-spec in_file(iodata(), non_neg_integer(), fun((file:filename()) -> Result)) -> Result.
+in_file(Text, Mode, Do) ->
+    Name = lists:concat(["yoyoash_", os:getpid(), "_", erlang:unique_integer([positive])]),
+    File = filename:join(os:getenv("TMPDIR", "/tmp"), Name),
+    ok = file:write_file(File, Text),
+    ok = file:change_mode(File, Mode),
+    try Do(File) after file:delete(File) end.
