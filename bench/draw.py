@@ -41,7 +41,7 @@ def versus() -> str:
     rows.append(row("select, one of 1,000,000", cell(passes, "select, a guard", "this store"), cell(passes, "select, a guard", "ets"), "ns per object"))
     rows.append(row("tab2list of 1,000,000", cell(passes, "tab2list", "this store"), cell(passes, "tab2list", "ets"), "ns per object"))
     rows.append(row("memory of {Int,Int}, 600,000 objects", cell(memory, "{Int,Int}", "this store"), cell(memory, "{Int,Int}", "ets"), "bytes"))
-    rows.append(row("4 threads, 9 reads to a write, 10,000", cell(clients, "4 clients", "Shared"), cell(clients, "4 clients", "ets, concurrent"), "ns"))
+    rows.append(row("4 threads of a Server, 9 reads to a write", cell(clients, "4 clients", "Server"), cell(clients, "4 clients", "ets, concurrent"), "ns"))
     title = f"Yoyoash compared with Erlang's ets ({SIZE:,} objects where no size is named)"
     return plot.bars(title, f"Ratio to ets, logarithmic. {machines('curve', 'passes', 'memory', 'clients')}.", rows)
 

@@ -28,12 +28,24 @@ OURS = {"calls": "Node::step", "calls-into": "Node::step_into", "table": "Table<
 WHOLE = ("Mutex<HashMap>,copies", "HashMap,copies", "ets")
 PEERS = {"calls": WHOLE, "calls-into": WHOLE, "table": FIELD, "rows": FIELD}
 CLIENTS = (1, 2, 4)
+# What threads call, by its name and operation in the lines of the programs, and its name in a table.
 CROWD = {
-    "shared": "Shared",
-    "Mutex<HashMap>,journal": "Mutex<HashMap>, a journal",
-    "Mutex<HashMap>,copies": "Mutex<HashMap>",
-    "ets": "ets",
-    "ets,concurrent": "ets, concurrent",
+    ("shared", "mixture"): "Shared",
+    ("server", "mixture"): "Server",
+    ("Mutex<HashMap>,journal", "mixture"): "Mutex<HashMap>, a journal",
+    ("Mutex<HashMap>,copies", "mixture"): "Mutex<HashMap>",
+    ("RwLock<HashMap>", "mixture"): "RwLock<HashMap>",
+    ("sharded", "mixture"): "16 of RwLock<HashMap>",
+    ("ets", "mixture"): "ets",
+    ("ets,concurrent", "mixture"): "ets, concurrent",
+}
+READERS = {
+    ("server-reads", "mixture"): "Server",
+    ("Mutex<HashMap>,copies", "reads"): "Mutex<HashMap>",
+    ("RwLock<HashMap>", "reads"): "RwLock<HashMap>",
+    ("sharded", "reads"): "16 of RwLock<HashMap>",
+    ("ets", "reads"): "ets",
+    ("ets,concurrent", "reads"): "ets, concurrent",
 }
 
 
@@ -98,19 +110,36 @@ def walks(quick: bool, programs: Programs) -> list[list[str]]:
 
 
 def clients(quick: bool, programs: Programs) -> list[list[str]]:
-    """Threads that call one node, each through a client of its own: nanoseconds a call of all together."""
+    """Threads that call one node, nine lookups to an insertion: nanoseconds a call of all together."""
     calls, turns = (20_000, 1) if quick else (200_000, 3)
+    found = by_threads(["clients", "server"], calls, turns, programs)
+    alone = least([[programs.program("bench_calls"), "alone", str(calls)]], turns)["alone", "mixture"]
+    rows = crowd_rows(f"{calls:,} calls each, 90 lookups to 10 insertions, ns", CROWD, found)
+    return rows + [["the same calls as steps of a node, one caller", spread(alone), *[""] * (len(CROWD) - 1)]]
+
+
+def readers(quick: bool, programs: Programs) -> list[list[str]]:
+    """Threads that read one node: nanoseconds a call of all together."""
+    calls, turns = (20_000, 1) if quick else (200_000, 3)
+    found = by_threads(["reads"], calls, turns, programs)
+    rows = crowd_rows(f"{calls:,} lookups each, ns", READERS, found)
+    first, last = found[CLIENTS[0]], found[CLIENTS[-1]]
+    return rows + [[f"calls a second of {CLIENTS[-1]} threads to those of 1", *(ratio(first.get(key), last.get(key)) for key in READERS)]]
+
+
+def by_threads(parts: list[str], calls: int, turns: int, programs: Programs) -> dict[int, Figures]:
+    """The figures of these parts of our program and of the peers, for each number of threads."""
     ours, maps, ets = programs.program("bench_calls"), rust("maps"), erlang("ets_calls")
-    sides = [[ours], *([[maps]] if maps else []), *([ets] if ets else [])]
-    peers = [name for name in CROWD if name != "shared"]
-    rows = [[f"{calls:,} calls each, 90 lookups to 10 insertions, ns", *CROWD.values(), *(f"to {CROWD[name]}" for name in peers)]]
-    single = None
-    for threads in CLIENTS:
-        found = least([[*side, "clients", str(threads), str(calls)] for side in sides], turns)
-        figures = [found.get((name, "mixture")) for name in CROWD]
-        single = single or figures[0]
-        rows.append([f"{threads} client{'s' * (threads > 1)}", *map(spread, figures), *(ratio(figures[0], peer) for peer in figures[1:])])
-    alone = least([[ours, "alone", str(calls)]], turns)["alone", "mixture"]
-    blank = [""] * (len(rows[0]) - 2)
-    rows.append(["the same calls as steps of a node, one caller", spread(alone), *blank])
-    return rows + [["one ask over one step", f"{min(single) - min(alone):.0f}", *blank]]
+    peers = [*([[maps, "clients"]] if maps else []), *([[*ets, "clients"]] if ets else [])]
+    sides = [*([ours, part] for part in parts), *peers]
+    return {threads: least([[*side, str(threads), str(calls)] for side in sides], turns) for threads in CLIENTS}
+
+
+def crowd_rows(title: str, sides: dict[tuple[str, str], str], found: dict[int, Figures]) -> list[list[str]]:
+    """A row for each number of threads, and one with the ratios of a server to each side for the most."""
+    rows = [[title, *sides.values()]]
+    for threads, figures in found.items():
+        rows.append([f"{threads} client{'s' * (threads > 1)}", *(spread(figures.get(key)) for key in sides)])
+    server = next(key for key, name in sides.items() if name == "Server")
+    most = found[CLIENTS[-1]]
+    return rows + [[f"Server to each, {CLIENTS[-1]} clients", *(ratio(most.get(server), most.get(key)) for key in sides)]]

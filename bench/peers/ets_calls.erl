@@ -23,8 +23,9 @@ main(["memory", Count]) ->
     memory(list_to_integer(Count)),
     halt(0);
 main(["clients", Clients, Calls]) ->
-    clients("ets", [public], list_to_integer(Clients), list_to_integer(Calls)),
-    clients("ets,concurrent", [public, {read_concurrency, true}, {write_concurrency, true}], list_to_integer(Clients), list_to_integer(Calls)),
+    Concurrent = [public, {read_concurrency, true}, {write_concurrency, true}],
+    [clients(Who, Load, Options, list_to_integer(Clients), list_to_integer(Calls))
+     || {Who, Options} <- [{"ets", [public]}, {"ets,concurrent", Concurrent}], Load <- [mixture, reads]],
     halt(0).
 
 %% ---- one process, phase by phase ----
@@ -100,11 +101,11 @@ walk(Table, Before, Told) ->
 
 %% ---- processes that share a table ----
 
-%% Nine lookups, then an insertion, and so on, in an order of each client's own.
-clients(Who, Options, Clients, Calls) ->
+%% Nine lookups, then an insertion, and so on, or lookups alone, in an order of each client's own.
+clients(Who, Load, Options, Clients, Calls) ->
     Table = ets:new(t, Options),
     [ets:insert(Table, {Key, 1}) || Key <- lists:seq(0, ?KEYS - 1)],
-    [persistent_term:put(Client, mixture(Calls, Client)) || Client <- lists:seq(1, Clients)],
+    [persistent_term:put(Client, calls(Load, Calls, Client)) || Client <- lists:seq(1, Clients)],
     Here = self(),
     Pids = [spawn_link(fun() -> client(Here, Table, Client) end) || Client <- lists:seq(1, Clients)],
     [receive {ready, Pid} -> ok end || Pid <- Pids],
@@ -112,19 +113,23 @@ clients(Who, Options, Clients, Calls) ->
     [Pid ! go || Pid <- Pids],
     Found = lists:sum([receive {found, Pid, Count} -> Count end || Pid <- Pids]),
     Spent = erlang:monotonic_time(nanosecond) - Start,
-    Found = Clients * (Calls - Calls div 10),
+    Found = Clients * lookups(Load, Calls),
     ets:delete(Table),
-    show(Who, mixture, Spent / (Clients * Calls)).
+    show(Who, Load, Spent / (Clients * Calls)).
 
-mixture(Calls, Client) ->
+lookups(mixture, Calls) -> Calls - Calls div 10;
+lookups(reads, Calls) -> Calls.
+
+calls(mixture, Calls, Client) ->
     Keys = lists:zip(lists:seq(0, Calls - 1), shuffled(Calls, Client)),
-    [case At rem 10 of 9 -> {K rem ?KEYS, 1}; _ -> K rem ?KEYS end || {At, K} <- Keys].
+    [case At rem 10 of 9 -> {K rem ?KEYS, 1}; _ -> K rem ?KEYS end || {At, K} <- Keys];
+calls(reads, Calls, Client) -> [K rem ?KEYS || K <- shuffled(Calls, Client)].
 
 client(Parent, Table, Client) ->
-    Mixture = persistent_term:get(Client),
+    Given = persistent_term:get(Client),
     Parent ! {ready, self()},
     receive go -> ok end,
-    Parent ! {found, self(), ask(Mixture, Table, 0)}.
+    Parent ! {found, self(), ask(Given, Table, 0)}.
 
 %% How many lookups found an object.
 ask([{_, _} = Object | Rest], Table, Found) -> true = ets:insert(Table, Object), ask(Rest, Table, Found);

@@ -198,7 +198,7 @@ fn main() {
         }
         "longest" => longest(number(1)),
         "bytes" => bytes(number(1)),
-        "clients" => clients::both(number(1), number(2)),
+        "clients" => clients::all(number(1), number(2)),
         _ => eprintln!("maps times|copies|longest|bytes COUNT, or maps clients THREADS CALLS"),
     }
 }
