@@ -22,7 +22,7 @@ from .checks import Prover
 from .crates import crates_of
 from .edits import edits_of
 from .lanes import Lanes, Log, lanes
-from .record import Record, in_turn, sum_of
+from .record import Record, in_turn, sums_of
 from .rounds import Trial, Verdict
 from .self_test import self_test
 
@@ -37,7 +37,7 @@ def say(text):
 
 def main(options):
     crates, prover = crates_of(TOP), Prover(os.path.realpath(options.libraries))
-    sums = {it.name: sum_of(it, prover.line) for it in crates.values() if edits_of(it)}
+    sums = sums_of(crates, [it for it in crates.values() if edits_of(it)], prover.line)
     record, turn = Record(f"{TOP}/.ci/tried"), in_turn(sums)
     named = {}
     for word in options.crates:

@@ -1,11 +1,12 @@
 """The record .ci/tried: the crates whose mutants were all rejected, and at which text.
 
-The line of a crate has a checksum over the kit, the modules that decide on a mutant, the crate with its mutants, and all crates below
-it without theirs. Lines that are comments only are left out of crates."""
+The line of a crate has a checksum over the kit, the modules that decide on a mutant, the crate with its mutants, and what the crate sees
+of those below it: visible.py says what that is. Lines that are comments only are left out of crates."""
 import hashlib
 import os
 
 from .crates import PARTS, read
+from .visible import items_of, visible
 
 HEAD = "# Each crate whose mutants were all rejected, and the checksum of the text at which they were. .ci/mutants --write writes it.\n"
 # The modules that decide whether a mutant is rejected.
@@ -18,9 +19,11 @@ def program():
     return [read(f"{folder}/{name}.py") for name in DECIDES]
 
 
-def sum_of(crate, kit):
-    parts = [crate.sum(*PARTS, "must-fail"), *[it.sum(*PARTS) for it in crate.below]]
-    return hashlib.sha256(repr((kit, program(), parts)).encode()).hexdigest()
+def sums_of(crates, named, kit):
+    """Returns the checksums of the crates in `named` by their names, for this kit."""
+    items, decides = {it.name: items_of(it) for it in crates.values()}, program()
+    parts = lambda it: (it.sum(*PARTS, "must-fail"), [(low.name, low.kind, low.uses) for low in it.below], visible(it, items))
+    return {it.name: hashlib.sha256(repr((kit, decides, parts(it))).encode()).hexdigest() for it in named}
 
 
 class Record:

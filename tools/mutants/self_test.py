@@ -10,6 +10,7 @@ from .checks import OWN, UNANSWERED
 from .crates import without_comments
 from .functions import functions
 from .lanes import fate
+from .visible import items_of_definitions, items_of_source
 
 # Each planted edit: its file, the text before and after, and the verdict that it must get.
 PLANTED = {
@@ -63,6 +64,43 @@ COMMENTED = [
 ]
 
 
+# A source, and what other crates can see of it: each name with its text.
+SOURCE = """pub const MOST: u32 = 3;
+#[derive(Drop)]
+pub struct Box<T> {
+    pub first: T,
+    rest: Vec<T>,
+}
+enum Inside {
+    One,
+}
+impl<T> Shelf for Box<T> {
+    ghost content = { b };
+
+    #[inline]
+    fn get(&self) -> u32
+        ensures { result ≡ most }
+    {
+        3
+    }
+}
+pub trait Shelf {
+    fn len(&self) -> usize
+        ensures { result ≡ 0 };
+}"""
+SEEN = [
+    ("get", "Box\n    fn get(&self) -> u32\n        ensures { result ≡ most }"),
+    ("len", "Shelf\n    fn len(&self) -> usize\n        ensures { result ≡ 0 };"),
+    ("MOST", "pub const MOST: u32 = 3;"),
+    ("Box", "#[derive(Drop)]\npub struct Box<T> {\n    pub first: T,\n}\nimpl<T> Shelf for Box<T> {\n    ghost content = { b };\n}"),
+    ("Shelf", "pub trait Shelf {\n}"),
+]
+
+# A specification, and the names that other crates can see of it.
+DEFINED = "abbrev pub most : ℕ\nmost = 3\n\npub record Shelf : Type 0 where\n  pub len : ℕ\n"
+DEFINED_NAMES = ["most", "Shelf"]
+
+
 class Room:
     """A tree of its own with the crate split_key and this program."""
 
@@ -104,6 +142,10 @@ def self_test(top):
         expect(fate("split_key", text) == is_proved, "what rt ci says", text)
     for path, text, left in COMMENTED:
         expect(without_comments(path, text) == left, "a text without comments", text)
+    seen = list(items_of_source(SOURCE.split("\n")))
+    expect(seen == SEEN, "what is seen of a source", str(seen))
+    names = [name for name, _ in items_of_definitions(DEFINED.split("\n"))]
+    expect(names == DEFINED_NAMES, "what is seen of a specification", str(names))
     with tempfile.TemporaryDirectory(prefix="mutants-self-") as folder:
         room = Room(top, folder)
         true = len(os.listdir(room.edits))
