@@ -1,3 +1,4 @@
 pub mod Change
 pub mod Permute
 pub mod Read
+pub mod Remove

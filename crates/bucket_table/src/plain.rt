@@ -180,12 +180,25 @@ impl Rows for PlainRows {
         }
     }
 
+    #[inline]
+    fn set_element_at(&mut self, place: Place, index: usize, value: Term) {
+        match self.slots.get_index_mut(place) {
+            Some(own) => own.set_element(index, value),
+            None => unreachable!(),
+        }
+    }
+
     fn remove_at(&mut self, place: Place) -> (Term, Chain) {
         self.reveal_invariant();
         match self.slots.shift_remove_index(place) {
             Some(slot) => slot,
             None => unreachable!(),
         }
+    }
+
+    fn drop_at(&mut self, place: Place) -> usize {
+        let (_key, objects) = self.remove_at(place);
+        objects.len()
     }
 
     fn reserve(&mut self, additional: usize) -> Result<(), AllocError> {

@@ -2,7 +2,7 @@ ghost use Rattle.std.specs.Prelude.{◌≡◌, ◌≤◌, ◌+◌, ℕ, Bool, fa
 ghost use Rattle.std.specs.Map.Iter.{deref_pair};
 ghost use Rattle.ets_term.specs.declared.term.Term.{Term};
 ghost use Rattle.bucket_table.specs.Slots.{Slot, HasDistinctKeys, objects_of, with_objects, without, Enters, EnterAll, AreNew, purged, cleared, slots_behind};
-ghost use Rattle.bucket_table.specs.Entries.{IsEntry, HasOne, objects_in, with_objects_in};
+ghost use Rattle.bucket_table.specs.Entries.{IsEntry, HasOne, objects_in, with_objects_in, with_element_in};
 ghost use Rattle.bucket_table.specs.Walks.{IsFirstPlace, IsNextPlace, ComesBefore};
 ghost use Rattle.bucket_table.specs.Buckets.{IsGrown, IsReadied};
 
@@ -142,6 +142,16 @@ pub trait Rows: Drop {
         ensures hash { hash_of self.new ≡ hash_of self.old }
         ensures buckets { readiness self.new ≡ readiness self.old };
 
+    /// Sets an element of the only object of the slot at a place, counted from 0. Changes nothing if the object is no
+    /// tuple or has no such element.
+    fn set_element_at(&mut self, place: Place, index: usize, value: Term)
+        requires { HasOne (content self.old) (key_at self.old place) }
+        ensures now { content self.new ≡ with_element_in (content self.old) (key_at self.old place) index value }
+        ensures places { (other : ℕ) → key_at self.new other ≡ key_at self.old other }
+        ensures room { room self.old ≤ room self.new }
+        ensures hash { hash_of self.new ≡ hash_of self.old }
+        ensures buckets { readiness self.new ≡ readiness self.old };
+
     /// Removes the slot at a place and returns it. The slots before it keep their places.
     fn remove_at(&mut self, place: Place) -> (Term, Chain)
         requires { IsSome (key_at self.old place) }
@@ -150,6 +160,19 @@ pub trait Rows: Drop {
         ensures now { content self.new ≡ without (content self.old) result.0 }
         ensures before { (other : ℕ) (key : Term) → key_at self.old other ≡ Some key
             → ComesBefore (content self.old) key result.0
+            → key_at self.new other ≡ Some key }
+        ensures hash { hash_of self.new ≡ hash_of self.old }
+        ensures buckets { readiness self.new ≡ readiness self.old };
+
+    /// Removes the slot at a place and returns the number of its objects. `SplitRows` moves none of them. The slots
+    /// before it keep their places.
+    fn drop_at(&mut self, place: Place) -> usize
+        requires { IsSome (key_at self.old place) }
+        ensures count { option_map length (objects_in (content self.old) (key_at self.old place)) ≡ Some result }
+        ensures now { (key : Term) → key_at self.old place ≡ Some key → content self.new ≡ without (content self.old) key }
+        ensures before { (gone : Term) → key_at self.old place ≡ Some gone
+            → (other : ℕ) (key : Term) → key_at self.old other ≡ Some key
+            → ComesBefore (content self.old) key gone
             → key_at self.new other ≡ Some key }
         ensures hash { hash_of self.new ≡ hash_of self.old }
         ensures buckets { readiness self.new ≡ readiness self.old };

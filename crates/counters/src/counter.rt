@@ -1,9 +1,9 @@
-//! Counters of one object, changed in place.
-ghost use Rattle.std.specs.Prelude.{◌≡◌, ◌<◌, ◌-◌, length, Some, None, Ok, Err, IfOk, OnErr, IsErrOf, slice_get, OnSome, IfSome, IfErr, true};
+//! Counters of one object, read or changed in place.
+ghost use Rattle.std.specs.Prelude.{◌≡◌, ◌<◌, ◌-◌, ◌^◌, length, slice_set, Some, None, Ok, Err, IfOk, OnErr, IsErrOf, slice_get, OnOk, OnSome, IfSome, IfErr, true};
 ghost use Rattle.counters.specs.Counters.{integer_at, apply_one, apply_to_elements, apply_ops};
 ghost use Rattle.counters.specs.declared.ops.Ops.TheVariants.{One};
 ghost use Rattle.counters.specs.Ops.{is_one};
-ghost use Rattle.counters.specs.Outcomes.{AnswersAs, FailsOnlyAs, FailsJustAs};
+ghost use Rattle.counters.specs.Outcomes.{AnswersAs, FailsOnlyAs, FailsJustAs, with_value_at};
 ghost use Rattle.ets_term.specs.declared.term.Term.TheVariants.{Int, Tuple};
 
 use crate::fault::CounterFault;
@@ -26,6 +26,39 @@ pub fn integer_at(elements: &[Term], position: Position) -> Option<Integer>
     integer_of(elements.get((position - 1) as usize)?)
 }
 
+/// Returns the new value of the counter of one operation. Badarg if there is no integer at the position; SystemLimit if
+/// the new value is out of range.
+fn next_value(elements: &[Term], op: Op) -> Result<Integer, CounterFault>
+    ensures done { IfOk result (λ n. apply_to_elements (One op) elements.now
+        ≡ Ok (Tuple (slice_set elements.now (op.position - 1) (Int n)), Int n)) }
+    ensures err { IfErr result (λ fault. apply_to_elements (One op) elements.now ≡ Err fault) }
+    ensures some { OnOk result (0 < op.position) }
+    ensures within { OnOk result (op.position - 1 < length elements.now) }
+    ensures room { ¬ IsErrOf result CounterFault.Memory }
+{
+    let Some(value) = integer_at(elements, op.position) else {
+        return Err(CounterFault::Badarg);
+    };
+    let Some(next) = new_value(op, value) else {
+        return Err(CounterFault::SystemLimit);
+    };
+    Ok(next)
+}
+
+/// Returns the new value of the counter of one operation, and changes nothing. The refusals are those of
+/// `update_counter`. If there is a value, the position is that of an element, so its index fits a `usize`.
+pub fn counter_value(object: &Term, op: Op) -> Result<Integer, CounterFault>
+    ensures done { IfOk result (λ n.
+        apply_ops (One op) object.now ≡ Ok (with_value_at op.position (Int n) object.now, Int n)) }
+    ensures err { IfErr result (λ fault. apply_ops (One op) object.now ≡ Err fault) }
+    ensures index { OnOk result (op.position - 1 < 2 ^ 64) }
+{
+    let Term::Tuple(elements) = object else {
+        return Err(CounterFault::Badarg);
+    };
+    next_value(elements.as_slice(), op)
+}
+
 /// Does one operation in place and returns the new value; it takes no memory.
 fn apply_one(elements: &mut Items<Term>, op: Op) -> Result<Term, CounterFault>
     ensures done { AnswersAs result (apply_to_elements (One op) elements.old) (Tuple elements.new) }
@@ -33,12 +66,7 @@ fn apply_one(elements: &mut Items<Term>, op: Op) -> Result<Term, CounterFault>
     ensures kept { OnErr result (elements.new ≡ elements.old) }
     ensures room { ¬ IsErrOf result CounterFault.Memory }
 {
-    let Some(value) = integer_at(elements.as_slice(), op.position) else {
-        return Err(CounterFault::Badarg);
-    };
-    let Some(next) = new_value(op, value) else {
-        return Err(CounterFault::SystemLimit);
-    };
+    let next = next_value(elements.as_slice(), op)?;
     let _old = elements.replace((op.position - 1) as usize, Term::Int(next));
     Ok(Term::Int(next))
 }

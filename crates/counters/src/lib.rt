@@ -1,8 +1,9 @@
 //! Applies a list of updates to the counters or elements of an object, all or none, with exact sums.
 //!
 //! An update is read once from a term (`read_ops`, `read_element_specs`) and then done on an object: in place
-//! (`update_counter`, `write_elements`) or on a copy (`apply_ops`, `apply_elements`). If a key has no object, a Default
-//! makes one (`start_counter`, `start_with_elements`). Each call is equal to its definition in `specs/Counters.antt`,
+//! (`update_counter`, `write_elements`) or on a copy (`apply_ops`, `apply_elements`). `counter_value` and `element_value`
+//! return the new element of a single update and change nothing. If a key has no object, a Default makes one
+//! (`start_counter`, `start_with_elements`). Each call is equal to its definition in `specs/Counters.antt`,
 //! `specs/Elements.antt` and `specs/Defaults.antt`.
 //!
 //! *Guarantee.* Sums are exact. An update is refused if a new value is out of range, and a refused update changes
@@ -31,9 +32,9 @@ mod position;
 mod sum;
 mod write;
 
-pub use counter::{apply_ops, update_counter};
+pub use counter::{apply_ops, counter_value, update_counter};
 pub use defaults::{is_default, start_counter, start_with_elements, with_key};
 pub use elements::{ElementSpec, ElementSpecs, read_element_specs};
 pub use fault::CounterFault;
 pub use ops::{Op, Ops, Threshold, read_ops};
-pub use write::{apply_elements, write_elements};
+pub use write::{apply_elements, element_value, write_elements};

@@ -1,9 +1,10 @@
-//! Values written into elements of one object.
-ghost use Rattle.std.specs.Prelude.{◌≡◌, ◌-◌, ◌==◌, ◌∷◌, [], slice_set, Ok, Err, IfOk, OnOk, OnErr, IfErr};
+//! Values for elements of one object, copied or written.
+ghost use Rattle.std.specs.Prelude.{◌≡◌, ◌-◌, ◌<◌, ◌^◌, ◌==◌, ◌∷◌, [], slice_set, Ok, Err, IfOk, OnOk, OnErr, IfErr};
 ghost use Rattle.std.specs.List.{list_any};
 ghost use Rattle.counters.specs.Elements.{has_all, write_values, apply_elements};
 ghost use Rattle.counters.specs.inside.Values.{too_deep_as_element, write_each};
-ghost use Rattle.counters.specs.Outcomes.{FailsOnlyAs, FailsJustAs};
+ghost use Rattle.counters.specs.declared.elements.ElementSpecs.TheVariants.{One};
+ghost use Rattle.counters.specs.Outcomes.{FailsOnlyAs, FailsJustAs, with_value_at};
 
 use crate::elements::{ElementSpec, ElementSpecs};
 use crate::fault::CounterFault;
@@ -47,6 +48,33 @@ pub fn write_elements(
     }
 }
 
+/// Returns a copy of the value of one update, and changes nothing. The refusals are those of `write_elements`. If there
+/// is a copy, the position is that of an element, so its index fits a `usize`.
+pub fn element_value(alloc: Global, object: &Term, spec: &ElementSpec) -> Result<Term, CounterFault>
+    ensures done { IfOk result (λ value.
+        apply_elements (One spec.now) object.now ≡ Ok (with_value_at spec.now.position value object.now)) }
+    ensures badarg { FailsJustAs result CounterFault.Badarg (apply_elements (One spec.now) object.now) }
+    ensures limit { FailsJustAs result CounterFault.SystemLimit (apply_elements (One spec.now) object.now) }
+    ensures index { OnOk result (spec.now.position - 1 < 2 ^ 64) }
+{
+    let Term::Tuple(elements) = object else {
+        return Err(CounterFault::Badarg);
+    };
+    copied_value(alloc, elements.as_slice(), spec)
+}
+
+/// Returns a copy of one value, if it may be written.
+fn copied_value(alloc: Global, elements: &[Term], spec: &ElementSpec) -> Result<Term, CounterFault>
+    ensures done { IfOk result (λ value. write_values (spec.now ∷ []) elements.now
+        ≡ Ok (slice_set elements.now (spec.now.position - 1) value)) }
+    ensures badarg { FailsJustAs result CounterFault.Badarg (write_values (spec.now ∷ []) elements.now) }
+    ensures limit { FailsJustAs result CounterFault.SystemLimit (write_values (spec.now ∷ []) elements.now) }
+    ensures index { OnOk result (spec.now.position - 1 < 2 ^ 64) }
+{
+    check_one(elements, spec)?;
+    Ok(spec.value.try_clone(alloc)?)
+}
+
 /// Writes a copy of one value, without a list.
 fn copy_one(
     alloc: Global,
@@ -58,8 +86,7 @@ fn copy_one(
     ensures limit { FailsJustAs result CounterFault.SystemLimit (write_values (spec.now ∷ []) elements.old) }
     ensures kept { OnErr result (elements.new ≡ elements.old) }
 {
-    check_one(elements.as_slice(), spec)?;
-    let value = spec.value.try_clone(alloc)?;
+    let value = copied_value(alloc, elements.as_slice(), spec)?;
     write(elements, spec.position, value);
     Ok(())
 }
@@ -100,6 +127,7 @@ fn check_one(elements: &[Term], spec: &ElementSpec) -> Result<(), CounterFault>
     ensures ok { OnOk result (write_values (spec.now ∷ []) elements.now
         ≡ Ok (slice_set elements.now (spec.now.position - 1) spec.now.value)) }
     ensures err { IfErr result (λ fault. write_values (spec.now ∷ []) elements.now ≡ Err fault) }
+    ensures index { OnOk result (spec.now.position - 1 < 2 ^ 64) }
 {
     if spec.position == 0 || spec.position > elements.len() as Position {
         return Err(CounterFault::Badarg);

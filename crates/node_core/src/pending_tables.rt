@@ -1,4 +1,4 @@
-ghost use Rattle.std.specs.Prelude.{◌≡◌, ◌≤◌, ◌<◌, ℕ, [], length, drop, slice_get, OnOk, None, Some};
+ghost use Rattle.std.specs.Prelude.{◌≡◌, ◌≤◌, ◌<◌, ℕ, [], length, drop, slice_get, OnOk, None, Some, true};
 ghost use Rattle.node_core.specs.inside.PendingTables.{Ascends, IsAmong, AreBelow, HasRoomFor};
 
 use std::alloc::{AllocError, Global};
@@ -52,6 +52,15 @@ impl PendingTables {
         ensures { result ≡ length self.now.ordered }
     {
         self.ordered.len()
+    }
+
+    /// Returns whether no table is queued and none is dirty.
+    #[inline(always)]
+    pub fn is_empty(&self) -> bool
+        ensures ordered { result ≡ true → self.now.ordered ≡ [] }
+        ensures dirty { result ≡ true → self.now.dirty ≡ None }
+    {
+        self.dirty.is_none() && self.ordered.len() == 0
     }
 
     /// Returns the identifier at an index of the queue.

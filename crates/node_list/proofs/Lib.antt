@@ -14,4 +14,5 @@ pub mod CountLaws
 pub mod CallerLaws
 pub mod FreePlaceLaws
 pub mod FreeListLaws
+pub mod FreedLaws
 pub mod PartLaws

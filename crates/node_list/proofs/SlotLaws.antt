@@ -155,3 +155,10 @@ pub has-chain : (f : PackedHeader) (s : Item) (m : ListNode) → unpacked_node f
 has-chain f s m same has =
     let P : ListNode → Type 0 = λ n. IsSome n.item in
     chain-if (is_item f) s (subst P (sym same) has)
+
+pub has-chain_length : (f : PackedHeader) (s : Item) (m : ListNode) → unpacked_node f s ≡ m → IsSome m.item → option_map (λ (i : Item). length i.chain) (unpacked_node f s).item ≡ Some (length s.chain)
+has-chain_length f s m e h = map-twice (unpacked_node f s).item s.chain (has-chain f s m e h)
+  where
+    map-twice : (o : Option Item) (w : List Term) → option_map (λ (i : Item). i.chain) o ≡ Some w → option_map (λ (i : Item). length i.chain) o ≡ Some (length w)
+    map-twice None w e = absurd (cc e)
+    map-twice (Some i) w e = ap (λ (o : Option (List Term)). option_map (λ (ts : List Term). length ts) o) e

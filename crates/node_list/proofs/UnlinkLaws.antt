@@ -10,7 +10,7 @@ use Rattle.node_list.specs.Changes.{without}
 use Rattle.node_list.specs.inside.Walks.{Links, IsLinked, cells_from, cell_of, node_of, HasPlace, FirstIsAt, IsPredecessor}
 use Rattle.node_list.proofs.WalkLaws.{walk-is, walk-length, walk-none, cells_from-step_at}
 use Rattle.node_list.proofs.CellLaws.{without-here, without-on, from-here, from-on, length-without}
-use Rattle.node_list.proofs.PlaceLaws.{links-head_fresh, links-frame}
+use Rattle.node_list.proofs.PlaceLaws.{links-head_fresh, links-frame, cells_from-suffix}
 
 -- ---- the places of the two nodes
 starts-apart : (at p : ℕ) (cs : List Cell) → FirstIsAt at cs → IsFresh p cs → at ≢ p
@@ -77,6 +77,21 @@ starts-after start at cs (c ∷ ds) e h = record { cell = c; later = ds; is = e 
 
 pub is_place-after : (start at : ℕ) (cs : List Cell) → HasPlace at (cells_after start cs) → IsPlaceOf start cs
 is_place-after start at cs h = starts-after start at cs (from start cs) refl h
+
+-- the nodes from a place before the node
+pub search-linked : (s : Slab ListNode) (start at : ℕ) → IsLinked s (Some 0) → HasPlace at (cells_after start (cells_from s (Some 0))) → IsLinked s (Some start) × HasPlace at (all_but_first (cells_from s (Some start)))
+search-linked s start at linked after =
+    let p = is_place-after start at (cells_from s (Some 0)) after in
+    let tail = cells_from-suffix s start p.cell p.later linked p.is in
+    let P : List Cell → Type 0 = λ zs. HasPlace at (all_but_first zs) in
+    (tail.0, subst P (sym tail.1) after)
+
+-- the predecessor in the list from `start` on is the predecessor in the whole list
+pub predecessor-in_whole : (s : Slab ListNode) (start before at : ℕ) → IsLinked s (Some 0) → HasPlace at (cells_after start (cells_from s (Some 0))) → IsPredecessor before at (cells_from s (Some start)) → IsPredecessor before at (cells_from s (Some 0))
+predecessor-in_whole s start before at linked after b =
+    let p = is_place-after start at (cells_from s (Some 0)) after in
+    let P : List Cell → Type 0 = λ zs. IsPredecessor before at zs in
+    predecessor-whole_list before at start (cells_from s (Some 0)) (subst P (cells_from-suffix s start p.cell p.later linked p.is).1 b)
 
 -- ---- one step of the way to the predecessor
 pub record Way (s : Slab ListNode) (before place at : ℕ) : Type 0 where

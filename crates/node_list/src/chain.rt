@@ -1,7 +1,7 @@
 ghost use Rattle.std.specs.Prelude.{◌≡◌, ◌+◌, ◌<◌, ◌≤◌, vec_len, vec_capacity, [], ◌∷◌, ◌++◌, length, take, slice_get, slice_set, Some, IsOk, OnOk, OnErr, MatchOption};
-ghost use Rattle.node_list.specs.Chains.{all_but};
+ghost use Rattle.node_list.specs.Chains.{all_but, with_element, with_element_in_first};
 
-use ets_term::Term;
+use ets_term::{Items, Term};
 use smallvec::SmallVec;
 use std::alloc::{AllocError, Global};
 use std::marker::Model;
@@ -80,6 +80,18 @@ impl Chain {
         mem::replace(&mut self.terms.as_mut_slice()[index], term)
     }
 
+    /// Sets an element of the first term, counted from 0, and drops the old element. Changes nothing if the chain is
+    /// empty, the term is no tuple or the tuple has no such element; `value` is then dropped.
+    #[inline]
+    pub fn set_element(&mut self, index: usize, value: Term)
+        ensures { self.new ≡ with_element_in_first index value self.old }
+    {
+        if self.len() == 0 {
+            return;
+        }
+        set_element(&mut self.terms.as_mut_slice()[0], index, value);
+    }
+
     /// Removes the last term and returns it, or returns `None` if the chain is empty.
     pub fn pop(&mut self) -> Option<Term>
         ensures { MatchOption result ((self.old ≡ []) × (self.new ≡ [])) (λ last. self.old ≡ self.new ++ last ∷ []) }
@@ -113,5 +125,26 @@ impl Chain {
         for term in self.terms {
             list.push_reserved(term);
         }
+    }
+}
+
+/// Sets an element of a term, as `Chain::set_element` does.
+#[inline]
+fn set_element(term: &mut Term, index: usize, value: Term)
+    ensures { term.new ≡ with_element index value term.old }
+{
+    let Term::Tuple(elements) = term else {
+        return;
+    };
+    set_item(elements, index, value);
+}
+
+/// Sets the item at an index, counted from 0, and drops the old one. Changes nothing past the end.
+#[inline]
+fn set_item(items: &mut Items<Term>, index: usize, item: Term)
+    ensures { items.new ≡ slice_set items.old index item }
+{
+    if index < items.len() {
+        let _old = items.replace(index, item);
     }
 }

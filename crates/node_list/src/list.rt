@@ -9,7 +9,7 @@ use crate::node::{Item, ListNode};
 use crate::nodes::Nodes;
 use crate::reader::CountingReader;
 use crate::steps::Steps;
-use crate::unlink::unlink_from;
+use crate::unlink::{delete_from, unlink_from};
 use ets_term::Term;
 use std::alloc::{AllocError, Global};
 use std::marker::Model;
@@ -169,6 +169,17 @@ impl NodeList {
             Some(Item { term, chain }) => (term, chain),
             None => unreachable!(),
         }
+    }
+
+    /// Removes an item in place and returns the number of terms in its chain. `start` must be a node before it.
+    pub fn delete_item(&mut self, start: At, at: At) -> usize
+        requires { HasItem at (cells_after start self.old.cells) }
+        ensures count { option_map (λ item. length item.chain) (item_at at self.old.cells) ≡ Some result }
+        ensures cells { self.new.cells ≡ without at self.old.cells }
+        ensures len { length self.new.cells + 1 ≡ length self.old.cells }
+        ensures capacity { self.new.capacity ≡ self.old.capacity }
+    {
+        delete_from(&mut self.nodes, start, at)
     }
 
     /// Returns the place of the next node, or `None` for the last.

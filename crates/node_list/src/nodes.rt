@@ -1,7 +1,7 @@
 ghost use Rattle.std.specs.Prelude.{◌≡◌, ℕ, ◌+◌, ◌<◌, ◌≤◌, ◌-◌, ◌^◌, [], Some, None, IsOk, OnOk, OnErr, option_copied};
 ghost use Rattle.std.specs.Borrow.{sem};
 ghost use Rattle.slab.specs.Slab.{get, slab_len, ContainsKey, HasRoomFor, SameValues, Updates};
-ghost use Rattle.node_list.specs.inside.Slots.{HasHeader, HasChain, HasItemOrNone, ChangesLink, HasItemIn, IsNextItemIn};
+ghost use Rattle.node_list.specs.inside.Slots.{HasHeader, HasChain, HasChainLength, HasItemOrNone, ChangesLink, HasItemIn, IsNextItemIn};
 ghost use Rattle.node_list.specs.inside.PackedHeader.{Fits};
 ghost use Rattle.node_list.specs.inside.NodeRef.{node_of_ref};
 ghost use Rattle.node_list.specs.inside.NodeLending.{LendsChainIn};
@@ -164,6 +164,30 @@ impl Nodes {
             next,
             item: packed.item_of(slot),
         }
+    }
+
+    /// Drops the item at a place and returns the number of terms in its chain. The item is not moved: the placeholder
+    /// is written over it. The place becomes the first free one.
+    pub fn discard(&mut self, at: usize) -> usize
+        requires { HasItemIn self.old at }
+        ensures count { HasChainLength self.old at result }
+        ensures updates { Updates self.old self.new at None }
+        ensures len { slab_len self.new + 1 ≡ slab_len self.old }
+        ensures capacity { self.new.capacity ≡ self.old.capacity }
+    {
+        let _packed = replace_at(&mut self.nodes, at, PackedHeader::free(self.free_head));
+        self.free_head = Link::to(at);
+        self.len -= 1;
+        let placeholder = Item::placeholder(*self.items.allocator());
+        let slot = &mut self.items[at];
+        let count = slot.chain.len();
+        *slot = placeholder;
+        self.first_item_bound = bound_after_remove(
+            &self.nodes,
+            self.first_item_bound,
+            self.items.len(),
+        );
+        count
     }
 
     pub fn header(&self, at: usize) -> NodeHeader

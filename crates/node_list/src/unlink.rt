@@ -3,6 +3,7 @@ ghost use Rattle.slab.specs.Slab.{get, slab_len};
 ghost use Rattle.node_list.specs.Places.{all_but_first, cells_after};
 ghost use Rattle.node_list.specs.Changes.{without};
 ghost use Rattle.node_list.specs.inside.Walks.{cells_from, IsLinked, HasPlace, IsPredecessor};
+ghost use Rattle.node_list.specs.inside.Slots.{HasItemIn, HasChainLength};
 
 use crate::node::ListNode;
 use crate::nodes::Nodes;
@@ -37,4 +38,22 @@ pub fn unlink_from(nodes: &mut Nodes, start: usize, at: usize) -> ListNode
     let node = nodes.remove(at);
     nodes.set_next(before, node.next);
     node
+}
+
+/// Removes the item at `at`, which must be after `start`, in place. Returns the number of terms in its chain.
+pub fn delete_from(nodes: &mut Nodes, start: usize, at: usize) -> usize
+    requires linked { IsLinked nodes.old (Some 0) }
+    requires after { HasPlace at (cells_after start (cells_from nodes.old (Some 0))) }
+    requires item { HasItemIn nodes.old at }
+    ensures count { HasChainLength nodes.old at result }
+    ensures linked { IsLinked nodes.new (Some 0) }
+    ensures cells { cells_from nodes.new (Some 0) ≡ without at (cells_from nodes.old (Some 0)) }
+    ensures capacity { nodes.new.capacity ≡ nodes.old.capacity }
+    ensures len { slab_len nodes.new + 1 ≡ slab_len nodes.old }
+{
+    let before = predecessor(nodes, start, at);
+    let next = nodes.header(at).next;
+    let count = nodes.discard(at);
+    nodes.set_next(before, next);
+    count
 }

@@ -15,7 +15,7 @@ use Rattle.table_ops.specs.Drop.{Which, remaining, after_drop, has_key, equal_to
 use Rattle.node_list.specs.Chains.{all_but}
 use Rattle.bucket_table.specs.Entries.{objects_in}
 use Rattle.table_ops.specs.inside.Counted.{IsCounted}
-use Rattle.table_ops.specs.inside.Removal.{after_removal, RemovesObject}
+use Rattle.table_ops.specs.inside.Removal.{after_removal, DeletesObjects, RemovesObject}
 use Rattle.table_ops.specs.inside.Undo.{ForKey}
 use Rattle.table_ops.proofs.PutLaws.{of-key, own-in}
 use Rattle.table_ops.proofs.CountLaws.{count-set, count-removed}
@@ -226,6 +226,17 @@ taken-count hold old new o key c is own t =
     let now : new ≡ after_removal hold old key c [] = of-key o (λ k. new ≡ after_removal hold old k c []) key t is in
     omega (arith, ap object_count now, thinned-count hold old key c [] (own-in old o key c is own))
 
+-- the objects of a key are deleted in place
+pub objects-deleted : (hold : Bool) (old new : List Slot) (o : Option Term) (key : Term) (n : ℕ) → HasDistinctKeys old → o ≡ Some key → ForKey o (λ k. DeletesObjects hold old k n new) → new ≡ after_drop hold (has_key key) old
+objects-deleted hold old new o key n d is t =
+    let h = of-key o (λ k. DeletesObjects hold old k n new) key t is in
+    h.now ∙ sym (one-thinned hold (has_key key) old key h.objects d (spares-key key old) h.had ∙ ap (after_removal hold old key h.objects) (left-key key h.objects))
+
+pub deleted-count : (hold : Bool) (old new : List Slot) (o : Option Term) (key : Term) (n : ℕ) → o ≡ Some key → ForKey o (λ k. DeletesObjects hold old k n new) → object_count new + n ≡ object_count old
+deleted-count hold old new o key n is t =
+    let h = of-key o (λ k. DeletesObjects hold old k n new) key t is in
+    omega (arith, ap object_count h.now, thinned-count hold old key h.objects [] h.had, h.counted)
+
 -- every instance of an object is removed
 pub object-taken : (hold : Bool) (kind : Kind) (keypos : ℕ) (old new : List Slot) (o : Option Term) (key object : Term) (n : ℕ) → HasDistinctKeys old → AreSlots kind keypos old → key_of keypos object ≡ Some key → o ≡ Some key → ForKey o (λ k. RemovesObject hold old k object n new) → new ≡ after_drop hold (equal_to object) old
 object-taken hold kind keypos old new o key object n d a its is t =
@@ -254,7 +265,7 @@ empty-held : (c : List Term) → (length c == 0) ≡ not (has_objects c)
 empty-held [] = refl
 empty-held (x ∷ xs) = not-zero (length xs)
 
-thins-at : (b : Bool) (hold : Bool) (old new : List Slot) (key : Term) (c l : List Term) → (hold || has_objects l || (length c == 0)) ≡ b → new ≡ cond b (with_objects old key l) (without old key) → new ≡ after_removal hold old key c l
+pub thins-at : (b : Bool) (hold : Bool) (old new : List Slot) (key : Term) (c l : List Term) → (hold || has_objects l || (length c == 0)) ≡ b → new ≡ cond b (with_objects old key l) (without old key) → new ≡ after_removal hold old key c l
 thins-at b hold old new key c l e h =
     h ∙ ap (λ (t : Bool). cond t (with_objects old key l) (without old key)) (sym e ∙ ap (λ (t : Bool). hold || has_objects l || t) (empty-held c))
 

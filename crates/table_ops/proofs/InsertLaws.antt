@@ -6,17 +6,20 @@ use Rattle.std.specs.Bool.{MatchBool}
 use Rattle.std.specs.List.{list_any, list_all}
 use Rattle.ets_term.specs.declared.term.Term.{Term}
 use Rattle.ets_term.specs.Depth.{is_too_deep}
-use Rattle.bucket_table.specs.Slots.{Slot, object_count}
+use Rattle.bucket_table.specs.Slots.{Slot, Enters, object_count, objects_of, with_objects}
 use Rattle.table_ops.specs.declared.kind.Kind.{Kind}
 use Rattle.table_ops.specs.declared.refusal.Refusal.{Refusal}
 use Rattle.table_ops.specs.declared.refusal.Refusal.TheVariants.{Badarg, SystemLimit, Memory}
 use Rattle.table_ops.specs.declared.undo.Undo.{Undo}
 use Rattle.table_ops.specs.declared.undo.Undo.TheVariants.{NewSlot, Objects, LastObject, Nothing}
+use Rattle.table_ops.specs.declared.kind.Kind.TheVariants.{Set, Bag, DuplicateBag}
+use Rattle.table_ops.specs.Update.{is_set}
 use Rattle.table_ops.specs.Content.{Content, key_of, is_object, objects_under, AreSlots}
 use Rattle.table_ops.specs.Put.{add, Puts, PutsAll, InsertsWithinLimit, Inserts, InsertsNew, is_taken}
 use Rattle.table_ops.specs.Refusals.{Refines}
 use Rattle.table_ops.specs.inside.Undo.{ForKey, after_undo, after_roll_back, added_objects, added_to, PutsOne, PutsObject, PutsEach}
 use Rattle.table_ops.proofs.CountLaws.{count-writes, written}
+use Rattle.table_ops.proofs.PutLaws.{new-put, new-full, set-put}
 use Rattle.table_ops.proofs.InvariantLaws.{neither, slot-under, slots-puts, slots-puts-all, not-shorter}
 
 pub both : (a b : Bool) → (a && b) ≡ true → (a ≡ true) × (b ≡ true)
@@ -32,6 +35,9 @@ is-below a c e = grind (arith, nat_tests)
 
 pub is-not-below : (a c : ℕ) → nat_lt a c ≡ false → c ≤ a
 is-not-below a c e = grind (arith, nat_tests)
+
+none-below : (a c : ℕ) → c ≤ a → nat_lt a c ≡ false
+none-below a c h = grind (arith, nat_tests)
 
 -- objects one after another
 puts-append : (kind : Kind) (keypos : ℕ) (old : List Slot) (xs ys : List Term) (mid new : List Slot) → PutsAll kind keypos old xs mid → PutsAll kind keypos mid ys new → PutsAll kind keypos old (xs ++ ys) new
@@ -102,6 +108,32 @@ module _ (limit before : ℕ) (kind : Kind) (keypos : ℕ) (object : Term) (old 
       let w = over-limit kind keypos before limit object k.0 old counted q.1 q.2 in
       (q.0, (w.0, (k.0, k.1, (w.0, w.1, refl)), w.2))
   one-refused Memory new p = (at-one (key_of keypos object) _ p).2
+
+  -- it is inserted with a new slot
+  pub one-enters : (key : Term) (new : List Slot) → before < limit → key_of keypos object ≡ Some key → objects_of old key ≡ None → Enters old key (object ∷ []) new → PutsEach limit kind keypos (object ∷ []) old (Ok (before + 1)) new
+  one-enters key new less its none e =
+      let q = new-put true kind key object old new none refl e in
+      let more : object_count new ≡ object_count old + 1 = q.2 in
+      ((key, its, (new, q.0, refl)), omega (arith, counted, more), omega (arith, less))
+
+  set-puts : (k : Kind) (key : Term) (new : List Slot) → is_set k ≡ true → Puts Set old key object new → Puts k old key object new
+  set-puts Set key new e p = p
+  set-puts Bag key new e p = absurd (true≢false (sym e))
+  set-puts DuplicateBag key new e p = absurd (true≢false (sym e))
+
+  -- it replaces the only object of its key in a set
+  pub one-replaces : (key was : Term) (new : List Slot) → is_set kind ≡ true → before ≤ limit → key_of keypos object ≡ Some key → objects_of old key ≡ Some (was ∷ []) → new ≡ with_objects old key (object ∷ []) → PutsEach limit kind keypos (object ∷ []) old (Ok before) new
+  one-replaces key was new set within its own e =
+      let q = set-put true key object old new (was ∷ []) own (omega arith) (λ f. absurd (true≢false f)) e in
+      let as_many : object_count new ≡ object_count old + 0 = q.2 in
+      ((key, its, (new, set-puts kind key new set q.0, refl)), omega (arith, counted, as_many), within)
+
+  -- a full table refuses one that needs a new slot
+  pub one-full : (key : Term) → limit ≤ before → key_of keypos object ≡ Some key → objects_of old key ≡ None → PutsEach limit kind keypos (object ∷ []) old (Err SystemLimit) old
+  one-full key full its none =
+      let q = new-full false kind key object old none refl in
+      let w = over-limit kind keypos before limit object key old counted (none-below before limit full) q.2 in
+      (refl, (w.0, (key, its, (w.0, w.1, refl)), w.2))
 
 all-drop : (p : Term → Bool) (n : ℕ) (xs : List Term) → list_all p xs ≡ true → list_all p (drop n xs) ≡ true
 all-drop p zero xs h = h

@@ -1,6 +1,6 @@
 -- The only object at a place, taken out, updated and put back.
 use Rattle.std.proofs.Common.{◌≡◌, ◌⊎◌, inl, inr, ℕ, ◌+◌, ◌≤◌, Bool, true, false, ◌&&◌, List, [], ◌∷◌, Option, None, Some, unwrap_or, Result, Ok, Err, refl, sym, ap, subst, ◌∙◌, length, true≢false, arith}
-use Rattle.std.specs.Prelude.{IfOk, OnOk, OnErr, IsErrOf, is_ok, nat_lt}
+use Rattle.std.specs.Prelude.{IfOk, OnOk, OnErr, IsErrOf, is_ok, nat_lt, ◌==◌}
 use Rattle.ets_term.specs.declared.term.Term.{Term}
 use Rattle.ets_term.specs.Order.{same}
 use Rattle.bucket_table.specs.Slots.{Slot, objects_of, with_objects, has_objects, object_count}
@@ -25,7 +25,7 @@ use Rattle.table_ops.specs.inside.Counted.{IsCounted}
 use Rattle.table_ops.specs.inside.Updated.{UpdatesCounterAt, UpdatesElementAt, InsertsDefaultAt}
 use Rattle.table_ops.proofs.CountLaws.{count-set, count-writes, written}
 use Rattle.table_ops.proofs.InvariantLaws.{slot-of, slots-set, slots-puts}
-use Rattle.table_ops.proofs.PutLaws.{add-none, own-in, set-in}
+use Rattle.table_ops.proofs.PutLaws.{add-none, own-in, set-in, under-some}
 use Rattle.table_ops.proofs.SlotLaws.{set_value-twice, set_value-same, lookup-set_value}
 use Rattle.table_ops.proofs.InsertLaws.{is-below, is-not-below, above, not-above, full_at, room_at}
 use Rattle.table_ops.proofs.UpdateKeepsLaws.{KeepsKey, counted-keeps, written-keeps}
@@ -92,6 +92,14 @@ module _ (kind : Kind) (keypos limit count : ℕ) (old new : List Slot) (key : T
       by (Some c) e g =
           let one = of-one c (few-of kind c set (slot-of kind keypos old key c i.slots_are e)) g in
           (one.0, ap (objects_in old) is ∙ e ∙ ap Some one.1)
+
+  -- the objects read at its place are not empty
+  pub one-read : (objects : List Term) → objects_in old at ≡ Some objects → (length objects == 0) ≡ false → HasOne old at
+  one-read objects read some = one-there (ap has_objects (under-some old key objects (own-in old at key objects is read)) ∙ not-empty objects some)
+    where
+      not-empty : (c : List Term) → (length c == 0) ≡ false → has_objects c ≡ true
+      not-empty [] e = absurd (true≢false e)
+      not-empty (x ∷ xs) e = refl
 
   kept-one : (k : Kind) (object : Term) → is_set k ≡ true → FitsKind k (object ∷ [])
   kept-one Set object e = omega arith

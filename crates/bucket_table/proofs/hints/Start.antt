@@ -1,5 +1,5 @@
 -- The node from which a change starts has a lesser split key.
-use Rattle.std.proofs.Common.{◌≡◌, ℕ, ◌*◌, ◌/◌, ◌%◌, ◌<◌, inl, inr, List, ◌∷◌, length, Option, Some, None, refl, sym, ◌∙◌, ap, subst, arith}
+use Rattle.std.proofs.Common.{◌≡◌, ℕ, ◌*◌, ◌/◌, ◌%◌, ◌<◌, inl, inr, List, ◌∷◌, length, Option, Some, None, IfSome, refl, sym, ◌∙◌, ap, subst, arith}
 use Rattle.std.proofs.lemmas.Bool.{cases_lt}
 use Rattle.std.proofs.Math.Nat.{div-lt_iff_lt-mul}
 use Rattle.ets_term.specs.declared.term.Term.{Term}
@@ -42,6 +42,11 @@ module _ (width key at : ℕ) (cs : List Cell) (o : Sorted cs) (a : HasDistinctP
       let n = node width key at cs o a is in
       let q = key-is width key at cs o a is k e in
       record { cell = n.cell; later = n.later; is = n.is; below = omega (arith, q, less) }
+
+-- The first item of a lower interval, if there is one.
+pub below-lesser : (width key : ℕ) (cs : List Cell) (current : List (Option (Option ℕ))) → Sorted cs → HasDistinctPlaces cs → 0 < width → AreSound width current cs → (o : Option ℕ) → IfSome o (λ at. IsNearestBelow 0 (key / width) at current) → IfSome o (λ at. HasKeyBelow key at cs)
+below-lesser width key cs current sorted apart some h None f = f
+below-lesser width key cs current sorted apart some h (Some at) f = first-lesser width key at cs sorted apart 0 current some h f
 
 -- The dummy from which a search by the hash starts.
 pub start-lesser : (hash_of : Term → ℕ) (directory : List (Option ℕ)) (hash start : ℕ) (cs : List Cell) → DirectoryInvariant hash_of directory cs → IsStartOf directory (hash % length directory) start → HasKeyBelow (key_of_item hash) start cs

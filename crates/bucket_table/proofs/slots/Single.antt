@@ -1,9 +1,10 @@
 -- A slot that has one object.
-use Rattle.std.proofs.Common.{◌≡◌, ◌∙◌, sym, ap, false, List, [], ◌∷◌, Option, Some, None, IsSome, subst, arith, refl, slice_get, slice_set, length, ◌<◌}
+use Rattle.std.proofs.Common.{◌≡◌, ℕ, unwrap_or, ◌∙◌, sym, ap, false, List, [], ◌∷◌, Option, Some, None, IsSome, subst, arith, refl, slice_get, slice_set, length, ◌<◌}
 use Rattle.std.proofs.lemmas.Option.{same_Some}
 use Rattle.ets_term.specs.declared.term.Term.{Term}
+use Rattle.node_list.specs.Chains.{with_element, with_element_in_first}
 use Rattle.bucket_table.specs.Slots.{Slot, has_objects}
-use Rattle.bucket_table.specs.Entries.{HasOne, objects_in}
+use Rattle.bucket_table.specs.Entries.{HasOne, objects_in, with_objects_in, with_element_in}
 
 -- The slot has a place.
 pub one-stands : (slots : List Slot) (at : Option Term) → HasOne slots at → IsSome at
@@ -32,3 +33,13 @@ pub one-long : (slots : List Slot) (at : Option Term) (was : List Term) → HasO
 one-long slots at was h e =
     let is : was ≡ h.0 ∷ [] = same_Some _ _ (sym e ∙ h.1) in
     subst (λ (l : List Term). 0 < length l) (sym is) (omega arith)
+
+-- The only object with another element is the only object.
+pub element-one : (slots : List Slot) (at : Option Term) (was new : List Term) (index : ℕ) (value : Term) → (h : HasOne slots at) → objects_in slots at ≡ Some was → new ≡ with_element_in_first index value was
+    → new ≡ with_element index value h.0 ∷ []
+element-one slots at was new index value h e w = w ∙ ap (with_element_in_first index value) (same_Some _ _ (sym e ∙ h.1))
+
+-- The objects with another element in the first one are the objects of the slot with this element.
+pub element-in : (slots : List Slot) (at : Option Term) (was new : List Term) (index : ℕ) (value : Term) → objects_in slots at ≡ Some was → new ≡ with_element_in_first index value was
+    → with_objects_in slots at new ≡ with_element_in slots at index value
+element-in slots at was new index value e w = ap (with_objects_in slots at) (w ∙ ap (λ (o : Option (List Term)). with_element_in_first index value (unwrap_or o [])) (sym e))

@@ -75,4 +75,19 @@ impl Hints {
         }
         None
     }
+
+    /// Returns the first item of the nearest lower interval of the same bucket whose current hint has one.
+    #[inline(always)]
+    pub fn bucket_hint_below(&self, interval: usize) -> Option<At>
+        ensures { IfSome result (λ at. IsNearestBelow 0 interval at self.now.current.items) }
+    {
+        let mut below = interval;
+        while below % INTERVALS_PER_BUCKET != 0 {
+            below -= 1;
+            if let Some(Some(first)) = hint_at(&self.current, below) {
+                return Some(first);
+            }
+        }
+        None
+    }
 }

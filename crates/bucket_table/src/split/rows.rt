@@ -149,11 +149,24 @@ impl<H: KeyHash + Copy + Drop> Rows for SplitRows<H> {
         self.index.list.chain_mut(place).replace(0, object)
     }
 
+    #[inline]
+    fn set_element_at(&mut self, place: Place, index: usize, value: Term) {
+        self.index.list.reveal_invariant();
+        self.index.list.chain_mut(place).set_element(index, value);
+    }
+
     fn remove_at(&mut self, place: Place) -> (Term, Chain) {
         self.index.list.reveal_invariant();
         let slot = self.index.remove(place);
         self.slots -= 1;
         slot
+    }
+
+    fn drop_at(&mut self, place: Place) -> usize {
+        self.index.list.reveal_invariant();
+        let count = self.index.delete(place);
+        self.slots -= 1;
+        count
     }
 
     fn reserve(&mut self, additional: usize) -> Result<(), AllocError> {

@@ -8,7 +8,7 @@ use Rattle.std.proofs.lemmas.Bool.{cases_lt, ltb-true, ltb-false}
 use Rattle.ownership.specs.World.{Tables}
 use Rattle.node_core.specs.declared.step.Step.{Step}
 use Rattle.node_core.specs.rules.Growth.{pending_of, pending_from}
-use Rattle.node_core.specs.inside.PendingTables.{PendingTablesState, Ascends, IsAmong}
+use Rattle.node_core.specs.inside.PendingTables.{PendingTablesState, Ascends, IsAmong, IsIn}
 use Rattle.node_core.specs.inside.Due.{pending_at, dirty_pending_before}
 
 -- an identifier is in order at this place or after it
@@ -48,6 +48,13 @@ not-due tables t none some = true≢false (sym some ∙ ap (λ o. is_some o) non
 -- no step is pending
 none-due : (tables : Tables) → ((t : ℕ) → IsSome (pending_at tables t) → ⊥) → pending_from 0 tables ≡ None
 none-due tables none = due-up-to tables (length tables) (omega arith) (λ t less. due-none (pending_at tables t) (none t)) ∙ ap (pending_from (length tables)) (drop_all (length tables) tables (omega arith))
+
+-- where no table is queued and none is dirty, no step is pending
+pub due-empty : (tables : Tables) (s : PendingTablesState) → ((t : ℕ) → IsSome (pending_at tables t) → IsIn s t) → s.ordered ≡ [] → s.dirty ≡ None → pending_from 0 tables ≡ None
+due-empty tables s due none clean = none-due tables (λ t some. elim (due t some) [
+  | inl among ↦ absurd (omega (arith, among.inside, ap (λ (ids : List ℕ). length ids) none))
+  | inr here ↦ let both : None ≡ Some t = sym clean ∙ here in absurd (cc)
+])
 
 -- the first with a pending step
 first-due : (tables : Tables) (k : ℕ) (step : Step) → ((t : ℕ) → IsSome (pending_at tables t) → k ≤ t) → pending_at tables k ≡ Some step → pending_from 0 tables ≡ Some step

@@ -107,3 +107,9 @@ pub record HasChain (s : Slab ListNode) (at : ℕ) (w : List Term) : Type 0 wher
   pub node : ListNode
   pub is : get s at ≡ Some node
   pub chain : option_map (λ (i : Item). i.chain) node.item ≡ Some w
+
+-- the node at a place is an item whose chain has this many terms
+pub record HasChainLength (s : Slab ListNode) (at count : ℕ) : Type 0 where
+  pub node : ListNode
+  pub is : get s at ≡ Some node
+  pub length : option_map (λ (i : Item). length i.chain) node.item ≡ Some count

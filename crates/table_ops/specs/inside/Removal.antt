@@ -1,5 +1,5 @@
 -- What private calls of a deletion do to the slot of a key.
-use Rattle.std.specs.Prelude.{◌≡◌, ℕ, ◌+◌, Bool, not, ◌||◌, if◌then◌else◌, List, Some, length}
+use Rattle.std.specs.Prelude.{◌≡◌, ℕ, ◌+◌, Bool, not, ◌||◌, if◌then◌else◌, List, [], Some, length}
 use Rattle.ets_term.specs.declared.term.Term.{Term}
 use Rattle.node_list.specs.Chains.{all_but}
 use Rattle.bucket_table.specs.Slots.{Slot, objects_of, with_objects, without, has_objects}
@@ -10,6 +10,13 @@ after_removal hold slots key objects kept =
     if hold || has_objects kept || not (has_objects objects)
     then with_objects slots key kept
     else without slots key
+
+-- all `count` objects of the slot of a key are deleted
+pub record DeletesObjects (hold : Bool) (old : List Slot) (key : Term) (count : ℕ) (new : List Slot) : Type 0 where
+  pub objects : List Term
+  pub had : objects_of old key ≡ Some objects
+  pub now : new ≡ after_removal hold old key objects []
+  pub counted : length objects ≡ count
 
 -- all `count` instances of an object are removed from the slot of a key
 pub record RemovesObject (hold : Bool) (old : List Slot) (key object : Term)

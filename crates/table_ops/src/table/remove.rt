@@ -19,8 +19,8 @@ impl<R: Rows> Table<R> {
         let Some(place) = self.inner.find(key) else {
             return;
         };
-        let objects = self.inner.remove_objects_at(hold, place);
-        self.count -= objects.len();
+        let count = self.inner.delete_objects_at(hold, place);
+        self.count -= count;
     }
 
     /// Removes and returns the objects of a key, oldest first (stdlib manual, ets:take/2).

@@ -3,7 +3,6 @@ ghost use Rattle.table_ops.specs.Refusals.{Refines};
 ghost use Rattle.table_ops.specs.Update.{is_set, ops_avoid_key, specs_avoid_key, default_is_object, counter_is_valid, element_is_valid, UpdatesCounter, UpdatesElement};
 
 use super::Table;
-use crate::kind::Kind;
 use crate::refusal::Refusal;
 use bucket_table::Rows;
 use counters::{ElementSpecs, Ops, start_counter, start_with_elements};
@@ -133,6 +132,6 @@ impl<R: Rows> Table<R> {
     fn is_set(&self) -> bool
         ensures { result ≡ is_set self.now.content.kind }
     {
-        self.inner.kind == Kind::Set
+        self.inner.is_set()
     }
 }

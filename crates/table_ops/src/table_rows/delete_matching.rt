@@ -135,7 +135,7 @@ impl<R: Rows> TableRows<R> {
         if hold || kept.len() > 0 {
             let _ = self.rows.replace_at(place, kept);
         } else {
-            let _ = self.rows.remove_at(place);
+            let _ = self.rows.drop_at(place);
         }
     }
 }

@@ -1,7 +1,8 @@
-ghost use Rattle.std.specs.Prelude.{◌≡◌, ◌||◌, None, IsSome};
-ghost use Rattle.bucket_table.specs.Slots.{objects_of, has_objects};
-ghost use Rattle.bucket_table.specs.Entries.{IsEntry};
+ghost use Rattle.std.specs.Prelude.{◌≡◌, ◌||◌, ◌∷◌, [], None, IsSome, OnOk, OnErr};
+ghost use Rattle.bucket_table.specs.Slots.{objects_of, has_objects, Enters};
+ghost use Rattle.bucket_table.specs.Entries.{IsEntry, HasOne, with_objects_in};
 ghost use Rattle.table_ops.specs.declared.kind.Kind.TheVariants.{Set, Bag, DuplicateBag};
+ghost use Rattle.table_ops.specs.Update.{is_set};
 ghost use Rattle.table_ops.specs.Content.{FitsKind, objects_under};
 ghost use Rattle.table_ops.specs.inside.TableRows.{ChangesSlotsOnly};
 ghost use Rattle.table_ops.specs.inside.Undo.{ForKey, PutsOne, PutsAt};
@@ -14,6 +15,7 @@ use crate::undo::Undo;
 use bucket_table::{Place, Rows, SlotEntry};
 use ets_term::Term;
 use node_list::Chain;
+use std::alloc::AllocError;
 
 impl<R: Rows> TableRows<R> {
     /// Inserts one object where the search for its key ended. `below_limit` says whether one more object is allowed.
@@ -58,11 +60,28 @@ impl<R: Rows> TableRows<R> {
         if !below_limit {
             return Err(Refusal::SystemLimit);
         }
+        self.insert_copies(hash, key, object)?;
+        Ok(Undo::NewSlot)
+    }
+
+    /// Inserts a slot with copies of a key that has none and of its object. `hash` must be the key's hash.
+    pub(crate) fn insert_copies(
+        &mut self,
+        hash: u32,
+        key: &Term,
+        object: &Term,
+    ) -> Result<(), AllocError>
+        requires new { objects_of (R.content self.old.rows) key.now ≡ None }
+        requires hash { hash ≡ R.hash_of self.old.rows key.now }
+        ensures ok { OnOk result (Enters (R.content self.old.rows) key.now (object.now ∷ [])
+            (R.content self.new.rows)) }
+        ensures err { OnErr result (R.content self.new.rows ≡ R.content self.old.rows) }
+        ensures keeps { ChangesSlotsOnly R.readiness self.old self.new }
+    {
         let own_key = key.try_clone(self.alloc)?;
         let copy = object.try_clone(self.alloc)?;
         self.rows
-            .put_at(hash, own_key, Chain::one(self.alloc, copy))?;
-        Ok(Undo::NewSlot)
+            .put_at(hash, own_key, Chain::one(self.alloc, copy))
     }
 
     /// Replaces the object of a set's slot, or fills a tombstone.
@@ -84,6 +103,26 @@ impl<R: Rows> TableRows<R> {
         let copy = object.try_clone(self.alloc)?;
         let was = self.rows.replace_at(place, Chain::one(self.alloc, copy));
         Ok(Undo::Objects(was))
+    }
+
+    /// Returns whether the table is a set.
+    pub(crate) fn is_set(&self) -> bool
+        ensures { result ≡ is_set self.now.kind }
+    {
+        self.kind == Kind::Set
+    }
+
+    /// Replaces the only object of a slot by a copy of another.
+    pub(crate) fn replace_only(&mut self, place: Place, object: &Term) -> Result<(), AllocError>
+        requires { HasOne (R.content self.old.rows) (R.key_at self.old.rows place) }
+        ensures ok { OnOk result (R.content self.new.rows ≡ with_objects_in (R.content self.old.rows)
+            (R.key_at self.old.rows place) (object.now ∷ [])) }
+        ensures err { OnErr result (R.content self.new.rows ≡ R.content self.old.rows) }
+        ensures keeps { ChangesSlotsOnly R.readiness self.old self.new }
+    {
+        let copy = object.try_clone(self.alloc)?;
+        let _ = self.rows.replace_one_at(place, copy);
+        Ok(())
     }
 
     /// Appends an object to the slot of a bag, unless it is already there.

@@ -1,7 +1,8 @@
-ghost use Rattle.std.specs.Prelude.{◌≡◌, ◌≤◌, ◌∷◌, [], true, false, length};
+ghost use Rattle.std.specs.Prelude.{◌≡◌, ◌≤◌, ◌∷◌, [], true, false, Some, IsSome, length};
 ghost use Rattle.std.specs.List.{list_all, list_any};
 ghost use Rattle.ets_term.specs.Depth.{is_too_deep};
-ghost use Rattle.table_ops.specs.Content.{AreSlots, is_object};
+ghost use Rattle.bucket_table.specs.Slots.{objects_of};
+ghost use Rattle.table_ops.specs.Content.{AreSlots, is_object, key_of};
 ghost use Rattle.table_ops.specs.inside.TableRows.{ChangesSlotsOnly, TableRowsInvariant};
 ghost use Rattle.table_ops.specs.inside.Undo.{PutsObject, PutsEach, after_undo, after_roll_back};
 
@@ -9,7 +10,7 @@ use super::TableRows;
 use crate::object::key_of;
 use crate::refusal::Refusal;
 use crate::undo::Undo;
-use bucket_table::Rows;
+use bucket_table::{Place, Rows, SlotEntry};
 use ets_term::Term;
 use node_list::Chain;
 
@@ -29,7 +30,8 @@ impl<R: Rows> TableRows<R> {
         }
     }
 
-    /// Inserts a single object, without an undo log. Returns how many objects the table has then.
+    /// Inserts a single object, without an undo log. If its key has no slot, it goes straight to the rows. Returns how
+    /// many objects the table has then.
     fn put_one(&mut self, before: usize, object: &Term) -> Result<usize, Refusal>
         requires object { is_object self.old.keypos object.now ≡ true }
         requires holds { TableRowsInvariant R.content self.old before }
@@ -37,7 +39,44 @@ impl<R: Rows> TableRows<R> {
             (R.content self.old.rows) result (R.content self.new.rows) }
         ensures keeps { ChangesSlotsOnly R.readiness self.old self.new }
     {
-        let undo = self.put_object(before < self.limit as usize, object)?;
+        let Some(key) = key_of(self.keypos, object) else {
+            unreachable!()
+        };
+        match self.rows.entry(key) {
+            SlotEntry::Vacant(hash) => {
+                if before >= self.limit as usize {
+                    return Err(Refusal::SystemLimit);
+                }
+                self.insert_copies(hash, key, object)?;
+                Ok(before + 1)
+            }
+            SlotEntry::Occupied(place) => self.put_one_at(before, place, key, object),
+        }
+    }
+
+    /// Inserts a single object in the slot of its key. Returns how many objects the table has then.
+    #[inline(never)]
+    fn put_one_at(
+        &mut self,
+        before: usize,
+        place: Place,
+        key: &Term,
+        object: &Term,
+    ) -> Result<usize, Refusal>
+        requires object { key_of self.old.keypos object.now ≡ Some key.now }
+        requires place { R.key_at self.old.rows place ≡ Some key.now }
+        requires has { IsSome (objects_of (R.content self.old.rows) key.now) }
+        requires holds { TableRowsInvariant R.content self.old before }
+        ensures slots { PutsEach self.old.limit self.old.kind self.old.keypos (object.now ∷ [])
+            (R.content self.old.rows) result (R.content self.new.rows) }
+        ensures keeps { ChangesSlotsOnly R.readiness self.old self.new }
+    {
+        if self.is_set() && !self.rows.objects_at(place).is_empty() {
+            self.replace_only(place, object)?;
+            return Ok(before);
+        }
+        let entry = SlotEntry::Occupied(place);
+        let undo = self.put(before < self.limit as usize, entry, key, object)?;
         Ok(before + undo.added_objects())
     }
 
@@ -109,7 +148,7 @@ impl<R: Rows> TableRows<R> {
         };
         match undo {
             Undo::NewSlot => {
-                let _ = self.rows.remove_at(place);
+                let _ = self.rows.drop_at(place);
             }
             Undo::Objects(objects) => {
                 let _ = self.rows.replace_at(place, objects);

@@ -2,7 +2,7 @@ ghost use Rattle.std.specs.Prelude.{◌≡◌, ◌||◌, [], Some, IsSome};
 ghost use Rattle.bucket_table.specs.Slots.{HasDistinctKeys, has_objects};
 ghost use Rattle.bucket_table.specs.Entries.{objects_in};
 ghost use Rattle.table_ops.specs.inside.TableRows.{ChangesSlotsOnly, IsPlaceOfKey};
-ghost use Rattle.table_ops.specs.inside.Removal.{after_removal, RemovesObject};
+ghost use Rattle.table_ops.specs.inside.Removal.{after_removal, DeletesObjects, RemovesObject};
 ghost use Rattle.table_ops.specs.inside.Undo.{ForKey};
 
 use super::TableRows;
@@ -36,6 +36,20 @@ impl<R: Rows> TableRows<R> {
         objects
     }
 
+    /// Deletes the objects of a slot and returns their number. It moves none of them. The slot stays as a tombstone if
+    /// `hold`, or if it was one before.
+    pub(crate) fn delete_objects_at(&mut self, hold: bool, place: Place) -> usize
+        requires { IsSome (R.key_at self.old.rows place) }
+        ensures slots { ForKey (R.key_at self.old.rows place) (λ key.
+            DeletesObjects hold (R.content self.old.rows) key result (R.content self.new.rows)) }
+        ensures keeps { ChangesSlotsOnly R.readiness self.old self.new }
+    {
+        if hold || self.rows.objects_at(place).is_empty() {
+            return self.rows.replace_at(place, Chain::new(self.alloc)).len();
+        }
+        self.rows.drop_at(place)
+    }
+
     /// Removes every instance of an object from a slot and returns their number. A slot that loses its last object is
     /// removed, unless `hold`.
     pub(crate) fn remove_object_at(&mut self, hold: bool, place: Place, object: &Term) -> usize
@@ -50,7 +64,7 @@ impl<R: Rows> TableRows<R> {
         if slot_stays(hold, was_held, objects.as_slice()) {
             let _ = self.rows.replace_at(place, objects);
         } else {
-            let _ = self.rows.remove_at(place);
+            let _ = self.rows.drop_at(place);
         }
         count
     }

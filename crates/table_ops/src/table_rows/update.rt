@@ -1,6 +1,8 @@
 ghost use Rattle.std.specs.Prelude.{◌≡◌, ◌&&◌, [], ◌∷◌, true, Some, Ok, OnOk, OnErr, option_copied};
 ghost use Rattle.std.specs.List.{list_all};
 ghost use Rattle.bucket_table.specs.Entries.{IsEntry, HasOne};
+ghost use Rattle.counters.specs.declared.ops.Ops.TheVariants.{One};
+ghost use Rattle.counters.specs.declared.elements.ElementSpecs.TheVariants as elements;
 ghost use Rattle.table_ops.specs.Put.{SetsObjects};
 ghost use Rattle.table_ops.specs.Update.{may_update, ops_avoid_key, specs_avoid_key, default_is_object};
 ghost use Rattle.table_ops.specs.inside.TableRows.{ChangesSlotsOnly, IsOccupiedPlace};
@@ -9,7 +11,10 @@ ghost use Rattle.table_ops.specs.inside.Updated.{UpdatesCounterAt, UpdatesElemen
 use super::TableRows;
 use crate::refusal::Refusal;
 use bucket_table::{Place, Rows, SlotEntry};
-use counters::{CounterFault, ElementSpecs, Op, Ops, is_default, update_counter, write_elements};
+use counters::{
+    CounterFault, ElementSpec, ElementSpecs, Op, Ops, counter_value, element_value, is_default,
+    update_counter, write_elements,
+};
 use ets_term::{Position, Term};
 use node_list::Chain;
 use std::alloc::AllocError;
@@ -77,12 +82,40 @@ impl<R: Rows> TableRows<R> {
         Some(place)
     }
 
-    /// Updates the counters of the only object at a place.
+    /// Updates the counters of the only object at a place. A single counter is set where it is.
     pub(crate) fn update_counter_at(
         &mut self,
         place: Place,
         ops: &Ops,
     ) -> Result<Term, CounterFault>
+        requires { HasOne (R.content self.old.rows) (R.key_at self.old.rows place) }
+        ensures slots { UpdatesCounterAt ops.now (R.key_at self.old.rows place)
+            (R.content self.old.rows) result (R.content self.new.rows) }
+        ensures keeps { ChangesSlotsOnly R.readiness self.old self.new }
+    {
+        match ops {
+            Ops::One(op) => self.update_one_counter_at(place, *op),
+            Ops::Many(_) => self.update_counters_at(place, ops),
+        }
+    }
+
+    /// Updates one counter of the only object at a place, where it is.
+    #[inline]
+    fn update_one_counter_at(&mut self, place: Place, op: Op) -> Result<Term, CounterFault>
+        requires { HasOne (R.content self.old.rows) (R.key_at self.old.rows place) }
+        ensures slots { UpdatesCounterAt (One op) (R.key_at self.old.rows place)
+            (R.content self.old.rows) result (R.content self.new.rows) }
+        ensures keeps { ChangesSlotsOnly R.readiness self.old self.new }
+    {
+        let object = &self.rows.objects_at(place)[0];
+        let value = counter_value(object, op)?;
+        let index = op.position.saturating_sub(1) as usize;
+        self.rows.set_element_at(place, index, Term::Int(value));
+        Ok(Term::Int(value))
+    }
+
+    /// Updates counters of the only object at a place, which is moved out meanwhile.
+    fn update_counters_at(&mut self, place: Place, ops: &Ops) -> Result<Term, CounterFault>
         requires { HasOne (R.content self.old.rows) (R.key_at self.old.rows place) }
         ensures slots { UpdatesCounterAt ops.now (R.key_at self.old.rows place)
             (R.content self.old.rows) result (R.content self.new.rows) }
@@ -94,12 +127,44 @@ impl<R: Rows> TableRows<R> {
         counted
     }
 
-    /// Sets elements of the only object at a place.
+    /// Sets elements of the only object at a place. A single element is set where it is.
     pub(crate) fn update_element_at(
         &mut self,
         place: Place,
         specs: &ElementSpecs,
     ) -> Result<(), CounterFault>
+        requires { HasOne (R.content self.old.rows) (R.key_at self.old.rows place) }
+        ensures slots { UpdatesElementAt specs.now (R.key_at self.old.rows place)
+            (R.content self.old.rows) result (R.content self.new.rows) }
+        ensures keeps { ChangesSlotsOnly R.readiness self.old self.new }
+    {
+        match specs {
+            ElementSpecs::One(spec) => self.update_one_element_at(place, spec),
+            ElementSpecs::Many(_) => self.update_elements_at(place, specs),
+        }
+    }
+
+    /// Sets one element of the only object at a place, where it is.
+    #[inline]
+    fn update_one_element_at(
+        &mut self,
+        place: Place,
+        spec: &ElementSpec,
+    ) -> Result<(), CounterFault>
+        requires { HasOne (R.content self.old.rows) (R.key_at self.old.rows place) }
+        ensures slots { UpdatesElementAt (elements.One spec.now) (R.key_at self.old.rows place)
+            (R.content self.old.rows) result (R.content self.new.rows) }
+        ensures keeps { ChangesSlotsOnly R.readiness self.old self.new }
+    {
+        let object = &self.rows.objects_at(place)[0];
+        let value = element_value(self.alloc, object, spec)?;
+        let index = spec.position.saturating_sub(1) as usize;
+        self.rows.set_element_at(place, index, value);
+        Ok(())
+    }
+
+    /// Sets elements of the only object at a place, which is moved out meanwhile.
+    fn update_elements_at(&mut self, place: Place, specs: &ElementSpecs) -> Result<(), CounterFault>
         requires { HasOne (R.content self.old.rows) (R.key_at self.old.rows place) }
         ensures slots { UpdatesElementAt specs.now (R.key_at self.old.rows place)
             (R.content self.old.rows) result (R.content self.new.rows) }

@@ -27,6 +27,14 @@ impl Hints {
         Ok(())
     }
 
+    /// Returns the number of intervals.
+    #[inline(always)]
+    pub fn intervals(&self) -> usize
+        requires { self.now.interval_bits < 64 }
+    {
+        (1usize << SPLIT_KEY_BITS) >> self.interval_bits
+    }
+
     /// Adds unknown hints to the current ones, if some intervals have none yet. Without memory it does nothing: a
     /// missing hint is unknown.
     pub fn extend_generation(&mut self)
@@ -34,7 +42,7 @@ impl Hints {
         ensures same { HaveSameHints self.old.current.items self.new.current.items }
         ensures rest { self.new ≡ record self.old { current = self.new.current } }
     {
-        let intervals = (1usize << SPLIT_KEY_BITS) >> self.interval_bits;
+        let intervals = self.intervals();
         let len = self.current.len();
         if len < intervals {
             let more = len.saturating_add(HINTS_SET_AT_INSERTION).min(intervals);

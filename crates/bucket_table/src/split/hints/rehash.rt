@@ -54,8 +54,9 @@ impl Hints {
         self.rehash_pair(list, (split_key >> self.interval_bits) as usize / 2);
     }
 
-    /// Rehashes the next two previous hints and adds some current ones.
-    pub fn rehash_step(&mut self, list: &NodeList)
+    /// Rehashes the next two previous hints and adds some current ones. After the last of them it frees the previous
+    /// hints.
+    fn rehash_step(&mut self, list: &NodeList)
         requires hints { HintsAreSound self.old list.now.cells }
         ensures hints { HintsAreSound self.new list.now.cells }
         ensures interval_bits { self.new.interval_bits ≡ self.old.interval_bits }
@@ -66,6 +67,34 @@ impl Hints {
             self.rehash_pair(list, rehash_index);
             self.rehash_pair(list, rehash_index + 1);
             self.rehash_index = rehash_index.saturating_add(2);
+        } else {
+            self.previous = Vec::new(*self.previous.allocator());
         }
+    }
+
+    /// Does an insertion's part of the rehash, which includes the previous hint of its split key. It does nothing where
+    /// there are no previous hints and each interval has a current one.
+    #[inline(always)]
+    pub fn catch_up(&mut self, list: &NodeList, split_key: u64)
+        requires hints { HintsAreSound self.old list.now.cells }
+        ensures hints { HintsAreSound self.new list.now.cells }
+        ensures interval_bits { self.new.interval_bits ≡ self.old.interval_bits }
+        ensures gone { get_or self.new.previous.items (split_key / 2 ^ self.new.interval_bits / 2) None ≡ None }
+    {
+        if self.previous.len() > 0 || self.current.len() < self.intervals() {
+            self.rehash_now(list, split_key);
+        }
+    }
+
+    /// Does the next step of the rehash, and rehashes the previous hint of a split key.
+    #[inline(never)]
+    fn rehash_now(&mut self, list: &NodeList, split_key: u64)
+        requires hints { HintsAreSound self.old list.now.cells }
+        ensures hints { HintsAreSound self.new list.now.cells }
+        ensures interval_bits { self.new.interval_bits ≡ self.old.interval_bits }
+        ensures gone { get_or self.new.previous.items (split_key / 2 ^ self.new.interval_bits / 2) None ≡ None }
+    {
+        self.rehash_step(list);
+        self.rehash_interval(list, split_key);
     }
 }

@@ -28,8 +28,7 @@ impl<H: KeyHash + Copy + Drop> SplitIndex<H> {
     {
         self.list.reveal_invariant();
         let split_key = item_key(hash);
-        self.hints.rehash_step(&self.list);
-        self.hints.rehash_interval(&self.list, split_key);
+        self.hints.catch_up(&self.list, split_key);
         let before = self.search_start(hash);
         let start = self.hints.refresh(&self.list, split_key, before);
         let is_first = self.hints.is_new_first(&self.list, split_key);

@@ -1,11 +1,12 @@
 // The nodes from which a change starts.
-ghost use Rattle.std.specs.Prelude.{◌<◌, length};
+ghost use Rattle.std.specs.Prelude.{◌≡◌, ℕ, ◌<◌, ◌^◌, IfSome, length};
 ghost use Rattle.split_key.specs.Keys.{key_of_item, key_of_dummy};
 ghost use Rattle.node_list.specs.Places.{HasKeyAtMost};
 ghost use Rattle.bucket_table.specs.inside.Directory.{HasKeyBelow};
 ghost use Rattle.bucket_table.specs.inside.SplitIndex.{RowsInvariant};
 
 use super::SplitIndex;
+use super::buckets::item_hash;
 use crate::split::hint::hint_at;
 use ets_term::KeyHash;
 use node_list::At;
@@ -18,14 +19,53 @@ impl<H: KeyHash + Copy + Drop> SplitIndex<H> {
         requires rows { RowsInvariant H.hash self.now }
         ensures { HasKeyBelow (key_of_item hash) result self.now.list.cells }
     {
+        match self.near_start(item_key(hash)) {
+            Some(first) => first,
+            None => self.far_start(hash),
+        }
+    }
+
+    /// Returns a node before all items of a split key, as `search_start` does. It computes the hash only if no near
+    /// hint helps.
+    pub fn item_start(&self, split_key: u64) -> At
+        requires rows { RowsInvariant H.hash self.now }
+        requires small { split_key < 2 ^ 33 }
+        ensures { (hash : ℕ) → split_key ≡ key_of_item hash → hash < 2 ^ 32
+            → HasKeyBelow split_key result self.now.list.cells }
+    {
+        match self.near_start(split_key) {
+            Some(first) => first,
+            None => self.far_start(item_hash(split_key)),
+        }
+    }
+
+    /// Returns the first item of the interval of a split key, if it has a lesser key. Otherwise returns the first item
+    /// of a lower interval of the same bucket, if a current hint has one.
+    #[inline(always)]
+    fn near_start(&self, split_key: u64) -> Option<At>
+        requires rows { RowsInvariant H.hash self.now }
+        ensures { IfSome result (λ at. HasKeyBelow split_key at self.now.list.cells) }
+    {
         self.list.reveal_invariant();
-        let split_key = item_key(hash);
         let interval = self.hints.interval_of(split_key);
         if let Some(Some(first)) = hint_at(&self.hints.current, interval) {
             if self.list.key(first) < split_key {
-                return first;
+                return Some(first);
             }
         }
+        self.hints.bucket_hint_below(interval)
+    }
+
+    /// Returns a node before all items of a hash: the first item of a lower interval by the hints, or the dummy of the
+    /// nearest ready bucket.
+    #[inline(never)]
+    fn far_start(&self, hash: u32) -> At
+        requires rows { RowsInvariant H.hash self.now }
+        ensures { HasKeyBelow (key_of_item hash) result self.now.list.cells }
+    {
+        self.list.reveal_invariant();
+        let split_key = item_key(hash);
+        let interval = self.hints.interval_of(split_key);
         let (bucket, start) = self.bucket_start(hash);
         let floor = self.hints.interval_of(dummy_key(bucket));
         match self.hints.nearest_below(floor, interval) {

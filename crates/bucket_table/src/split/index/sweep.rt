@@ -52,7 +52,7 @@ impl<H: KeyHash + Copy + Drop> SplitIndex<H> {
         match self.action_for(mode, next) {
             NodeAction::Keep => next,
             NodeAction::Remove => {
-                let _slot = self.take_out(at, next);
+                let _count = self.delete_after(at, next);
                 at
             }
             NodeAction::Empty => {

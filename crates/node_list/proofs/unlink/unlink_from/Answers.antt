@@ -1,32 +1,20 @@
-use Rattle.std.proofs.Common.{ℕ, ◌+◌, ap, Some, Option, List, IsSome, subst, refl, sym, ◌∙◌}
+use Rattle.std.proofs.Common.{ℕ, ◌+◌, ap, Some, Option, IsSome, subst, refl, sym, ◌∙◌}
 use Rattle.slab.specs.Slab.{Slab, get, slab_len}
-use Rattle.node_list.specs.Cells.{Cell}
-use Rattle.node_list.specs.Places.{all_but_first}
-use Rattle.node_list.specs.inside.Walks.{cells_from, HasPlace, IsPredecessor}
+use Rattle.node_list.specs.inside.Walks.{cells_from, IsPredecessor}
 use Rattle.node_list.specs.declared.node.ListNode.{ListNode}
-use Rattle.node_list.proofs.PlaceLaws.{cells_from-suffix, with_value-len}
-use Rattle.node_list.proofs.UnlinkLaws.{is_place-after, predecessor-whole_list, predecessor-has_place, predecessor-node, predecessor-differs, has-node, Unlinked, unlink-list}
+use Rattle.node_list.proofs.PlaceLaws.{with_value-len}
+use Rattle.node_list.proofs.UnlinkLaws.{search-linked, predecessor-in_whole, predecessor-has_place, predecessor-node, predecessor-differs, has-node, Unlinked, unlink-list}
 use Rattle.node_list.proofs.unlink.unlink_from.Goals as goal
 use Rattle.node_list.proofs.unlink.unlink_from.Goals.{After-predecessor-before, After-set_next}
 
 pub predecessor-before-requires-clause-linked : goal.predecessor-before-requires-clause-linked
-predecessor-before-requires-clause-linked c =
-    let s = is_place-after c.args.start c.args.at (cells_from c.args.nodes.now (Some 0)) c.requires.after in
-    (cells_from-suffix c.args.nodes.now c.args.start s.cell s.later c.requires.linked s.is).0
+predecessor-before-requires-clause-linked c = (search-linked c.args.nodes.now c.args.start c.args.at c.requires.linked c.requires.after).0
 
 pub predecessor-before-requires-clause-after : goal.predecessor-before-requires-clause-after
-predecessor-before-requires-clause-after c =
-    let s = is_place-after c.args.start c.args.at (cells_from c.args.nodes.now (Some 0)) c.requires.after in
-    let P : List Cell → Type 0 = λ zs. HasPlace c.args.at (all_but_first zs) in
-    subst P (sym (cells_from-suffix c.args.nodes.now c.args.start s.cell s.later c.requires.linked s.is).1) c.requires.after
+predecessor-before-requires-clause-after c = (search-linked c.args.nodes.now c.args.start c.args.at c.requires.linked c.requires.after).1
 
--- the predecessor in the list from `start` on is the predecessor in the whole list
 stands : (c : After-predecessor-before) → IsPredecessor c.predecessor-before.result c.args.at (cells_from c.args.nodes.now (Some 0))
-stands c =
-    let cells = cells_from c.args.nodes.now (Some 0) in
-    let s = is_place-after c.args.start c.args.at cells c.requires.after in
-    let P : List Cell → Type 0 = λ zs. IsPredecessor c.predecessor-before.result c.args.at zs in
-    predecessor-whole_list c.predecessor-before.result c.args.at c.args.start cells (subst P (cells_from-suffix c.args.nodes.now c.args.start s.cell s.later c.requires.linked s.is).1 c.predecessor-before.ensures)
+stands c = predecessor-in_whole c.args.nodes.now c.args.start c.predecessor-before.result c.args.at c.requires.linked c.requires.after c.predecessor-before.ensures
 
 -- the list after the link leads past the node
 done : (c : After-set_next) → IsPredecessor c.predecessor-before.result c.args.at (cells_from c.args.nodes.now (Some 0)) → Unlinked c.args.nodes.now c.set_next.new.self c.args.at

@@ -1,15 +1,14 @@
-use Rattle.std.proofs.Common.{◌≡◌, ℕ, ◌+◌, ◌-◌, ◌<◌, length, None, Some, Option, IsSome, set, sym, ◌∙◌, ap, subst, arith}
+use Rattle.std.proofs.Common.{◌≡◌, ℕ, ◌+◌, ◌-◌, None, Some, Option, IsSome, set, sym, ◌∙◌, ap, subst, arith}
 use Rattle.node_list.specs.declared.node.Item.{Item}
 use Rattle.node_list.specs.declared.node.ListNode.{ListNode}
-use Rattle.node_list.specs.declared.packed.PackedHeader.{PackedHeader}
-use Rattle.slab.specs.Slab.{Slab, get, slab_len, Updates}
-use Rattle.slab.proofs.SlabLemmas.{Updates-with_value}
+use Rattle.slab.specs.Slab.{Slab, get, slab_len}
 use Rattle.node_list.specs.inside.PackedHeader.{is_item}
 use Rattle.node_list.specs.inside.Slots.{item_if}
 use Rattle.node_list.specs.inside.FreeList.{headers, IsFreeList}
-use Rattle.node_list.proofs.SlotLaws.{has-header, read-slot, write-both, write-within, remove-below, puts-set, count-nodes, packed-node}
-use Rattle.node_list.proofs.FreePlaceLaws.{has-live, live-node, live-at, live-none, has_header-allocated, not-free_at, len-written, len-remove, updates-headers, write-keeps_bound}
+use Rattle.node_list.proofs.SlotLaws.{read-slot, write-both, write-within, remove-below, puts-set, count-nodes, packed-node}
+use Rattle.node_list.proofs.FreePlaceLaws.{has-live, live-node, has_header-allocated, not-free_at, write-keeps_bound}
 use Rattle.node_list.proofs.FreeListLaws.{free_head-fits, remove-free_list}
+use Rattle.node_list.proofs.FreedLaws.{Freed, freed}
 use Rattle.node_list.proofs.nodes.Nodes.remove.Goals as goal
 use Rattle.node_list.proofs.nodes.Nodes.remove.Goals.{After-replace_at-packed}
 
@@ -21,36 +20,11 @@ replace_at-packed-requires c =
     let P : Slab ListNode → Type 0 = λ v. IsSome (get v c.args.at) in
     has-live c.self.inside.nodes c.self.inside.items.items c.args.at (subst P (sym c.self.view_is) c.requires)
 
--- the node before, and the slab after
-record Given (c : After-replace_at-packed) : Type 0 where
-  pub some : IsSome (get (headers c.self.inside.nodes) c.args.at)
-  pub inside : c.args.at < length c.self.inside.items.items
-  pub updates : Updates c.self.inside.nodes c.replace_at-packed.new.nodes c.args.at (Some c.free.result)
-  pub seen : Updates (headers c.self.inside.nodes) (headers c.replace_at-packed.new.nodes) c.args.at None
-  pub allocated : slab_len c.replace_at-packed.new.nodes ≡ slab_len c.self.inside.nodes
-  pub len : slab_len (headers c.replace_at-packed.new.nodes) + 1 ≡ slab_len (headers c.self.inside.nodes)
-
-gave : (c : After-replace_at-packed) → Given c
+-- the headers before and after
+gave : (c : After-replace_at-packed) → Freed c.self.inside.nodes c.replace_at-packed.new.nodes c.self.inside.items.items c.args.at c.free.result
 gave c =
-    let n = c.self.inside.nodes in
-    let at = c.args.at in
-    let q = c.free.result in
-    let P : Slab ListNode → Type 0 = λ v. IsSome (get v at) in
-    let some = has-header (headers n) c.self.inside.items.items at (subst P (sym c.self.view_is) c.requires) in
-    let l = live-at n at some in
-    let U : Slab PackedHeader → Type 0 = λ m. Updates n m at (Some q) in
-    let L : Slab PackedHeader → Type 0 = λ m. slab_len m ≡ slab_len n in
-    let F : Slab PackedHeader → Type 0 = λ m. slab_len (headers m) + 1 ≡ slab_len (headers n) in
-    let u = subst U (sym c.replace_at-packed.ensures.now) (Updates-with_value n at q (has_header-allocated n at some)) in
-    let V : Option PackedHeader → Type 0 = λ o. Updates (headers n) (headers c.replace_at-packed.new.nodes) at o in
-    record {
-      some = some;
-      inside = c.self.invariant.within at some;
-      updates = u;
-      seen = subst V (live-none q c.free.ensures.free) (updates-headers n c.replace_at-packed.new.nodes at (Some q) u);
-      allocated = subst L (sym c.replace_at-packed.ensures.now) (len-written n at q (has_header-allocated n at some));
-      len = subst F (sym c.replace_at-packed.ensures.now) (len-remove n at l.0 q l.1.0 l.1.1 c.free.ensures.free);
-    }
+    let P : Slab ListNode → Type 0 = λ v. IsSome (get v c.args.at) in
+    freed c.self.inside.nodes c.replace_at-packed.new.nodes c.self.inside.items.items c.args.at c.free.result (subst P (sym c.self.view_is) c.requires) c.self.invariant.within c.replace_at-packed.ensures.now c.free.ensures.free
 
 pub to-self-inside-requires : goal.to-self-inside-requires
 to-self-inside-requires c =

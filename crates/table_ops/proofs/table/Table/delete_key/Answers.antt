@@ -1,10 +1,10 @@
-use Rattle.std.proofs.Common.{◌-◌, ◌≡◌, List, sym, ap, ◌∙◌, length, arith}
+use Rattle.std.proofs.Common.{◌-◌, List, sym, ap, ◌∙◌, arith}
 use Rattle.bucket_table.specs.Slots.{Slot}
 use Rattle.table_ops.specs.Content.{Content}
 use Rattle.table_ops.specs.Drop.{has_key}
 use Rattle.table_ops.specs.inside.TableRows.{content_of}
 use Rattle.table_ops.proofs.TableRowsLaws.{content-kept, holds-kept}
-use Rattle.table_ops.proofs.DropLaws.{key-taken, taken-count, counted-less, none-dropped, spares-key}
+use Rattle.table_ops.proofs.DropLaws.{objects-deleted, deleted-count, counted-less, none-dropped, spares-key}
 use Rattle.table_ops.proofs.table.Table.delete_key.Goals as goal
 
 pub returns-in_default-clause-content : goal.returns-in_default-clause-content
@@ -15,27 +15,25 @@ returns-in_default-clause-content g c =
 pub overflow_sub-self : goal.overflow_sub-self
 overflow_sub-self g c =
     let old = g.R.Rows.content c.self.inside.inner.rows in
-    let new = g.R.Rows.content c.remove_objects_at-objects.new.self.rows in
+    let new = g.R.Rows.content c.delete_objects_at-count.new.self.rows in
     let place = g.R.Rows.key_at c.self.inside.inner.rows c.in-Some.place in
-    omega (arith, taken-count c.args.hold old new place c.args.key.now c.remove_objects_at-objects.result c.in-Some.ensures.place.0 c.remove_objects_at-objects.ensures.objects c.remove_objects_at-objects.ensures.slots, c.len.ensures, c.self.invariant.counted)
+    omega (arith, deleted-count c.args.hold old new place c.args.key.now c.delete_objects_at-count.result c.in-Some.ensures.place.0 c.delete_objects_at-count.ensures.slots, c.self.invariant.counted)
 
 pub invariant_of-self : goal.invariant_of-self
 invariant_of-self g c =
     let old = g.R.Rows.content c.self.inside.inner.rows in
-    let new = g.R.Rows.content c.remove_objects_at-objects.new.self.rows in
+    let new = g.R.Rows.content c.delete_objects_at-count.new.self.rows in
     let place = g.R.Rows.key_at c.self.inside.inner.rows c.in-Some.place in
-    let less = taken-count c.args.hold old new place c.args.key.now c.remove_objects_at-objects.result c.in-Some.ensures.place.0 c.remove_objects_at-objects.ensures.objects c.remove_objects_at-objects.ensures.slots in
-    let same_count : c.len.result ≡ length c.remove_objects_at-objects.result = c.len.ensures in
-    holds-kept g.R.Rows.content c.self.inside.inner c.remove_objects_at-objects.new.self c.remove_objects_at-objects.ensures.keeps.rest (c.self.inside.count - c.len.result)
-    (counted-less c.args.hold (has_key c.args.key.now) c.self.inside.inner.kind c.self.inside.inner.keypos c.self.inside.inner.limit c.self.inside.count c.len.result old new c.self.invariant
-    (key-taken c.args.hold old new place c.args.key.now c.remove_objects_at-objects.result c.find.ensures.distinct c.in-Some.ensures.place.0 c.remove_objects_at-objects.ensures.objects c.remove_objects_at-objects.ensures.slots)
-    (omega (arith, less, same_count)))
+    holds-kept g.R.Rows.content c.self.inside.inner c.delete_objects_at-count.new.self c.delete_objects_at-count.ensures.keeps.rest (c.self.inside.count - c.delete_objects_at-count.result)
+    (counted-less c.args.hold (has_key c.args.key.now) c.self.inside.inner.kind c.self.inside.inner.keypos c.self.inside.inner.limit c.self.inside.count c.delete_objects_at-count.result old new c.self.invariant
+    (objects-deleted c.args.hold old new place c.args.key.now c.delete_objects_at-count.result c.find.ensures.distinct c.in-Some.ensures.place.0 c.delete_objects_at-count.ensures.slots)
+    (deleted-count c.args.hold old new place c.args.key.now c.delete_objects_at-count.result c.in-Some.ensures.place.0 c.delete_objects_at-count.ensures.slots))
 
 pub returns-clause-content : goal.returns-clause-content
 returns-clause-content g c =
     let old = g.R.Rows.content c.self.inside.inner.rows in
-    let new = g.R.Rows.content c.remove_objects_at-objects.new.self.rows in
+    let new = g.R.Rows.content c.delete_objects_at-count.new.self.rows in
     let place = g.R.Rows.key_at c.self.inside.inner.rows c.in-Some.place in
-    rw (← c.self.view_is) (content-kept g.R.Rows.content c.self.inside.inner c.remove_objects_at-objects.new.self c.remove_objects_at-objects.ensures.keeps.rest
+    rw (← c.self.view_is) (content-kept g.R.Rows.content c.self.inside.inner c.delete_objects_at-count.new.self c.delete_objects_at-count.ensures.keeps.rest
     ∙ ap (λ (l : List Slot). let r : Content = record (content_of g.R.Rows.content c.self.inside.inner) { slots = l } in r)
-    (key-taken c.args.hold old new place c.args.key.now c.remove_objects_at-objects.result c.find.ensures.distinct c.in-Some.ensures.place.0 c.remove_objects_at-objects.ensures.objects c.remove_objects_at-objects.ensures.slots))
+    (objects-deleted c.args.hold old new place c.args.key.now c.delete_objects_at-count.result c.find.ensures.distinct c.in-Some.ensures.place.0 c.delete_objects_at-count.ensures.slots))

@@ -11,11 +11,11 @@ use Rattle.bucket_table.proofs.directory.Placed.{placed-parity}
 use Rattle.bucket_table.proofs.hints.Invariant.{rows-put}
 use Rattle.bucket_table.proofs.split.index.SplitIndex.insert.Goals as goal
 
-pub rehash_step-requires : goal.rehash_step-requires
-rehash_step-requires g c = record { hints = right g.H.KeyHash.hash c.args.self.now c.requires.rows }
+pub catch_up-requires : goal.catch_up-requires
+catch_up-requires g c = record { hints = right g.H.KeyHash.hash c.args.self.now c.requires.rows }
 
 pub search_start-before-requires : goal.search_start-before-requires
-search_start-before-requires g c = record { rows = anew g.H.KeyHash.hash c.args.self.now c.requires.rows c.rehash_interval.new.self (c.rehash_interval.ensures.interval_bits ∙ c.rehash_step.ensures.interval_bits) c.rehash_interval.ensures.hints }
+search_start-before-requires g c = record { rows = anew g.H.KeyHash.hash c.args.self.now c.requires.rows c.catch_up.new.self c.catch_up.ensures.interval_bits c.catch_up.ensures.hints }
 
 pub refresh-start-requires-clause-parity : goal.refresh-start-requires-clause-parity
 refresh-start-requires-clause-parity g c = placed-parity (g.H.KeyHash.hash c.args.self.now.hasher) c.args.self.now.directory c.args.self.now.list.cells c.requires.rows.rows.split.placed
@@ -31,11 +31,11 @@ returns-clause-rows g c =
     let hints = c.refresh-start.new.self in
     let split = c.item_key-split_key.result in
     let put = c.insert_item-at in
-    let interval_bits = ap (λ (h : Hints). h.interval_bits) c.refresh-start.ensures.rest ∙ (c.rehash_interval.ensures.interval_bits ∙ c.rehash_step.ensures.interval_bits) in
+    let interval_bits = ap (λ (h : Hints). h.interval_bits) c.refresh-start.ensures.rest ∙ c.catch_up.ensures.interval_bits in
     let learned = anew g.H.KeyHash.hash index c.requires.rows hints interval_bits c.refresh-start.ensures.hints in
     let G : Hints → Type 0 = λ h. get_or h.previous.items (split / 2 ^ h.interval_bits / 2) None ≡ None in
     let S : ℕ → Type 0 = λ i. SetsFirst c.is_new_first-is_first.result i put.result hints.current.items c.set_first.new.current.items in
-    let gone = subst G (sym c.refresh-start.ensures.rest) c.rehash_interval.ensures.gone in
+    let gone = subst G (sym c.refresh-start.ensures.rest) c.catch_up.ensures.gone in
     record {
       rows = rows-put hash_of index.directory hints.interval_bits hints.current.items cells learned.rows c.set_first.new.current.items c.is_new_first-is_first.result put.result split c.args.key c.args.objects put.new.self.cells
           put.ensures.fresh (c.item_key-split_key.ensures ∙ ap key_of_item c.requires.hash) c.requires.new put.ensures.cells

@@ -1,33 +1,6 @@
-use Rattle.bucket_table.specs.inside.Intervals.{IsNearestBelow}
-use Rattle.std.proofs.Common.{◌⊎◌, ◌/◌, ◌^◌, ℕ, Some, refl, ◌∙◌, ap, subst, List, Option, None, get_or}
+use Rattle.std.proofs.Common.{ℕ, subst}
 use Rattle.bucket_table.specs.inside.Directory.{HasKeyBelow}
-use Rattle.bucket_table.proofs.hints.Insert.{stands}
-use Rattle.bucket_table.proofs.hints.Search.{hint-says}
-use Rattle.bucket_table.proofs.hints.Start.{own-lesser, start-lesser}
-use Rattle.bucket_table.proofs.hints.SearchBelow.{nearest-start, either-lesser}
 use Rattle.bucket_table.proofs.split.index.SplitIndex.search_start.Goals as goal
 
-pub key-requires : goal.key-requires
-key-requires g c =
-    let read = c.hint_at.ensures ∙ (ap (λ (hints : List (Option (Option ℕ))). get_or hints c.interval_of-interval.result None) c.deref.ensures.value ∙ ap (λ (z : ℕ). get_or c.args.self.now.hints.current.items z None) c.interval_of-interval.ensures) in
-    let is = hint-says (2 ^ c.args.self.now.hints.interval_bits) c.args.self.now.hints.current.items c.args.self.now.list.cells c.item_key-split_key.result c.item_key-split_key.result c.hint_at.result (Some c.in-Some-Some.first) c.requires.rows.rows.hinted.hints read (c.in-Some-Some.is ∙ ap Some c.in-Some-Some.field-0-is) refl in
-    stands (2 ^ c.args.self.now.hints.interval_bits) c.item_key-split_key.result c.in-Some-Some.first c.args.self.now.list.cells c.reveal_invariant.ensures.sorted c.reveal_invariant.ensures.apart is
-
-pub returns-then-key-split_key : goal.returns-then-key-split_key
-returns-then-key-split_key g c =
-    let read = c.hint_at.ensures ∙ (ap (λ (hints : List (Option (Option ℕ))). get_or hints c.interval_of-interval.result None) c.deref.ensures.value ∙ ap (λ (z : ℕ). get_or c.args.self.now.hints.current.items z None) c.interval_of-interval.ensures) in
-    let is = hint-says (2 ^ c.args.self.now.hints.interval_bits) c.args.self.now.hints.current.items c.args.self.now.list.cells c.item_key-split_key.result c.item_key-split_key.result c.hint_at.result (Some c.in-Some-Some.first) c.requires.rows.rows.hinted.hints read (c.in-Some-Some.is ∙ ap Some c.in-Some-Some.field-0-is) refl in
-    let B : ℕ → Type 0 = λ k. HasKeyBelow k c.in-Some-Some.first c.args.self.now.list.cells in
-    subst B c.item_key-split_key.ensures (own-lesser (2 ^ c.args.self.now.hints.interval_bits) c.item_key-split_key.result c.in-Some-Some.first c.args.self.now.list.cells c.reveal_invariant.ensures.sorted c.reveal_invariant.ensures.apart c.key.result is c.key.ensures c.if-key-split_key.true)
-
 pub returns-in-Some : goal.returns-in-Some
-returns-in-Some g c =
-    let T : ℕ → ℕ → Type 0 = λ k i. IsNearestBelow k i c.in-Some.first c.args.self.now.hints.current.items ⊎ IsNearestBelow (k / 2) (i / 2) c.in-Some.first c.args.self.now.hints.previous.items in
-    let K : ℕ → Type 0 = λ k. T k c.interval_of-interval.result in
-    let J : ℕ → Type 0 = λ i. T (c.dummy_key.result / 2 ^ c.args.self.now.hints.interval_bits) i in
-    let told = subst J c.interval_of-interval.ensures (subst K c.interval_of-floor.ensures c.in-Some.ensures) in
-    let B : ℕ → Type 0 = λ k. HasKeyBelow k c.in-Some.first c.args.self.now.list.cells in
-    subst B c.item_key-split_key.ensures (either-lesser c.args.self.now.hints.interval_bits c.item_key-split_key.result c.in-Some.first (c.dummy_key.result / 2 ^ c.args.self.now.hints.interval_bits) c.args.self.now.list.cells c.args.self.now.hints.current.items c.args.self.now.hints.previous.items c.reveal_invariant.ensures.sorted c.reveal_invariant.ensures.apart c.requires.rows.rows.hinted.hints c.requires.rows.previous told)
-
-pub returns-in-None : goal.returns-in-None
-returns-in-None g c = start-lesser (g.H.KeyHash.hash c.args.self.now.hasher) c.args.self.now.directory c.args.hash c.bucket_start-bucket.result.1 c.args.self.now.list.cells c.requires.rows.rows.split (nearest-start _ _ _ _ c.bucket_start-bucket.ensures)
+returns-in-Some g c = let B : ℕ → Type 0 = λ k. HasKeyBelow k c.in-Some.first c.args.self.now.list.cells in subst B c.item_key.ensures c.in-Some.ensures

@@ -18,23 +18,23 @@ use Rattle.bucket_table.proofs.split.index.SplitIndex.sweep_next.Goals as goal
 pub action_for-requires : goal.action_for-requires
 action_for-requires g c = next-stands c.args.mode c.args.at c.args.next c.args.self.now.list.cells (neighbour c.args.at c.args.next c.args.self.now.list.cells c.reveal_invariant.ensures.apart c.requires.stands c.requires.next)
 
-pub take_out-slot-requires-clause-stands : goal.take_out-slot-requires-clause-stands
-take_out-slot-requires-clause-stands g c = next-item c.args.mode c.args.at c.args.next c.args.self.now.list.cells (neighbour c.args.at c.args.next c.args.self.now.list.cells c.reveal_invariant.ensures.apart c.requires.stands c.requires.next) c.in-Remove.ensures.0
+pub delete_after-count-requires-clause-stands : goal.delete_after-count-requires-clause-stands
+delete_after-count-requires-clause-stands g c = next-item c.args.mode c.args.at c.args.next c.args.self.now.list.cells (neighbour c.args.at c.args.next c.args.self.now.list.cells c.reveal_invariant.ensures.apart c.requires.stands c.requires.next) c.in-Remove.ensures.0
 
 pub returns-in-Keep-clause-swept : goal.returns-in-Keep-clause-swept
 returns-in-Keep-clause-swept g c = stays c.args.mode c.args.at c.args.next c.args.self.now.list.cells (neighbour c.args.at c.args.next c.args.self.now.list.cells c.reveal_invariant.ensures.apart c.requires.stands c.requires.next) c.in-Keep.ensures
 
 pub returns-in-Remove-clause-swept : goal.returns-in-Remove-clause-swept
-returns-in-Remove-clause-swept g c = goes c.args.mode c.args.at c.args.next c.args.self.now.list.cells (neighbour c.args.at c.args.next c.args.self.now.list.cells c.reveal_invariant.ensures.apart c.requires.stands c.requires.next) c.take_out-slot.new.self.list.cells c.take_out-slot.ensures.cells c.in-Remove.ensures.1
+returns-in-Remove-clause-swept g c = goes c.args.mode c.args.at c.args.next c.args.self.now.list.cells (neighbour c.args.at c.args.next c.args.self.now.list.cells c.reveal_invariant.ensures.apart c.requires.stands c.requires.next) c.delete_after-count.new.self.list.cells c.delete_after-count.ensures.cells c.in-Remove.ensures.1
 
 pub returns-in-Remove-clause-each : goal.returns-in-Remove-clause-each
 returns-in-Remove-clause-each g c =
-    let new = c.take_out-slot.new.self.list.cells in
-    let l = length-out (g.H.KeyHash.hash c.args.self.now.hasher) c.args.self.now.directory c.args.next c.args.self.now.list.cells new c.requires.rows.rows.split c.reveal_invariant.ensures.apart c.in-Remove.ensures.0 c.take_out-slot.ensures.cells in
+    let new = c.delete_after-count.new.self.list.cells in
+    let l = length-out (g.H.KeyHash.hash c.args.self.now.hasher) c.args.self.now.directory c.args.next c.args.self.now.list.cells new c.requires.rows.rows.split c.reveal_invariant.ensures.apart c.in-Remove.ensures.0 c.delete_after-count.ensures.cells in
     record {
-      alike = alike-gone c.args.mode c.args.next c.args.self.now.list.cells new c.reveal_invariant.ensures.apart c.take_out-slot.ensures.cells c.in-Remove.ensures.1;
-      len = omega (arith, l, c.take_out-slot.ensures.len);
-      fewer = omega (arith, c.take_out-slot.ensures.len);
+      alike = alike-gone c.args.mode c.args.next c.args.self.now.list.cells new c.reveal_invariant.ensures.apart c.delete_after-count.ensures.cells c.in-Remove.ensures.1;
+      len = omega (arith, l, c.delete_after-count.ensures.len);
+      fewer = omega (arith, c.delete_after-count.ensures.len);
     }
 
 pub returns-in-Empty-clause-rows : goal.returns-in-Empty-clause-rows

@@ -1,14 +1,12 @@
 use Rattle.bucket_table.specs.inside.Directory.{IsFirstUnready}
 use Rattle.bucket_table.specs.inside.TombstoneLog.{TombstonesAreAmong, LogInvariant}
 use Rattle.bucket_table.proofs.sweep.Log.{among-without}
-use Rattle.std.proofs.Common.{◌≡◌, ◌≢◌, ℕ, List, Option, Some, IsSome, length, map, is_some, sym, ◌∙◌, ap, subst, arith}
+use Rattle.std.proofs.Common.{◌≡◌, ℕ, List, Option, Some, IsSome, length, map, is_some, sym, ◌∙◌, ap, subst, arith}
 use Rattle.ets_term.specs.declared.term.Term.{Term}
 use Rattle.bucket_table.specs.Walks.{ComesBefore}
-use Rattle.bucket_table.proofs.slots.Traverse.{before-other}
-use Rattle.bucket_table.proofs.slots.Step.{place-stays}
 use Rattle.ets_term.specs.Order.{same}
 use Rattle.node_list.specs.declared.node.Item.{Item}
-use Rattle.node_list.specs.Cells.{Cell, new_item}
+use Rattle.node_list.specs.Cells.{new_item}
 use Rattle.bucket_table.specs.Slots.{Slot, objects_of, without}
 use Rattle.bucket_table.specs.SplitRowsState.{SplitRowsState, key_of_place}
 use Rattle.bucket_table.specs.inside.Nodes.{slots_of, places_of}
@@ -16,8 +14,8 @@ use Rattle.bucket_table.proofs.list.Content.{found-item}
 use Rattle.bucket_table.proofs.list.Length.{length-removed}
 use Rattle.bucket_table.proofs.list.Places.{at-place, read-item}
 use Rattle.bucket_table.specs.inside.Order.{content_of}
-use Rattle.bucket_table.proofs.order.Permute.{ordered}
-use Rattle.bucket_table.proofs.order.Read.{objects-same, keys-distinct}
+use Rattle.bucket_table.proofs.order.Read.{objects-same}
+use Rattle.bucket_table.proofs.order.Remove.{content-removed, places-before}
 use Rattle.bucket_table.proofs.split.rows.SplitRowsRows.remove_at.Goals as goal
 
 pub remove-slot-requires-clause-item : goal.remove-slot-requires-clause-item
@@ -78,8 +76,7 @@ returns-clause-now g c =
     let item = read-item c.args.place c.self.inside.index.list.cells p (new_item c.remove-slot.result.0 c.remove-slot.result.1) c.remove-slot.ensures.item in
     let same_key : p.key ≡ c.remove-slot.result.0 = sym p.found.same_term ∙ ap (λ (i : Item). i.term) item in
     let Q : SplitRowsState g.row.H.Denot → Type 0 = λ v. content_of c.remove-slot.new.self.list.cells ≡ without v.slots c.remove-slot.result.0 in
-    let o = ordered p.key c.args.place c.self.inside.index.list.cells c.reveal_invariant.ensures.apart c.self.invariant.rows.rows.split.distinct p.found in
-    subst Q c.self.view_is (ap content_of c.remove-slot.ensures.cells ∙ (o.removed ∙ ap (without (content_of c.self.inside.index.list.cells)) same_key))
+    subst Q c.self.view_is (content-removed c.args.place c.self.inside.index.list.cells c.remove-slot.new.self.list.cells c.reveal_invariant.ensures.apart c.self.invariant.rows.rows.split.distinct p c.remove-slot.ensures.cells c.remove-slot.result.0 (p.is ∙ ap Some same_key))
 
 pub returns-clause-before : goal.returns-clause-before
 returns-clause-before g c =
@@ -89,13 +86,7 @@ returns-clause-before g c =
     let same_key : p.key ≡ c.remove-slot.result.0 = sym p.found.same_term ∙ ap (λ (i : Item). i.term) item in
     let Q : SplitRowsState g.row.H.Denot → Type 0 =
     λ v. (other : ℕ) (key : Term) → key_of_place v.places other ≡ Some key → ComesBefore v.slots key c.remove-slot.result.0 → key_of_place (places_of c.remove-slot.new.self.list.cells) other ≡ Some key in
-    subst Q c.self.view_is (λ other key e b.
-    let apart = before-other (content_of c.self.inside.index.list.cells) key c.remove-slot.result.0 (keys-distinct c.self.inside.index.list.cells c.reveal_invariant.ensures.apart c.self.invariant.rows.rows.split.distinct) b in
-    let away : c.args.place ≢ other = λ here. apart (some-key key c.remove-slot.result.0 (key_of_place (places_of c.self.inside.index.list.cells) other) e (ap (key_of_place (places_of c.self.inside.index.list.cells)) (sym here) ∙ (p.is ∙ ap Some same_key))) in
-    ap (λ (cs : List Cell). key_of_place (places_of cs) other) c.remove-slot.ensures.cells ∙ (place-stays c.args.place other c.self.inside.index.list.cells away ∙ e))
-  where
-    some-key : (a b : Term) (o : Option Term) → o ≡ Some a → o ≡ Some b → a ≡ b
-    some-key a b o x y = cc
+    subst Q c.self.view_is (places-before c.args.place c.self.inside.index.list.cells c.remove-slot.new.self.list.cells c.reveal_invariant.ensures.apart c.self.invariant.rows.rows.split.distinct p c.remove-slot.ensures.cells c.remove-slot.result.0 (p.is ∙ ap Some same_key))
 
 pub returns-clause-hash : goal.returns-clause-hash
 returns-clause-hash g c = ap (λ (h : g.row.H.Denot). g.H.KeyHash.hash h) (c.remove-slot.ensures.keeps.hasher ∙ ap (λ (v : SplitRowsState g.row.H.Denot). v.hasher) c.self.view_is)
