@@ -1,7 +1,7 @@
 -- A compiled expression has the value of the expression.
 use Rattle.std.proofs.Common.{◌≡◌, ℕ, suc, ◌==◌, ◌&&◌, ◌||◌, nat_lt, Bool, true, false, if◌then◌else◌, List, [], ◌∷◌, Option, Some, None, map, codes, rules, refl, sym, ap, ◌∙◌, arith, is_some}
 use Rattle.std.proofs.lemmas.Bool.Decides.{nat_tests}
-use Rattle.std.specs.Option.{option_map, option_and_then}
+use Rattle.std.specs.Option.{option_map, option_and_then, option_map_or}
 use Rattle.std.specs.Str.{bytes_eq}
 use Rattle.ets_term.specs.declared.term.Term.{Term}
 use Rattle.ets_term.specs.declared.term.Term.TheVariants.{Atom}
@@ -9,18 +9,20 @@ use Rattle.ets_term.specs.Data.{Data, int, atom, pid, tid, tuple, list, binary, 
 use Rattle.ets_term.specs.Order.{row_len}
 use Rattle.ets_term.specs.laws.Exact.{term_of}
 use Rattle.match_spec.specs.declared.expression.Connective.{Connective}
+use Rattle.match_spec.specs.declared.expression.Connective.TheVariants.{And, Or}
 use Rattle.match_spec.specs.declared.expression.function.Function.{Function}
 use Rattle.match_spec.specs.declared.expression.Expression.{Expression, the_lemmas}
 use Rattle.match_spec.specs.declared.expression.Expression.TheOpen.{Expression-F}
 use Rattle.match_spec.specs.declared.expression.Expression.TheVariants.{Constant, Object, Bindings as Bound, Variable, Tuple, List as Terms, Apply, Strict, ShortCircuit}
 use Rattle.match_spec.specs.inside.CompiledExpressions.{expression_value, expression_step, all_of, strict_of, apply_of, short_circuit_of, expression_of, expressions_of, name_expression, call_expression, short_circuit_else, apply_else}
 use Rattle.match_spec.specs.inside.FirstPaths.{FirstPaths, first_path, paths_of, first_paths_of}
-use Rattle.match_spec.specs.Functions.{apply, truth}
-use Rattle.match_spec.specs.Names.{function_of, strict_connective, short_circuit_connective, is_function}
+use Rattle.match_spec.specs.Functions.{truth, call}
+use Rattle.match_spec.specs.inside.Functions.{apply, deciding, function_of, strict_connective as strict_by_enum, short_circuit_connective as short_circuit_by_enum}
 use Rattle.match_spec.specs.Patterns.{Bindings, values, occurrences}
 use Rattle.match_spec.specs.Paths.{Path, subterm_at}
-use Rattle.match_spec.specs.Expressions.{value, all_values, strict_value, short_circuit_value, name_value, short_circuit_or, strict_or, call_value, is_expression, are_expressions, is_constant, is_bound}
+use Rattle.match_spec.specs.Expressions.{value, all_values, strict_value, short_circuit_value, name_value, strict_connective, short_circuit_connective, is_function, is_expression, are_expressions, is_constant, is_bound}
 use Rattle.match_spec.specs.Variables.{variable, variables}
+use Rattle.match_spec.proofs.CallLaws.{strict_connective-is, short_circuit_connective-is, is_function-is, call-one, call-two}
 use Rattle.match_spec.proofs.BoolLaws.{both-true, none-is_some}
 use Rattle.match_spec.proofs.FitLaws.{subterms_at-first}
 use Rattle.match_spec.proofs.PathLaws.{found, first_path-first}
@@ -109,34 +111,48 @@ module _ (head object : Data) where
   given es None h each all = cc
   given es (Some g) h each all = ap (λ f. f object) (of-Apply ps g (xs es)) ∙ each g ∙ ap (option_and_then (apply g)) all
 
+  abbrev called : List ℕ → Row → Option Data
+  called f es = option_and_then (call f) (all_values b object es)
+
   applies : (f : List ℕ) (es : Row) → is_some (function_of f (row_len es)) ≡ true → all_of (map of (xs es)) object ≡ all_values b object es
-      → of (apply_else (function_of f (row_len es)) (xs es)) object ≡ call_value f (row_len es) (all_values b object es)
+      → of (apply_else (function_of f (row_len es)) (xs es)) object ≡ called f es
   applies f no_terms h all = cc
-  applies f (term e no_terms) h all = given (term e no_terms) _ h (λ g. one g (of (expression_of first e)) _ refl) all
-  applies f (term e (term x no_terms)) h all = given (term e (term x no_terms)) _ h (λ g. two g (of (expression_of first e)) (of (expression_of first x)) _ _ refl refl) all
+  applies f (term e no_terms) h all = given (term e no_terms) _ h (λ g. one g (of (expression_of first e)) _ refl) all ∙ call-one f (value b object e)
+  applies f (term e (term x no_terms)) h all = given (term e (term x no_terms)) _ h (λ g. two g (of (expression_of first e)) (of (expression_of first x)) _ _ refl refl) all ∙ call-two f (value b object e) (value b object x)
   applies f (term e (term x (term y es))) h all = absurd (none-is_some _ (none_of_three f (row_len es)) h)
 
+  abbrev stopped : Row → Bool → Option Data
+  stopped es decisive = short_circuit_value b object decisive es
+
+  abbrev joined : Row → Bool → Option Data
+  joined es decisive = option_map truth (strict_value b object decisive es)
+
+  -- the value of a call by its connective
+  abbrev by_connective : List ℕ → Row → Option Bool → Option Bool → Option Data
+  by_connective f es o p = option_map_or (stopped es) o (option_map_or (joined es) p (called f es))
+
   module _ (f : List ℕ) (es : Row) (all : all_of (map of (xs es)) object ≡ all_values b object es)
-      (joins : (connective : Connective) → strict_of connective (map of (xs es)) object ≡ strict_value b object connective es)
-      (stops : (connective : Connective) → short_circuit_of connective (map of (xs es)) object ≡ short_circuit_value b object connective es) where
+      (joins : (connective : Connective) → strict_of connective (map of (xs es)) object ≡ strict_value b object (deciding connective) es)
+      (stops : (connective : Connective) → short_circuit_of connective (map of (xs es)) object ≡ short_circuit_value b object (deciding connective) es) where
     by_kind : (o p : Option Connective) → (((is_some o || is_some p) && nat_lt 0 (row_len es)) || is_some (function_of f (row_len es))) ≡ true
-        → of (short_circuit_else o p (function_of f (row_len es)) (xs es)) object
-        ≡ short_circuit_or o (λ connective. short_circuit_value b object connective es) (strict_or p (λ connective. strict_value b object connective es) (call_value f (row_len es) (all_values b object es)))
+        → of (short_circuit_else o p (function_of f (row_len es)) (xs es)) object ≡ by_connective f es (option_map deciding o) (option_map deciding p)
     by_kind (Some connective) p h = ap (λ v. v object) (of-ShortCircuit ps connective (xs es)) ∙ stops connective
     by_kind None (Some connective) h = ap (λ v. v object) (of-Strict ps connective (xs es)) ∙ ap (option_map truth) (joins connective)
     by_kind None None h = applies f es h all
 
-    not_constant : is_function f (row_len es) ≡ true → of (call_expression f (row_len es) (xs es)) object
-        ≡ short_circuit_or (short_circuit_connective f) (λ connective. short_circuit_value b object connective es) (strict_or (strict_connective f) (λ connective. strict_value b object connective es) (call_value f (row_len es) (all_values b object es)))
-    not_constant h = by_kind (short_circuit_connective f) (strict_connective f) h
+    not_constant : is_function f (row_len es) ≡ true → of (call_expression f (row_len es) (xs es)) object ≡ by_connective f es (short_circuit_connective f) (strict_connective f)
+    not_constant h =
+        by_kind (short_circuit_by_enum f) (strict_by_enum f) (is_function-is f (row_len es) ∙ h)
+        ∙ ap (λ o. by_connective f es o (option_map deciding (strict_by_enum f))) (sym (short_circuit_connective-is f))
+        ∙ ap (by_connective f es (short_circuit_connective f)) (sym (strict_connective-is f))
 
   abbrev ns : List ℕ
   ns = variables head
 
   application : (f : List ℕ) (es : Row) → (is_constant f (row_len es) || (is_function f (row_len es) && are_expressions ns es)) ≡ true
       → (are_expressions ns es ≡ true → all_of (map of (xs es)) object ≡ all_values b object es)
-      → ((connective : Connective) → are_expressions ns es ≡ true → strict_of connective (map of (xs es)) object ≡ strict_value b object connective es)
-      → ((connective : Connective) → are_expressions ns es ≡ true → short_circuit_of connective (map of (xs es)) object ≡ short_circuit_value b object connective es)
+      → ((connective : Connective) → are_expressions ns es ≡ true → strict_of connective (map of (xs es)) object ≡ strict_value b object (deciding connective) es)
+      → ((connective : Connective) → are_expressions ns es ≡ true → short_circuit_of connective (map of (xs es)) object ≡ short_circuit_value b object (deciding connective) es)
       → of (expression_of first (tuple (term (atom f) es))) object ≡ value b object (tuple (term (atom f) es))
   application f no_terms h all joins stops = let p = both-true _ _ h in not_constant f no_terms (all p.1) (λ s. joins s p.1) (λ s. stops s p.1) p.0
   application f (term e (term x es)) h all joins stops =
@@ -147,7 +163,7 @@ module _ (head object : Data) where
     where
       by : (c : Bool) → (c || (is_function f (row_len (term e no_terms)) && are_expressions ns (term e no_terms))) ≡ true
           → of (if c then Constant (term_of e) else call_expression f (row_len (term e no_terms)) (xs (term e no_terms))) object
-          ≡ (if c then Some e else short_circuit_or (short_circuit_connective f) (λ connective. short_circuit_value b object connective (term e no_terms)) (strict_or (strict_connective f) (λ connective. strict_value b object connective (term e no_terms)) (call_value f (row_len (term e no_terms)) (all_values b object (term e no_terms)))))
+          ≡ (if c then Some e else by_connective f (term e no_terms) (short_circuit_connective f) (strict_connective f))
       by true i = constant e
       by false i = let p = both-true _ _ i in not_constant f (term e no_terms) (all p.1) (λ s. joins s p.1) (λ s. stops s p.1) p.0
 
@@ -173,11 +189,14 @@ module _ (head object : Data) where
     all_compiled no_terms h = refl
     all_compiled (term e es) h = let p = both-true _ _ h in rw (compiled e p.0, all_compiled es p.1) refl
 
-    pub strict_compiled : (connective : Connective) (es : Row) → are_expressions ns es ≡ true → strict_of connective (map of (xs es)) object ≡ strict_value b object connective es
-    strict_compiled connective no_terms h = refl
-    strict_compiled connective (term e es) h = let p = both-true _ _ h in rw (compiled e p.0, strict_compiled connective es p.1) refl
+    pub strict_compiled : (connective : Connective) (es : Row) → are_expressions ns es ≡ true → strict_of connective (map of (xs es)) object ≡ strict_value b object (deciding connective) es
+    strict_compiled And no_terms h = refl
+    strict_compiled Or no_terms h = refl
+    strict_compiled And (term e es) h = let p = both-true _ _ h in rw (compiled e p.0, strict_compiled And es p.1) refl
+    strict_compiled Or (term e es) h = let p = both-true _ _ h in rw (compiled e p.0, strict_compiled Or es p.1) refl
 
-    pub short_circuit_compiled : (connective : Connective) (es : Row) → are_expressions ns es ≡ true → short_circuit_of connective (map of (xs es)) object ≡ short_circuit_value b object connective es
+    pub short_circuit_compiled : (connective : Connective) (es : Row) → are_expressions ns es ≡ true → short_circuit_of connective (map of (xs es)) object ≡ short_circuit_value b object (deciding connective) es
     short_circuit_compiled connective no_terms h = refl
     short_circuit_compiled connective (term e no_terms) h = let p = both-true _ _ h in rw (compiled e p.0) refl
-    short_circuit_compiled connective (term e (term x es)) h = let p = both-true _ _ h in rw (compiled e p.0, short_circuit_compiled connective (term x es) p.1) refl
+    short_circuit_compiled And (term e (term x es)) h = let p = both-true _ _ h in rw (compiled e p.0, short_circuit_compiled And (term x es) p.1) refl
+    short_circuit_compiled Or (term e (term x es)) h = let p = both-true _ _ h in rw (compiled e p.0, short_circuit_compiled Or (term x es) p.1) refl

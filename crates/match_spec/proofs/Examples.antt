@@ -1,5 +1,5 @@
 -- Worked examples, which hold of the definitions by computing.
-use Rattle.std.specs.Prelude.{◌≡◌, ℕ, pos, negsuc, ◌-◌, ◌^◌, false, List, [], ◌∷◌, Option, Some, None, codes, refl}
+use Rattle.std.specs.Prelude.{◌≡◌, ℕ, pos, negsuc, ◌-◌, ◌^◌, Bool, true, false, List, [], ◌∷◌, Option, Some, None, codes, refl}
 use Rattle.std.specs.Option.{option_map}
 use Rattle.ets_term.specs.Data.{Data, int, atom, tid, tuple, list, binary, row_of}
 use Rattle.match_spec.specs.BoundKeys.{bound_key, spec_key}
@@ -193,6 +193,40 @@ second_element = refl
 
 no_such_element : call (codes "element") (numeral 0 ∷ pair ∷ []) ≡ Some (w (codes "EXIT"))
 no_such_element = refl
+
+element_of_atoms : call (codes "element") (numeral 2 ∷ quoted (t (w (codes "a") ∷ w (codes "b") ∷ [])) ∷ []) ≡ Some (w (codes "b"))
+element_of_atoms = refl
+
+div_of_zero : call (codes "div") (numeral 1 ∷ numeral 0 ∷ []) ≡ Some (w (codes "EXIT"))
+div_of_zero = refl
+
+test_of_no_number : call (codes "is_number") (w (codes "a") ∷ []) ≡ Some (w (codes "false"))
+test_of_no_number = refl
+
+one_and : call (codes "and") (w (codes "true") ∷ w (codes "false") ∷ []) ≡ Some (w (codes "false"))
+one_and = refl
+
+unequal : call (codes "=/=") (numeral 7 ∷ numeral 8 ∷ []) ≡ Some (w (codes "true"))
+unequal = refl
+
+-- names with numbers of arguments that are no functions
+abbrev accepted : List ℕ → List Data → Bool
+accepted f es = is_spec (spec any [] (t (w f ∷ es) ∷ []))
+
+one_and_is_enough : accepted (codes "and") (w (codes "true") ∷ []) ≡ true
+one_and_is_enough = refl
+
+and_of_nothing : accepted (codes "and") [] ≡ false
+and_of_nothing = refl
+
+not_of_two : accepted (codes "not") (w (codes "true") ∷ w (codes "true") ∷ []) ≡ false
+not_of_two = refl
+
+sum_of_one : accepted (codes "+") (numeral 1 ∷ []) ≡ false
+sum_of_one = refl
+
+unknown_name : accepted (codes "is_boolean") (w (codes "true") ∷ []) ≡ false
+unknown_name = refl
 
 -- bound keys
 key_of_pattern : bound_key 1 (t (numeral 7 ∷ v1 ∷ [])) ≡ Some (numeral 7)

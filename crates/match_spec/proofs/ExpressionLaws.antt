@@ -12,8 +12,9 @@ use Rattle.match_spec.specs.declared.expression.Expression.TheVariants.{Constant
 use Rattle.match_spec.specs.inside.CompiledExpressions.{expression_of, expressions_of, constant_else, call_expression}
 use Rattle.match_spec.specs.inside.FirstPaths.{FirstPaths}
 use Rattle.match_spec.specs.Expressions.{is_expression, are_expressions, is_constant}
-use Rattle.match_spec.specs.Names.{is_function}
+use Rattle.match_spec.specs.inside.Functions.{is_function as is_function_by_enum}
 use Rattle.match_spec.specs.Specifications.{clause_parts}
+use Rattle.match_spec.proofs.CallLaws.{is_function-is}
 use Rattle.match_spec.proofs.TreeLaws.{data_of-Atom}
 
 pub row_len_of : (ts : List Term) → row_len (row_of (map data_of ts)) ≡ length ts
@@ -92,11 +93,12 @@ module _ (ns : List ℕ) where
   is-tuples (u ∷ v ∷ ts) t es n m at is = rw (at, is, data_of-Tuple es) refl
 
   pub is-atom : (ts : List Term) (t : Term) (f : List ℕ) → 0 < length ts → get_or ts 0 t ≡ t → t ≡ Atom f
-      → (is_constant f (length ts - 1) || (is_function f (length ts - 1) && are_expressions ns (row_of (map data_of (drop 1 ts))))) ≡ is ts
+      → (is_constant f (length ts - 1) || (is_function_by_enum f (length ts - 1) && are_expressions ns (row_of (map data_of (drop 1 ts))))) ≡ is ts
   is-atom [] t f n at is = absurd (omega arith)
   is-atom (u ∷ ts) t f n at is =
       let len : length (u ∷ ts) - 1 ≡ row_len (row_of (map data_of ts)) = omega (arith, row_len_of ts) in
-      rw (at, is, data_of-Atom f, len) refl
+      ap (λ b. is_constant f (length (u ∷ ts) - 1) || (b && are_expressions ns (row_of (map data_of ts)))) (is_function-is f (length (u ∷ ts) - 1))
+      ∙ rw (at, is, data_of-Atom f, len) refl
 
   by_kind : (t : Term) (ds : Row) (d : Data) → data_of t ≡ d → ((es : List Term) → t ≡ Tuple es → ⊥) → ((a : List ℕ) → t ≡ Atom a → ⊥) → false ≡ is_expression ns (tuple (term d ds))
   by_kind t ds (int n) e p q = refl

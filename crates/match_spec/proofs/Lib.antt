@@ -1,5 +1,6 @@
 mod Examples
 pub mod BoolLaws
+pub mod CallLaws
 pub mod CompiledLaws
 pub mod ExpressionLaws
 pub mod FitLaws

@@ -16,7 +16,8 @@ use Rattle.match_spec.specs.declared.pattern.part.Part.{Part}
 use Rattle.match_spec.specs.declared.pattern.part.Part.TheVariants.{Tuple}
 use Rattle.match_spec.specs.declared.spec.clause.Clause.{Clause}
 use Rattle.match_spec.specs.declared.spec.quick.QuickTest.{QuickTest}
-use Rattle.match_spec.specs.Functions.{compares, row_element, truth}
+use Rattle.match_spec.specs.Functions.{row_element, truth}
+use Rattle.match_spec.specs.inside.Functions.{compares}
 use Rattle.match_spec.specs.Specifications.{result_of}
 use Rattle.match_spec.specs.Paths.{Path, element_or, subterm_at}
 use Rattle.match_spec.specs.inside.CompiledClauses.{applies, all_hold_of, result_of_first}

@@ -10,7 +10,7 @@ use Rattle.match_spec.specs.inside.CompiledClauses.{last_value_of}
 use Rattle.match_spec.specs.inside.CompiledExpressions.{expression_value, apply_of, short_circuit_of}
 use Rattle.match_spec.specs.Functions.{boolean, head, truth}
 use Rattle.match_spec.specs.Specifications.{is_true}
-use Rattle.match_spec.specs.Expressions.{decides}
+use Rattle.match_spec.specs.inside.Functions.{decides}
 use Rattle.match_spec.specs.declared.expression.function.Function.{Function}
 use Rattle.match_spec.specs.declared.expression.Expression.TheVariants.{Apply}
 use Rattle.match_spec.specs.Paths.{Path}

@@ -1,14 +1,11 @@
 -- The values of expressions, and which terms are expressions (ERTS User's Guide, Match Specifications in Erlang).
-use Rattle.std.specs.Prelude.{ℕ, ◌==◌, ◌&&◌, ◌||◌, not, Bool, true, false, if◌then◌else◌, List, [], ◌∷◌, Option, Some, None, option_map, codes}
+use Rattle.std.specs.Prelude.{ℕ, ◌==◌, ◌&&◌, ◌||◌, not, nat_lt, Bool, true, false, if◌then◌else◌, List, [], ◌∷◌, Option, Some, None, is_some, option_map, codes}
 use Rattle.std.specs.List.{list_any}
-use Rattle.std.specs.Option.{option_and_then}
+use Rattle.std.specs.Option.{option_and_then, option_map_or}
 use Rattle.std.specs.Str.{bytes_eq}
 use Rattle.ets_term.specs.Data.{Data, atom, tuple, list, Row, no_terms, term, row_of}
 use Rattle.ets_term.specs.Order.{row_len}
-use Rattle.match_spec.specs.declared.expression.Connective.{Connective}
-use Rattle.match_spec.specs.declared.expression.Connective.TheVariants.{And, Or}
-use Rattle.match_spec.specs.Functions.{apply, boolean, truth}
-use Rattle.match_spec.specs.Names.{function_of, strict_connective, short_circuit_connective, is_function}
+use Rattle.match_spec.specs.Functions.{boolean, truth, one_argument, two_arguments, call}
 use Rattle.match_spec.specs.Patterns.{Bindings, binding, values}
 use Rattle.match_spec.specs.Variables.{variable}
 
@@ -20,31 +17,25 @@ name_value b object a None =
     else if bytes_eq a (codes "$$") then Some (list (row_of (values b)))
     else Some (atom a)
 
--- whether a connective is decided by one argument of this truth: `and` by false, `or` by true
-abbrev pub decides : Connective → Bool → Bool
-decides And x = not x
-decides Or x = x
+-- the truth that decides a connective that evaluates all arguments
+abbrev pub strict_connective : List ℕ → Option Bool
+strict_connective f =
+    if bytes_eq f (codes "and") then Some false else if bytes_eq f (codes "or") then Some true else None
 
--- what a connective of no arguments gives
-abbrev pub neutral : Connective → Bool
-neutral And = true
-neutral Or = false
+-- the truth that decides a connective that stops at the first argument that decides
+abbrev pub short_circuit_connective : List ℕ → Option Bool
+short_circuit_connective f =
+    if bytes_eq f (codes "andalso") then Some false else if bytes_eq f (codes "orelse") then Some true else None
 
-abbrev pub combine : Connective → Bool → Bool → Bool
-combine And x y = x && y
-combine Or x y = x || y
+-- whether an argument of the second truth decides a connective that the first truth decides
+abbrev pub decides : Bool → Bool → Bool
+decides true x = x
+decides false x = not x
 
--- the value of the function of a name and a number of arguments, at the values of all arguments
-abbrev pub call_value : List ℕ → ℕ → Option (List Data) → Option Data
-call_value f n ds = option_and_then (λ g. option_and_then (apply g) ds) (function_of f n)
-
-abbrev pub strict_or : Option Connective → (Connective → Option Bool) → Option Data → Option Data
-strict_or None value_by otherwise = otherwise
-strict_or (Some connective) value_by otherwise = option_map truth (value_by connective)
-
-abbrev pub short_circuit_or : Option Connective → (Connective → Option Data) → Option Data → Option Data
-short_circuit_or None value_by otherwise = otherwise
-short_circuit_or (Some connective) value_by otherwise = value_by connective
+-- joins two booleans by the connective that this truth decides: `or` by true, `and` by false
+abbrev pub join : Bool → Bool → Bool → Bool
+join true x y = x || y
+join false x y = x && y
 
 -- `{const,T}` is T, which is not evaluated
 abbrev pub constant_or : List ℕ → Row → Option Data → Option Data
@@ -59,9 +50,9 @@ abbrev mutual
   value b object (tuple (term (tuple es) no_terms)) = option_map (λ ds. tuple (row_of ds)) (all_values b object es)
   value b object (tuple (term (atom f) es)) =
       constant_or f es (
-      short_circuit_or (short_circuit_connective f) (λ connective. short_circuit_value b object connective es)
-      (strict_or (strict_connective f) (λ connective. strict_value b object connective es)
-      (call_value f (row_len es) (all_values b object es))))
+      option_map_or (λ decisive. short_circuit_value b object decisive es) (short_circuit_connective f) (
+      option_map_or (λ decisive. option_map truth (strict_value b object decisive es)) (strict_connective f) (
+      option_and_then (call f) (all_values b object es))))
   value b object (tuple es) = None
   value b object d = Some d
 
@@ -72,26 +63,32 @@ abbrev mutual
       option_and_then (λ d. option_map (λ ds. d ∷ ds) (all_values b object es)) (value b object e)
 
   -- `and` and `or`: all arguments are evaluated, and each must be a boolean
-  pub strict_value : Bindings → Data → Connective → Row → Option Bool
-  strict_value b object connective no_terms = Some (neutral connective)
-  strict_value b object connective (term e es) =
+  pub strict_value : Bindings → Data → Bool → Row → Option Bool
+  strict_value b object decisive no_terms = Some (not decisive)
+  strict_value b object decisive (term e es) =
       option_and_then
-      (λ d. option_and_then (λ x. option_map (combine connective x) (strict_value b object connective es)) (boolean d))
+      (λ d. option_and_then (λ x. option_map (join decisive x) (strict_value b object decisive es)) (boolean d))
       (value b object e)
 
   -- `andalso` and `orelse`: from the left, up to the first boolean that decides; the rest is not evaluated
-  pub short_circuit_value : Bindings → Data → Connective → Row → Option Data
-  short_circuit_value b object connective no_terms = None
-  short_circuit_value b object connective (term e no_terms) =
+  pub short_circuit_value : Bindings → Data → Bool → Row → Option Data
+  short_circuit_value b object decisive no_terms = None
+  short_circuit_value b object decisive (term e no_terms) =
       option_and_then (λ d. option_map (λ x. d) (boolean d)) (value b object e)
-  short_circuit_value b object connective (term e es) =
+  short_circuit_value b object decisive (term e es) =
       option_and_then
       (λ d. option_and_then
-      (λ x. if decides connective x then Some d else short_circuit_value b object connective es) (boolean d))
+      (λ x. if decides decisive x then Some d else short_circuit_value b object decisive es) (boolean d))
       (value b object e)
 
 abbrev pub is_constant : List ℕ → ℕ → Bool
 is_constant f n = (n == 1) && bytes_eq f (codes "const")
+
+-- whether a name with a number of arguments is a function; `and`, `or`, `andalso` and `orelse` take one or more
+abbrev pub is_function : List ℕ → ℕ → Bool
+is_function f n =
+    ((is_some (short_circuit_connective f) || is_some (strict_connective f)) && nat_lt 0 n)
+    || (if n == 1 then is_some (one_argument f) else ((n == 2) && is_some (two_arguments f)))
 
 abbrev pub is_bound : List ℕ → Option ℕ → Bool
 is_bound ns None = true

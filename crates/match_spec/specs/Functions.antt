@@ -1,5 +1,5 @@
 -- The functions of expressions (ERTS User's Guide, Match Specifications in Erlang). None means that the call fails.
-use Rattle.std.specs.Prelude.{ℕ, zero, suc, ℤ, pos, length, not, int_div, int_rem, ◌+ℤ◌, ◌-ℤ◌, ◌*ℤ◌, unsigned_abs, Bool, true, false, if◌then◌else◌, List, [], ◌∷◌, Option, Some, None, option_map, codes}
+use Rattle.std.specs.Prelude.{ℕ, zero, suc, ℤ, pos, length, not, int_div, int_rem, ◌+ℤ◌, ◌-ℤ◌, ◌*ℤ◌, unsigned_abs, ◌||◌, Bool, true, false, if◌then◌else◌, List, [], ◌∷◌, Option, Some, None, option_map, codes}
 use Rattle.std.specs.Option.{option_and_then}
 use Rattle.std.specs.declared.cmp.Ordering.{Ordering}
 use Rattle.std.specs.Ordering.{is_eq, is_ne, is_lt, is_le, is_gt, is_ge, int_cmp}
@@ -7,14 +7,6 @@ use Rattle.std.specs.Str.{bytes_eq}
 use Rattle.ets_term.specs.Data.{Data, int, atom, pid, tid, tuple, list, binary, Row, no_terms, term}
 use Rattle.ets_term.specs.Integers.{in_range}
 use Rattle.ets_term.specs.Order.{data_order, row_len}
-use Rattle.match_spec.specs.declared.expression.arithmetic.ArithmeticOp.{ArithmeticOp}
-use Rattle.match_spec.specs.declared.expression.arithmetic.ArithmeticOp.TheVariants.{Add, Subtract, Multiply, Divide, Remainder}
-use Rattle.match_spec.specs.declared.expression.comparison.ComparisonOp.{ComparisonOp}
-use Rattle.match_spec.specs.declared.expression.comparison.ComparisonOp.TheVariants.{Greater, GreaterOrEqual, Less, LessOrEqual, Equal, NotEqual}
-use Rattle.match_spec.specs.declared.expression.function.Function.{Function}
-use Rattle.match_spec.specs.declared.expression.function.Function.TheVariants.{Is, Not, Abs, Hd, Tl, Length, Size, Xor, Element, Calculate, Compare}
-use Rattle.match_spec.specs.declared.expression.guards.GuardKind.{GuardKind}
-use Rattle.match_spec.specs.declared.expression.guards.GuardKind.TheVariants.{Atom, Integer, List as AnyList, Tuple, Binary, Pid, Reference}
 
 abbrev pub truth : Bool → Data
 truth true = atom (codes "true")
@@ -26,36 +18,18 @@ boolean (atom a) =
     if bytes_eq a (codes "true") then Some true else if bytes_eq a (codes "false") then Some false else None
 boolean d = None
 
--- a table identifier is a reference
-abbrev pub is_kind : GuardKind → Data → Bool
-is_kind Atom (atom a) = true
-is_kind Integer (int n) = true
-is_kind AnyList (list ds) = true
-is_kind Tuple (tuple ds) = true
-is_kind Binary (binary s) = true
-is_kind Pid (pid n) = true
-is_kind Reference (tid n) = true
-is_kind k d = false
+-- the type of a term; a table identifier is a reference
+abbrev pub type_name : Data → List ℕ
+type_name (atom a) = codes "atom"
+type_name (int n) = codes "integer"
+type_name (list ds) = codes "list"
+type_name (tuple ds) = codes "tuple"
+type_name (binary s) = codes "binary"
+type_name (pid n) = codes "pid"
+type_name (tid n) = codes "reference"
 
-abbrev pub xor : Bool → Bool → Bool
-xor true b = not b
-xor false b = b
-
-abbrev pub exclusive : Option Bool → Option Bool → Option Bool
-exclusive a b = option_and_then (λ x. option_map (xor x) b) a
-
--- None if the result is outside the range of integers; a quotient is cut toward zero, and a remainder has the sign of
--- the left operand; division by zero fails
-abbrev pub calculate : ArithmeticOp → ℤ → ℤ → Option ℤ
-calculate Add m n = in_range (m +ℤ n)
-calculate Subtract m n = in_range (m -ℤ n)
-calculate Multiply m n = in_range (m *ℤ n)
-calculate Divide m n = if is_eq (int_cmp n (pos 0)) then None else in_range (int_div m n)
-calculate Remainder m n = if is_eq (int_cmp n (pos 0)) then None else in_range (int_rem m n)
-
-abbrev pub eval_arithmetic : ArithmeticOp → Data → Data → Option Data
-eval_arithmetic op (int m) (int n) = option_map int (calculate op m n)
-eval_arithmetic op d e = None
+abbrev pub is_type : List ℕ → Data → Option Data
+is_type name d = Some (truth (bytes_eq (type_name d) name))
 
 abbrev pub absolute : Data → Option Data
 absolute (int n) = option_map int (in_range (pos (unsigned_abs n)))
@@ -82,6 +56,44 @@ size (tuple ds) = count (row_len ds)
 size (binary s) = count (length s)
 size d = None
 
+-- the function of one argument that has this name
+abbrev pub one_argument : List ℕ → Option (Data → Option Data)
+one_argument f =
+    if bytes_eq f (codes "is_atom") then Some (is_type (codes "atom"))
+    else if bytes_eq f (codes "is_integer") || bytes_eq f (codes "is_number") then Some (is_type (codes "integer"))
+    else if bytes_eq f (codes "is_list") then Some (is_type (codes "list"))
+    else if bytes_eq f (codes "is_tuple") then Some (is_type (codes "tuple"))
+    else if bytes_eq f (codes "is_binary") then Some (is_type (codes "binary"))
+    else if bytes_eq f (codes "is_pid") then Some (is_type (codes "pid"))
+    else if bytes_eq f (codes "is_reference") then Some (is_type (codes "reference"))
+    else if bytes_eq f (codes "not") then Some (λ d. option_map (λ b. truth (not b)) (boolean d))
+    else if bytes_eq f (codes "abs") then Some absolute
+    else if bytes_eq f (codes "hd") then Some head
+    else if bytes_eq f (codes "tl") then Some tail
+    else if bytes_eq f (codes "length") then Some list_length
+    else if bytes_eq f (codes "size") then Some size
+    else None
+
+-- whether a comparison holds by the order of terms
+abbrev pub comparison : (Ordering → Bool) → Data → Data → Option Data
+comparison holds d e = Some (truth (holds (data_order d e)))
+
+-- the value of a function of two integers, which fails for other terms
+abbrev pub on_integers : (ℤ → ℤ → Option ℤ) → Data → Data → Option Data
+on_integers f (int m) (int n) = option_map int (f m n)
+on_integers f d e = None
+
+-- a quotient is cut toward zero, and a remainder has the sign of the left operand; division by zero fails
+abbrev pub divided : (ℤ → ℤ → ℤ) → ℤ → ℤ → Option ℤ
+divided f m n = if is_eq (int_cmp n (pos 0)) then None else in_range (f m n)
+
+abbrev pub xor : Bool → Bool → Bool
+xor true b = not b
+xor false b = b
+
+abbrev pub exclusive : Option Bool → Option Bool → Option Bool
+exclusive a b = option_and_then (λ x. option_map (xor x) b) a
+
 abbrev pub row_element : Row → ℕ → Option Data
 row_element no_terms i = None
 row_element (term d ds) zero = Some d
@@ -96,26 +108,26 @@ abbrev pub element : Data → Data → Option Data
 element (int (pos n)) d = tuple_element n d
 element n d = None
 
--- whether a comparison holds for two terms of this order
-abbrev pub compares : ComparisonOp → Ordering → Bool
-compares Greater o = is_gt o
-compares GreaterOrEqual o = is_ge o
-compares Less o = is_lt o
-compares LessOrEqual o = is_le o
-compares Equal o = is_eq o
-compares NotEqual o = is_ne o
+-- the function of two arguments that has this name; a result outside the range of integers fails
+abbrev pub two_arguments : List ℕ → Option (Data → Data → Option Data)
+two_arguments f =
+    if bytes_eq f (codes ">") then Some (comparison is_gt)
+    else if bytes_eq f (codes ">=") then Some (comparison is_ge)
+    else if bytes_eq f (codes "<") then Some (comparison is_lt)
+    else if bytes_eq f (codes "=<") then Some (comparison is_le)
+    else if bytes_eq f (codes "=:=") || bytes_eq f (codes "==") then Some (comparison is_eq)
+    else if bytes_eq f (codes "=/=") || bytes_eq f (codes "/=") then Some (comparison is_ne)
+    else if bytes_eq f (codes "+") then Some (on_integers (λ m n. in_range (m +ℤ n)))
+    else if bytes_eq f (codes "-") then Some (on_integers (λ m n. in_range (m -ℤ n)))
+    else if bytes_eq f (codes "*") then Some (on_integers (λ m n. in_range (m *ℤ n)))
+    else if bytes_eq f (codes "div") then Some (on_integers (divided int_div))
+    else if bytes_eq f (codes "rem") then Some (on_integers (divided int_rem))
+    else if bytes_eq f (codes "xor") then Some (λ d e. option_map truth (exclusive (boolean d) (boolean e)))
+    else if bytes_eq f (codes "element") then Some element
+    else None
 
 -- the value of a function at the values of its arguments
-abbrev pub apply : Function → List Data → Option Data
-apply (Is k) (d ∷ []) = Some (truth (is_kind k d))
-apply Not (d ∷ []) = option_map (λ b. truth (not b)) (boolean d)
-apply Abs (d ∷ []) = absolute d
-apply Hd (d ∷ []) = head d
-apply Tl (d ∷ []) = tail d
-apply Length (d ∷ []) = list_length d
-apply Size (d ∷ []) = size d
-apply Xor (d ∷ e ∷ []) = option_map truth (exclusive (boolean d) (boolean e))
-apply Element (d ∷ e ∷ []) = element d e
-apply (Calculate op) (d ∷ e ∷ []) = eval_arithmetic op d e
-apply (Compare c) (d ∷ e ∷ []) = Some (truth (compares c (data_order d e)))
-apply f ds = None
+abbrev pub call : List ℕ → List Data → Option Data
+call f (d ∷ []) = option_and_then (λ g. g d) (one_argument f)
+call f (d ∷ e ∷ []) = option_and_then (λ g. g d e) (two_arguments f)
+call f ds = None

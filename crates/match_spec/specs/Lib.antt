@@ -1,7 +1,6 @@
 pub mod BoundKeys
 pub mod Expressions
 pub mod Functions
-pub mod Names
 pub mod Patterns
 pub mod Paths
 pub mod Specifications

@@ -1,5 +1,5 @@
 -- Compiled expressions. They are no part of what an expression means.
-use Rattle.std.specs.Prelude.{ℕ, not, Bool, if◌then◌else◌, List, [], ◌∷◌, Option, Some, None, map, option_map, codes}
+use Rattle.std.specs.Prelude.{ℕ, Bool, if◌then◌else◌, List, [], ◌∷◌, Option, Some, None, map, option_map, codes}
 use Rattle.std.specs.Str.{bytes_eq}
 use Rattle.std.specs.Option.{option_and_then}
 use Rattle.ets_term.specs.Data.{Data, atom, tuple, list, Row, no_terms, term, row_of, data_of}
@@ -13,12 +13,11 @@ use Rattle.match_spec.specs.declared.expression.evaluate.ExprValue.TheVariants.{
 use Rattle.ets_term.specs.declared.term.Term.TheVariants.{Atom}
 use Rattle.ets_term.specs.Order.{row_len}
 use Rattle.ets_term.specs.laws.Exact.{term_of}
-use Rattle.match_spec.specs.Expressions.{decides, neutral, combine}
-use Rattle.match_spec.specs.Functions.{apply, boolean, truth}
-use Rattle.match_spec.specs.Names.{function_of, strict_connective, short_circuit_connective}
+use Rattle.match_spec.specs.Functions.{boolean, truth}
 use Rattle.match_spec.specs.Paths.{Path, subterm_at}
 use Rattle.match_spec.specs.Variables.{variable}
 use Rattle.match_spec.specs.inside.FirstPaths.{FirstPaths, first_path}
+use Rattle.match_spec.specs.inside.Functions.{function_of, strict_connective, short_circuit_connective, apply, decides, neutral, combine}
 
 -- the data of a value, borrowed or owned
 abbrev pub value_data : ExprValue → Data

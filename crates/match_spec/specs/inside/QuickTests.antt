@@ -6,11 +6,12 @@ use Rattle.ets_term.specs.Order.{data_order, row_len}
 use Rattle.match_spec.specs.declared.expression.Expression.{Expression}
 use Rattle.match_spec.specs.declared.spec.clause.Clause.{Clause}
 use Rattle.match_spec.specs.declared.spec.quick.QuickTest.{QuickTest}
-use Rattle.match_spec.specs.Functions.{compares, row_element, truth}
+use Rattle.match_spec.specs.Functions.{row_element, truth}
 use Rattle.match_spec.specs.Paths.{Path, subterm_at}
 use Rattle.match_spec.specs.Specifications.{is_spec}
 use Rattle.match_spec.specs.inside.CompiledClauses.{all_hold_of, applies, result_of_first, clauses_of}
 use Rattle.match_spec.specs.inside.CompiledExpressions.{expression_value}
+use Rattle.match_spec.specs.inside.Functions.{compares}
 
 -- an element that is not an integer is not rejected
 abbrev pub rejects_element : QuickTest → Data → Bool

@@ -2,8 +2,8 @@
 ghost use Rattle.std.specs.Prelude.{◌≡◌};
 ghost use Rattle.std.specs.Option.{option_map};
 ghost use Rattle.ets_term.specs.Data.{int, data_of};
-ghost use Rattle.match_spec.specs.Functions.{calculate, eval_arithmetic, absolute, count};
-ghost use Rattle.match_spec.specs.Names.{arithmetic_op_of};
+ghost use Rattle.match_spec.specs.Functions.{absolute, count};
+ghost use Rattle.match_spec.specs.inside.Functions.{arithmetic_op_of, calculate, eval_arithmetic};
 
 use ets_term::{Integer, Term};
 

@@ -2,7 +2,7 @@
 ghost use Rattle.std.specs.Prelude.{◌≡◌, ◌&&◌, ◌||◌, drop, map};
 ghost use Rattle.ets_term.specs.Data.{tuple, data_of, row_of};
 ghost use Rattle.match_spec.specs.Expressions.{is_expression, are_expressions, is_constant, is_bound};
-ghost use Rattle.match_spec.specs.Names.{is_function};
+ghost use Rattle.match_spec.specs.inside.Functions.{is_function};
 ghost use Rattle.match_spec.specs.inside.FirstPaths.{numbers_of};
 
 use crate::expression::function::{function_of, short_circuit_connective, strict_connective};

@@ -2,8 +2,7 @@
 ghost use Rattle.std.specs.Prelude.{◌≡◌};
 ghost use Rattle.ets_term.specs.Data.{int, data_of};
 ghost use Rattle.ets_term.specs.Order.{data_order};
-ghost use Rattle.match_spec.specs.Functions.{compares};
-ghost use Rattle.match_spec.specs.Names.{comparison_op_of};
+ghost use Rattle.match_spec.specs.inside.Functions.{comparison_op_of, compares};
 
 use ets_term::{Integer, Term};
 use std::cmp::Ordering;

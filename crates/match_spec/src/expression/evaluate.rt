@@ -2,9 +2,9 @@
 ghost use Rattle.std.specs.Prelude.{◌≡◌, [], ◌∷◌, Some, map, IfOk, IfSome};
 ghost use Rattle.std.specs.Option.{option_map, option_and_then};
 ghost use Rattle.ets_term.specs.Data.{data_of};
-ghost use Rattle.match_spec.specs.Expressions.{neutral, combine, decides};
-ghost use Rattle.match_spec.specs.Functions.{apply, boolean, head, element};
+ghost use Rattle.match_spec.specs.Functions.{boolean, head, element};
 ghost use Rattle.match_spec.specs.inside.CompiledExpressions.{value_data, expression_value, all_of, strict_of, apply_of, short_circuit_of};
+ghost use Rattle.match_spec.specs.inside.Functions.{apply, neutral, combine, decides};
 
 use crate::expression::function::{Function, eval_binary, eval_unary};
 use crate::expression::guards::{boolean, truth};

@@ -2,8 +2,7 @@
 ghost use Rattle.std.specs.Prelude.{◌≡◌, ◌≢◌, [], ◌∷◌, IfOk};
 ghost use Rattle.std.specs.Option.{option_map};
 ghost use Rattle.ets_term.specs.Data.{data_of};
-ghost use Rattle.match_spec.specs.Functions.{apply};
-ghost use Rattle.match_spec.specs.Names.{function_of, one_argument, two_arguments, strict_connective, short_circuit_connective};
+ghost use Rattle.match_spec.specs.inside.Functions.{function_of, one_argument, two_arguments, strict_connective, short_circuit_connective, apply};
 
 use crate::expression::Connective;
 use crate::expression::arithmetic::{ArithmeticOp, absolute, arithmetic_op_of, eval_arithmetic};

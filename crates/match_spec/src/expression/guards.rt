@@ -1,8 +1,8 @@
 // Booleans, and the type tests.
 ghost use Rattle.std.specs.Prelude.{◌≡◌, IfOk};
 ghost use Rattle.ets_term.specs.Data.{data_of};
-ghost use Rattle.match_spec.specs.Functions.{truth, boolean, is_kind, exclusive};
-ghost use Rattle.match_spec.specs.Names.{guard_kind_of};
+ghost use Rattle.match_spec.specs.Functions.{truth, boolean, exclusive};
+ghost use Rattle.match_spec.specs.inside.Functions.{guard_kind_of, is_kind};
 
 use ets_term::{Atom, Term};
 use std::alloc::{AllocError, Global};

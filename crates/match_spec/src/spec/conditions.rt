@@ -2,7 +2,7 @@
 ghost use Rattle.std.specs.Prelude.{◌≡◌, [], ◌∷◌, false, map, IfOk};
 ghost use Rattle.std.specs.Option.{option_map, option_map_or};
 ghost use Rattle.ets_term.specs.Data.{data_of};
-ghost use Rattle.match_spec.specs.Functions.{apply};
+ghost use Rattle.match_spec.specs.inside.Functions.{apply};
 ghost use Rattle.match_spec.specs.Specifications.{is_true};
 ghost use Rattle.match_spec.specs.inside.CompiledClauses.{all_hold_of};
 ghost use Rattle.match_spec.specs.inside.CompiledExpressions.{value_data, apply_of, expression_value};

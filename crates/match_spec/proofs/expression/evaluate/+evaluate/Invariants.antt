@@ -2,7 +2,7 @@ use Rattle.std.proofs.Common.{◌≡◌, ◌++◌, drop, map}
 use Rattle.std.specs.Option.{option_map}
 use Rattle.ets_term.specs.Data.{data_of}
 use Rattle.match_spec.specs.inside.CompiledExpressions.{expression_value, all_of, strict_of, short_circuit_of}
-use Rattle.match_spec.specs.Expressions.{combine}
+use Rattle.match_spec.specs.inside.Functions.{combine}
 use Rattle.match_spec.proofs.expression.evaluate.+evaluate.Given as goal
 
 abbrev pub invariant-evaluate_all-loop-expression : goal.invariant-evaluate_all-loop-expression

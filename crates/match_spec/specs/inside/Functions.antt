@@ -1,6 +1,11 @@
--- The names of functions (ERTS User's Guide, Match Specifications in Erlang).
-use Rattle.std.specs.Prelude.{ℕ, ◌==◌, ◌&&◌, ◌||◌, nat_lt, Bool, true, false, if◌then◌else◌, List, Option, Some, None, is_some, codes}
+-- The functions and connectives as the program names them, by its enums. They are no part of what an expression means.
+use Rattle.std.specs.Prelude.{ℕ, ℤ, pos, not, int_div, int_rem, ◌+ℤ◌, ◌-ℤ◌, ◌*ℤ◌, ◌==◌, ◌&&◌, ◌||◌, nat_lt, Bool, true, false, if◌then◌else◌, List, [], ◌∷◌, Option, Some, None, is_some, option_map, codes}
+use Rattle.std.specs.declared.cmp.Ordering.{Ordering}
+use Rattle.std.specs.Ordering.{is_eq, is_ne, is_lt, is_le, is_gt, is_ge, int_cmp}
 use Rattle.std.specs.Str.{bytes_eq}
+use Rattle.ets_term.specs.Data.{Data}
+use Rattle.ets_term.specs.Integers.{in_range}
+use Rattle.ets_term.specs.Order.{data_order}
 use Rattle.match_spec.specs.declared.expression.Connective.{Connective}
 use Rattle.match_spec.specs.declared.expression.Connective.TheVariants.{And, Or}
 use Rattle.match_spec.specs.declared.expression.arithmetic.ArithmeticOp.{ArithmeticOp}
@@ -11,6 +16,7 @@ use Rattle.match_spec.specs.declared.expression.function.Function.{Function}
 use Rattle.match_spec.specs.declared.expression.function.Function.TheVariants.{Is, Not, Abs, Hd, Tl, Length, Size, Xor, Element, Calculate, Compare}
 use Rattle.match_spec.specs.declared.expression.guards.GuardKind.{GuardKind}
 use Rattle.match_spec.specs.declared.expression.guards.GuardKind.TheVariants.{Atom, Integer, List as AnyList, Tuple, Binary, Pid, Reference}
+use Rattle.match_spec.specs.Functions.{truth, boolean, exclusive, absolute, head, tail, list_length, size, element, type_name, on_integers}
 
 abbrev pub guard_kind_of : List ℕ → Option GuardKind
 guard_kind_of f =
@@ -92,3 +98,69 @@ abbrev pub is_function : List ℕ → ℕ → Bool
 is_function f n =
     ((is_some (short_circuit_connective f) || is_some (strict_connective f)) && nat_lt 0 n)
     || is_some (function_of f n)
+
+-- the name of a kind's type
+abbrev pub kind_name : GuardKind → List ℕ
+kind_name Atom = codes "atom"
+kind_name Integer = codes "integer"
+kind_name AnyList = codes "list"
+kind_name Tuple = codes "tuple"
+kind_name Binary = codes "binary"
+kind_name Pid = codes "pid"
+kind_name Reference = codes "reference"
+
+abbrev pub is_kind : GuardKind → Data → Bool
+is_kind k d = bytes_eq (type_name d) (kind_name k)
+
+abbrev pub calculate : ArithmeticOp → ℤ → ℤ → Option ℤ
+calculate Add m n = in_range (m +ℤ n)
+calculate Subtract m n = in_range (m -ℤ n)
+calculate Multiply m n = in_range (m *ℤ n)
+calculate Divide m n = if is_eq (int_cmp n (pos 0)) then None else in_range (int_div m n)
+calculate Remainder m n = if is_eq (int_cmp n (pos 0)) then None else in_range (int_rem m n)
+
+abbrev pub eval_arithmetic : ArithmeticOp → Data → Data → Option Data
+eval_arithmetic op = on_integers (calculate op)
+
+-- whether a comparison holds for two terms of this order
+abbrev pub compares : ComparisonOp → Ordering → Bool
+compares Greater o = is_gt o
+compares GreaterOrEqual o = is_ge o
+compares Less o = is_lt o
+compares LessOrEqual o = is_le o
+compares Equal o = is_eq o
+compares NotEqual o = is_ne o
+
+-- the value of a function at the values of its arguments
+abbrev pub apply : Function → List Data → Option Data
+apply (Is k) (d ∷ []) = Some (truth (is_kind k d))
+apply Not (d ∷ []) = option_map (λ b. truth (not b)) (boolean d)
+apply Abs (d ∷ []) = absolute d
+apply Hd (d ∷ []) = head d
+apply Tl (d ∷ []) = tail d
+apply Length (d ∷ []) = list_length d
+apply Size (d ∷ []) = size d
+apply Xor (d ∷ e ∷ []) = option_map truth (exclusive (boolean d) (boolean e))
+apply Element (d ∷ e ∷ []) = element d e
+apply (Calculate op) (d ∷ e ∷ []) = eval_arithmetic op d e
+apply (Compare c) (d ∷ e ∷ []) = Some (truth (compares c (data_order d e)))
+apply f ds = None
+
+-- the truth that decides a connective
+abbrev pub deciding : Connective → Bool
+deciding And = false
+deciding Or = true
+
+-- whether a connective is decided by one argument of this truth: `and` by false, `or` by true
+abbrev pub decides : Connective → Bool → Bool
+decides And x = not x
+decides Or x = x
+
+-- what a connective of no arguments gives
+abbrev pub neutral : Connective → Bool
+neutral And = true
+neutral Or = false
+
+abbrev pub combine : Connective → Bool → Bool → Bool
+combine And x y = x && y
+combine Or x y = x || y
