@@ -3,8 +3,10 @@ pub mod Encoded
 mod Examples
 pub mod IdentifierTrips
 pub mod LeafTrips
+pub mod Pairs
 pub mod RoundTrip
 pub mod Rows
+pub mod SentPieces
 pub mod SmallIntegers
 pub mod Standing
 pub mod Steps

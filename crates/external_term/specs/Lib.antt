@@ -7,3 +7,5 @@ pub mod Identifiers
 pub mod Reader
 pub mod Encoding
 pub mod RoundTrip
+pub mod Sent
+pub mod inside

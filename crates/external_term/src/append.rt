@@ -13,7 +13,8 @@ fn append_big(sign: u8, n: Magnitude, out: &mut Vec<u8>)
     ensures items { out.new.items ≡ out.old.items ++ big_bytes sign n }
     ensures capacity { vec_capacity out.old ≤ vec_capacity out.new }
 {
-    put(&[110, digit_count(n) as u8, sign], out);
+    put_short(110, digit_count(n) as u8, out);
+    out.push_reserved(sign);
     put_digits(n, out);
 }
 
@@ -61,15 +62,24 @@ pub(crate) fn append_integer(n: Integer, out: &mut Vec<u8>)
     }
 }
 
+/// Appends characters as SMALL_ATOM_UTF8_EXT.
+pub(crate) fn append_name(text: &[u8], out: &mut Vec<u8>)
+    requires few { length text.now < 256 }
+    requires room { vec_len out.old + length (atom_bytes text.now) ≤ vec_capacity out.old }
+    ensures items { out.new.items ≡ out.old.items ++ atom_bytes text.now }
+    ensures capacity { vec_capacity out.old ≤ vec_capacity out.new }
+{
+    put_short(119, text.len() as u8, out);
+    put(text, out);
+}
+
 /// Appends an atom as SMALL_ATOM_UTF8_EXT.
 pub(crate) fn append_atom(name: &Atom, out: &mut Vec<u8>)
     requires { vec_len out.old + length (atom_bytes name.now) ≤ vec_capacity out.old }
     ensures items { out.new.items ≡ out.old.items ++ atom_bytes name.now }
     ensures capacity { vec_capacity out.old ≤ vec_capacity out.new }
 {
-    let text = name.text().as_bytes();
-    put_short(119, text.len() as u8, out);
-    put(text, out);
+    append_name(name.text().as_bytes(), out);
 }
 
 /// Appends the name of the node as SMALL_ATOM_UTF8_EXT.
@@ -88,7 +98,7 @@ pub(crate) fn append_pid(n: u32, out: &mut Vec<u8>)
     ensures items { out.new.items ≡ out.old.items ++ pid_bytes n }
     ensures capacity { vec_capacity out.old ≤ vec_capacity out.new }
 {
-    put(&[88], out);
+    out.push_reserved(88);
     append_node(out);
     put_number(n as usize, out);
     put(&[0, 0, 0, 0, 0, 0, 0, 0], out);

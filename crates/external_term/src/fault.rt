@@ -2,6 +2,7 @@ ghost use Rattle.std.specs.Prelude.{◌≡◌};
 ghost use Rattle.external_term.specs.Faults.{offset};
 
 use std::alloc::{AllocError, AllocFailed};
+use std::io::Error;
 
 /// Why bytes do not begin with a term. Offsets are in bytes, from 0.
 #[derive(Debug, Clone, Copy, PartialEq, Eq)]
@@ -33,6 +34,19 @@ pub enum ExternalWriteFault {
     TooLarge,
     /// An allocation failed.
     Memory,
+}
+
+/// Why a term was not written into a writer.
+#[derive(Debug, Drop)]
+pub enum ExternalSendFault {
+    /// The bytes are more than `MAX_BYTES`. The writer got none.
+    TooLarge,
+    /// An allocation failed. The writer got no bytes.
+    Memory,
+    /// The writer took no bytes, after a prefix that may be empty.
+    Zero,
+    /// The writer returned this error, after a prefix that may be empty.
+    Io(Error),
 }
 
 impl ExternalFault {

@@ -15,6 +15,7 @@ pub(crate) enum Width {
 
 impl Width {
     /// Returns the number of bytes.
+    #[inline(always)]
     pub(crate) fn size(self) -> usize
         ensures { result ≡ size self }
     {
@@ -27,6 +28,7 @@ impl Width {
 }
 
 /// Returns the two bytes at the offset as a number.
+#[inline(always)]
 fn number16(bytes: &[u8], at: usize) -> usize
     requires { at + 2 ≤ length bytes.now }
     ensures value { result ≡ big16 bytes.now at }
@@ -36,6 +38,7 @@ fn number16(bytes: &[u8], at: usize) -> usize
 }
 
 /// Returns the four bytes at the offset as a number.
+#[inline(always)]
 pub(crate) fn number32(bytes: &[u8], at: usize) -> usize
     requires { at + 4 ≤ length bytes.now }
     ensures value { result ≡ big32 bytes.now at }
@@ -45,6 +48,7 @@ pub(crate) fn number32(bytes: &[u8], at: usize) -> usize
 }
 
 /// Reads an unsigned number, and returns it with the offset after it.
+#[inline(always)]
 pub(crate) fn number_at(
     bytes: &[u8],
     at: usize,

@@ -14,6 +14,7 @@ pub(crate) fn put(bytes: &[u8], out: &mut Vec<u8>)
 }
 
 /// Returns the byte of a number that counts `unit`s.
+#[inline(always)]
 fn byte_of(n: usize, unit: usize) -> u8
     requires { 0 < unit }
     ensures { result ≡ n / unit % 256 }
@@ -27,7 +28,8 @@ pub(crate) fn put_short(tag: u8, n: u8, out: &mut Vec<u8>)
     ensures items { out.new.items ≡ out.old.items ++ tag ∷ n ∷ [] }
     ensures capacity { vec_capacity out.old ≤ vec_capacity out.new }
 {
-    put(&[tag, n], out);
+    out.push_reserved(tag);
+    out.push_reserved(n);
 }
 
 /// Appends a tag and a number of two bytes.
@@ -36,7 +38,9 @@ pub(crate) fn put_medium(tag: u8, n: usize, out: &mut Vec<u8>)
     ensures items { out.new.items ≡ out.old.items ++ tag ∷ big2 n }
     ensures capacity { vec_capacity out.old ≤ vec_capacity out.new }
 {
-    put(&[tag, byte_of(n, 256), byte_of(n, 1)], out);
+    out.push_reserved(tag);
+    out.push_reserved(byte_of(n, 256));
+    out.push_reserved(byte_of(n, 1));
 }
 
 /// Appends a number of four bytes.
@@ -45,15 +49,10 @@ pub(crate) fn put_number(n: usize, out: &mut Vec<u8>)
     ensures items { out.new.items ≡ out.old.items ++ big4 n }
     ensures capacity { vec_capacity out.old ≤ vec_capacity out.new }
 {
-    put(
-        &[
-            byte_of(n, 16777216),
-            byte_of(n, 65536),
-            byte_of(n, 256),
-            byte_of(n, 1),
-        ],
-        out,
-    );
+    out.push_reserved(byte_of(n, 16777216));
+    out.push_reserved(byte_of(n, 65536));
+    out.push_reserved(byte_of(n, 256));
+    out.push_reserved(byte_of(n, 1));
 }
 
 /// Appends a tag and a number of four bytes.

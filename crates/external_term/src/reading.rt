@@ -1,5 +1,6 @@
 //! Reads terms by recursive descent, and counts the levels left.
-ghost use Rattle.std.specs.Prelude.{◌≡◌, ◌+◌, ◌≤◌, ◌<◌, ◌^◌, length, IfOk};
+ghost use Rattle.std.specs.Prelude.{◌≡◌, ◌+◌, ◌≤◌, ◌<◌, ◌^◌, length, IfOk, IfSome, Ok, [], ◌∷◌};
+ghost use Rattle.ets_term.specs.declared.term.Term.TheVariants.{Tuple as TupleOf};
 ghost use Rattle.external_term.specs.Faults.{Returns};
 ghost use Rattle.external_term.specs.Reader.{term_at as read_term, items_at as read_items, tuple_at as read_tuple, list_at as read_list, form, read};
 
@@ -31,6 +32,25 @@ pub fn read_external(alloc: Global, bytes: &[u8]) -> Result<(Term, usize), Exter
         return Err(ExternalFault::BadVersion(0));
     }
     term_at(alloc, bytes, next, MAX_DEPTH)
+}
+
+/// Reads the version and a tuple of two elements in its short form at the front of the bytes. Returns the elements with
+/// the number of bytes that the tuple and the version take. Returns `None` if the bytes begin with anything else, if
+/// they have a fault, or if memory runs out: `read_external` says which.
+#[tactic(auto, using(crate::proofs::Pairs::pair_read))]
+pub fn read_pair(alloc: Global, bytes: &[u8]) -> Option<(Term, Term, usize)>
+    ensures { IfSome result (λ x. read bytes.now ≡ Ok (TupleOf (x.0 ∷ x.1 ∷ []), x.2)) }
+{
+    if bytes.len() < 5 || bytes[0] != 131 || bytes[1] != 104 || bytes[2] != 2 {
+        return None;
+    }
+    let Ok((first, next)) = term_at(alloc, bytes, 3, MAX_DEPTH - 1) else {
+        return None;
+    };
+    let Ok((second, end)) = term_at(alloc, bytes, next, MAX_DEPTH - 1) else {
+        return None;
+    };
+    Some((first, second, end))
 }
 
 /// Reads the term whose tag is at the offset, with `levels_left` levels left.
@@ -153,7 +173,8 @@ fn items_at(
             Ok(found) => found,
             Err(fault) => return Err(fault),
         };
-        items.push(item)?;
+        items.reserve(1)?;
+        items.push_reserved(item);
         next = end;
     }
     Ok((Items::from_vec(items), next))

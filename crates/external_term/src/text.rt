@@ -79,7 +79,7 @@ fn codes_of(alloc: Global, chars: &[u8]) -> Result<Items<Term>, AllocError>
 {
     let mut codes = Vec::with_capacity(alloc, chars.len())?;
     for c in chars {
-        codes.push(Term::Int(*c as Integer))?;
+        codes.push_reserved(Term::Int(*c as Integer));
     }
     Ok(Items::from_vec(codes))
 }

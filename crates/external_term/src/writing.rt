@@ -1,13 +1,13 @@
 //! Writes terms.
 ghost use Rattle.std.specs.Prelude.{◌≡◌, ◌+◌, ◌≤◌, ◌++◌, ◌↔◌, ◌^◌, length, map, min, vec_len, vec_capacity, OnOk, OnErr, IsErrOf};
 ghost use Rattle.ets_term.specs.Encoding.{joined};
-ghost use Rattle.external_term.specs.Encoding.{encode, tuple_bytes, list_bytes, string_bytes, long_list_bytes, written};
+ghost use Rattle.external_term.specs.Encoding.{encode, tuple_bytes, list_bytes, string_bytes, long_list_bytes, char_of, written};
 
 use crate::append::{
     append_atom, append_binary, append_integer, append_pid, append_reference, append_tuple_header,
 };
 use crate::fault::ExternalWriteFault;
-use crate::put::{put, put_long, put_medium};
+use crate::put::{put_long, put_medium};
 use crate::sizes::size_of_term;
 use crate::small::{byte_of_term, is_string};
 use ets_term::Term;
@@ -36,7 +36,7 @@ pub fn write_external(term: &Term, out: &mut Vec<u8>) -> Result<(), ExternalWrit
     if out.reserve(size).is_err() {
         return Err(ExternalWriteFault::Memory);
     }
-    put(&[131], out);
+    out.push_reserved(131);
     append_term(term, out);
     Ok(())
 }
@@ -79,7 +79,7 @@ fn append_list(items: &[Term], out: &mut Vec<u8>)
     ensures capacity { vec_capacity out.old ≤ vec_capacity out.new }
 {
     if items.is_empty() {
-        put(&[106], out);
+        out.push_reserved(106);
     } else if is_string(items) {
         append_string(items, out);
     } else {
@@ -94,8 +94,17 @@ fn append_string(items: &[Term], out: &mut Vec<u8>)
     ensures capacity { vec_capacity out.old ≤ vec_capacity out.new }
 {
     put_medium(107, items.len(), out);
+    append_chars(items, out);
+}
+
+/// Appends the characters of a string.
+pub(crate) fn append_chars(items: &[Term], out: &mut Vec<u8>)
+    requires { vec_len out.old + length items.now ≤ vec_capacity out.old }
+    ensures items { out.new.items ≡ out.old.items ++ map char_of (map encode items.now) }
+    ensures capacity { vec_capacity out.old ≤ vec_capacity out.new }
+{
     for item in items {
-        put(&[byte_of_term(item)], out);
+        out.push_reserved(byte_of_term(item));
     }
 }
 
@@ -108,7 +117,7 @@ fn append_long_list(items: &[Term], out: &mut Vec<u8>)
 {
     put_long(108, items.len(), out);
     append_items(items, out);
-    put(&[106], out);
+    out.push_reserved(106);
 }
 
 /// Appends some terms, one after another.

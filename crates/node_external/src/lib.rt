@@ -6,7 +6,8 @@
 //! *Weakness.* That the definitions of the format are those of Erlang is not proved: `external_term` has them. No
 //! contract says when memory is available.
 //!
-//! *Mechanism.* `external_term` reads one term, and a tuple of an atom and a list is taken apart.
+//! *Mechanism.* `external_term` reads the name and the arguments directly where it finds a tuple of two that takes all
+//! the bytes. Else it reads one term, and a tuple of an atom and a list is taken apart.
 //!
 //! *Limits.* The tuple of a call and the list of its arguments count as two of the 128 levels that a term may have, so
 //! an argument may have 126.

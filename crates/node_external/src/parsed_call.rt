@@ -5,7 +5,7 @@ ghost use Rattle.node_external.specs.Calls as spec;
 
 use crate::call_problem::CallProblem;
 use ets_term::{Atom, Items, Term};
-use external_term::{ExternalFault, read_external};
+use external_term::{ExternalFault, read_external, read_pair};
 use std::alloc::{AllocError, Global};
 
 /// The call that bytes spell.
@@ -20,6 +20,18 @@ pub enum ParsedCall {
 /// Reads the bytes of a call: the external format of a tuple of its name, an atom, and the list of its arguments, such
 /// as `{lookup,[t,a]}`.
 pub fn read_call(alloc: Global, bytes: &[u8]) -> Result<ParsedCall, AllocError>
+    ensures { IfOk result (λ c. c ≡ spec.parse_call bytes.now) }
+{
+    if let Some((name, args, taken)) = read_pair(alloc, bytes)
+        && taken == bytes.len()
+    {
+        return Ok(call_with(name, args));
+    }
+    read_any(alloc, bytes)
+}
+
+/// Reads the bytes of a call by way of the term that they spell.
+fn read_any(alloc: Global, bytes: &[u8]) -> Result<ParsedCall, AllocError>
     ensures { IfOk result (λ c. c ≡ spec.parse_call bytes.now) }
 {
     match read_external(alloc, bytes) {
@@ -46,9 +58,11 @@ fn call_from_term(term: Term) -> ParsedCall
 fn call_from_elements(mut terms: Vec<Term>) -> ParsedCall
     ensures { result ≡ spec.call_from_elements terms.items }
 {
-    if terms.len() == 2 {
-        let name = terms.remove(0);
-        call_with(name, terms.remove(0))
+    if terms.len() == 2
+        && let Some(args) = terms.pop()
+        && let Some(name) = terms.pop()
+    {
+        call_with(name, args)
     } else {
         no_call()
     }

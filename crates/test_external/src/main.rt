@@ -1,10 +1,12 @@
 //! Reads lines on its standard input, each a term in the External Term Format in hexadecimal digits, and writes each term
-//! again in this way, or the fault. `.ci/external` compares the lines with Erlang's.
+//! again in this way, or the fault. Each term is written into a writer too, which must get the same bytes.
+//! `.ci/external` compares the lines with Erlang's.
 #![tactic(auto)]
 
 ghost use Rattle.std.specs.Prelude.{◌<◌};
 
-use external_term::{ExternalFault, read_external, write_external};
+use ets_term::Term;
+use external_term::{ExternalFault, read_external, write_external, write_external_to};
 use std::alloc::{AllocError, Global};
 use std::io::{self, Read, Write};
 
@@ -38,19 +40,31 @@ fn reply_to_line(alloc: Global, line: &[u8], output: &mut Vec<u8>) -> Result<(),
 
 /// Appends the term that the bytes begin with, or the fault, as in `UnknownTag(1)`.
 fn reply_to(alloc: Global, bytes: &[u8], output: &mut Vec<u8>) -> Result<(), AllocError> {
-    let mut written = Vec::new(alloc);
     match read_external(alloc, bytes) {
         Ok((term, _size)) => {
-            let done = write_external(&term, &mut written);
+            let done = append_term(alloc, &term, output);
             drop(term);
-            if done.is_err() {
-                return Err(AllocError);
-            }
-            append_digits(written.as_slice(), output)
+            done
         }
         Err(ExternalFault::Memory) => Err(AllocError),
         Err(fault) => append_fault(alloc, fault, output),
     }
+}
+
+/// Appends the bytes of a term, or `Differ` if a writer gets other bytes.
+fn append_term(alloc: Global, term: &Term, output: &mut Vec<u8>) -> Result<(), AllocError> {
+    let mut written = Vec::new(alloc);
+    let mut sent = Vec::new(alloc);
+    if write_external(term, &mut written).is_err() {
+        return Err(AllocError);
+    }
+    if write_external_to(alloc, term, &mut sent).is_err() {
+        return Err(AllocError);
+    }
+    if sent.as_slice() != written.as_slice() {
+        return output.extend_from_slice(b"Differ");
+    }
+    append_digits(written.as_slice(), output)
 }
 
 fn append_fault(

@@ -40,7 +40,8 @@ items_at-loop-preserved t c = record {
       let m = c.args.count - (c.loop.counter + 1) in
       let e : n ≡ suc m = omega arith in
       let found = c.in-Ok.found in
-      let pushed : c.push.new.self.items ≡ c.loop.items.items ++ found.0 ∷ [] = c.in_ok-push.ensures.items in
+      let pushed : c.push_reserved.new.self.items ≡ c.loop.items.items ++ found.0 ∷ [] =
+      c.push_reserved.ensures.items ∙ ap (λ (ts : List Term). ts ++ found.0 ∷ []) c.reserve.ensures.items in
       ap (λ (ts : List Term). items one ts m found.1) pushed
       ∙ sym (item_read one c.loop.items.items n m c.loop.next found e c.in-Ok.ensures.reads)
       ∙ c.loop.invariant.reads;

@@ -1,6 +1,6 @@
 use Rattle.std.proofs.Common.{◌≡◌, ◌≤◌, ◌+◌, ◌++◌, length, map, drop, vec_len, vec_capacity}
 use Rattle.external_term.specs.Encoding.{encode, char_of}
-use Rattle.external_term.proofs.writing.append_string.Given as goal
+use Rattle.external_term.proofs.writing.append_chars.Given as goal
 
 abbrev pub invariant-loop-item : goal.invariant-loop-item
 invariant-loop-item l = record {
