@@ -63,7 +63,7 @@ pub(crate) fn number_in(reply: &Reply) -> Option<u64> {
     }
 }
 
-/// Returns whether a key was told with its objects.
+/// Returns whether the reply is a key with its objects.
 pub(crate) fn is_entry(reply: &Reply) -> bool {
     match reply {
         Reply::Value(Term::Tuple(parts)) => parts.len() == 2,

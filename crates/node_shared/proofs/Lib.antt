@@ -2,6 +2,7 @@ pub mod Numbering
 pub mod Growing
 pub mod Enrolments
 pub mod Recording
+pub mod Reading
 pub mod Parts
 pub mod Jobs
 pub mod Calls

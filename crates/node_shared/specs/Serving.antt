@@ -64,6 +64,19 @@ AnswersRead limits p n asked answer =
     (before : List Entry) × (state : State)
     × IsRun limits before state × (n ≤ length before) × Reads (observable state) p asked answer
 
+-- each of these calls has an answer of this state
+abbrev pub AreRead : State → ℕ → List Call → List (Option Reply) → Type 0
+AreRead s p [] [] = Unit {0}
+AreRead s p (asked ∷ more) (answer ∷ answers) = Reads s p asked answer × AreRead s p more answers
+AreRead s p [] (answer ∷ answers) = ⊥
+AreRead s p (asked ∷ more) [] = ⊥
+
+-- the same for several calls and one state
+abbrev pub AnswersReads : Limits → ℕ → ℕ → List Call → List (Option Reply) → Type 0
+AnswersReads limits p n calls answers =
+    (before : List Entry) × (state : State)
+    × IsRun limits before state × (n ≤ length before) × AreRead (observable state) p calls answers
+
 -- this refusal to enrol p ends some run of a node with these limits
 abbrev pub RefusesCaller : Limits → ℕ → Reply → Type 0
 RefusesCaller limits p r = IsEnrolRefusal r × Continues limits [] (Enrol p) r

@@ -1,15 +1,15 @@
-ghost use Rattle.std.specs.Prelude.{◌≡◌, ◌≤◌, [], length, vec_capacity, IfOk, IfErr, OnErr};
+ghost use Rattle.std.specs.Prelude.{◌≡◌, ◌≤◌, [], length, vec_capacity, IfOk, IfErr, OnOk, OnErr};
 ghost use Rattle.node_core.specs.declared.step.Step.TheVariants.{End, Ask};
 ghost use Rattle.node_shared.specs.Records.{with_entry};
 ghost use Rattle.node_shared.specs.Calling.{HasAsked};
-ghost use Rattle.node_shared.specs.Serving.{AnswersRead, ContinuesTo};
+ghost use Rattle.node_shared.specs.Serving.{AnswersRead, AnswersReads, ContinuesTo};
 
 use crate::history::{HistoryId, HistoryWord, HistoryWriter};
 use crate::served::ServedNode;
 use crate::server::Server;
 use ets_term::{Items, KeyHash};
 use node_core::{Call, Reply, RunFault, Step};
-use std::alloc::AllocError;
+use std::alloc::{AllocError, Global};
 use std::marker::Model;
 use std::sync::Wait;
 
@@ -145,10 +145,34 @@ impl<B: HistoryId> Caller<B> {
         ensures { IfOk result (AnswersRead B.limits self.now.own.pid self.now.seen call.now) }
     {
         let served = server.served.read(rt);
-        if self.seen > served.count() {
+        self.check_seen(served.count())?;
+        served.read(self.pid, call)
+    }
+
+    /// Replies to several calls that change nothing, in order and all from one state, under one hold of the lock. `read`
+    /// says what holds of that state, for which calls there is no reply, and what `Err` is.
+    pub fn read_all<H: KeyHash + Copy + Drop, R: Wait>(
+        &self,
+        rt: &R,
+        alloc: Global,
+        server: &Server<B, H>,
+        calls: &[Call],
+    ) -> Result<Vec<Option<Reply>>, AllocError>
+        ensures { IfOk result (λ replies. AnswersReads B.limits self.now.own.pid self.now.seen calls.now replies.items) }
+    {
+        let served = server.served.read(rt);
+        self.check_seen(served.count())?;
+        served.read_all(alloc, self.pid, calls)
+    }
+
+    /// Returns an error if a history of `count` entries has not all of this caller's own.
+    fn check_seen(&self, count: u64) -> Result<(), AllocError>
+        ensures { OnOk result (self.now.seen ≤ count) }
+    {
+        if self.seen > count {
             return Err(AllocError);
         }
-        served.read(self.pid, call)
+        Ok(())
     }
 
     fn step<H: KeyHash + Copy + Drop, R: Wait>(

@@ -7,7 +7,7 @@ ghost use Rattle.node_core.specs.State.{empty};
 ghost use Rattle.node_core.specs.rules.Replies.{is_value};
 ghost use Rattle.node_core.specs.declared.step.Step.TheVariants.{Enrol};
 ghost use Rattle.node_shared.specs.Journal.{entry, IsRun};
-ghost use Rattle.node_shared.specs.Serving.{ContinuesTo, entry_count, RefusesCaller, ServesGrowth, ServesStep, TriesServingGrowth};
+ghost use Rattle.node_shared.specs.Serving.{AreRead, ContinuesTo, entry_count, RefusesCaller, ServesGrowth, ServesStep, TriesServingGrowth};
 ghost use Rattle.node_shared.specs.Faults.{Refuses, RefusesWith};
 
 use crate::book::BookFault;
@@ -68,6 +68,24 @@ impl<B: HistoryId, H: KeyHash + Copy + Drop> ServedNode<B, H> {
         ensures run { IsRun B.limits self.now.history self.now.state }
     {
         self.node.read(pid, call)
+    }
+
+    /// Replies to several calls, each as `read` does, in order. If memory runs out, it returns no reply.
+    pub fn read_all(
+        &self,
+        alloc: Global,
+        pid: u32,
+        calls: &[Call],
+    ) -> Result<Vec<Option<Reply>>, AllocError>
+        ensures answers { IfOk result (λ replies. AreRead (observable self.now.state) pid calls.now replies.items) }
+        ensures run { IsRun B.limits self.now.history self.now.state }
+    {
+        let _node = &self.node;
+        let mut replies = Vec::with_capacity(alloc, calls.len())?;
+        for call in calls {
+            replies.push_reserved(self.read(pid, call)?);
+        }
+        Ok(replies)
     }
 
     /// Runs a step, which is then the last of the history and the last of the writer. Running out of memory changes

@@ -11,7 +11,19 @@ use std::sync::Wait;
 use std::test::Fail;
 use term_text::print_term;
 
-/// What a read replies: the text of a value, the refusal, or `no read`.
+/// Appends what a read replies: the text of a value, the refusal, or `no read`.
+fn push_reply(alloc: Global, reply: Option<&Reply>, text: &mut String) -> Result<(), Fail> {
+    match reply {
+        Some(Reply::Value(value)) => print_term(alloc, value, text)?,
+        Some(Reply::Badarg) => text.push_str("badarg")?,
+        Some(Reply::SystemLimit) => text.push_str("system_limit")?,
+        Some(Reply::NoProcess) => text.push_str("no process")?,
+        None => text.push_str("no read")?,
+    }
+    Ok(())
+}
+
+/// What a read replies.
 fn text_of_read<B: HistoryId, R: Wait>(
     rt: &R,
     alloc: Global,
@@ -21,12 +33,30 @@ fn text_of_read<B: HistoryId, R: Wait>(
 ) -> Result<String, Fail> {
     let asked = call(alloc, asked.0, asked.1)?;
     let mut text = String::new(alloc);
-    match caller.read(rt, server, &asked)? {
-        Some(Reply::Value(value)) => print_term(alloc, &value, &mut text)?,
-        Some(Reply::Badarg) => text.push_str("badarg")?,
-        Some(Reply::SystemLimit) => text.push_str("system_limit")?,
-        Some(Reply::NoProcess) => text.push_str("no process")?,
-        None => text.push_str("no read")?,
+    let reply = caller.read(rt, server, &asked)?;
+    push_reply(alloc, reply.as_ref(), &mut text)?;
+    Ok(text)
+}
+
+/// What a list of reads replies.
+fn text_of_reads<B: HistoryId, R: Wait>(
+    rt: &R,
+    alloc: Global,
+    server: &Server<B, Fnv>,
+    caller: &Caller<B>,
+) -> Result<String, Fail> {
+    let mut calls = Vec::new(alloc);
+    calls.push(call(alloc, "lookup", "[t,1]")?)?;
+    calls.push(call(alloc, "lookup", "[u,1]")?)?;
+    calls.push(call(alloc, "insert", "[t,{2}]")?)?;
+    calls.push(call(alloc, "info", "[t,size]")?)?;
+    let mut text = String::new(alloc);
+    for reply in caller
+        .read_all(rt, alloc, server, calls.as_slice())?
+        .as_slice()
+    {
+        push_reply(alloc, reply.as_ref(), &mut text)?;
+        text.push_str(";")?;
     }
     Ok(text)
 }
@@ -47,6 +77,7 @@ fn is_read<B: HistoryId, R: Wait>(
     let unknown = text_of_read(rt, alloc, server, caller, ("lookup", "[u,1]"))?;
     let insertion = text_of_read(rt, alloc, server, caller, ("insert", "[t,{2}]"))?;
     let size = text_of_read(rt, alloc, server, caller, ("info", "[t,size]"))?;
+    let listed = text_of_reads(rt, alloc, server, caller)?;
     caller.end(rt, server)?;
     let late = text_of_read(rt, alloc, server, caller, lookup)?;
     let living = replies.len() == 2 && found.as_str() == "[{1,a}]" && unknown.as_str() == "badarg";
@@ -54,6 +85,7 @@ fn is_read<B: HistoryId, R: Wait>(
         living
             && insertion.as_str() == "no read"
             && size.as_str() == "1"
+            && listed.as_str() == "[{1,a}];badarg;no read;1;"
             && late.as_str() == "no process",
     )
 }
