@@ -71,7 +71,7 @@ pub on-err : {T E A B : Type 0} (r : Result T E) → (A → B) → OnErr r A →
 on-err (Ok x) f a = tt
 on-err (Err e) f a = f a
 
--- a text that was sent, and one after it of which all or a front was written
+-- a text that was sent, and one after it of which all or a prefix was written
 pub sends-behind : (a b c : Option (List ℕ)) (whole more : List ℕ) → Appends a b whole → Appends b c more → Sends (between a c) (whole ++ more) []
 sends-behind a b c whole more p q = sends-all a c (whole ++ more) (appends-more a b c whole more p q)
 

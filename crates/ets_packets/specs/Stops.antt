@@ -18,7 +18,7 @@ pub record Answered (start : StoreState) (t : Traffic) (rest : List ℕ) : Type 
   pub consumed : Consumes t.reader.before t.reader.after (requests exchanges ++ rest)
   pub written : Appends t.writer.before t.writer.after (replies exchanges)
 
--- the same, where of the replies only a front was written
+-- the same, if only a prefix of the replies was written
 pub record Unwritten (start : StoreState) (t : Traffic) : Type 0 where
   pub exchanges : List Exchange
   pub end : StoreState
@@ -34,7 +34,7 @@ pub record Unwritten (start : StoreState) (t : Traffic) : Type 0 where
 abbrev pub Completes : StoreState → Traffic → Type 0
 Completes start t = Answered start t [] × IsAtEnd t.reader.after
 
--- At a fault all packets that were read are answered, and all replies are written, or a front of them at a write fault.
+-- At a fault all packets that were read are answered, and all replies are written, or a prefix of them at a write fault.
 -- A part of a packet, or what there was no memory for, is not answered.
 abbrev pub Stops : StoreState → Traffic → PacketFault → Type 0
 Stops start t Read = (part : List ℕ) × Answered start t part × IsPart part

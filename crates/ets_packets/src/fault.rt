@@ -10,7 +10,7 @@ pub enum PacketFault {
     /// The reader failed, or it was read 2^64 - 1 times. All whole packets before are answered.
     #[error("read fault")]
     Read,
-    /// The writer failed, or took no byte. What was written is a front of the replies.
+    /// The writer failed, or took no byte. What was written is a prefix of the replies.
     #[error("write fault")]
     Write,
     /// There was no memory at the start, or for bytes that were read. All packets before those are answered.

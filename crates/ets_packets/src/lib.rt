@@ -2,7 +2,7 @@
 //!
 //! *Guarantee.* From the bytes read to the bytes written: each packet is answered as specs/Replies.antt says, by a store
 //! that starts empty, and the replies are in the order of the requests. All replies to packets that were read are written
-//! before the next read. A run that stops early has answered all whole packets before, or has written a front of their
+//! before the next read. A run that stops early has answered all whole packets before, or has written a prefix of their
 //! replies if a write failed. A packet that is too long, and an input that ends inside a packet, are faults.
 //!
 //! *Weakness.* Only tests show that replies are flushed before each read. No contract says when memory is available.

@@ -87,7 +87,7 @@ impl<'a, W: Write> Output<'a, W> {
     }
 }
 
-/// Writes all of the bytes, or a front of them and then returns a fault.
+/// Writes all of the bytes, or a prefix of them and then returns a fault.
 fn write_whole<W: Write>(writer: &mut W, bytes: &[u8]) -> Result<(), WriteFault>
     ensures ok { OnOk result (Appends (W.contents writer.old) (W.contents writer.new) bytes.now) }
     ensures err { OnErr result (Breaks (flow W.contents writer.old writer.new) bytes.now) }

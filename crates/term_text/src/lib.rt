@@ -2,8 +2,8 @@
 //!
 //! *Guarantee.* `read_term` returns a term and a number of bytes only if these bytes are blanks and a spelling of the
 //! term. Otherwise it returns the fault of the first byte with which no text can continue, or of the text's end.
-//! `print_term` and `write_term` print one text per term. `read_term` reads it as the term again if it has at most 128
-//! levels.
+//! `print_term`, `append_term` and `write_term` print one text per term: into a string, into bytes, into a writer.
+//! `read_term` reads it as the term again if it has at most 128 levels.
 //!
 //! *Weakness.* Every function that allocates may run out of memory: no contract says when memory is available. Nor does
 //! one say when `write_term` may fail, only that a prefix of the text was written then.

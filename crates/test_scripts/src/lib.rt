@@ -1,6 +1,6 @@
 //! Tests of scripts: long ones, each fault of a line, and devices that fail, are slow or take a part.
 //!
-//! They stand in a crate of their own because a crate with tests is proved twice, with them and without.
+//! They have a crate of their own because a crate with tests is proved twice, with them and without.
 #![tactic(auto)]
 
 #[cfg(test)]

@@ -4,13 +4,13 @@ use Rattle.std.specs.Io.KnownBytes.{Appends}
 use Rattle.ets_packets.specs.Traffic.{Flow, flow}
 use Rattle.ets_packets.specs.declared.output.Output.{Output}
 
--- Of these bytes, the writer took a front, and the rest is buffered.
+-- Of these bytes, the writer took a prefix, and the rest is buffered.
 pub record Sends (writer : Flow) (whole waiting : List ℕ) : Type 0 where
   pub sent : List ℕ
   pub written : Appends writer.before writer.after sent
   pub parts : whole ≡ sent ++ waiting
 
--- Of these bytes, the writer took a front, and no more of them will be written.
+-- Of these bytes, the writer took a prefix, and no more of them will be written.
 pub record Breaks (writer : Flow) (whole : List ℕ) : Type 0 where
   pub sent : List ℕ
   pub unsent : List ℕ
