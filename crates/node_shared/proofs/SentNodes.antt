@@ -3,7 +3,7 @@ use denote.Builtin.{u32}
 use denote.RattleType.{RattleType}
 use denote.Param.Send.{IsSync, sendable, view_sync, recorded_sync, struct_sync}
 use denote.Struct.Declared.{shape}
-use Rattle.std.proofs.Crossing.{crosses, Vec-sync}
+use Rattle.std.proofs.Crossing.{crosses, Box-sync, Vec-sync}
 use Rattle.std.proofs.alloc.Global.TheSendSync as global
 use Rattle.std.proofs.hash.BuildHasherDefault.TheSendSync as builder
 use Rattle.std.proofs.hash.FoldHasher.TheSendSync as hasher
@@ -23,6 +23,7 @@ use Rattle.fixed_walk.proofs.walked.Walked.TheSendSync as walked
 use Rattle.ownership.proofs.indices.Indices.TheSendSync as indices
 use Rattle.ownership.specs.contracts.metadata.Metadata as Metadata
 use Rattle.ownership.specs.contracts.process.Process as Process
+use Rattle.ownership.specs.contracts.table.Parts as Parts
 use Rattle.ownership.specs.contracts.table.Table as Table
 use Rattle.ownership.specs.contracts.table.Table.TheInside as table
 use Rattle.ownership.specs.contracts.world.World as World
@@ -51,12 +52,16 @@ spread_sync : IsSync (Builder.the_row FoldHasher.the_row)
 spread_sync = builder.the_sync FoldHasher.the_row hasher.the_sync
 
 module _ (R : RattleType) (g : Rows.Ghosts R.Denot) (s : IsSync R) where
-  table_sync : IsSync (Table.the_row R g)
-  table_sync =
-      view_sync (table.the_row R g) _ _ _ _ (recorded_sync (table.the_field R g).row _ _ (table.the_type R g).to_one (struct_sync (shape (table.the_type R g)) (
+  parts_sync : IsSync (Parts.the_row R g)
+  parts_sync =
+      recorded_sync (Parts.the_field R g).row _ _ (Parts.the_type R g).to_one (struct_sync (shape (Parts.the_type R g)) (
         metadata_sync,
         (walked.the_sync R g s, tt),
-      )))
+      ))
+
+  table_sync : IsSync (Table.the_row R g)
+  table_sync =
+      view_sync (table.the_row R g) _ _ _ _ (recorded_sync (table.the_field R g).row _ _ (table.the_type R g).to_one (struct_sync (shape (table.the_type R g)) (Box-sync _ parts_sync, tt)))
 
   world_sync : IsSync (World.the_row R g)
   world_sync =

@@ -6,13 +6,13 @@
 //! call that is refused or runs out of memory changes nothing.
 //!
 //! *Weakness.* The end of a process visits the tables that it ever owned and those that are fixed. Inserting an
-//! identifier shifts the larger ones.
+//! identifier shifts the larger ones. A deleted table leaves an empty place of 16 bytes.
 //!
-//! *Mechanism.* Tables are in an array by identifier. One struct holds an index by name, one by owner, and a list of
-//! the tables that may be fixed. A table that is borrowed for a change becomes the *dirty* one. When the next table
-//! is borrowed, the previous one is listed if it is fixed. A borrowed table cannot change its metadata, and the other
-//! two indices depend on metadata alone. The messages of an end are created and posted one by one, and removed again
-//! if memory is refused.
+//! *Mechanism.* Tables are in boxes, which are in an array by identifier. One struct holds an index by name, one by
+//! owner, and a list of the tables that may be fixed. A table that is borrowed for a change becomes the *dirty* one.
+//! When the next table is borrowed, the previous one is listed if it is fixed. A borrowed table cannot change its
+//! metadata, and the other two indices depend on metadata alone. The messages of an end are created and posted one by
+//! one, and removed again if memory is refused.
 //!
 //! *Limits.* The numbers of processes and tables ever made are limited, as given to `new`. Identifiers are never used
 //! again.

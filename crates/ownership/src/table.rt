@@ -1,4 +1,4 @@
-ghost use Rattle.std.specs.Prelude.{◌≡◌};
+ghost use Rattle.std.specs.Prelude.{◌≡◌, IfOk};
 ghost use Rattle.std.specs.Borrow.{sem};
 ghost use Rattle.ownership.specs.Tables.{with_owner, with_heir};
 ghost use Rattle.ownership.specs.End.{without_fixes};
@@ -6,11 +6,17 @@ ghost use Rattle.ownership.specs.End.{without_fixes};
 use crate::metadata::{Heir, Metadata};
 use bucket_table::Rows;
 use fixed_walk::Walked;
+use std::alloc::{AllocError, Global};
 use std::marker::Model;
 
-/// A table with its metadata.
+/// A table with its metadata, in a box. So an empty place for a table is small.
 #[derive(Drop)]
 pub struct Table<R: Rows> {
+    parts: Box<Parts<R>>,
+}
+
+#[derive(Drop)]
+struct Parts<R: Rows> {
     metadata: Metadata,
     walked: Walked<R>,
 }
@@ -23,55 +29,57 @@ impl<R: Rows> Model for Table<R> {
 
     ghost coded = { table_code };
 
-    ghost view = { λ t. record { metadata = t.metadata; fixed = t.walked } };
+    ghost view = { λ t. record { metadata = t.parts.value.metadata; fixed = t.parts.value.walked } };
 }
 
 impl<R: Rows> Table<R> {
     ghost use Rattle.ownership.specs.inside.Lending.{LendsFixed};
 
-    pub fn new(metadata: Metadata, walked: Walked<R>) -> Self
-        ensures { result ≡ record { metadata = metadata; fixed = walked } }
+    /// Puts a table and its metadata into a box. If memory is refused, both are dropped.
+    pub fn new(alloc: Global, metadata: Metadata, walked: Walked<R>) -> Result<Self, AllocError>
+        ensures { IfOk result (λ table. table ≡ record { metadata = metadata; fixed = walked }) }
     {
-        Table { metadata, walked }
+        let parts = Box::new(alloc, Parts { metadata, walked })?;
+        Ok(Table { parts })
     }
 
     pub fn metadata(&self) -> &Metadata
         ensures { result.now ≡ self.now.metadata }
     {
-        &self.metadata
+        &self.parts.metadata
     }
 
     pub fn walked(&self) -> &Walked<R>
         ensures { result.now ≡ self.now.fixed }
     {
-        &self.walked
+        &self.parts.walked
     }
 
     pub fn walked_mut(&mut self) -> &mut Walked<R>
         ensures* lends { sem 𝓛 (LendsFixed R.row R.Rows self.entry result) }
         ensures value { result.now ≡ self.old.fixed }
     {
-        &mut self.walked
+        &mut self.parts.walked
     }
 
     /// Sets the owner.
     pub fn set_owner(&mut self, owner: u32)
         ensures { self.new ≡ with_owner owner self.old }
     {
-        self.metadata.owner = owner;
+        self.parts.metadata.owner = owner;
     }
 
     /// Sets or removes the heir.
     pub fn set_heir(&mut self, heir: Option<Heir>)
         ensures { self.new ≡ with_heir heir self.old }
     {
-        self.metadata.heir = heir;
+        self.parts.metadata.heir = heir;
     }
 
     /// Releases all fixes of a process.
     pub fn release_all(&mut self, pid: u32)
         ensures { self.new ≡ without_fixes pid self.old }
     {
-        self.walked.release_all(pid);
+        self.parts.walked.release_all(pid);
     }
 }

@@ -25,6 +25,7 @@ pub struct World<R: Rows> {
     most_processes: u32,
     most_tables: u32,
     processes: IndexMap<u32, Process>,
+    // By identifier. A deleted table leaves an empty place of 16 bytes.
     tables: Vec<Option<Table<R>>>,
     indices: Indices,
 }

@@ -153,7 +153,7 @@ impl<R: Rows> World<R> {
                 return Err(error);
             }
         };
-        if let Err(error) = self.push_table(Table::new(metadata, table)) {
+        if let Err(error) = self.push_table(metadata, table) {
             drop(answer);
             return Err(error);
         }
@@ -161,12 +161,13 @@ impl<R: Rows> World<R> {
     }
 
     /// Adds a table with the next identifier. If it is named, its name must be free.
-    fn push_table(&mut self, table: Table<R>) -> Result<(), AllocError>
-        requires free { IsNameFree self.old.tables table.metadata }
+    fn push_table(&mut self, metadata: Metadata, walked: Walked<R>) -> Result<(), AllocError>
+        requires free { IsNameFree self.old.tables metadata }
         requires few { length self.old.tables + 1 < 2 ^ 32 }
-        ensures ok { OnOk result (self.new ≡ with_table self.old table.metadata table.fixed) }
+        ensures ok { OnOk result (self.new ≡ with_table self.old metadata walked) }
         ensures err { OnErr result (self.new ≡ self.old) }
     {
+        let table = Table::new(self.alloc, metadata, walked)?;
         if let Err(error) = self.tables.reserve(1) {
             drop(table);
             return Err(error);
