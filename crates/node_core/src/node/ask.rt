@@ -1,10 +1,11 @@
 // Calls of a process.
-ghost use Rattle.std.specs.Prelude.{◌≡◌, IfOk, OnOk, OnErr};
+ghost use Rattle.std.specs.Prelude.{◌≡◌, false, if◌then◌else◌, Some, None, IfOk, OnOk, OnErr};
 ghost use Rattle.std.specs.List.{list_any};
 ghost use Rattle.ets_term.specs.Depth.{is_too_deep};
 ghost use Rattle.node_core.specs.Machine.{step};
 ghost use Rattle.node_core.specs.Observable.{observable};
 ghost use Rattle.node_core.specs.Reads.{reads_only, Reads};
+ghost use Rattle.node_core.specs.declared.step.Reply.TheVariants.{NoProcess};
 ghost use Rattle.node_core.specs.declared.step.Step.TheVariants.{Ask};
 ghost use Rattle.node_core.specs.inside.Refusals.{early_refusal, to_reply, ToReply};
 
@@ -20,28 +21,48 @@ impl<H: KeyHash + Copy + Drop> Node<H> {
     pub fn read(&self, pid: u32, call: &Call) -> Result<Option<Reply>, AllocError>
         ensures { IfOk result (Reads (observable self.now) pid call.now) }
     {
+        let mut reply = Reply::NoProcess;
+        match self.read_into(pid, call, &mut reply) {
+            Ok(true) => Ok(Some(reply)),
+            Ok(false) => {
+                drop(reply);
+                Ok(None)
+            }
+            Err(error) => {
+                drop(reply);
+                Err(error)
+            }
+        }
+    }
+
+    /// Like `read`, but writes the reply over another and uses its memory again, as `step_into` does. Returns whether
+    /// it replied: `false` for any other call, which leaves the reply as it is. After out of memory the reply is
+    /// `NoProcess`.
+    pub fn read_into(&self, pid: u32, call: &Call, reply: &mut Reply) -> Result<bool, AllocError>
+        ensures ok { IfOk result (λ replied. Reads (observable self.now) pid call.now
+            (if replied then Some reply.new else None)) }
+        ensures kept { IfOk result (λ replied. replied ≡ false → reply.new ≡ reply.old) }
+        ensures err { OnErr result (reply.new ≡ NoProcess) }
+    {
         let Some(name) = CallName::read(call.name.text()) else {
-            return Ok(None);
+            return Ok(false);
         };
         let args = call.args.as_slice();
         if !reads_only(name, args) {
-            return Ok(None);
+            return Ok(false);
         }
         if let Some(refusal) = self.early_refusal(pid, args) {
-            return Ok(Some(refusal));
+            *reply = refusal;
+            return Ok(true);
         }
-        let mut reply = Reply::NoProcess;
-        match self.read_call(pid, name, args, &mut reply) {
-            Some(result) => match write_refusal(result, &mut reply) {
-                Ok(()) => Ok(Some(reply)),
-                Err(error) => {
-                    drop(reply);
-                    Err(error)
-                }
-            },
-            None => {
-                drop(reply);
-                Ok(None)
+        let Some(result) = self.read_call(pid, name, args, reply) else {
+            return Ok(false);
+        };
+        match write_refusal(result, reply) {
+            Ok(()) => Ok(true),
+            Err(error) => {
+                *reply = Reply::NoProcess;
+                Err(error)
             }
         }
     }

@@ -1,8 +1,8 @@
-// `read` replies as `step` does, and only to calls that change nothing.
+// `read` and `read_into` reply as `step` does, and only to calls that change nothing.
 use super::Event::{Ask, Enrol};
 use super::{Row, ask, is, wrong_in};
 use ets_term::Fnv;
-use node_core::{Limits, Node, Step};
+use node_core::{Limits, Node, Reply, Step};
 use std::alloc::{AllocError, Global};
 use std::process::Abort;
 
@@ -15,7 +15,7 @@ const MADE: [Row; 3] = [
 /// A process, its call, and the reply; the empty text for a call that `read` leaves to `step`.
 type ReadRow = (u32, &'static str, &'static str);
 
-const READS: [ReadRow; 24] = [
+const READS: [ReadRow; 25] = [
     (0, "lookup(t,a)", "[{a,1}]"),
     (0, "lookup(t,b)", "[]"),
     (0, "lookup_element(t,a,2)", "1"),
@@ -35,6 +35,7 @@ const READS: [ReadRow; 24] = [
     (0, "info(t,size)", "1"),
     (0, "lookup(u,a)", "** badarg"),
     (1, "lookup(t,a)", "** noproc"),
+    (0, "lookup(t,a)", "[{a,1}]"),
     (0, "insert(t,{b,2})", ""),
     (0, "take(t,a)", ""),
     (1, "delete(t)", ""),
@@ -70,6 +71,39 @@ fn reads_step(
     }
 }
 
+/// Returns whether a call by `read_into` writes this reply over the one before.
+fn reads_over(
+    alloc: Global,
+    node: &Node<Fnv>,
+    row: ReadRow,
+    before: &str,
+    reply: &mut Reply,
+) -> Result<bool, AllocError> {
+    let (pid, call, wanted) = row;
+    let step = ask(alloc, pid, call)?;
+    let same = reads_step_over(alloc, node, &step, wanted, before, reply);
+    drop(step);
+    same
+}
+
+fn reads_step_over(
+    alloc: Global,
+    node: &Node<Fnv>,
+    step: &Step,
+    wanted: &str,
+    before: &str,
+    reply: &mut Reply,
+) -> Result<bool, AllocError> {
+    let Step::Ask(pid, call) = step else {
+        return Err(AllocError);
+    };
+    let replied = node.read_into(*pid, call, reply)?;
+    if replied == wanted.is_empty() {
+        return Ok(false);
+    }
+    is(alloc, reply, if replied { wanted } else { before })
+}
+
 /// Returns the place of the first row with another reply.
 fn wrong_read(
     alloc: Global,
@@ -84,13 +118,37 @@ fn wrong_read(
     Ok(None)
 }
 
+/// Returns the place of the first row with another reply. Each reply is written over the one before.
+fn wrong_over(
+    alloc: Global,
+    node: &Node<Fnv>,
+    rows: &[ReadRow],
+    reply: &mut Reply,
+) -> Result<Option<usize>, AllocError> {
+    let mut before = "** noproc";
+    for (place, row) in rows.iter().enumerate() {
+        if !reads_over(alloc, node, *row, before, reply)? {
+            return Ok(Some(place));
+        }
+        let (_, _, wanted) = *row;
+        if !wanted.is_empty() {
+            before = wanted;
+        }
+    }
+    Ok(None)
+}
+
 #[test]
 fn a_read_replies_as_a_step(rt: HostRuntime) {
     let alloc = rt.alloc();
     let mut node = Node::new(alloc, Limits::usual(), Fnv);
     let made = wrong_in(alloc, &mut node, &MADE);
     let read = wrong_read(alloc, &node, &READS);
+    let mut reply = Reply::NoProcess;
+    let over = wrong_over(alloc, &node, &READS, &mut reply);
+    drop(reply);
     drop(node);
     assert_eq!(rt; made, Ok(None));
     assert_eq!(rt; read, Ok(None));
+    assert_eq!(rt; over, Ok(None));
 }

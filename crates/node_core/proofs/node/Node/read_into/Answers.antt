@@ -5,18 +5,18 @@ use Rattle.node_core.specs.Reads.{reads_only}
 use Rattle.node_core.specs.inside.Refusals.{early_refusal, to_reply}
 use Rattle.node_core.proofs.calls.ReadCalls.{refusal-reads, reply-reads}
 use Rattle.node_core.proofs.calls.Worlds.{told-ok}
-use Rattle.node_core.proofs.node.Node.read.Goals as goal
+use Rattle.node_core.proofs.node.Node.read_into.Goals as goal
 
-pub returns-in-Some-early_refusal : goal.returns-in-Some-early_refusal
-returns-in-Some-early_refusal g c =
+pub returns-in-Some-early_refusal-clause-ok : goal.returns-in-Some-early_refusal-clause-ok
+returns-in-Some-early_refusal-clause-ok g c =
     refusal-reads c.args.self.now c.args.pid c.args.call.now c.in-Some.name
     (c.in-Some.ensures ∙ ap call_name c.text.ensures.text)
     (sym (ap (reads_only c.in-Some.name) c.as_slice-args.ensures) ∙ (sym c.reads_only.ensures ∙ c.if-not-reads_only.false))
     c.in-Some-early_refusal.refusal
     (sym c.in-Some-early_refusal.is ∙ (c.early_refusal.ensures ∙ ap (early_refusal c.args.self.now c.args.pid) c.as_slice-args.ensures))
 
-pub returns-in-Ok : goal.returns-in-Ok
-returns-in-Ok g c =
+pub returns-in-Ok-clause-ok : goal.returns-in-Ok-clause-ok
+returns-in-Ok-clause-ok g c =
     let reply = c.write_refusal.new.reply in
     reply-reads c.args.self.now c.args.pid c.args.call.now c.in-Some.name
     (c.in-Some.ensures ∙ ap call_name c.text.ensures.text)
