@@ -1,4 +1,5 @@
-ghost use Rattle.std.specs.Prelude.{◌≡◌, ◌≤◌, [], length, vec_capacity, IfOk, IfErr, OnOk, OnErr};
+ghost use Rattle.std.specs.Prelude.{◌≡◌, ◌≤◌, false, if◌then◌else◌, Some, None, [], length, vec_capacity, IfOk, IfErr, OnOk, OnErr};
+ghost use Rattle.node_core.specs.declared.step.Reply.TheVariants.{NoProcess};
 ghost use Rattle.node_core.specs.declared.step.Step.TheVariants.{End, Ask};
 ghost use Rattle.node_shared.specs.Records.{with_entry};
 ghost use Rattle.node_shared.specs.Calling.{HasAsked};
@@ -83,7 +84,7 @@ impl<B: HistoryId> Caller<B> {
             return Err(fault_after(replies));
         }
         let mut served = server.served.write(rt);
-        let asked = self.ask_each(&server.word, &mut *served, calls, replies)?;
+        let asked = self.ask_each(&server.word, &mut **served, calls, replies)?;
         for _ in 0..growth {
             if !served.try_tend(&server.word) {
                 break;
@@ -144,9 +145,32 @@ impl<B: HistoryId> Caller<B> {
     ) -> Result<Option<Reply>, AllocError>
         ensures { IfOk result (AnswersRead B.limits self.now.own.pid self.now.seen call.now) }
     {
-        let served = server.served.read(rt);
+        let served = server.served.read(rt, self.shard());
         self.check_seen(served.count())?;
         served.read(self.pid, call)
+    }
+
+    /// Like `read`, but writes the reply over another and uses its memory again, as `Node::read_into` does. Returns
+    /// whether it replied: `false` for any other call, which leaves the reply as it is. After an error the reply is
+    /// `NoProcess`.
+    pub fn read_into<H: KeyHash + Copy + Drop, R: Wait>(
+        &self,
+        rt: &R,
+        server: &Server<B, H>,
+        call: &Call,
+        reply: &mut Reply,
+    ) -> Result<bool, AllocError>
+        ensures ok { IfOk result (λ replied. AnswersRead B.limits self.now.own.pid self.now.seen call.now
+            (if replied then Some reply.new else None)) }
+        ensures kept { IfOk result (λ replied. replied ≡ false → reply.new ≡ reply.old) }
+        ensures err { OnErr result (reply.new ≡ NoProcess) }
+    {
+        let served = server.served.read(rt, self.shard());
+        if let Err(error) = self.check_seen(served.count()) {
+            *reply = Reply::NoProcess;
+            return Err(error);
+        }
+        served.read_into(self.pid, call, reply)
     }
 
     /// Replies to several calls that change nothing, in order and all from one state, under one hold of the lock. `read`
@@ -160,9 +184,15 @@ impl<B: HistoryId> Caller<B> {
     ) -> Result<Vec<Option<Reply>>, AllocError>
         ensures { IfOk result (λ replies. AnswersReads B.limits self.now.own.pid self.now.seen calls.now replies.items) }
     {
-        let served = server.served.read(rt);
+        let served = server.served.read(rt, self.shard());
         self.check_seen(served.count())?;
         served.read_all(alloc, self.pid, calls)
+    }
+
+    /// Returns the number that chooses the shard of the lock for a read. Callers with other numbers modulo 8 change
+    /// other words of memory.
+    fn shard(&self) -> usize {
+        self.pid as usize
     }
 
     /// Returns an error if a history of `count` entries has not all of this caller's own.
@@ -185,7 +215,7 @@ impl<B: HistoryId> Caller<B> {
         ensures order { IfOk result (ContinuesTo B.limits self.old.own.entries event self.new.seen) }
         ensures err { OnErr result (self.new ≡ self.old) }
     {
-        self.step_on(&server.word, &mut *server.served.write(rt), event)
+        self.step_on(&server.word, &mut **server.served.write(rt), event)
     }
 
     fn step_on<H: KeyHash + Copy + Drop>(

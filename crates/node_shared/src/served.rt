@@ -1,6 +1,6 @@
-ghost use Rattle.std.specs.Prelude.{◌≡◌, true, [], ◌∷◌, ◌++◌, IfOk, OnErr, IfErr};
+ghost use Rattle.std.specs.Prelude.{◌≡◌, true, false, if◌then◌else◌, Some, None, [], ◌∷◌, ◌++◌, IfOk, OnErr, IfErr};
 ghost use Rattle.ets_term.specs.declared.term.Term.TheVariants.{Pid};
-ghost use Rattle.node_core.specs.declared.step.Reply.TheVariants.{Value};
+ghost use Rattle.node_core.specs.declared.step.Reply.TheVariants.{NoProcess, Value};
 ghost use Rattle.node_core.specs.Observable.{observable};
 ghost use Rattle.node_core.specs.Reads.{Reads};
 ghost use Rattle.node_core.specs.State.{empty};
@@ -68,6 +68,18 @@ impl<B: HistoryId, H: KeyHash + Copy + Drop> ServedNode<B, H> {
         ensures run { IsRun B.limits self.now.history self.now.state }
     {
         self.node.read(pid, call)
+    }
+
+    /// Like `read`, but writes the reply over another and uses its memory again, as `Node::read_into` does. Returns
+    /// whether it replied.
+    pub fn read_into(&self, pid: u32, call: &Call, reply: &mut Reply) -> Result<bool, AllocError>
+        ensures answer { IfOk result (λ replied. Reads (observable self.now.state) pid call.now
+            (if replied then Some reply.new else None)) }
+        ensures run { IsRun B.limits self.now.history self.now.state }
+        ensures kept { IfOk result (λ replied. replied ≡ false → reply.new ≡ reply.old) }
+        ensures err { OnErr result (reply.new ≡ NoProcess) }
+    {
+        self.node.read_into(pid, call, reply)
     }
 
     /// Replies to several calls, each as `read` does, in order. If memory runs out, it returns no reply.

@@ -12,16 +12,19 @@ use crate::history::{HistoryId, HistoryWord, NewHistory};
 use crate::pids::Drawn;
 use crate::served::ServedNode;
 use crate::shared::JoinFault;
+use crossbeam_utils::sync::ShardedLock;
 use ets_term::KeyHash;
 use node_core::Limits;
-use std::alloc::Global;
-use std::sync::{RwLock, Wait};
+use std::alloc::{AllocError, Global};
+use std::sync::Wait;
 
-/// A node that threads share for as long as they like: nothing is stored of a call once it has its reply.
+/// A node that threads share for as long as they like: nothing is stored of a call once it has its reply. Its lock has
+/// eight shards. A read takes one of them, so readers in different threads do not wait for a word of memory that all
+/// change. A write takes all eight.
 #[derive(Drop)]
 pub struct Server<B: HistoryId, H: KeyHash + Copy + Drop> {
     pub(crate) word: HistoryWord,
-    pub(crate) served: RwLock<ServedNode<B, H>>,
+    pub(crate) served: ShardedLock<Box<ServedNode<B, H>>>,
     ghost table: { word.shared.table_id ≡ B.table },
     ghost one_word: { word.shared.table_id.words ≡ 1 },
 }
@@ -29,17 +32,24 @@ pub struct Server<B: HistoryId, H: KeyHash + Copy + Drop> {
 impl<B: HistoryId, H: KeyHash + Copy + Drop> Server<B, H> {
     /// Locks a node without processes and tables, as `ServedNode::new` makes it, with the given history. A lock's
     /// value is known by its type only, so no clause here says more of the node itself. The type says that the history
-    /// is a run of a node with these limits.
-    pub fn new(alloc: Global, history: NewHistory, limits: Limits, hasher: H) -> Self
+    /// is a run of a node with these limits. `Err` is out of memory for the lock.
+    pub fn new(
+        alloc: Global,
+        history: NewHistory,
+        limits: Limits,
+        hasher: H,
+    ) -> Result<Self, AllocError>
         requires table { history.word.shared.table_id ≡ B.table }
         requires limits { limits ≡ B.limits }
-        ensures { result.word ≡ history.word }
+        ensures { IfOk result (λ server. server.word ≡ history.word) }
     {
         let (word, owner) = history.into_named::<B>();
-        Server {
+        // A writer moves the value out of the lock and back, so it is a box.
+        let served = Box::new(alloc, ServedNode::new(alloc, owner, limits, hasher))?;
+        Ok(Server {
             word,
-            served: RwLock::new(ServedNode::new(alloc, owner, limits, hasher)),
-        }
+            served: ShardedLock::new(alloc, served)?,
+        })
     }
 
     /// Enrols the number that was drawn, and returns the caller of that process. It may wait for the lock.
@@ -62,7 +72,8 @@ impl<B: HistoryId, H: KeyHash + Copy + Drop> Server<B, H> {
         ensures refused { IfErr result (RefusesWith (λ r. is_value r ≡ false)) }
         ensures refused_run { IfErr result (RefusesWith (RefusesCaller B.limits pid)) }
     {
-        let mut served = self.served.write(rt);
+        let mut lock = self.served.write(rt);
+        let served = &mut **lock;
         let (writer, _reply) = served.join(&self.word, pid)?;
         Ok(Caller::of(pid, writer, served.count()))
     }

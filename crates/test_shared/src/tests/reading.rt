@@ -38,6 +38,28 @@ fn text_of_read<B: HistoryId, R: Wait>(
     Ok(text)
 }
 
+/// What two reads reply over one reply, and whether an insertion leaves it.
+fn text_of_reads_over<B: HistoryId, R: Wait>(
+    rt: &R,
+    alloc: Global,
+    server: &Server<B, Fnv>,
+    caller: &Caller<B>,
+) -> Result<String, Fail> {
+    let mut reply = Reply::NoProcess;
+    let mut text = String::new(alloc);
+    for (name, args) in [
+        ("lookup", "[t,1]"),
+        ("info", "[t,size]"),
+        ("insert", "[t,{2}]"),
+    ] {
+        let asked = call(alloc, name, args)?;
+        let replied = caller.read_into(rt, server, &asked, &mut reply)?;
+        push_reply(alloc, Some(&reply), &mut text)?;
+        text.push_str(if replied { ";" } else { " stays" })?;
+    }
+    Ok(text)
+}
+
 /// What a list of reads replies.
 fn text_of_reads<B: HistoryId, R: Wait>(
     rt: &R,
@@ -78,6 +100,7 @@ fn is_read<B: HistoryId, R: Wait>(
     let insertion = text_of_read(rt, alloc, server, caller, ("insert", "[t,{2}]"))?;
     let size = text_of_read(rt, alloc, server, caller, ("info", "[t,size]"))?;
     let listed = text_of_reads(rt, alloc, server, caller)?;
+    let over = text_of_reads_over(rt, alloc, server, caller)?;
     caller.end(rt, server)?;
     let late = text_of_read(rt, alloc, server, caller, lookup)?;
     let living = replies.len() == 2 && found.as_str() == "[{1,a}]" && unknown.as_str() == "badarg";
@@ -86,6 +109,7 @@ fn is_read<B: HistoryId, R: Wait>(
             && insertion.as_str() == "no read"
             && size.as_str() == "1"
             && listed.as_str() == "[{1,a}];badarg;no read;1;"
+            && over.as_str() == "[{1,a}];1;1 stays"
             && late.as_str() == "no process",
     )
 }
@@ -100,7 +124,7 @@ fn is_served<B: HistoryId, R: Wait>(
     requires limits { limits ≡ B.limits }
 {
     let (pids, seat, _other) = two_seats(alloc)?;
-    let server = Server::<B, Fnv>::new(alloc, history, limits, Fnv);
+    let server = Server::<B, Fnv>::new(alloc, history, limits, Fnv)?;
     let mut caller = server.client(rt, pids.draw(seat)).map_err(|_| "a caller")?;
     is_read(rt, alloc, &server, &mut caller)
 }

@@ -3,7 +3,7 @@ ghost use Rattle.std.specs.Prelude.{◌≡◌};
 ghost use Rattle.std.specs.Thread.{IsSync};
 
 use super::{call, limits, two_seats};
-use ets_term::{Fnv, Integer, KeyHash, Term};
+use ets_term::{Fnv, KeyHash, Term};
 use node_core::{Call, Limits, Reply};
 use node_shared::{Caller, Drawn, HistoryId, JoinFault, NewHistory, Server};
 use std::alloc::Global;
@@ -128,7 +128,7 @@ fn is_served<B: HistoryId, R: Wait>(
     is_asked(
         rt,
         alloc,
-        &Server::<B, Fnv>::new(alloc, history, limits, Fnv),
+        &Server::<B, Fnv>::new(alloc, history, limits, Fnv)?,
         drawn,
     )
 }
@@ -154,7 +154,7 @@ fn two_callers<B: HistoryId, R: Wait>(
     Ok((one, other))
 }
 
-/// Fifty insertions, of keys from this one on.
+/// Fifty insertions, of keys from this one on, and then a call for the number of objects.
 fn insertions(alloc: Global, first: u32) -> Result<Vec<Call>, Fail> {
     let mut calls = Vec::new(alloc);
     for number in 0..50u32 {
@@ -162,23 +162,28 @@ fn insertions(alloc: Global, first: u32) -> Result<Vec<Call>, Fail> {
         let object = format!(in alloc; "[t,{{{key}}}]")?;
         calls.push(call(alloc, "insert", object.as_str())?)?;
     }
+    calls.push(call(alloc, "info", "[t,size]")?)?;
     Ok(calls)
 }
 
-/// The caller, once it has asked all these calls.
+/// Asks all these calls, and returns the number that the last reply is; 0 for any other reply.
 fn ask_all<B: HistoryId, H: KeyHash + Copy + Drop, R: Wait>(
     rt: &R,
     server: &Server<B, H>,
     mut caller: Caller<B>,
     calls: Vec<Call>,
-) -> Option<Caller<B>> {
+) -> u64 {
+    let mut last = 0;
     for call in calls {
-        caller.ask(rt, server, call).ok()?;
+        last = match caller.ask(rt, server, call) {
+            Ok(Reply::Value(Term::Int(number))) => u64::try_from(number).unwrap_or(0),
+            _ => 0,
+        };
     }
-    Some(caller)
+    last
 }
 
-/// Two callers ask at once, each in a thread of its own.
+/// Two callers ask at once, each in a thread of its own. Returns the greater of the numbers that they end with.
 fn both_ask<
     B: HistoryId + Send + Sync,
     H: KeyHash + Copy + Drop + Send + Sync,
@@ -188,36 +193,31 @@ fn both_ask<
     server: &Server<B, H>,
     one: (Caller<B>, Vec<Call>),
     other: (Caller<B>, Vec<Call>),
-) -> (Option<Caller<B>>, Option<Caller<B>>) {
+) -> u64 {
     let (one, calls) = one;
     let (other, others) = other;
     let (one_caller, other_caller) = thread::join(
         rt,
-        move || -> Option<Caller<B>>
+        move || -> u64
             requires { IsSync R.row }
         { ask_all(rt, server, one, calls) },
-        move || -> Option<Caller<B>>
+        move || -> u64
             requires { IsSync R.row }
         { ask_all(rt, server, other, others) },
     );
-    (one_caller, other_caller)
+    one_caller.max(other_caller)
 }
 
-/// How many objects there are once two callers have inserted fifty each.
+/// The number of objects that the later of two callers finds, once both have inserted fifty each.
 fn objects_of_both<B: HistoryId + Send + Sync, R: Threads + Wait + Sync>(
     rt: &R,
     alloc: Global,
     server: &Server<B, Fnv>,
-) -> Result<Option<Integer>, Fail> {
+) -> Result<u64, Fail> {
     let (mut one, other) = two_callers(rt, alloc, server)?;
     let _name = one.ask(rt, server, call(alloc, "new", "[t,[named_table,public]]")?)?;
     let calls = (insertions(alloc, 0)?, insertions(alloc, 50)?);
-    let (one, _other) = both_ask(rt, server, (one, calls.0), (other, calls.1));
-    let mut one = one.ok_or("a caller")?;
-    match one.ask(rt, server, call(alloc, "info", "[t,size]")?)? {
-        Reply::Value(Term::Int(objects)) => Ok(Some(objects)),
-        _ => Ok(None),
-    }
+    Ok(both_ask(rt, server, (one, calls.0), (other, calls.1)))
 }
 
 fn is_shared<B: HistoryId + Send + Sync, R: Threads + Wait + Sync>(
@@ -225,14 +225,14 @@ fn is_shared<B: HistoryId + Send + Sync, R: Threads + Wait + Sync>(
     alloc: Global,
     history: NewHistory,
     limits: Limits,
-) -> Result<Option<Integer>, Fail>
+) -> Result<u64, Fail>
     requires table { history.word.shared.table_id ≡ B.table }
     requires limits { limits ≡ B.limits }
 {
     objects_of_both(
         rt,
         alloc,
-        &Server::<B, Fnv>::new(alloc, history, limits, Fnv),
+        &Server::<B, Fnv>::new(alloc, history, limits, Fnv)?,
     )
 }
 
@@ -240,6 +240,6 @@ fn is_shared<B: HistoryId + Send + Sync, R: Threads + Wait + Sync>(
 fn two_callers_insert_at_once(rt: HostRuntime) -> Result<(), Fail> {
     let history = NewHistory::new(rt.alloc())?;
     let objects = is_shared::<Brand, _>(&rt, rt.alloc(), history, limits(2))?;
-    assert_eq!(rt; objects, Some(100));
+    assert_eq!(rt; objects, 100);
     Ok(())
 }

@@ -207,7 +207,7 @@ fn is_served<B: HistoryId + Send + Sync, R: Threads + Wait + Sync>(
     requires table { history.word.shared.table_id ≡ B.table }
     requires limits { limits ≡ B.limits }
 {
-    let server = Server::<B, Fnv>::new(alloc, history, limits, Fnv);
+    let server = Server::<B, Fnv>::new(alloc, history, limits, Fnv)?;
     let teams = teams(rt, alloc, &server)?;
     Ok(count_right(rt, &server, teams) == 6)
 }
