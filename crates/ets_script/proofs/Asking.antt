@@ -8,13 +8,20 @@ use Rattle.ets_script.specs.Script.{ScriptState, pid_of, Executes, Steps, StepsO
 use Rattle.ets_script.specs.declared.answer.Answer.{Answer}
 use Rattle.ets_script.specs.declared.answer.Answer.TheVariants.{NoMemory}
 
-pub execute-ask-pending : (old new after : ScriptState) (said : Command) (name word : List ℕ) (terms : List Term) (p : ℕ) (call : Call) (answer : Answer)
+asked : (old new after : ScriptState) (said : Command) (name word : List ℕ) (terms : List Term) (p : ℕ) (call : Call) (answer : Answer)
     → said ≡ ask name word terms → pid_of old name ≡ Some p → call ≡ record { name = word; args = terms } → after ≡ new
     → Steps old (Ask p call) answer new ⊎ Unchanged old NoMemory answer new
     → Executes said old answer after ⊎ Unchanged old NoMemory answer after
-execute-ask-pending old new after said name word terms p call answer is found made same (inl did) =
+asked old new after said name word terms p call answer is found made same (inl did) =
     let asks = subst (λ (c : Call). Steps old (Ask p c) answer new) made did in
     let of_name = subst (λ (o : Option ℕ). StepsOf o (λ q. Ask q (record { name = word; args = terms })) old answer new) (sym found) asks in
     let obeys = subst (λ (c : Command). Executes c old answer new) (sym is) of_name in
     inl (subst (λ (s : ScriptState). Executes said old answer s) (sym same) obeys)
-execute-ask-pending old new after said name word terms p call answer is found made same (inr kept) = inr (subst (λ (s : ScriptState). Unchanged old NoMemory answer s) (sym same) kept)
+asked old new after said name word terms p call answer is found made same (inr kept) = inr (subst (λ (s : ScriptState). Unchanged old NoMemory answer s) (sym same) kept)
+
+pub execute-ask-pending : (old mid new after : ScriptState) (said : Command) (name word : List ℕ) (terms : List Term) (p : ℕ) (call : Call) (answer : Answer)
+    → said ≡ ask name word terms → pid_of old name ≡ Some p → call ≡ record { name = word; args = terms } → after ≡ new
+    → mid ≡ old → Steps mid (Ask p call) answer new ⊎ Unchanged mid NoMemory answer new
+    → Executes said old answer after ⊎ Unchanged old NoMemory answer after
+execute-ask-pending old mid new after said name word terms p call answer is found made same held did =
+    asked old new after said name word terms p call answer is found made same (subst (λ (s : ScriptState). Steps s (Ask p call) answer new ⊎ Unchanged s NoMemory answer new) held did)

@@ -5,9 +5,12 @@ mod AnsweredLines
 mod Progress
 mod ScriptEnds
 mod Places
+mod Recent
 mod Enrolments
 mod Words
+mod NamePrefixes
 mod PrintableLines
+mod PrintedTrue
 mod Arguments
 mod LineForms
 mod Fronts

@@ -1,9 +1,11 @@
 //! The answer to a line, and how it is printed.
-ghost use Rattle.std.specs.Prelude.{◌++◌, OnOk, OnErr, codes};
+ghost use Rattle.std.specs.Prelude.{◌≡◌, ◌++◌, true, OnOk, OnErr, codes};
+ghost use Rattle.term_text.specs.Printed as text;
 ghost use Rattle.ets_script.specs.Replies.{printed, reply_text};
 ghost use Rattle.ets_script.specs.inside.Output.{Prints, Fails, HasWriterOf};
 
 use crate::output::{Output, WriteFault};
+use ets_term::Term;
 use itoa::Buffer;
 use node_core::Reply;
 use std::io::Write;
@@ -50,10 +52,25 @@ pub fn print_reply<W: Write>(reply: &Reply, output: &mut Output<'_, W>) -> Resul
         (reply_text reply.now ++ codes "\n")) }
 {
     match reply {
+        Reply::Value(term) if is_true(term) => output.add(b"true\n"),
         Reply::Value(term) => output.add_term(term),
         Reply::Badarg => output.add(b"** badarg\n"),
         Reply::SystemLimit => output.add(b"** system_limit\n"),
         Reply::NoProcess => output.add(b"** noproc\n"),
+    }
+}
+
+/// Returns whether the term is `true`, the reply to most calls.
+#[inline(always)]
+fn is_true(term: &Term) -> bool
+    ensures { result ≡ true → text.printed term.now ≡ codes "true" }
+{
+    match term {
+        Term::Atom(name) => {
+            let known: &[u8] = b"true";
+            name.text().as_bytes() == known
+        }
+        _ => false,
     }
 }
 

@@ -11,9 +11,25 @@ fn is_printable(byte: u8) -> bool
     byte == b'\t' || is_character_byte(byte)
 }
 
-/// Returns whether all of these are clean. Nearly all lines are, and a scan without an early exit handles many bytes at
-/// once.
+/// The number of bytes that are checked at once.
+const GROUP: usize = 8;
+
+/// Returns whether all of these are clean. Nearly all lines are. Groups of bytes are checked at once, and the last group
+/// may overlap the one before.
 fn are_printable(text: &[u8]) -> bool
+    ensures { result ≡ list_all spec.is_printable text.now }
+{
+    if text.len() < GROUP {
+        return are_each_printable(text);
+    }
+    let (groups, _) = text.split_at(text.len() / GROUP * GROUP);
+    let (_, last) = text.split_at(text.len() - GROUP);
+    are_each_printable(groups) && are_each_printable(last)
+}
+
+/// Returns whether each of these is clean. A scan without an early exit handles many bytes at once.
+#[inline(always)]
+fn are_each_printable(text: &[u8]) -> bool
     ensures { result ≡ list_all spec.is_printable text.now }
 {
     let mut are = true;

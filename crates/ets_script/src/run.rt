@@ -3,10 +3,9 @@ ghost use Rattle.std.specs.Prelude.{◌≡◌, [], false, IfOk, IfErr, OnOk, OnE
 ghost use Rattle.node_core.specs.Observable.{observable};
 ghost use Rattle.ets_script.specs.Flows.{both_flows, flow, flows};
 ghost use Rattle.ets_script.specs.Numbers.{AreTheNumbers};
-ghost use Rattle.ets_script.specs.Replies.{printed};
 ghost use Rattle.ets_script.specs.Script.{at_start};
 ghost use Rattle.ets_script.specs.Stops.{Completes, LeavesNode, Stops};
-ghost use Rattle.ets_script.specs.inside.Output.{Prints, Fails, HasWriterOf, buffered_text, writer_flow};
+ghost use Rattle.ets_script.specs.inside.Output.{HasWriterOf, buffered_text, writer_flow};
 ghost use Rattle.ets_script.specs.inside.Answered.{AnswersNext, AnswersPart, EndsAll, BreaksAtEnd};
 
 use crate::answer::Answer;
@@ -130,8 +129,9 @@ fn answer_all<R: Read, W: Write, H: KeyHash + Copy + Drop, L: Observer>(
         (both_flows (flow R.remaining reader.old reader.new)
         (writer_flow W.contents output.old output.new))) }
 {
+    let mut answer = Answer::Silent;
     loop {
-        let Some(next) = answer_next(buffer, script, observer) else {
+        let Some(taken) = answer_next(buffer, script, observer, &mut answer) else {
             output.flush()?;
             observer.flush();
             buffer.skip_long();
@@ -141,48 +141,32 @@ fn answer_all<R: Read, W: Write, H: KeyHash + Copy + Drop, L: Observer>(
             }
             continue;
         };
-        print_line(&next, output)?;
-        buffer.consume(next.taken);
-        script.reuse(next.answer);
+        answer.print(output)?;
+        buffer.consume(taken);
     }
 }
 
-/// The answer to a line, and the number of buffered bytes that the line takes.
-#[derive(Drop)]
-struct AnsweredLine {
-    answer: Answer,
-    taken: usize,
-}
-
-/// Prints the answer to a line.
-#[inline(always)]
-fn print_line<W: Write>(line: &AnsweredLine, output: &mut Output<'_, W>) -> Result<(), WriteFault>
-    ensures same_writer { HasWriterOf output.old output.new }
-    ensures ok { OnOk result (Prints W.contents output.old output.new (printed line.now.answer)) }
-    ensures err { OnErr result (Fails W.contents output.old output.new (printed line.now.answer)) }
-{
-    line.answer.print(output)
-}
-
-/// Answers the next line, if its end is buffered.
+/// Answers the next line, if its end is buffered, and returns the number of buffered bytes that it takes. The answer is
+/// written over another.
 fn answer_next<H: KeyHash + Copy + Drop, L: Observer>(
     buffer: &LineBuffer,
     script: &mut Script<H>,
     observer: &mut L,
-) -> Option<AnsweredLine>
-    ensures { AnswersNext buffer.now script.old script.new result }
+    answer: &mut Answer,
+) -> Option<usize>
+    ensures { AnswersNext buffer.now script.old script.new answer.new result }
 {
     match buffer.next_line() {
         NextLine::Text { text, taken } => {
             let line = &buffer.bytes()[..text];
-            let answer = script.answer(line);
-            observer.line_answered(script, line, &answer);
-            Some(AnsweredLine { answer, taken })
+            script.answer(line, answer);
+            observer.line_answered(script, line, answer);
+            Some(taken)
         }
         NextLine::TooLong { taken } => {
-            let answer = Answer::TooLong;
-            observer.line_answered(script, &[], &answer);
-            Some(AnsweredLine { answer, taken })
+            *answer = Answer::TooLong;
+            observer.line_answered(script, &[], answer);
+            Some(taken)
         }
         NextLine::NeedsMore => None,
     }
@@ -201,9 +185,9 @@ fn answer_last<W: Write, H: KeyHash + Copy + Drop, L: Observer>(
     ensures err { OnErr result (BreaksAtEnd buffer.now script.old script.new
         (buffered_text output.old) (writer_flow W.contents output.old output.new)) }
 {
-    let answer = answer_part(buffer, script);
-    observer.line_answered(script, buffer.bytes(), &answer);
-    answer.print(output)?;
+    let last = answer_part(buffer, script);
+    observer.line_answered(script, buffer.bytes(), &last);
+    last.print(output)?;
     output.flush()
 }
 
@@ -214,5 +198,7 @@ fn answer_part<H: KeyHash + Copy + Drop>(buffer: &LineBuffer, script: &mut Scrip
     if buffer.is_skipping() {
         return Answer::TooLong;
     }
-    script.answer(buffer.bytes())
+    let mut answer = Answer::Silent;
+    script.answer(buffer.bytes(), &mut answer);
+    answer
 }

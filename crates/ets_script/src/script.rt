@@ -1,6 +1,7 @@
 //! A script: the names that it spawned, and its node.
-ghost use Rattle.std.specs.Prelude.{◌≡◌, ◌≤◌, ◌<◌, ◌+◌, ◌-◌, ◌^◌, ◌⊎◌, false, length, map, min, vec_items};
+ghost use Rattle.std.specs.Prelude.{◌≡◌, ◌≤◌, ◌<◌, ◌+◌, ◌-◌, ◌^◌, ◌⊎◌, false, length, map, min, vec_items, Some, IfSome};
 ghost use Rattle.node_core.specs.Observable.{observable};
+ghost use Rattle.ets_script.specs.Commands as spec;
 ghost use Rattle.ets_script.specs.Lines.{text};
 ghost use Rattle.ets_script.specs.declared.answer.Answer.TheVariants.{NoMemory};
 ghost use Rattle.ets_script.specs.inside.Parsing.{command_view};
@@ -16,14 +17,14 @@ use indexmap::IndexSet;
 use node_core::{Call, Limits, Node, Reply, Step};
 use std::alloc::{AllocError, Global};
 use std::marker::Model;
-use std::mem;
 
-/// The names that were spawned, in order, and the node. The memory of an earlier reply is used for the next one.
+/// The names that were spawned, in order, and the node.
 #[derive(Drop)]
 pub struct Script<H: KeyHash + Copy + Drop> {
     names: IndexSet<Vec<u8>>,
     node: Node<H>,
-    spare: Reply,
+    /// The process of the call before.
+    recent: u32,
 }
 
 impl<H: KeyHash + Copy + Drop> Model for Script<H> {
@@ -50,7 +51,7 @@ impl<H: KeyHash + Copy + Drop> Script<H> {
         Script {
             names: IndexSet::new(alloc),
             node: Node::new(alloc, limits, hasher),
-            spare: Reply::NoProcess,
+            recent: 0,
         }
     }
 
@@ -71,49 +72,73 @@ impl<H: KeyHash + Copy + Drop> Script<H> {
         *self.names.allocator()
     }
 
-    /// Executes a line.
-    pub fn answer(&mut self, line: &[u8]) -> Answer
-        ensures { AnswersLine self.old (text line.now) result self.new }
+    /// Executes a line. Its answer is written over an earlier one, and uses that one's memory again.
+    pub fn answer(&mut self, line: &[u8], answer: &mut Answer)
+        ensures { AnswersLine self.old (text line.now) answer.new self.new }
     {
         if is_silent(line) {
-            return Answer::Silent;
+            *answer = Answer::Silent;
+            return;
         }
         let alloc = self.allocator();
         match read_command(alloc, line) {
-            Ok(command) => self.execute(alloc, command),
-            Err(_) => Answer::NoMemory,
+            Ok(command) => self.execute(alloc, command, answer),
+            Err(_) => *answer = Answer::NoMemory,
         }
     }
 
     /// Executes a command.
-    fn execute(&mut self, alloc: Global, command: Command<'_>) -> Answer
-        ensures { Executes (command_view command.entry) self.old result self.new
-            ⊎ Unchanged self.old NoMemory result self.new }
+    #[inline(always)]
+    fn execute(&mut self, alloc: Global, command: Command<'_>, answer: &mut Answer)
+        ensures { Executes (command_view command.entry) self.old answer.new self.new
+            ⊎ Unchanged self.old NoMemory answer.new self.new }
     {
         match command {
-            Command::Faulty(at) => Answer::Syntax(at),
-            Command::Spawn(name) => self.spawn(alloc, name),
-            Command::Exit(name) => match self.pid(name) {
-                Some(pid) => self.step(&Step::End(pid)),
-                None => Answer::Replied(Reply::NoProcess),
-            },
-            Command::Ask(name, word, terms) => match self.pid(name) {
+            Command::Faulty(at) => *answer = Answer::Syntax(at),
+            Command::Spawn(name) => *answer = self.spawn(alloc, name),
+            Command::Exit(name) => self.exit(name, answer),
+            Command::Ask(name, word, terms) => match self.caller(name) {
                 Some(pid) => {
-                    let answer = self.step(&Step::Ask(pid, Call::new(word, terms.into_vec())));
+                    self.step(&Step::Ask(pid, Call::new(word, terms.into_vec())), answer);
                     self.tend();
-                    answer
                 }
-                None => Answer::Replied(Reply::NoProcess),
+                None => *answer = Answer::Replied(Reply::NoProcess),
             },
-            Command::Grow(table) => {
-                let table = self.table(&table);
-                self.step(&Step::Grow(table))
-            }
-            Command::Ready(table, bucket) => {
-                let table = self.table(&table);
-                self.step(&Step::Ready(table, bucket))
-            }
+            Command::Grow(table) => self.grow(&table, answer),
+            Command::Ready(table, bucket) => self.ready(&table, bucket, answer),
         }
+    }
+
+    /// Ends the process of a name.
+    #[inline(never)]
+    fn exit(&mut self, name: &[u8], answer: &mut Answer)
+        ensures { Executes (spec.exit name.now) self.old answer.new self.new
+            ⊎ Unchanged self.old NoMemory answer.new self.new }
+    {
+        match self.pid(name) {
+            Some(pid) => self.step(&Step::End(pid), answer),
+            None => *answer = Answer::Replied(Reply::NoProcess),
+        }
+    }
+
+    /// Grows the table that a term names.
+    #[inline(never)]
+    fn grow(&mut self, table: &Term, answer: &mut Answer)
+        ensures { Executes (spec.grow table.now) self.old answer.new self.new
+            ⊎ Unchanged self.old NoMemory answer.new self.new }
+    {
+        let table = self.table(table);
+        self.step(&Step::Grow(table), answer);
+    }
+
+    /// Readies a bucket of the table that a term names.
+    #[inline(never)]
+    fn ready(&mut self, table: &Term, bucket: u32, answer: &mut Answer)
+        ensures { Executes (spec.ready table.now bucket) self.old answer.new self.new
+            ⊎ Unchanged self.old NoMemory answer.new self.new }
+    {
+        let table = self.table(table);
+        self.step(&Step::Ready(table, bucket), answer);
     }
 
     /// Returns the process of a name.
@@ -123,6 +148,35 @@ impl<H: KeyHash + Copy + Drop> Script<H> {
         match self.names.get_index_of(name) {
             Some(place) => Some(place as u32),
             None => None,
+        }
+    }
+
+    /// Returns the process of a name that makes a call. Most calls are of the process of the call before.
+    #[inline(always)]
+    fn caller(&mut self, name: &[u8]) -> Option<u32>
+        ensures pid { result ≡ pid_of self.old name.now }
+        ensures same { self.new ≡ self.old }
+    {
+        if let Some(pid) = self.recent(name) {
+            return Some(pid);
+        }
+        let pid = self.pid(name);
+        if let Some(number) = pid {
+            self.recent = number;
+        }
+        pid
+    }
+
+    /// Returns the process of the call before, if this is its name.
+    #[inline(always)]
+    fn recent(&self, name: &[u8]) -> Option<u32>
+        ensures { IfSome result (λ p. pid_of self.now name.now ≡ Some p) }
+    {
+        // The clause of `len` says that names differ.
+        let _count = self.names.len();
+        match self.names.get_index(self.recent as usize) {
+            Some(known) if name == known.as_slice() => Some(self.recent),
+            _ => None,
         }
     }
 
@@ -143,25 +197,32 @@ impl<H: KeyHash + Copy + Drop> Script<H> {
         }
     }
 
-    /// Runs a step of the node.
-    fn step(&mut self, step: &Step) -> Answer
-        ensures { Steps self.old step.now result self.new
-            ⊎ Unchanged self.old NoMemory result self.new }
+    /// Runs a step of the node. The reply uses the memory of the one before.
+    fn step(&mut self, step: &Step, answer: &mut Answer)
+        ensures { Steps self.old step.now answer.new self.new
+            ⊎ Unchanged self.old NoMemory answer.new self.new }
     {
-        let mut reply = mem::replace(&mut self.spare, Reply::NoProcess);
-        match self.node.step_into(step, &mut reply) {
-            Ok(()) => Answer::Replied(reply),
-            Err(_) => Answer::NoMemory,
+        let done = match answer {
+            Answer::Replied(reply) => self.node.step_into(step, reply),
+            _ => {
+                *answer = self.step_anew(step);
+                return;
+            }
+        };
+        if done.is_err() {
+            *answer = Answer::NoMemory;
         }
     }
 
-    /// Takes an answer back. The next reply uses its memory.
-    pub fn reuse(&mut self, answer: Answer)
-        ensures { self.new ≡ self.old }
+    /// Runs a step of the node after an answer that is no reply.
+    #[inline(never)]
+    fn step_anew(&mut self, step: &Step) -> Answer
+        ensures { Steps self.old step.now result self.new
+            ⊎ Unchanged self.old NoMemory result self.new }
     {
-        match answer {
-            Answer::Replied(reply) => self.spare = reply,
-            _ => {}
+        match self.node.step(step) {
+            Ok(reply) => Answer::Replied(reply),
+            Err(_) => Answer::NoMemory,
         }
     }
 
@@ -175,6 +236,7 @@ impl<H: KeyHash + Copy + Drop> Script<H> {
     }
 
     /// Enrols the next number for a name. Reserves capacity for the name first.
+    #[inline(never)]
     fn spawn(&mut self, alloc: Global, name: &[u8]) -> Answer
         ensures { Spawns (pid_of self.old name.now) self.old name.now result self.new
             ⊎ Unchanged self.old NoMemory result self.new }

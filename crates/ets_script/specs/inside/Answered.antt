@@ -8,20 +8,19 @@ use Rattle.ets_script.specs.Script.{ScriptState, AnswersLine}
 use Rattle.ets_script.specs.inside.LineBuffers.{LineBufferState, EndsLine}
 use Rattle.ets_script.specs.inside.Output.{Breaks}
 use Rattle.ets_script.specs.declared.answer.Answer.{Answer}
-use Rattle.ets_script.specs.declared.run.AnsweredLine.{AnsweredLine}
 
 -- the bytes held begin with a line, and this is its answer
-pub record AnswersHeld (h : LineBufferState) (old new : ScriptState) (next : AnsweredLine) : Type 0 where
+pub record AnswersHeld (h : LineBufferState) (old new : ScriptState) (answer : Answer) (taken : ℕ) : Type 0 where
   pub line : Line
-  pub some : 0 < next.taken
-  pub within : next.taken ≤ length h.bytes
-  pub ends : EndsLine h.bytes h.is_skipping next.taken line
-  pub answers : AnswersLine old line next.answer new
+  pub some : 0 < taken
+  pub within : taken ≤ length h.bytes
+  pub ends : EndsLine h.bytes h.is_skipping taken line
+  pub answers : AnswersLine old line answer new
 
 -- the next line and its answer, or the bytes held have no LF
-abbrev pub AnswersNext : LineBufferState → ScriptState → ScriptState → Option AnsweredLine → Type 0
-AnswersNext h old new (Some next) = AnswersHeld h old new next
-AnswersNext h old new None = IsOneLine h.bytes × (new ≡ old)
+abbrev pub AnswersNext : LineBufferState → ScriptState → ScriptState → Answer → Option ℕ → Type 0
+AnswersNext h old new answer (Some taken) = AnswersHeld h old new answer taken
+AnswersNext h old new answer None = IsOneLine h.bytes × (new ≡ old)
 
 -- what is held is answered as a line that ends with the input; an empty one prints nothing
 abbrev pub AnswersPart : Bool → ScriptState → List ℕ → Answer → ScriptState → Type 0

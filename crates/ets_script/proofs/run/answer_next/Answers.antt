@@ -9,7 +9,7 @@ returns-in-Text g c = record {
   some = c.in-Text.ensures.0;
   within = c.in-Text.ensures.1;
   ends = c.in-Text.ensures.3;
-  answers = subst (λ (l : List ℕ). AnswersLine c.args.script.now (text (take c.in-Text.text l)) c.answer-answer.result c.answer-answer.new.self) c.bytes.ensures c.answer-answer.ensures;
+  answers = subst (λ (l : List ℕ). AnswersLine c.args.script.now (text (take c.in-Text.text l)) c.answer.new.answer c.answer.new.self) c.bytes.ensures c.answer.ensures;
 }
 
 pub returns-in-TooLong : goal.returns-in-TooLong
