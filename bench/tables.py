@@ -41,6 +41,7 @@ CROWD = {
 }
 READERS = {
     ("server-reads", "mixture"): "Server",
+    ("server-lists", "mixture"): "Server, lists of 16",
     ("Mutex<HashMap>,copies", "reads"): "Mutex<HashMap>",
     ("RwLock<HashMap>", "reads"): "RwLock<HashMap>",
     ("sharded", "reads"): "16 of RwLock<HashMap>",
@@ -121,7 +122,7 @@ def clients(quick: bool, programs: Programs) -> list[list[str]]:
 def readers(quick: bool, programs: Programs) -> list[list[str]]:
     """Threads that read one node: nanoseconds a call of all together."""
     calls, turns = (20_000, 1) if quick else (200_000, 3)
-    found = by_threads(["reads"], calls, turns, programs)
+    found = by_threads(["reads", "lists"], calls, turns, programs)
     rows = crowd_rows(f"{calls:,} lookups each, ns", READERS, found)
     first, last = found[CLIENTS[0]], found[CLIENTS[-1]]
     return rows + [[f"calls a second of {CLIENTS[-1]} threads to those of 1", *(ratio(first.get(key), last.get(key)) for key in READERS)]]

@@ -1,6 +1,7 @@
 -- The thread of a server's caller takes with it what may go to another thread.
 use denote.RattleType.{RattleType}
 use denote.Param.Send.{IsSend, IsSync, sendable, shr_send}
+use denote.Builtin.{usize}
 use denote.Ref.{ShrRef}
 use denote.Struct.Tuple.{TupleAt}
 use base.Fml.{Lft}
@@ -20,13 +21,16 @@ use Rattle.node_shared.specs.contracts.server.Server as Server
 use Rattle.node_shared.proofs.Sent.{captures_send}
 use Rattle.node_shared.proofs.SentServers.{caller_send, server_sync}
 
+hold_send : IsSend usize
+hold_send = search sendable
+
 call_send : IsSend Call.the_row
 call_send = search (crosses, terms.crosses, sendable) depth 60 fits 20000
 
 module _ (a b : Lifetime) (α β : Lft) (B H R : RattleType) (l : HistoryId.Ghosts B.Denot) (k : KeyHash.Ghosts H.Denot) (c : Clone.Ghosts H.Denot) where
-  -- a caller with its calls
+  -- a caller with its calls, and how many it makes under one hold
   abbrev Turn : RattleType
-  Turn = TupleAt (40 ∷ 44 ∷ 41 ∷ []) (Caller.the_row B l ∷ Vec.the_row Call.the_row Global.the_row ghosts ∷ [])
+  Turn = TupleAt (40 ∷ 44 ∷ 44 ∷ 41 ∷ []) (Caller.the_row B l ∷ Vec.the_row Call.the_row Global.the_row ghosts ∷ usize ∷ [])
 
   abbrev pub Taken : List RattleType
   Taken = ShrRef a α R ∷ ShrRef b β (Server.the_row B H l k c) ∷ Vec.the_row Turn Global.the_row ghosts ∷ []
@@ -37,6 +41,6 @@ module _ (a b : Lifetime) (α β : Lft) (B H R : RattleType) (l : HistoryId.Ghos
         shr_send a α R runs,
         (
           shr_send b β (Server.the_row B H l k c) (server_sync B l room H k c hash rooms hashes),
-          (Vec-send Turn (captures_send (40 ∷ 44 ∷ 41 ∷ []) (Caller.the_row B l ∷ Vec.the_row Call.the_row Global.the_row ghosts ∷ []) (caller_send B l room, (Vec-send Call.the_row call_send, tt))), tt),
+          (Vec-send Turn (captures_send (40 ∷ 44 ∷ 44 ∷ 41 ∷ []) (Caller.the_row B l ∷ Vec.the_row Call.the_row Global.the_row ghosts ∷ usize ∷ []) (caller_send B l room, (Vec-send Call.the_row call_send, (hold_send, tt)))), tt),
         ),
       )

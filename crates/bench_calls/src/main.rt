@@ -1,5 +1,5 @@
 //! Times whole calls of a node, of one caller and of clients in threads, and prints lines of WHO OPERATION FIGURE:
-//! bench_calls times|into|walks|alone|clients|server|reads|check COUNT CALLS.
+//! bench_calls times|into|walks|alone|clients|server|reads|lists|check COUNT CALLS.
 #![tactic(auto)]
 
 mod calls;
@@ -24,7 +24,7 @@ use std::{env, io};
 /// What is taken where no number is given.
 const COUNT: u32 = 1_000;
 
-/// Does one part of the measuring: `clients`, `server` and `reads` with a number of threads, each with a number of calls;
+/// Does one part of the measuring: `clients`, `server`, `reads` and `lists` with a number of threads, each with a number of calls;
 /// the others with a number of objects or calls.
 fn run<R: Print + Alloc<A = Global> + Clock + Threads + Wait + Sync>(
     rt: &R,
@@ -40,6 +40,7 @@ fn run<R: Print + Alloc<A = Global> + Clock + Threads + Wait + Sync>(
         "clients" => time_crowd(rt, count.max(1), calls),
         "server" => time_servers(rt, Load::Mixture, count.max(1), calls),
         "reads" => time_servers(rt, Load::Reads, count.max(1), calls),
+        "lists" => time_servers(rt, Load::Lists, count.max(1), calls),
         _ => check(rt, count),
     }
 }

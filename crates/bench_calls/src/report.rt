@@ -152,7 +152,7 @@ pub(crate) fn time_servers<R: Print + Alloc<A = Global> + Clock + Threads + Wait
 {
     let outcome = serve(rt, load, callers, calls)?;
     match load {
-        Load::Reads => outcome.show_lookups(rt, load.name(), callers, calls),
+        Load::Reads | Load::Lists => outcome.show_lookups(rt, load.name(), callers, calls),
         Load::Mixture => outcome.show(rt, load.name(), callers, calls),
     }
 }
@@ -173,7 +173,11 @@ pub(crate) fn check<R: Print + Alloc<A = Global> + Clock + Threads + Wait + Sync
     println!(rt; "clients found {}", outcome.found)?;
     let mixed = serve(rt, Load::Mixture, CLIENTS, count)?;
     let read = serve(rt, Load::Reads, CLIENTS, count)?;
-    println!(rt; "callers found {} and {}", mixed.found, read.found)
+    let listed = serve(rt, Load::Lists, CLIENTS, count)?;
+    println!(rt;
+        "callers found {}, {} and {}",
+        mixed.found, read.found, listed.found
+    )
 }
 
 fn check_phases(rt: &(impl Print + Alloc<A = Global>), way: Way, count: u32) -> io::Result<()> {

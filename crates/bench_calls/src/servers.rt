@@ -1,4 +1,4 @@
-//! Callers of one server, each in a thread of its own: lookups in parallel, or nine lookups to an insertion.
+//! Callers of one server, each in a thread of its own: lookups one by one or in lists, or nine lookups to an insertion.
 ghost use Rattle.std.specs.Prelude.{◌≡◌, ◌<◌, All, vec_len};
 ghost use Rattle.std.specs.Thread.{IsSync};
 
@@ -17,10 +17,14 @@ use std::thread::Threads;
 use std::time::Instant;
 use std::{io, thread};
 
-/// The calls of each caller: lookups alone, or the mixture.
+/// The number of lookups of a list.
+const LIST: usize = 16;
+
+/// The calls of each caller: lookups alone, lookups in lists, or the mixture.
 #[derive(Clone, Copy)]
 pub(crate) enum Load {
     Reads,
+    Lists,
     Mixture,
 }
 
@@ -29,13 +33,22 @@ impl Load {
     pub(crate) fn name(self) -> &'static str {
         match self {
             Load::Reads => "server-reads",
+            Load::Lists => "server-lists",
             Load::Mixture => "server",
+        }
+    }
+
+    /// Returns how many calls a caller makes under one hold of the lock.
+    fn hold(self) -> usize {
+        match self {
+            Load::Lists => LIST,
+            Load::Reads | Load::Mixture => 1,
         }
     }
 
     fn calls(self, alloc: Global, calls: u32) -> Result<Vec<Call>, AllocError> {
         match self {
-            Load::Reads => lookups(alloc, calls),
+            Load::Reads | Load::Lists => lookups(alloc, calls),
             Load::Mixture => mixture(alloc, calls, 1),
         }
     }
@@ -78,7 +91,7 @@ fn serve_limited<B: HistoryId + Send + Sync, R: Alloc<A = Global> + Clock + Thre
     requires some { 0 < limits.processes }
 {
     let callers = limits.processes;
-    let server = Server::<B, Fnv>::new(rt.alloc(), history, limits, Fnv);
+    let server = Server::<B, Fnv>::new(rt.alloc(), history, limits, Fnv)?;
     call_together(rt, &server, load, callers, calls)
 }
 
@@ -99,7 +112,7 @@ fn call_together<B: HistoryId + Send + Sync, R: Alloc<A = Global> + Clock + Thre
     Ok(Outcome { nanoseconds, found })
 }
 
-/// Returns the callers with their calls, over a table that has all keys.
+/// Returns the callers with their calls and how many they make under one hold, over a table that has all keys.
 fn work<B: HistoryId, R: Wait>(
     rt: &R,
     alloc: Global,
@@ -107,7 +120,7 @@ fn work<B: HistoryId, R: Wait>(
     load: Load,
     callers: u32,
     calls: u32,
-) -> Result<Vec<(Caller<B>, Vec<Call>)>, AllocError>
+) -> Result<Vec<(Caller<B>, Vec<Call>, usize)>, AllocError>
     requires { 0 < callers }
 {
     let mut callers = join_callers(rt, alloc, server, callers)?;
@@ -117,7 +130,7 @@ fn work<B: HistoryId, R: Wait>(
     let mut work = Vec::new(alloc);
     for caller in callers {
         let calls = load.calls(alloc, calls)?;
-        work.push((caller, calls))?;
+        work.push((caller, calls, load.hold()))?;
     }
     Ok(work)
 }
@@ -183,10 +196,10 @@ fn call_all<
     B: HistoryId + Send + Sync,
     H: KeyHash + Copy + Drop + Send + Sync,
     R: Threads + Wait + Sync,
->(rt: &R, server: &Server<B, H>, mut work: Vec<(Caller<B>, Vec<Call>)>) -> u64 {
+>(rt: &R, server: &Server<B, H>, mut work: Vec<(Caller<B>, Vec<Call>, usize)>) -> u64 {
     if work.len() < 2 {
         return match work.pop() {
-            Some((mut caller, calls)) => call_each(rt, server, &mut caller, calls),
+            Some((mut caller, calls, hold)) => call_each(rt, server, &mut caller, &calls, hold),
             None => 0,
         };
     }
@@ -206,38 +219,66 @@ fn call_all<
     front_found.wrapping_add(back_found)
 }
 
-/// Makes the calls of one caller, each by `read` if it can be, and returns how many lookups found an object.
+/// Makes the calls of one caller, and returns how many lookups found an object; after a fault, none.
 fn call_each<B: HistoryId, H: KeyHash + Copy + Drop, R: Wait>(
     rt: &R,
     server: &Server<B, H>,
     caller: &mut Caller<B>,
-    calls: Vec<Call>,
+    calls: &Vec<Call>,
+    hold: usize,
 ) -> u64 {
+    let alloc = *calls.allocator();
+    let mut reply = Reply::NoProcess;
+    let found = if hold > 1 {
+        read_in_lists(rt, alloc, server, caller, calls.as_slice())
+    } else {
+        call_in_turn(rt, alloc, server, caller, calls.as_slice(), &mut reply)
+    };
+    drop(reply);
+    found.unwrap_or(0)
+}
+
+/// Makes calls one by one, each by `read_into` if it only reads, and returns how many lookups found an object.
+fn call_in_turn<B: HistoryId, H: KeyHash + Copy + Drop, R: Wait>(
+    rt: &R,
+    alloc: Global,
+    server: &Server<B, H>,
+    caller: &mut Caller<B>,
+    calls: &[Call],
+    reply: &mut Reply,
+) -> Result<u64, AllocError> {
     let mut found: u64 = 0;
     for call in calls {
-        if has_found_by(rt, server, caller, call) {
-            found = found.wrapping_add(1);
+        if !caller.read_into(rt, server, call, reply)? {
+            *reply = caller.ask(rt, server, call.try_clone(alloc)?)?;
+        }
+        found = found.wrapping_add(u64::from(has_found(reply)));
+    }
+    Ok(found)
+}
+
+/// Makes lookups in lists, and returns how many found an object.
+fn read_in_lists<B: HistoryId, H: KeyHash + Copy + Drop, R: Wait>(
+    rt: &R,
+    alloc: Global,
+    server: &Server<B, H>,
+    caller: &Caller<B>,
+    calls: &[Call],
+) -> Result<u64, AllocError> {
+    let mut found: u64 = 0;
+    for list in calls.chunks(LIST) {
+        let replies = caller.read_all(rt, alloc, server, list)?;
+        found = found.wrapping_add(count_found(&replies));
+    }
+    Ok(found)
+}
+
+fn count_found(replies: &Vec<Option<Reply>>) -> u64 {
+    let mut found: u64 = 0;
+    for reply in replies.as_slice() {
+        if let Some(reply) = reply {
+            found = found.wrapping_add(u64::from(has_found(reply)));
         }
     }
     found
-}
-
-fn has_found_by<B: HistoryId, H: KeyHash + Copy + Drop, R: Wait>(
-    rt: &R,
-    server: &Server<B, H>,
-    caller: &mut Caller<B>,
-    call: Call,
-) -> bool {
-    match caller.read(rt, server, &call) {
-        Ok(Some(reply)) => is_found(reply),
-        Ok(None) => match caller.ask(rt, server, call) {
-            Ok(reply) => is_found(reply),
-            Err(_) => false,
-        },
-        Err(_) => false,
-    }
-}
-
-fn is_found(reply: Reply) -> bool {
-    has_found(&reply)
 }
