@@ -34,8 +34,9 @@ pub record Unwritten (start : StoreState) (t : Traffic) : Type 0 where
 abbrev pub Completes : StoreState → Traffic → Type 0
 Completes start t = Answered start t [] × IsAtEnd t.reader.after
 
--- At a fault all packets that were read are answered, and all replies are written, or a prefix of them at a write fault.
--- A part of a packet, or what there was no memory for, is not answered.
+-- At a read fault or out of memory all whole packets that were read are answered, and all replies are written. A part of
+-- a packet, or what there was no memory for, is not answered. At a write fault a prefix of the replies is written, and
+-- packets that were read may be left without an answer.
 abbrev pub Stops : StoreState → Traffic → PacketFault → Type 0
 Stops start t Read = (part : List ℕ) × Answered start t part × IsPart part
 Stops start t Write = Unwritten start t
