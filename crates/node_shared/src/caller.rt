@@ -8,6 +8,7 @@ ghost use Rattle.node_shared.specs.Serving.{AnswersRead, AnswersReads, Continues
 use crate::history::{HistoryId, HistoryWord, HistoryWriter};
 use crate::served::ServedNode;
 use crate::server::Server;
+use crate::server_lock::LockKind;
 use ets_term::{Items, KeyHash};
 use node_core::{Call, Reply, RunFault, Step};
 use std::alloc::{AllocError, Global};
@@ -79,14 +80,36 @@ impl<B: HistoryId> Caller<B> {
         ensures all { IfOk result (λ replies. length replies.items ≡ length calls.items) }
         ensures err { IfErr result (λ fault. HasAsked B.limits self.old calls.items fault.replies self.new) }
     {
+        match &server.lock.kind {
+            LockKind::Single(lock) => {
+                self.ask_and_grow(&server.word, &mut *lock.write(rt), calls, growth)
+            }
+            LockKind::Sharded(lock) => {
+                self.ask_and_grow(&server.word, &mut **lock.write(rt), calls, growth)
+            }
+        }
+    }
+
+    fn ask_and_grow<H: KeyHash + Copy + Drop>(
+        &mut self,
+        word: &HistoryWord,
+        served: &mut ServedNode<B, H>,
+        calls: Vec<Call>,
+        growth: u32,
+    ) -> Result<Vec<Reply>, RunFault>
+        requires table { word.now.shared.table_id ≡ B.table }
+        requires one { word.now.shared.table_id.words ≡ 1 }
+        ensures ok { IfOk result (λ replies. HasAsked B.limits self.old calls.items replies.items self.new) }
+        ensures all { IfOk result (λ replies. length replies.items ≡ length calls.items) }
+        ensures err { IfErr result (λ fault. HasAsked B.limits self.old calls.items fault.replies self.new) }
+    {
         let mut replies = Vec::new(*calls.allocator());
         if replies.reserve(calls.len()).is_err() {
             return Err(fault_after(replies));
         }
-        let mut served = server.served.write(rt);
-        let asked = self.ask_each(&server.word, &mut **served, calls, replies)?;
+        let asked = self.ask_each(word, served, calls, replies)?;
         for _ in 0..growth {
-            if !served.try_tend(&server.word) {
+            if !served.try_tend(word) {
                 break;
             }
         }
@@ -145,7 +168,19 @@ impl<B: HistoryId> Caller<B> {
     ) -> Result<Option<Reply>, AllocError>
         ensures { IfOk result (AnswersRead B.limits self.now.own.pid self.now.seen call.now) }
     {
-        let served = server.served.read(rt, self.shard());
+        match &server.lock.kind {
+            LockKind::Single(lock) => self.read_on(&*lock.read(rt), call),
+            LockKind::Sharded(lock) => self.read_on(&**lock.read(rt, self.shard()), call),
+        }
+    }
+
+    fn read_on<H: KeyHash + Copy + Drop>(
+        &self,
+        served: &ServedNode<B, H>,
+        call: &Call,
+    ) -> Result<Option<Reply>, AllocError>
+        ensures { IfOk result (AnswersRead B.limits self.now.own.pid self.now.seen call.now) }
+    {
         self.check_seen(served.count())?;
         served.read(self.pid, call)
     }
@@ -165,7 +200,25 @@ impl<B: HistoryId> Caller<B> {
         ensures kept { IfOk result (λ replied. replied ≡ false → reply.new ≡ reply.old) }
         ensures err { OnErr result (reply.new ≡ NoProcess) }
     {
-        let served = server.served.read(rt, self.shard());
+        match &server.lock.kind {
+            LockKind::Single(lock) => self.read_into_on(&*lock.read(rt), call, reply),
+            LockKind::Sharded(lock) => {
+                self.read_into_on(&**lock.read(rt, self.shard()), call, reply)
+            }
+        }
+    }
+
+    fn read_into_on<H: KeyHash + Copy + Drop>(
+        &self,
+        served: &ServedNode<B, H>,
+        call: &Call,
+        reply: &mut Reply,
+    ) -> Result<bool, AllocError>
+        ensures ok { IfOk result (λ replied. AnswersRead B.limits self.now.own.pid self.now.seen call.now
+            (if replied then Some reply.new else None)) }
+        ensures kept { IfOk result (λ replied. replied ≡ false → reply.new ≡ reply.old) }
+        ensures err { OnErr result (reply.new ≡ NoProcess) }
+    {
         if let Err(error) = self.check_seen(served.count()) {
             *reply = Reply::NoProcess;
             return Err(error);
@@ -184,12 +237,27 @@ impl<B: HistoryId> Caller<B> {
     ) -> Result<Vec<Option<Reply>>, AllocError>
         ensures { IfOk result (λ replies. AnswersReads B.limits self.now.own.pid self.now.seen calls.now replies.items) }
     {
-        let served = server.served.read(rt, self.shard());
+        match &server.lock.kind {
+            LockKind::Single(lock) => self.read_all_on(alloc, &*lock.read(rt), calls),
+            LockKind::Sharded(lock) => {
+                self.read_all_on(alloc, &**lock.read(rt, self.shard()), calls)
+            }
+        }
+    }
+
+    fn read_all_on<H: KeyHash + Copy + Drop>(
+        &self,
+        alloc: Global,
+        served: &ServedNode<B, H>,
+        calls: &[Call],
+    ) -> Result<Vec<Option<Reply>>, AllocError>
+        ensures { IfOk result (λ replies. AnswersReads B.limits self.now.own.pid self.now.seen calls.now replies.items) }
+    {
         self.check_seen(served.count())?;
         served.read_all(alloc, self.pid, calls)
     }
 
-    /// Returns the number that chooses the shard of the lock for a read. Callers with other numbers modulo 8 change
+    /// Returns the number that chooses the shard of a sharded lock for a read. Callers with other numbers modulo 8 change
     /// other words of memory.
     fn shard(&self) -> usize {
         self.pid as usize
@@ -215,7 +283,10 @@ impl<B: HistoryId> Caller<B> {
         ensures order { IfOk result (ContinuesTo B.limits self.old.own.entries event self.new.seen) }
         ensures err { OnErr result (self.new ≡ self.old) }
     {
-        self.step_on(&server.word, &mut **server.served.write(rt), event)
+        match &server.lock.kind {
+            LockKind::Single(lock) => self.step_on(&server.word, &mut *lock.write(rt), event),
+            LockKind::Sharded(lock) => self.step_on(&server.word, &mut **lock.write(rt), event),
+        }
     }
 
     fn step_on<H: KeyHash + Copy + Drop>(

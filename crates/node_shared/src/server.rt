@@ -11,20 +11,19 @@ use crate::caller::Caller;
 use crate::history::{HistoryId, HistoryWord, NewHistory};
 use crate::pids::Drawn;
 use crate::served::ServedNode;
+use crate::server_lock::{LockKind, Locking, ServerLock};
 use crate::shared::JoinFault;
-use crossbeam_utils::sync::ShardedLock;
 use ets_term::KeyHash;
 use node_core::Limits;
 use std::alloc::{AllocError, Global};
 use std::sync::Wait;
 
-/// A node that threads share for as long as they like: nothing is stored of a call once it has its reply. Its lock has
-/// eight shards. A read takes one of them, so readers in different threads do not wait for a word of memory that all
-/// change. A write takes all eight.
+/// A node that threads share for as long as they like: nothing is stored of a call once it has its reply. Readers run in
+/// parallel. `Locking` says which lock it has.
 #[derive(Drop)]
 pub struct Server<B: HistoryId, H: KeyHash + Copy + Drop> {
     pub(crate) word: HistoryWord,
-    pub(crate) served: ShardedLock<Box<ServedNode<B, H>>>,
+    pub(crate) lock: ServerLock<B, H>,
     ghost table: { word.shared.table_id ≡ B.table },
     ghost one_word: { word.shared.table_id.words ≡ 1 },
 }
@@ -35,6 +34,7 @@ impl<B: HistoryId, H: KeyHash + Copy + Drop> Server<B, H> {
     /// is a run of a node with these limits. `Err` is out of memory for the lock.
     pub fn new(
         alloc: Global,
+        locking: Locking,
         history: NewHistory,
         limits: Limits,
         hasher: H,
@@ -44,11 +44,10 @@ impl<B: HistoryId, H: KeyHash + Copy + Drop> Server<B, H> {
         ensures { IfOk result (λ server. server.word ≡ history.word) }
     {
         let (word, owner) = history.into_named::<B>();
-        // A writer moves the value out of the lock and back, so it is a box.
-        let served = Box::new(alloc, ServedNode::new(alloc, owner, limits, hasher))?;
+        let served = ServedNode::new(alloc, owner, limits, hasher);
         Ok(Server {
             word,
-            served: ShardedLock::new(alloc, served)?,
+            lock: ServerLock::new(alloc, locking, served)?,
         })
     }
 
@@ -72,8 +71,18 @@ impl<B: HistoryId, H: KeyHash + Copy + Drop> Server<B, H> {
         ensures refused { IfErr result (RefusesWith (λ r. is_value r ≡ false)) }
         ensures refused_run { IfErr result (RefusesWith (RefusesCaller B.limits pid)) }
     {
-        let mut lock = self.served.write(rt);
-        let served = &mut **lock;
+        match &self.lock.kind {
+            LockKind::Single(lock) => self.join_on(&mut *lock.write(rt), pid),
+            LockKind::Sharded(lock) => self.join_on(&mut **lock.write(rt), pid),
+        }
+    }
+
+    fn join_on(&self, served: &mut ServedNode<B, H>, pid: u32) -> Result<Caller<B>, BookFault>
+        ensures ok { IfOk result (IsEnrolledCaller B.limits pid) }
+        ensures start { IfOk result (λ caller. caller.own ≡ enrolled_record pid (Value (Pid pid))) }
+        ensures refused { IfErr result (RefusesWith (λ r. is_value r ≡ false)) }
+        ensures refused_run { IfErr result (RefusesWith (RefusesCaller B.limits pid)) }
+    {
         let (writer, _reply) = served.join(&self.word, pid)?;
         Ok(Caller::of(pid, writer, served.count()))
     }
@@ -85,11 +94,19 @@ impl<B: HistoryId, H: KeyHash + Copy + Drop> Server<B, H> {
     {
         let mut done = 0;
         for _ in 0..turns {
-            if !self.served.write(rt).try_tend(&self.word) {
+            if !self.try_tend(rt) {
                 break;
             }
             done += 1;
         }
         done
+    }
+
+    /// Runs the pending growth step under one hold of the lock. Returns false if none is pending or memory runs out.
+    fn try_tend<R: Wait>(&self, rt: &R) -> bool {
+        match &self.lock.kind {
+            LockKind::Single(lock) => lock.write(rt).try_tend(&self.word),
+            LockKind::Sharded(lock) => lock.write(rt).try_tend(&self.word),
+        }
     }
 }

@@ -1,4 +1,5 @@
 -- The codes of what contracts see: each is a list of numbers, so that a program's value can be seen as it.
+use base.Stored.{coded_unit}
 use Rattle.std.specs.Prelude.{ℕ, List, refl}
 use Rattle.std.specs.Coded.{Coded, code_by, coded×, coded_ℕ, coded_list}
 use Rattle.node_core.specs.State.{State}
@@ -27,3 +28,7 @@ abbrev pub served_code : Coded ServedState
 served_code =
     code_by (State × List Entry) (coded× state_code (coded_list entry.the_row.coded))
     (λ r. (r.state, r.history)) (λ p. record { state = p.0; history = p.1 }) (λ _. refl)
+
+-- what a lock holds is known by its type only
+abbrev pub lock_code : Coded (Unit {0})
+lock_code = coded_unit

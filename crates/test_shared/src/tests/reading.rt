@@ -4,7 +4,7 @@ ghost use Rattle.std.specs.Prelude.{◌≡◌};
 use super::{call, limits, two_seats};
 use ets_term::Fnv;
 use node_core::{Limits, Reply};
-use node_shared::{Caller, HistoryId, NewHistory, Server};
+use node_shared::{Caller, HistoryId, Locking, NewHistory, Server};
 use std::alloc::Global;
 use std::marker::Brand;
 use std::sync::Wait;
@@ -117,6 +117,7 @@ fn is_read<B: HistoryId, R: Wait>(
 fn is_served<B: HistoryId, R: Wait>(
     rt: &R,
     alloc: Global,
+    locking: Locking,
     history: NewHistory,
     limits: Limits,
 ) -> Result<bool, Fail>
@@ -124,14 +125,16 @@ fn is_served<B: HistoryId, R: Wait>(
     requires limits { limits ≡ B.limits }
 {
     let (pids, seat, _other) = two_seats(alloc)?;
-    let server = Server::<B, Fnv>::new(alloc, history, limits, Fnv)?;
+    let server = Server::<B, Fnv>::new(alloc, locking, history, limits, Fnv)?;
     let mut caller = server.client(rt, pids.draw(seat)).map_err(|_| "a caller")?;
     is_read(rt, alloc, &server, &mut caller)
 }
 
 #[test]
 fn a_caller_reads_what_it_inserted(rt: HostRuntime) -> Result<(), Fail> {
-    let history = NewHistory::new(rt.alloc())?;
-    assert!(rt; is_served::<Brand, _>(&rt, rt.alloc(), history, limits(1))?);
+    for locking in [Locking::Single, Locking::Sharded] {
+        let history = NewHistory::new(rt.alloc())?;
+        assert!(rt; is_served::<Brand, _>(&rt, rt.alloc(), locking, history, limits(1))?);
+    }
     Ok(())
 }

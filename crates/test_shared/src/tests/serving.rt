@@ -5,7 +5,7 @@ ghost use Rattle.std.specs.Thread.{IsSync};
 use super::{call, limits, two_seats};
 use ets_term::{Fnv, KeyHash, Term};
 use node_core::{Call, Limits, Reply};
-use node_shared::{Caller, Drawn, HistoryId, JoinFault, NewHistory, Server};
+use node_shared::{Caller, Drawn, HistoryId, JoinFault, Locking, NewHistory, Server};
 use std::alloc::Global;
 use std::marker::Brand;
 use std::sync::Wait;
@@ -128,7 +128,7 @@ fn is_served<B: HistoryId, R: Wait>(
     is_asked(
         rt,
         alloc,
-        &Server::<B, Fnv>::new(alloc, history, limits, Fnv)?,
+        &Server::<B, Fnv>::new(alloc, Locking::Single, history, limits, Fnv)?,
         drawn,
     )
 }
@@ -232,7 +232,7 @@ fn is_shared<B: HistoryId + Send + Sync, R: Threads + Wait + Sync>(
     objects_of_both(
         rt,
         alloc,
-        &Server::<B, Fnv>::new(alloc, history, limits, Fnv)?,
+        &Server::<B, Fnv>::new(alloc, Locking::Sharded, history, limits, Fnv)?,
     )
 }
 

@@ -11,7 +11,7 @@ use crate::tests::stressing::reader::read_all;
 use crate::tests::stressing::writer::write_all;
 use ets_term::{Atom, Fnv, KeyHash, Term};
 use node_core::{Call, Limits, Reply};
-use node_shared::{Caller, HistoryId, NewHistory, Pids, Seat, Server};
+use node_shared::{Caller, HistoryId, Locking, NewHistory, Pids, Seat, Server};
 use std::alloc::Global;
 use std::marker::Brand;
 use std::sync::Wait;
@@ -201,22 +201,23 @@ fn is_right<B: HistoryId, H: KeyHash + Copy + Drop, R: Wait>(
 fn is_served<B: HistoryId + Send + Sync, R: Threads + Wait + Sync>(
     rt: &R,
     alloc: Global,
+    locking: Locking,
     history: NewHistory,
     limits: Limits,
 ) -> Result<bool, Fail>
     requires table { history.word.shared.table_id ≡ B.table }
     requires limits { limits ≡ B.limits }
 {
-    let server = Server::<B, Fnv>::new(alloc, history, limits, Fnv)?;
+    let server = Server::<B, Fnv>::new(alloc, locking, history, limits, Fnv)?;
     let teams = teams(rt, alloc, &server)?;
     Ok(count_right(rt, &server, teams) == 6)
 }
 
-/// Returns whether two rounds have only right replies.
+/// Returns whether two rounds have only right replies, one with each lock.
 fn are_two_right<R: Threads + Wait + Sync>(rt: &R, alloc: Global) -> Result<bool, Fail> {
-    for _ in 0..2 {
+    for locking in [Locking::Single, Locking::Sharded] {
         let history = NewHistory::new(alloc)?;
-        if !is_served::<Brand, R>(rt, alloc, history, limits(46))? {
+        if !is_served::<Brand, R>(rt, alloc, locking, history, limits(46))? {
             return Ok(false);
         }
     }

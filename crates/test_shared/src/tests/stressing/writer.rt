@@ -82,27 +82,77 @@ fn batch(alloc: Global, own: u32, first: u32) -> Option<Vec<Call>> {
     Some(calls)
 }
 
+/// The arguments of the calls that make, fill, read and delete a table with an heir.
+#[derive(Drop)]
+struct Bequest {
+    options: String,
+    objects: String,
+    table: String,
+}
+
+impl Bequest {
+    fn new(alloc: Global, heir: u32, table: u32) -> Option<Bequest> {
+        Some(Bequest {
+            options: format!(in alloc; "[t{table},[named_table,{{heir,<0.{heir}.0>,gift}}]]").ok()?,
+            objects: format!(in alloc; "[t{table},[{{1}},{{2}},{{3}}]]").ok()?,
+            table: format!(in alloc; "[t{table}]").ok()?,
+        })
+    }
+}
+
 /// A guest makes a table, fills it and ends. Returns whether the caller gets the table with its objects.
 fn is_inherited<B: HistoryId, H: KeyHash + Copy + Drop, R: Wait>(
     rt: &R,
     alloc: Global,
     server: &Server<B, H>,
     caller: &mut Caller<B>,
-    mut guest: Caller<B>,
+    guest: Caller<B>,
 ) -> Option<bool> {
-    let (heir, table) = (caller.pid(), guest.pid());
-    let options = format!(in alloc; "[t{table},[named_table,{{heir,<0.{heir}.0>,gift}}]]").ok()?;
-    let objects = format!(in alloc; "[t{table},[{{1}},{{2}},{{3}}]]").ok()?;
-    let whole = format!(in alloc; "[t{table}]").ok()?;
-    let is_made = is_done(rt, alloc, server, &mut guest, ("new", options.as_str()))?
-        && is_done(rt, alloc, server, &mut guest, ("insert", objects.as_str()))?;
+    let bequest = Bequest::new(alloc, caller.pid(), guest.pid())?;
+    let is_left = leaves_table(rt, alloc, server, guest, &bequest)?;
+    let is_right = inherits(rt, alloc, server, caller, &bequest)?;
+    Some(is_left && is_right)
+}
+
+/// Makes the table, fills it, and ends.
+fn leaves_table<B: HistoryId, H: KeyHash + Copy + Drop, R: Wait>(
+    rt: &R,
+    alloc: Global,
+    server: &Server<B, H>,
+    mut guest: Caller<B>,
+    bequest: &Bequest,
+) -> Option<bool> {
+    let is_made = is_done(
+        rt,
+        alloc,
+        server,
+        &mut guest,
+        ("new", bequest.options.as_str()),
+    )? && is_done(
+        rt,
+        alloc,
+        server,
+        &mut guest,
+        ("insert", bequest.objects.as_str()),
+    )?;
     guest.end(rt, server).ok()?;
+    Some(is_made)
+}
+
+/// Returns whether there is one message and the table has its objects. Deletes the table.
+fn inherits<B: HistoryId, H: KeyHash + Copy + Drop, R: Wait>(
+    rt: &R,
+    alloc: Global,
+    server: &Server<B, H>,
+    caller: &mut Caller<B>,
+    bequest: &Bequest,
+) -> Option<bool> {
+    let table = bequest.table.as_str();
     let receive = call(alloc, ("receive", "[]"))?;
     let messages = caller.ask(rt, server, receive).ok()?;
     Some(
-        is_made
-            && is_list(&messages, 1)
-            && lists(rt, alloc, server, caller, ("tab2list", whole.as_str()), 3)?
-            && is_done(rt, alloc, server, caller, ("delete", whole.as_str()))?,
+        is_list(&messages, 1)
+            && lists(rt, alloc, server, caller, ("tab2list", table), 3)?
+            && is_done(rt, alloc, server, caller, ("delete", table))?,
     )
 }

@@ -1,6 +1,6 @@
 use Rattle.std.proofs.Common.{◌≡◌, [], ◌∙◌}
 use Rattle.node_shared.proofs.Calls.{asked-none}
-use Rattle.node_shared.proofs.caller.Caller.ask_all.Goals as goal
+use Rattle.node_shared.proofs.caller.Caller.ask_and_grow.Goals as goal
 
 pub returns-then-is_err-clause-err : goal.returns-then-is_err-clause-err
 returns-then-is_err-clause-err g c =

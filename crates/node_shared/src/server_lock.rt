@@ -1,0 +1,60 @@
+use crate::history::HistoryId;
+use crate::served::ServedNode;
+use crossbeam_utils::sync::ShardedLock;
+use ets_term::KeyHash;
+use std::alloc::{AllocError, Global};
+use std::marker::Model;
+use std::sync::RwLock;
+
+/// Which lock a server has. The choice is that of `read_concurrency` in `ets`: it changes no reply, only how long calls
+/// wait.
+#[derive(Clone, Copy, Debug, PartialEq, Eq)]
+pub enum Locking {
+    /// One lock. Readers run in parallel, but all of them change its words. Take it if more than about one call in
+    /// twenty changes something.
+    Single,
+    /// A lock of eight shards. A read takes one of them, so readers in different threads change no common word. A write
+    /// takes all eight.
+    Sharded,
+}
+
+/// The lock of a server. A contract sees nothing of it: what it holds is known by its type only.
+#[derive(Drop)]
+pub struct ServerLock<B: HistoryId, H: KeyHash + Copy + Drop> {
+    pub kind: LockKind<B, H>,
+}
+
+#[derive(Drop)]
+pub enum LockKind<B: HistoryId, H: KeyHash + Copy + Drop> {
+    Single(RwLock<ServedNode<B, H>>),
+    /// A writer moves the value out of this lock and back, so it is a box.
+    Sharded(ShardedLock<Box<ServedNode<B, H>>>),
+}
+
+impl<B: HistoryId, H: KeyHash + Copy + Drop> Model for ServerLock<B, H> {
+    ghost use Rattle.node_shared.specs.inside.Codes.{lock_code};
+
+    ghost Value = { Unit {0} };
+
+    ghost coded = { lock_code };
+
+    ghost view = { λ _. tt };
+}
+
+impl<B: HistoryId, H: KeyHash + Copy + Drop> ServerLock<B, H> {
+    /// Locks a node. `Err` is out of memory for the lock.
+    pub fn new(
+        alloc: Global,
+        locking: Locking,
+        served: ServedNode<B, H>,
+    ) -> Result<ServerLock<B, H>, AllocError> {
+        let kind = match locking {
+            Locking::Single => LockKind::Single(RwLock::new(served)),
+            Locking::Sharded => {
+                let served = Box::new(alloc, served)?;
+                LockKind::Sharded(ShardedLock::new(alloc, served)?)
+            }
+        };
+        Ok(ServerLock { kind })
+    }
+}
