@@ -68,6 +68,7 @@ impl<H: KeyHash + Copy + Drop> Node<H> {
     }
 
     /// Makes a call, and writes its reply.
+    #[inline(never)]
     pub(crate) fn ask(&mut self, pid: u32, call: &Call, reply: &mut Reply) -> Result<(), AllocError>
         ensures ok { OnOk result (step self.old (Ask pid call.now) reply.new self.new) }
         ensures err { OnErr result (self.new ≡ self.old) }
@@ -91,6 +92,7 @@ impl<H: KeyHash + Copy + Drop> Node<H> {
     }
 
     /// Returns the refusal that does not depend on the call's name, if one applies.
+    #[inline(always)]
     fn early_refusal(&self, pid: u32, args: &[Term]) -> Option<Reply>
         ensures { result ≡ early_refusal self.now pid args.now }
     {

@@ -24,7 +24,12 @@ impl<H: KeyHash + Copy + Drop> Node<H> {
     {
         match args {
             [x] => self.read_call_of_one(pid, name, x, reply),
-            [x, y] => self.read_call_of_two(pid, name, x, y, reply),
+            // The most frequent ones come first. The others are out of their way, in a function of their own.
+            [x, y] => match name {
+                CallName::Lookup => Some(self.lookup(pid, x, y, reply)),
+                CallName::Member => Some(write_truth(self.alloc, self.member(pid, x, y), reply)),
+                _ => self.read_call_of_two(pid, name, x, y, reply),
+            },
             [x, y, z] => match name {
                 CallName::LookupElement => {
                     Some(write_value(self.lookup_element(pid, x, y, z), reply))
@@ -42,6 +47,7 @@ impl<H: KeyHash + Copy + Drop> Node<H> {
         }
     }
 
+    #[inline(never)]
     fn read_call_of_one(
         &self,
         pid: u32,
@@ -60,6 +66,7 @@ impl<H: KeyHash + Copy + Drop> Node<H> {
         }
     }
 
+    #[inline(never)]
     fn read_call_of_two(
         &self,
         pid: u32,
@@ -101,7 +108,11 @@ impl<H: KeyHash + Copy + Drop> Node<H> {
                 _ => Err(Refusal::Badarg),
             },
             [x] => self.change_call_of_one(pid, name, x, reply),
-            [x, y] => self.change_call_of_two(pid, name, x, y, reply),
+            [x, y] => match name {
+                CallName::Insert => write_true(self.alloc, self.insert(pid, x, y), reply),
+                CallName::Delete => write_true(self.alloc, self.delete(pid, x, y), reply),
+                _ => self.change_call_of_two(pid, name, x, y, reply),
+            },
             [x, y, z] => match name {
                 CallName::GiveAway => write_reply(self.give_away(pid, x, y, z), reply),
                 CallName::UpdateCounter => {
@@ -127,6 +138,7 @@ impl<H: KeyHash + Copy + Drop> Node<H> {
         }
     }
 
+    #[inline(never)]
     fn change_call_of_one(
         &mut self,
         pid: u32,
@@ -147,6 +159,7 @@ impl<H: KeyHash + Copy + Drop> Node<H> {
         }
     }
 
+    #[inline(never)]
     fn change_call_of_two(
         &mut self,
         pid: u32,

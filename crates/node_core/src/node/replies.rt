@@ -20,17 +20,6 @@ pub fn true_reply(alloc: Global) -> Reply
     atom_reply(alloc, b"true")
 }
 
-/// Returns the atom `true` or `false`.
-pub fn truth_reply(alloc: Global, truth: bool) -> Reply
-    ensures { result ≡ truth_reply truth }
-{
-    if truth {
-        true_reply(alloc)
-    } else {
-        atom_reply(alloc, b"false")
-    }
-}
-
 /// Returns the atom with this text, which must be short.
 pub fn atom_reply(alloc: Global, text: &[u8]) -> Reply
     requires text { IsAtomText text.now }
@@ -41,6 +30,21 @@ pub fn atom_reply(alloc: Global, text: &[u8]) -> Reply
         unreachable!()
     };
     Reply::Value(Term::Atom(atom))
+}
+
+/// Writes the atom with this text, which must be short. A reply that is this atom stays as it is, which is faster.
+#[inline(always)]
+fn write_atom(alloc: Global, text: &str, reply: &mut Reply)
+    requires text { IsAtomText text.now }
+    requires short { length text.now ≤ 22 }
+    ensures { reply.new ≡ Value (term.Atom text.now) }
+{
+    if let Reply::Value(term) = reply {
+        if term.is_atom(text) {
+            return;
+        }
+    }
+    *reply = atom_reply(alloc, text.as_bytes());
 }
 
 /// Returns a list of copies of these objects.
@@ -102,7 +106,7 @@ pub fn write_true(
 {
     match call {
         Ok(()) => {
-            *reply = true_reply(alloc);
+            write_atom(alloc, "true", reply);
             Ok(())
         }
         Err(refusal) => Err(refusal),
@@ -120,7 +124,7 @@ pub fn write_truth(
 {
     match call {
         Ok(truth) => {
-            *reply = truth_reply(alloc, truth);
+            write_atom(alloc, if truth { "true" } else { "false" }, reply);
             Ok(())
         }
         Err(refusal) => Err(refusal),
