@@ -13,6 +13,7 @@ mod PrintableLines
 mod PrintedTrue
 mod Arguments
 mod LineForms
+mod CallLines
 mod Fronts
 mod Defaults
 mod CommandLine

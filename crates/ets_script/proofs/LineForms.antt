@@ -111,7 +111,7 @@ take-all (x ∷ xs) = ap (λ l. x ∷ l) (take-all xs)
 same-length : (n : ℕ) → (n == n) ≡ true
 same-length n = grind (arith, nat_tests)
 
-command-printable : (line rest : List ℕ) (c : Command) → IsPrintable line → command_of line ≡ read c rest → command line ≡ c
+pub command-printable : (line rest : List ℕ) (c : Command) → IsPrintable line → command_of line ≡ read c rest → command line ≡ c
 command-printable line rest c h is =
     let all : printable_prefix line ≡ line = ap (λ n. take n line) (whole is_printable line h) ∙ take-all line in
     rw all (rw is (rw (same-length (length line)) refl))
@@ -129,7 +129,7 @@ lowercase-sign b e = grind (arith, nat_tests)
 not_empty : (n : ℕ) → (suc n == 0) ≡ false
 not_empty n = grind (arith, nat_tests)
 
-not_silent : (text : List ℕ) → begins is_lowercase text ≡ true → ((length text == 0) || begins (is_sign (codes "%")) text) ≡ false
+pub not_silent : (text : List ℕ) → begins is_lowercase text ≡ true → ((length text == 0) || begins (is_sign (codes "%")) text) ≡ false
 not_silent [] e = cc
 not_silent (x ∷ xs) e = rw (not_empty (length xs)) (lowercase-sign x e)
 

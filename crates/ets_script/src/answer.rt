@@ -25,6 +25,22 @@ pub enum Answer {
 }
 
 impl Answer {
+    /// Writes out of memory over the answer.
+    #[inline(never)]
+    pub fn set_no_memory(&mut self)
+        ensures { self.new ≡ Answer.NoMemory }
+    {
+        *self = Answer::NoMemory;
+    }
+
+    /// Writes that there is no such process over the answer.
+    #[inline(never)]
+    pub fn set_no_process(&mut self)
+        ensures { self.new ≡ Answer.Replied Reply.NoProcess }
+    {
+        *self = Answer::Replied(Reply::NoProcess);
+    }
+
     /// Prints the answer on a line of its own, after the buffered text.
     #[inline(always)]
     pub fn print<W: Write>(&self, output: &mut Output<'_, W>) -> Result<(), WriteFault>

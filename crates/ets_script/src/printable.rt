@@ -16,7 +16,7 @@ const GROUP: usize = 8;
 
 /// Returns whether all of these are clean. Nearly all lines are. Groups of bytes are checked at once, and the last group
 /// may overlap the one before.
-fn are_printable(text: &[u8]) -> bool
+pub fn are_printable(text: &[u8]) -> bool
     ensures { result ≡ list_all spec.is_printable text.now }
 {
     if text.len() < GROUP {

@@ -1,5 +1,5 @@
 //! A script: the names that it spawned, and its node.
-ghost use Rattle.std.specs.Prelude.{◌≡◌, ◌≤◌, ◌<◌, ◌+◌, ◌-◌, ◌^◌, ◌⊎◌, false, length, map, min, vec_items, Some, IfSome};
+ghost use Rattle.std.specs.Prelude.{◌≡◌, ◌≤◌, ◌<◌, ◌+◌, ◌-◌, ◌^◌, ◌⊎◌, [], false, length, map, min, vec_items, Some, IfSome};
 ghost use Rattle.node_core.specs.Observable.{observable};
 ghost use Rattle.ets_script.specs.Commands as spec;
 ghost use Rattle.ets_script.specs.Lines.{text};
@@ -11,8 +11,8 @@ ghost use Rattle.std.specs.Str.{bytes_eq};
 ghost use Rattle.indexmap.specs.IndexSet.{spare, contains_by, index_set_len};
 
 use crate::answer::Answer;
-use crate::command::{Command, is_silent, read_command};
-use ets_term::{KeyHash, Term};
+use crate::command::{CallLine, Command, is_silent, read_call, read_command};
+use ets_term::{Atom, Items, KeyHash, Term};
 use indexmap::IndexSet;
 use node_core::{Call, Limits, Node, Reply, Step};
 use std::alloc::{AllocError, Global};
@@ -25,6 +25,8 @@ pub struct Script<H: KeyHash + Copy + Drop> {
     node: Node<H>,
     /// The process of the call before.
     recent: u32,
+    /// An empty list with the memory of the arguments of a call before.
+    arguments: Option<Vec<Term>>,
 }
 
 impl<H: KeyHash + Copy + Drop> Model for Script<H> {
@@ -52,6 +54,7 @@ impl<H: KeyHash + Copy + Drop> Script<H> {
             names: IndexSet::new(alloc),
             node: Node::new(alloc, limits, hasher),
             recent: 0,
+            arguments: None,
         }
     }
 
@@ -76,19 +79,97 @@ impl<H: KeyHash + Copy + Drop> Script<H> {
     pub fn answer(&mut self, line: &[u8], answer: &mut Answer)
         ensures { AnswersLine self.old (text line.now) answer.new self.new }
     {
+        let alloc = self.allocator();
+        let mut terms = self.take_arguments(alloc);
+        match read_call(alloc, line, &mut terms) {
+            CallLine::Call { name, word } => match Atom::of_bytes(alloc, word) {
+                Ok(word) => self.ask(
+                    name,
+                    Call {
+                        name: word,
+                        args: terms,
+                    },
+                    answer,
+                ),
+                Err(_) => answer.set_no_memory(),
+            },
+            CallLine::Other => {
+                self.keep_arguments(terms);
+                self.answer_other(alloc, line, answer);
+            }
+            CallLine::NoMemory => answer.set_no_memory(),
+        }
+    }
+
+    /// Executes a line of any form.
+    #[inline(never)]
+    fn answer_other(&mut self, alloc: Global, line: &[u8], answer: &mut Answer)
+        ensures { AnswersLine self.old (text line.now) answer.new self.new }
+    {
         if is_silent(line) {
             *answer = Answer::Silent;
             return;
         }
-        let alloc = self.allocator();
         match read_command(alloc, line) {
             Ok(command) => self.execute(alloc, command, answer),
             Err(_) => *answer = Answer::NoMemory,
         }
     }
 
-    /// Executes a command.
+    /// Makes a call for the process of a name.
     #[inline(always)]
+    fn ask(&mut self, name: &[u8], call: Call, answer: &mut Answer)
+        ensures { Executes (spec.ask name.now call.name call.args) self.old answer.new self.new
+            ⊎ Unchanged self.old NoMemory answer.new self.new }
+    {
+        match self.caller(name) {
+            Some(pid) => {
+                let step = Step::Ask(pid, call);
+                self.step(&step, answer);
+                self.keep_call(step);
+                self.tend();
+            }
+            None => answer.set_no_process(),
+        }
+    }
+
+    /// Returns an empty list for the arguments of a call, with the memory of the call before.
+    #[inline(always)]
+    fn take_arguments(&mut self, alloc: Global) -> Items<Term>
+        ensures empty { result ≡ [] }
+        ensures same { self.new ≡ self.old }
+    {
+        match self.arguments.take() {
+            Some(mut earlier) => {
+                earlier.clear();
+                Items::from_vec(earlier)
+            }
+            None => Items::new(alloc),
+        }
+    }
+
+    /// Drops the call of a step, and keeps the memory of its arguments.
+    #[inline(always)]
+    fn keep_call(&mut self, step: Step)
+        ensures { self.new ≡ self.old }
+    {
+        match step {
+            Step::Ask(_, call) => self.keep_arguments(call.args),
+            _ => {}
+        }
+    }
+
+    /// Drops the arguments of a call, and keeps their memory for the next call.
+    #[inline(always)]
+    fn keep_arguments(&mut self, args: Items<Term>)
+        ensures { self.new ≡ self.old }
+    {
+        let mut terms = args.into_vec();
+        terms.clear();
+        self.arguments = Some(terms);
+    }
+
+    /// Executes a command.
     fn execute(&mut self, alloc: Global, command: Command<'_>, answer: &mut Answer)
         ensures { Executes (command_view command.entry) self.old answer.new self.new
             ⊎ Unchanged self.old NoMemory answer.new self.new }
@@ -97,13 +178,7 @@ impl<H: KeyHash + Copy + Drop> Script<H> {
             Command::Faulty(at) => *answer = Answer::Syntax(at),
             Command::Spawn(name) => *answer = self.spawn(alloc, name),
             Command::Exit(name) => self.exit(name, answer),
-            Command::Ask(name, word, terms) => match self.caller(name) {
-                Some(pid) => {
-                    self.step(&Step::Ask(pid, Call::new(word, terms.into_vec())), answer);
-                    self.tend();
-                }
-                None => *answer = Answer::Replied(Reply::NoProcess),
-            },
+            Command::Ask(name, word, args) => self.ask(name, Call { name: word, args }, answer),
             Command::Grow(table) => self.grow(&table, answer),
             Command::Ready(table, bucket) => self.ready(&table, bucket, answer),
         }
@@ -198,6 +273,7 @@ impl<H: KeyHash + Copy + Drop> Script<H> {
     }
 
     /// Runs a step of the node. The reply uses the memory of the one before.
+    #[inline(always)]
     fn step(&mut self, step: &Step, answer: &mut Answer)
         ensures { Steps self.old step.now answer.new self.new
             ⊎ Unchanged self.old NoMemory answer.new self.new }
@@ -227,6 +303,7 @@ impl<H: KeyHash + Copy + Drop> Script<H> {
     }
 
     /// Runs at most two pending growth steps, which no call observes.
+    #[inline(always)]
     fn tend(&mut self)
         ensures { self.new ≡ self.old }
     {

@@ -1,9 +1,14 @@
 -- The result of the program's parsing of a line, and the command of the line.
-use Rattle.std.specs.Prelude.{◌≡◌, ⊤, Result, Ok, Err}
+use Rattle.std.specs.Prelude.{◌≡◌, ℕ, List, ⊤, false, Result, Ok, Err}
+use Rattle.ets_term.specs.Character.{IsAtomText}
+use Rattle.ets_term.specs.declared.term.Term.{Term}
 use Rattle.ets_script.specs.Reads.{Read, fault}
 use Rattle.ets_script.specs.Commands as spec
+use Rattle.ets_script.specs.LineForms.{Means}
 use Rattle.ets_script.specs.declared.parse_stop.ParseStop.{ParseStop}
 use Rattle.ets_script.specs.declared.parse_stop.ParseStop.TheVariants.{Fault, Memory}
+use Rattle.ets_script.specs.declared.command.CallLine.{CallLine}
+use Rattle.ets_script.specs.declared.command.CallLine.TheVariants as lines
 use Rattle.ets_script.specs.declared.command.Command.{Command}
 use Rattle.ets_script.specs.declared.command.Command.TheVariants.{Faulty, Spawn, Exit, Ask, Grow, Ready}
 
@@ -26,3 +31,14 @@ command_view (Exit name) = spec.exit name.now
 command_view (Ask name call terms) = spec.ask name.now call terms
 command_view (Grow t) = spec.grow t
 command_view (Ready t b) = spec.ready t b
+
+-- a line that begins with this word makes a call for the process of that name
+abbrev pub IsCaller : List ℕ → Type 0
+IsCaller word = (bs : List ℕ) → spec.by_word word bs ≡ spec.ask_command word bs
+
+-- a call with these arguments, whose word is an atom's text; or out of memory, for a line that is not silent; nothing of
+-- another line
+abbrev pub FindsCall : List ℕ → List Term → CallLine → Type 0
+FindsCall line terms (lines.Call name word) = Means line (spec.ask name.now word.now terms) × IsAtomText word.now
+FindsCall line terms lines.Other = ⊤
+FindsCall line terms lines.NoMemory = spec.is_silent line ≡ false
