@@ -24,14 +24,16 @@ OPERATIONS = {
 }
 COUNTS = (1_000, 100_000, 1_000_000, 4_000_000)  # objects in a table
 FIELD = ("Mutex<HashMap>", "HashMap", "cds_lfht", "oneTBB")
-OURS = {"calls": "Node::step", "calls-into": "Node::step_into", "table": "Table<SplitRows<Fnv>>", "rows": "SplitRows<Fnv>"}
+OURS = {"calls": "Node::step", "calls-into": "Node::step_into", "calls-run": "Node::run, lists of 64", "table": "Table<SplitRows<Fnv>>", "rows": "SplitRows<Fnv>"}
 WHOLE = ("Mutex<HashMap>,copies", "HashMap,copies", "ets")
-PEERS = {"calls": WHOLE, "calls-into": WHOLE, "table": FIELD, "rows": FIELD}
+PEERS = {"calls": WHOLE, "calls-into": WHOLE, "calls-run": WHOLE, "table": FIELD, "rows": FIELD}
+WAYS = {"calls": "times", "calls-into": "into", "calls-run": "run"}  # the part of bench_calls that makes calls in this way
 CLIENTS = (1, 2, 4)
 # What threads call, by its name and operation in the lines of the programs, and its name in a table.
 CROWD = {
     ("shared", "mixture"): "Shared",
     ("server", "mixture"): "Server",
+    ("server-sharded", "mixture"): "Server, sharded lock",
     ("Mutex<HashMap>,journal", "mixture"): "Mutex<HashMap>, a journal",
     ("Mutex<HashMap>,copies", "mixture"): "Mutex<HashMap>",
     ("RwLock<HashMap>", "mixture"): "RwLock<HashMap>",
@@ -41,7 +43,9 @@ CROWD = {
 }
 READERS = {
     ("server-reads", "mixture"): "Server",
+    ("server-sharded-reads", "mixture"): "Server, sharded lock",
     ("server-lists", "mixture"): "Server, lists of 16",
+    ("server-sharded-lists", "mixture"): "Server, sharded lock, lists of 16",
     ("Mutex<HashMap>,copies", "reads"): "Mutex<HashMap>",
     ("RwLock<HashMap>", "reads"): "RwLock<HashMap>",
     ("sharded", "reads"): "16 of RwLock<HashMap>",
@@ -75,7 +79,7 @@ Part = tuple[str, ...]  # the words that run one part of a program, but for the 
 
 def ours_of(name: str, programs: Programs) -> list[Part]:
     if PEERS[name] is WHOLE:
-        return [(programs.program("bench_calls"), "into" if name == "calls-into" else "times")]
+        return [(programs.program("bench_calls"), WAYS[name])]
     return [(programs.program("bench_tables"), part, name) for part in ("times", "bytes", "longest")]
 
 

@@ -1,5 +1,5 @@
 //! Times whole calls of a node, of one caller and of clients in threads, and prints lines of WHO OPERATION FIGURE:
-//! bench_calls times|into|walks|alone|clients|server|reads|lists|check COUNT CALLS.
+//! bench_calls times|into|run|walks|alone|clients|server|reads|lists|check COUNT CALLS.
 #![tactic(auto)]
 
 mod calls;
@@ -35,6 +35,7 @@ fn run<R: Print + Alloc<A = Global> + Clock + Threads + Wait + Sync>(
     match part {
         "times" => times(rt, Way::Step, count),
         "into" => times(rt, Way::StepInto, count),
+        "run" => times(rt, Way::Run, count),
         "walks" => walks::time_walks(rt, count),
         "alone" => time_alone(rt, count),
         "clients" => time_crowd(rt, count.max(1), calls),

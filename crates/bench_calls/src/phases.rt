@@ -28,11 +28,15 @@ pub const PHASES: [Phase; 7] = [
     Phase::Delete,
 ];
 
-/// How a step is made: with a reply of its own, or over the reply before.
+/// The number of steps of a list.
+const LIST: usize = 64;
+
+/// How a step is made: with a reply of its own, over the reply before, or in a list of steps by `Node::run`.
 #[derive(Clone, Copy)]
 pub enum Way {
     Step,
     StepInto,
+    Run,
 }
 
 impl Way {
@@ -41,6 +45,7 @@ impl Way {
         match self {
             Way::Step => "calls",
             Way::StepInto => "calls-into",
+            Way::Run => "calls-run",
         }
     }
 }
@@ -78,6 +83,7 @@ impl Phase {
         match way {
             Way::Step => self.run_steps(node, steps),
             Way::StepInto => self.run_steps_into(node, steps, &mut reply),
+            Way::Run => self.run_lists(node, steps),
         }
     }
 
@@ -111,6 +117,30 @@ impl Phase {
             if matches!(self, Phase::Insert) {
                 grow(node)?;
             }
+        }
+        Ok(done)
+    }
+
+    fn run_lists(self, node: &mut Node<Fnv>, steps: &[Step]) -> Result<u64, AllocError> {
+        let mut done: u64 = 0;
+        for list in steps.chunks(LIST) {
+            done = done.wrapping_add(self.run_list(node, list)?);
+            if matches!(self, Phase::Insert) {
+                for _ in 0..list.len() {
+                    grow(node)?;
+                }
+            }
+        }
+        Ok(done)
+    }
+
+    fn run_list(self, node: &mut Node<Fnv>, list: &[Step]) -> Result<u64, AllocError> {
+        let Ok(replies) = node.run(list) else {
+            return Err(AllocError);
+        };
+        let mut done: u64 = 0;
+        for reply in replies.as_slice() {
+            done = done.wrapping_add(u64::from(self.is_right(reply)));
         }
         Ok(done)
     }

@@ -4,10 +4,11 @@ use crate::clients::crowd;
 use crate::mixture::Outcome;
 use crate::node::{ask_all, fill, mixture_steps, with_table};
 use crate::phases::{PHASES, Phase, Way};
-use crate::servers::{Load, serve};
+use crate::servers::{Load, Plan, serve};
 use crate::walks;
 use ets_term::Fnv;
 use node_core::Node;
+use node_shared::Locking;
 use std::alloc::{AllocError, Global};
 use std::io;
 use std::rt::Clock;
@@ -141,7 +142,8 @@ pub(crate) fn time_crowd<R: Print + Alloc<A = Global> + Clock + Threads + Wait +
     crowd(rt, clients, calls)?.show(rt, "shared", clients, calls)
 }
 
-/// Prints nanoseconds per call of a number of callers of a server, which make a number of calls each in parallel.
+/// Prints nanoseconds per call of a number of callers of a server, which make a number of calls each in parallel: with
+/// one lock, and then with a sharded one.
 pub(crate) fn time_servers<R: Print + Alloc<A = Global> + Clock + Threads + Wait + Sync>(
     rt: &R,
     load: Load,
@@ -150,10 +152,28 @@ pub(crate) fn time_servers<R: Print + Alloc<A = Global> + Clock + Threads + Wait
 ) -> io::Result<()>
     requires { 0 < callers }
 {
-    let outcome = serve(rt, load, callers, calls)?;
-    match load {
-        Load::Reads | Load::Lists => outcome.show_lookups(rt, load.name(), callers, calls),
-        Load::Mixture => outcome.show(rt, load.name(), callers, calls),
+    for locking in [Locking::Single, Locking::Sharded] {
+        let plan = Plan {
+            load,
+            locking,
+            calls,
+        };
+        show_servers(rt, plan, callers)?;
+    }
+    Ok(())
+}
+
+fn show_servers<R: Print + Alloc<A = Global> + Clock + Threads + Wait + Sync>(
+    rt: &R,
+    plan: Plan,
+    callers: u32,
+) -> io::Result<()>
+    requires { 0 < callers }
+{
+    let outcome = serve(rt, plan, callers)?;
+    match plan.load {
+        Load::Reads | Load::Lists => outcome.show_lookups(rt, plan.name(), callers, plan.calls),
+        Load::Mixture => outcome.show(rt, plan.name(), callers, plan.calls),
     }
 }
 
@@ -168,16 +188,22 @@ pub(crate) fn check<R: Print + Alloc<A = Global> + Clock + Threads + Wait + Sync
 ) -> io::Result<()> {
     check_phases(rt, Way::Step, count)?;
     check_phases(rt, Way::StepInto, count)?;
+    check_phases(rt, Way::Run, count)?;
     walks::check(rt, count)?;
     let outcome = crowd(rt, CLIENTS, count)?;
     println!(rt; "clients found {}", outcome.found)?;
-    let mixed = serve(rt, Load::Mixture, CLIENTS, count)?;
-    let read = serve(rt, Load::Reads, CLIENTS, count)?;
-    let listed = serve(rt, Load::Lists, CLIENTS, count)?;
-    println!(rt;
-        "callers found {}, {} and {}",
-        mixed.found, read.found, listed.found
-    )
+    for locking in [Locking::Single, Locking::Sharded] {
+        for load in [Load::Mixture, Load::Reads, Load::Lists] {
+            let plan = Plan {
+                load,
+                locking,
+                calls: count,
+            };
+            let outcome = serve(rt, plan, CLIENTS)?;
+            println!(rt; "{} found {}", plan.name(), outcome.found)?;
+        }
+    }
+    Ok(())
 }
 
 fn check_phases(rt: &(impl Print + Alloc<A = Global>), way: Way, count: u32) -> io::Result<()> {

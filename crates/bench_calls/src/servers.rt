@@ -8,7 +8,7 @@ use crate::order::shuffle;
 use crate::report::nanoseconds;
 use ets_term::{Fnv, KeyHash};
 use node_core::{Call, Limits, Reply};
-use node_shared::{Caller, Drawn, HistoryId, NewHistory, Pids, Seat, Server};
+use node_shared::{Caller, Drawn, HistoryId, Locking, NewHistory, Pids, Seat, Server};
 use std::alloc::{AllocError, Global};
 use std::marker::Brand;
 use std::rt::Clock;
@@ -29,15 +29,6 @@ pub(crate) enum Load {
 }
 
 impl Load {
-    /// Returns the first word of the line with its figure.
-    pub(crate) fn name(self) -> &'static str {
-        match self {
-            Load::Reads => "server-reads",
-            Load::Lists => "server-lists",
-            Load::Mixture => "server",
-        }
-    }
-
     /// Returns how many calls a caller makes under one hold of the lock.
     fn hold(self) -> usize {
         match self {
@@ -62,12 +53,34 @@ fn lookups(alloc: Global, calls: u32) -> Result<Vec<Call>, AllocError> {
     Ok(lookups)
 }
 
-/// Times a number of callers, each with a number of calls.
+/// What each caller does, and which lock the server has.
+#[derive(Clone, Copy)]
+pub(crate) struct Plan {
+    pub(crate) load: Load,
+    pub(crate) locking: Locking,
+    /// The number of calls of each caller.
+    pub(crate) calls: u32,
+}
+
+impl Plan {
+    /// Returns the first word of the line with its figure.
+    pub(crate) fn name(self) -> &'static str {
+        match (self.locking, self.load) {
+            (Locking::Single, Load::Reads) => "server-reads",
+            (Locking::Single, Load::Lists) => "server-lists",
+            (Locking::Single, Load::Mixture) => "server",
+            (Locking::Sharded, Load::Reads) => "server-sharded-reads",
+            (Locking::Sharded, Load::Lists) => "server-sharded-lists",
+            (Locking::Sharded, Load::Mixture) => "server-sharded",
+        }
+    }
+}
+
+/// Times a number of callers.
 pub(crate) fn serve<R: Alloc<A = Global> + Clock + Threads + Wait + Sync>(
     rt: &R,
-    load: Load,
+    plan: Plan,
     callers: u32,
-    calls: u32,
 ) -> io::Result<Outcome>
     requires { 0 < callers }
 {
@@ -76,36 +89,34 @@ pub(crate) fn serve<R: Alloc<A = Global> + Clock + Threads + Wait + Sync>(
         ..Limits::usual()
     };
     let history = NewHistory::new(rt.alloc())?;
-    serve_limited::<Brand, R>(rt, history, limits, load, calls)
+    serve_limited::<Brand, R>(rt, history, limits, plan)
 }
 
 fn serve_limited<B: HistoryId + Send + Sync, R: Alloc<A = Global> + Clock + Threads + Wait + Sync>(
     rt: &R,
     history: NewHistory,
     limits: Limits,
-    load: Load,
-    calls: u32,
+    plan: Plan,
 ) -> io::Result<Outcome>
     requires table { history.word.shared.table_id ≡ B.table }
     requires limits { limits ≡ B.limits }
     requires some { 0 < limits.processes }
 {
     let callers = limits.processes;
-    let server = Server::<B, Fnv>::new(rt.alloc(), history, limits, Fnv)?;
-    call_together(rt, &server, load, callers, calls)
+    let server = Server::<B, Fnv>::new(rt.alloc(), plan.locking, history, limits, Fnv)?;
+    call_together(rt, &server, plan, callers)
 }
 
 /// Makes the calls before the clock runs.
 fn call_together<B: HistoryId + Send + Sync, R: Alloc<A = Global> + Clock + Threads + Wait + Sync>(
     rt: &R,
     server: &Server<B, Fnv>,
-    load: Load,
+    plan: Plan,
     callers: u32,
-    calls: u32,
 ) -> io::Result<Outcome>
     requires { 0 < callers }
 {
-    let work = work(rt, rt.alloc(), server, load, callers, calls)?;
+    let work = work(rt, rt.alloc(), server, plan, callers)?;
     let start = Instant::now(rt)?;
     let found = call_all(rt, server, work);
     let nanoseconds = nanoseconds(start.elapsed(rt)?);
@@ -117,9 +128,8 @@ fn work<B: HistoryId, R: Wait>(
     rt: &R,
     alloc: Global,
     server: &Server<B, Fnv>,
-    load: Load,
+    plan: Plan,
     callers: u32,
-    calls: u32,
 ) -> Result<Vec<(Caller<B>, Vec<Call>, usize)>, AllocError>
     requires { 0 < callers }
 {
@@ -129,8 +139,8 @@ fn work<B: HistoryId, R: Wait>(
     }
     let mut work = Vec::new(alloc);
     for caller in callers {
-        let calls = load.calls(alloc, calls)?;
-        work.push((caller, calls, load.hold()))?;
+        let calls = plan.load.calls(alloc, plan.calls)?;
+        work.push((caller, calls, plan.load.hold()))?;
     }
     Ok(work)
 }

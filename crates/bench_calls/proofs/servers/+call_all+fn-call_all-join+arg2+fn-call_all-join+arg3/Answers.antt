@@ -1,6 +1,6 @@
 use denote.Exit
 use denote.Param.{param, copied}
-use denote.Param.Send.{IsSend, IsSync, param_send, param_sync, arg_send}
+use denote.Param.Send.{IsSend, IsSync, param_send, arg_send}
 use mathlib.Core.List.{[], ◌∷◌}
 use mir.Syntax.{named}
 use Rattle.std.proofs.Common.{rules}
@@ -11,11 +11,47 @@ pub join-front_found-requires-send-F : goal.join-front_found-requires-send-F
 join-front_found-requires-send-F g t c κs within =
     let room : IsSend (param 0 g.row.B) = search rules parts 8 in
     let rooms : IsSync (param 0 g.row.B) = search rules parts 8 in
-    let runs : IsSync g.row.R = search rules parts 8 in
+    let runs : IsSync (param 2 g.row.R) = c.requires-raw.1.1.1.1.1.1.1.1.0 in
     let hash : IsSend (copied 1 g.row.H) = search rules parts 8 in
     let hashes : IsSync (copied 1 g.row.H) = search rules parts 8 in
     param_send 1 _ (arg_send _ denote.Exit.no _ (taken_send
     (named 6) (named 7) κs.1.1.1.1.1.1.0 κs.1.1.1.1.1.1.1.0
     (param 0 g.row.B) (copied 1 g.row.H) (param 2 g.row.R) g.B.HistoryId g.H.KeyHash g.H.Clone
     (98 ∷ 101 ∷ 110 ∷ 99 ∷ 104 ∷ 95 ∷ 99 ∷ 97 ∷ 108 ∷ 108 ∷ 115 ∷ 58 ∷ 58 ∷ 115 ∷ 101 ∷ 114 ∷ 118 ∷ 101 ∷ 114 ∷ 115 ∷ 58 ∷ 58 ∷ 102 ∷ 110 ∷ 58 ∷ 58 ∷ 99 ∷ 97 ∷ 108 ∷ 108 ∷ 95 ∷ 97 ∷ 108 ∷ 108 ∷ 58 ∷ 58 ∷ 106 ∷ 111 ∷ 105 ∷ 110 ∷ 43 ∷ 97 ∷ 114 ∷ 103 ∷ 50 ∷ 43 ∷ 83 ∷ 101 ∷ 108 ∷ 102 ∷ [])
-    (param_sync 2 g.row.R runs) room rooms hash hashes))
+    runs room rooms hash hashes))
+
+pub join+arg2-call_all-requires-send-B : goal.join+arg2-call_all-requires-send-B
+join+arg2-call_all-requires-send-B g t c κs within = search
+
+pub join+arg2-call_all-requires-send-H : goal.join+arg2-call_all-requires-send-H
+join+arg2-call_all-requires-send-H g t c κs within = search
+
+pub join+arg2-call_all-requires-sync-B : goal.join+arg2-call_all-requires-sync-B
+join+arg2-call_all-requires-sync-B g t c κs within = search
+
+pub join+arg2-call_all-requires-sync-H : goal.join+arg2-call_all-requires-sync-H
+join+arg2-call_all-requires-sync-H g t c κs within = search
+
+pub join+arg2-call_all-requires-sync-R : goal.join+arg2-call_all-requires-sync-R
+join+arg2-call_all-requires-sync-R g t c κs within = c.requires
+
+pub fn::call_all::join+arg2+FnOnce::call_once-join+arg2-requires : goal.fn::call_all::join+arg2+FnOnce::call_once-join+arg2-requires
+fn::call_all::join+arg2+FnOnce::call_once-join+arg2-requires g t c κs within = search parts 30
+
+pub join+arg3-call_all-requires-send-B : goal.join+arg3-call_all-requires-send-B
+join+arg3-call_all-requires-send-B g t c κs within = search
+
+pub join+arg3-call_all-requires-send-H : goal.join+arg3-call_all-requires-send-H
+join+arg3-call_all-requires-send-H g t c κs within = search
+
+pub join+arg3-call_all-requires-sync-B : goal.join+arg3-call_all-requires-sync-B
+join+arg3-call_all-requires-sync-B g t c κs within = search
+
+pub join+arg3-call_all-requires-sync-H : goal.join+arg3-call_all-requires-sync-H
+join+arg3-call_all-requires-sync-H g t c κs within = search
+
+pub join+arg3-call_all-requires-sync-R : goal.join+arg3-call_all-requires-sync-R
+join+arg3-call_all-requires-sync-R g t c κs within = c.requires
+
+pub fn::call_all::join+arg3+FnOnce::call_once-join+arg3-requires : goal.fn::call_all::join+arg3+FnOnce::call_once-join+arg3-requires
+fn::call_all::join+arg3+FnOnce::call_once-join+arg3-requires g t c κs within = search parts 30
