@@ -5,6 +5,7 @@ ghost use Rattle.bucket_table.specs.Buckets.{HasLooked};
 mod changes;
 mod directory;
 mod hint;
+mod hint_list;
 mod hints;
 mod index;
 mod rows;

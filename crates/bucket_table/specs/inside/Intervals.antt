@@ -34,8 +34,8 @@ HaveSameHints old new = (interval : ℕ) → get_or new interval None ≡ get_or
 -- The current hints are right, and so are the previous ones, whose intervals are twice as wide.
 pub record HintsAreSound (hints : Hints) (cells : List Cell) : Type 0 where
   pub narrow : hints.interval_bits < 63
-  pub current : AreSound (2 ^ hints.interval_bits) hints.current.items cells
-  pub previous : AreSound (2 ^ (hints.interval_bits + 1)) hints.previous.items cells
+  pub current : AreSound (2 ^ hints.interval_bits) hints.current cells
+  pub previous : AreSound (2 ^ (hints.interval_bits + 1)) hints.previous cells
 
 -- A bucket has eight intervals, and the hints are right.
 pub record HintsInvariant (directory : List (Option ℕ)) (interval_bits : ℕ) (current : List (Option (Option ℕ)))

@@ -19,9 +19,9 @@ use Rattle.bucket_table.specs.inside.TombstoneLog.{LogInvariant}
 
 -- The invariant of a `SplitIndex`: the list and the directory agree, and the current and previous hints are right.
 pub record RowsInvariant {H : Type 0} (hash_of : H → Term → ℕ) (index : SplitIndex H) : Type 0 where
-  pub rows : ListInvariant (hash_of index.hasher) index.directory index.hints.interval_bits index.hints.current.items
+  pub rows : ListInvariant (hash_of index.hasher) index.directory index.hints.interval_bits index.hints.current
       index.list.cells
-  pub previous : AreSound (2 ^ (index.hints.interval_bits + 1)) index.hints.previous.items index.list.cells
+  pub previous : AreSound (2 ^ (index.hints.interval_bits + 1)) index.hints.previous index.list.cells
 
 -- The invariant of `SplitRows`: also the number of slots, the first unready bucket and the tombstone log.
 pub record TableInvariant {H : Type 0} (hash_of : H → Term → ℕ) (index : SplitIndex H) (slots first_unready : ℕ)

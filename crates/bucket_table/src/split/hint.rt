@@ -1,4 +1,4 @@
-ghost use Rattle.std.specs.Prelude.{◌≡◌, ◌⊎◌, Some, None, length, get_or};
+ghost use Rattle.std.specs.Prelude.{◌≡◌, ◌⊎◌, Some, None};
 
 use std::marker::Model;
 
@@ -73,16 +73,5 @@ impl Hint {
         } else {
             Some(Some(self.word as usize))
         }
-    }
-}
-
-/// Returns the hint of an interval. Past the end of the list hints are unknown.
-pub fn hint_at(current: &[Hint], interval: usize) -> Option<Option<usize>>
-    ensures { result ≡ get_or current.now interval None }
-{
-    if interval < current.len() {
-        current[interval].get()
-    } else {
-        None
     }
 }

@@ -6,8 +6,7 @@ mod generation;
 mod refresh;
 mod rehash;
 
-pub use self::first::{replace_first, set_first};
-use super::hint::{Hint, hint_at};
+use super::hint_list::HintList;
 use node_list::At;
 use std::alloc::{AllocError, Global};
 
@@ -21,11 +20,11 @@ const SPLIT_KEY_BITS: u32 = 33;
 const MAX_INTERVALS_SCANNED: usize = 64;
 
 /// A cache of the first item of each interval of split keys, and the cache from before the last doubling. The
-/// interval of a split key is `split_key >> interval_bits`. Past the end of either list all hints are unknown.
+/// interval of a split key is `split_key >> interval_bits`.
 #[derive(Drop)]
 pub struct Hints {
-    pub current: Vec<Hint>,
-    pub previous: Vec<Hint>,
+    pub current: HintList,
+    pub previous: HintList,
     pub rehash_index: usize,
     pub interval_bits: u32,
 }
@@ -33,15 +32,14 @@ pub struct Hints {
 impl Hints {
     /// Creates the hints of two buckets without items.
     pub fn new(alloc: Global) -> Result<Hints, AllocError>
-        ensures current { IfOk result (λ hints. hints.current.items ≡ replicate 16 (Some None)) }
-        ensures previous { IfOk result (λ hints. hints.previous.items ≡ []) }
+        ensures current { IfOk result (λ hints. hints.current ≡ replicate 16 (Some None)) }
+        ensures previous { IfOk result (λ hints. hints.previous ≡ []) }
         ensures interval_bits { IfOk result (λ hints. hints.interval_bits ≡ 29) }
     {
-        let mut current = Vec::new(alloc);
-        current.resize(2 * INTERVALS_PER_BUCKET, Hint::empty())?;
+        let current = HintList::of_empty_intervals(alloc, 2 * INTERVALS_PER_BUCKET)?;
         Ok(Hints {
             current,
-            previous: Vec::new(alloc),
+            previous: HintList::new(alloc),
             rehash_index: 0,
             interval_bits: SPLIT_KEY_BITS - 4,
         })
@@ -58,17 +56,17 @@ impl Hints {
     /// Returns the first item of the nearest lower interval whose hint has one, down to the interval `floor`. It
     /// reads current and previous hints.
     pub fn nearest_below(&self, floor: usize, interval: usize) -> Option<At>
-        ensures { IfSome result (λ at. IsNearestBelow floor interval at self.now.current.items
-            ⊎ IsNearestBelow (floor / 2) (interval / 2) at self.now.previous.items) }
+        ensures { IfSome result (λ at. IsNearestBelow floor interval at self.now.current
+            ⊎ IsNearestBelow (floor / 2) (interval / 2) at self.now.previous) }
     {
         let mut lower = interval;
         while floor < lower && interval - lower < MAX_INTERVALS_SCANNED {
             lower -= 1;
-            if let Some(Some(first)) = hint_at(&self.current, lower) {
+            if let Some(Some(first)) = self.current.get(lower) {
                 return Some(first);
             }
             if lower % 2 == 0 && lower / 2 < interval / 2 {
-                if let Some(Some(first)) = hint_at(&self.previous, lower / 2) {
+                if let Some(Some(first)) = self.previous.get(lower / 2) {
                     return Some(first);
                 }
             }
@@ -79,12 +77,12 @@ impl Hints {
     /// Returns the first item of the nearest lower interval of the same bucket whose current hint has one.
     #[inline(always)]
     pub fn bucket_hint_below(&self, interval: usize) -> Option<At>
-        ensures { IfSome result (λ at. IsNearestBelow 0 interval at self.now.current.items) }
+        ensures { IfSome result (λ at. IsNearestBelow 0 interval at self.now.current) }
     {
         let mut below = interval;
         while below % INTERVALS_PER_BUCKET != 0 {
             below -= 1;
-            if let Some(Some(first)) = hint_at(&self.current, below) {
+            if let Some(Some(first)) = self.current.get(below) {
                 return Some(first);
             }
         }

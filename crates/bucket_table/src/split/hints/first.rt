@@ -1,10 +1,10 @@
 // What an insertion and a removal do to the hint of their interval.
 ghost use Rattle.std.specs.Prelude.{◌≡◌, ◌/◌, ◌^◌, true, false, None, get_or};
 ghost use Rattle.bucket_table.specs.inside.Directory.{HaveParity};
-ghost use Rattle.bucket_table.specs.inside.Intervals.{HintsAreSound, IsNewFirst, KeepsFirst, SetsFirst, IsItemIn, IsHintAfterRemoval, ReplacesFirst};
+ghost use Rattle.bucket_table.specs.inside.Intervals.{HintsAreSound, IsNewFirst, KeepsFirst, IsItemIn, IsHintAfterRemoval};
 
 use super::Hints;
-use crate::split::hint::{Hint, hint_at};
+use crate::split::hint::Hint;
 use node_list::{At, NodeList};
 
 impl Hints {
@@ -16,9 +16,9 @@ impl Hints {
             list.now.cells split_key }
         ensures old { result ≡ false
             → KeepsFirst (2 ^ self.now.interval_bits) (split_key / 2 ^ self.now.interval_bits) list.now.cells split_key
-            (get_or self.now.current.items (split_key / 2 ^ self.now.interval_bits) None) }
+            (get_or self.now.current (split_key / 2 ^ self.now.interval_bits) None) }
     {
-        match hint_at(&self.current, (split_key >> self.interval_bits) as usize) {
+        match self.current.get(self.interval_of(split_key)) {
             None => false,
             Some(None) => true,
             Some(Some(first)) => {
@@ -40,33 +40,13 @@ impl Hints {
             return Hint::empty();
         };
         let split_key = list.key(next);
-        if (split_key >> self.interval_bits) as usize != interval {
+        if self.interval_of(split_key) != interval {
             return Hint::empty();
         }
         if split_key % 2 == 1 {
             Hint::at(next)
         } else {
             Hint::unknown()
-        }
-    }
-}
-
-/// Sets the hint of an interval to a place, if `is_first` is set.
-pub fn set_first(current: &mut Vec<Hint>, is_first: bool, interval: usize, at: At)
-    ensures { SetsFirst is_first interval at current.old.items current.new.items }
-{
-    if is_first && interval < current.len() {
-        current[interval] = Hint::at(at);
-    }
-}
-
-/// Replaces the hint of an interval if it is `at`.
-pub fn replace_first(current: &mut Vec<Hint>, interval: usize, at: At, hint: Hint)
-    ensures { ReplacesFirst interval at hint current.old.items current.new.items }
-{
-    if let Some(Some(first)) = hint_at(current, interval) {
-        if first == at && interval < current.len() {
-            current[interval] = hint;
         }
     }
 }

@@ -1,9 +1,8 @@
 // The hints of a new number of buckets. They are set to unknown in steps.
-ghost use Rattle.std.specs.Prelude.{◌≡◌, ◌<◌, OnOk, OnErr};
+ghost use Rattle.std.specs.Prelude.{◌≡◌, ◌/◌, ◌^◌, ◌<◌, OnOk, OnErr};
 ghost use Rattle.bucket_table.specs.inside.Intervals.{AreUnknown, HaveSameHints};
 
 use super::{Hints, SPLIT_KEY_BITS};
-use crate::split::hint::Hint;
 use std::alloc::AllocError;
 
 /// A doubling sets at most this many hints to unknown, which are 64 KiB. So no doubling takes long.
@@ -13,24 +12,21 @@ const HINTS_SET_AT_DOUBLING: usize = 16384;
 const HINTS_SET_AT_INSERTION: usize = 256;
 
 impl Hints {
-    /// Replaces the previous hints by unknown ones, with memory for `intervals` of them. The memory is new, because
-    /// growing a block would copy it.
+    /// Replaces the previous hints by unknown ones, with memory for `intervals` of them.
     pub fn start_generation(&mut self, intervals: usize) -> Result<(), AllocError>
-        ensures ok { OnOk result (AreUnknown self.new.previous.items) }
+        ensures ok { OnOk result (AreUnknown self.new.previous) }
         ensures rest { self.new ≡ record self.old { previous = self.new.previous } }
         ensures err { OnErr result (self.new ≡ self.old) }
     {
-        let mut unknown = Vec::with_capacity(*self.previous.allocator(), intervals)?;
         let count = intervals.min(HINTS_SET_AT_DOUBLING);
-        unknown.resize(count, Hint::unknown())?;
-        self.previous = unknown;
-        Ok(())
+        self.previous.renew(intervals, count)
     }
 
     /// Returns the number of intervals.
     #[inline(always)]
     pub fn intervals(&self) -> usize
         requires { self.now.interval_bits < 64 }
+        ensures { result ≡ 2 ^ 33 / 2 ^ self.now.interval_bits }
     {
         (1usize << SPLIT_KEY_BITS) >> self.interval_bits
     }
@@ -39,14 +35,14 @@ impl Hints {
     /// missing hint is unknown.
     pub fn extend_generation(&mut self)
         requires narrow { self.old.interval_bits < 64 }
-        ensures same { HaveSameHints self.old.current.items self.new.current.items }
+        ensures same { HaveSameHints self.old.current self.new.current }
         ensures rest { self.new ≡ record self.old { current = self.new.current } }
     {
         let intervals = self.intervals();
         let len = self.current.len();
         if len < intervals {
             let more = len.saturating_add(HINTS_SET_AT_INSERTION).min(intervals);
-            let _outcome = self.current.resize(more, Hint::unknown());
+            self.current.extend_unknown(more);
         }
     }
 }

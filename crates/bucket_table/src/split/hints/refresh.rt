@@ -1,10 +1,10 @@
 // The refresh of an unknown hint by an insertion.
-ghost use Rattle.std.specs.Prelude.{◌≡◌, ◌/◌, ◌^◌, None, get_or};
+ghost use Rattle.std.specs.Prelude.{◌≡◌, ◌/◌, ◌^◌};
 ghost use Rattle.bucket_table.specs.inside.Directory.{HaveParity, HasKeyBelow};
-ghost use Rattle.bucket_table.specs.inside.Intervals.{HintsAreSound, IsBeforeInterval, IsSoundHint, SetsIfUnknown, SetsHint};
+ghost use Rattle.bucket_table.specs.inside.Intervals.{HintsAreSound, IsBeforeInterval, IsSoundHint};
 
 use super::Hints;
-use crate::split::hint::{Hint, hint_at};
+use crate::split::hint::Hint;
 use node_list::{At, NodeList};
 
 impl Hints {
@@ -48,33 +48,15 @@ impl Hints {
         ensures below { HasKeyBelow split_key result list.now.cells }
         ensures rest { self.new ≡ record self.old { current = self.new.current } }
     {
-        let interval = (split_key >> self.interval_bits) as usize;
-        if hint_at(&self.current, interval).is_some() {
+        let interval = self.interval_of(split_key);
+        if self.current.get(interval).is_some() {
             return start;
         }
-        if list.key(start) >> self.interval_bits >= split_key >> self.interval_bits {
+        if self.interval_of(list.key(start)) >= interval {
             return start;
         }
         let (at, hint) = self.scan_to_interval(list, split_key, start);
-        set_if_unknown(&mut self.current, interval, hint);
+        self.current.set_if_unknown(interval, hint);
         at
-    }
-}
-
-/// Sets the hint of an interval, if the list has one and it is unknown.
-pub fn set_if_unknown(current: &mut Vec<Hint>, interval: usize, hint: Hint)
-    ensures { SetsIfUnknown interval hint current.old.items current.new.items }
-{
-    if interval < current.len() && hint_at(current, interval).is_none() {
-        current[interval] = hint;
-    }
-}
-
-/// Sets the hint of an interval, if the list has one.
-pub fn set(current: &mut Vec<Hint>, interval: usize, hint: Hint)
-    ensures { SetsHint interval hint current.old.items current.new.items }
-{
-    if interval < current.len() {
-        current[interval] = hint;
     }
 }

@@ -3,8 +3,7 @@ ghost use Rattle.std.specs.Prelude.{◌≡◌, ◌+◌, ◌*◌, ◌/◌, ◌^�
 ghost use Rattle.bucket_table.specs.inside.Intervals.{HintsAreSound, IsSoundHint};
 
 use super::Hints;
-use super::refresh::{set, set_if_unknown};
-use crate::split::hint::{Hint, hint_at};
+use crate::split::hint::Hint;
 use node_list::NodeList;
 
 impl Hints {
@@ -15,12 +14,12 @@ impl Hints {
         ensures lower { IsSoundHint (2 ^ self.now.interval_bits) (2 * pair) list.now.cells result.0 }
         ensures upper { IsSoundHint (2 ^ self.now.interval_bits) (2 * pair + 1) list.now.cells result.1 }
     {
-        match hint_at(&self.previous, pair) {
+        match self.previous.get(pair) {
             None => (Hint::unknown(), Hint::unknown()),
             Some(None) => (Hint::empty(), Hint::empty()),
             Some(Some(first)) => {
                 list.reveal_invariant();
-                if (list.key(first) >> self.interval_bits) % 2 == 1 {
+                if self.interval_of(list.key(first)) % 2 == 1 {
                     (Hint::empty(), Hint::at(first))
                 } else {
                     (Hint::at(first), Hint::unknown())
@@ -34,13 +33,13 @@ impl Hints {
         requires hints { HintsAreSound self.old list.now.cells }
         ensures hints { HintsAreSound self.new list.now.cells }
         ensures interval_bits { self.new.interval_bits ≡ self.old.interval_bits }
-        ensures gone { get_or self.new.previous.items pair None ≡ None }
+        ensures gone { get_or self.new.previous pair None ≡ None }
     {
-        if pair < self.previous.len() && hint_at(&self.previous, pair).is_some() {
+        if pair < self.previous.len() && self.previous.get(pair).is_some() {
             let (lower, upper) = self.split_hint(list, pair);
-            set_if_unknown(&mut self.current, 2 * pair, lower);
-            set_if_unknown(&mut self.current, 2 * pair + 1, upper);
-            set(&mut self.previous, pair, Hint::unknown());
+            self.current.set_if_unknown(2 * pair, lower);
+            self.current.set_if_unknown(2 * pair + 1, upper);
+            self.previous.set(pair, Hint::unknown());
         }
     }
 
@@ -49,9 +48,9 @@ impl Hints {
         requires hints { HintsAreSound self.old list.now.cells }
         ensures hints { HintsAreSound self.new list.now.cells }
         ensures interval_bits { self.new.interval_bits ≡ self.old.interval_bits }
-        ensures gone { get_or self.new.previous.items (split_key / 2 ^ self.new.interval_bits / 2) None ≡ None }
+        ensures gone { get_or self.new.previous (split_key / 2 ^ self.new.interval_bits / 2) None ≡ None }
     {
-        self.rehash_pair(list, (split_key >> self.interval_bits) as usize / 2);
+        self.rehash_pair(list, self.interval_of(split_key) / 2);
     }
 
     /// Rehashes the next two previous hints and adds some current ones. After the last of them it frees the previous
@@ -68,7 +67,7 @@ impl Hints {
             self.rehash_pair(list, rehash_index + 1);
             self.rehash_index = rehash_index.saturating_add(2);
         } else {
-            self.previous = Vec::new(*self.previous.allocator());
+            self.previous.free();
         }
     }
 
@@ -79,7 +78,7 @@ impl Hints {
         requires hints { HintsAreSound self.old list.now.cells }
         ensures hints { HintsAreSound self.new list.now.cells }
         ensures interval_bits { self.new.interval_bits ≡ self.old.interval_bits }
-        ensures gone { get_or self.new.previous.items (split_key / 2 ^ self.new.interval_bits / 2) None ≡ None }
+        ensures gone { get_or self.new.previous (split_key / 2 ^ self.new.interval_bits / 2) None ≡ None }
     {
         if self.previous.len() > 0 || self.current.len() < self.intervals() {
             self.rehash_now(list, split_key);
@@ -92,7 +91,7 @@ impl Hints {
         requires hints { HintsAreSound self.old list.now.cells }
         ensures hints { HintsAreSound self.new list.now.cells }
         ensures interval_bits { self.new.interval_bits ≡ self.old.interval_bits }
-        ensures gone { get_or self.new.previous.items (split_key / 2 ^ self.new.interval_bits / 2) None ≡ None }
+        ensures gone { get_or self.new.previous (split_key / 2 ^ self.new.interval_bits / 2) None ≡ None }
     {
         self.rehash_step(list);
         self.rehash_interval(list, split_key);

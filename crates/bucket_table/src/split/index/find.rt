@@ -4,7 +4,6 @@ ghost use Rattle.bucket_table.specs.inside.Search.{CanStartSearch};
 ghost use Rattle.bucket_table.specs.inside.SplitIndex.{RowsInvariant, FindsItem, CountsVisits};
 
 use super::SplitIndex;
-use crate::split::hint::hint_at;
 use ets_term::{KeyHash, Term};
 use node_list::{At, Steps};
 use split_key::{dummy_key, item_key};
@@ -21,7 +20,7 @@ impl<H: KeyHash + Copy + Drop> SplitIndex<H> {
         self.list.reveal_invariant();
         let _count = steps.count();
         let interval = self.hints.interval_of(item_key(hash));
-        match hint_at(&self.hints.current, interval) {
+        match self.hints.current.get(interval) {
             Some(Some(first)) => self.find_from(first, hash, key, steps),
             Some(None) => None,
             None => self.find_by_previous_hint(hash, key, steps),
@@ -38,7 +37,7 @@ impl<H: KeyHash + Copy + Drop> SplitIndex<H> {
         self.list.reveal_invariant();
         let _count = steps.count();
         let interval = self.hints.interval_of(item_key(hash));
-        match hint_at(&self.hints.previous, interval / 2) {
+        match self.hints.previous.get(interval / 2) {
             Some(Some(first)) => self.find_from(first, hash, key, steps),
             Some(None) => None,
             None => self.find_without_hint(hash, key, steps),

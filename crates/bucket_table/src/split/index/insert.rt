@@ -8,7 +8,6 @@ ghost use Rattle.bucket_table.specs.inside.Nodes.{slots_of};
 ghost use Rattle.bucket_table.specs.inside.SplitIndex.{RowsInvariant, KeepsDirectory, InsertsItem};
 
 use super::SplitIndex;
-use crate::split::hints::set_first;
 use ets_term::{KeyHash, Term};
 use node_list::Chain;
 use split_key::item_key;
@@ -34,6 +33,6 @@ impl<H: KeyHash + Copy + Drop> SplitIndex<H> {
         let is_first = self.hints.is_new_first(&self.list, split_key);
         let interval = self.hints.interval_of(split_key);
         let at = self.list.insert_item(start, split_key, key, objects);
-        set_first(&mut self.hints.current, is_first, interval, at);
+        self.hints.current.set_first(is_first, interval, at);
     }
 }

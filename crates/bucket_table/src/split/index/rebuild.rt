@@ -1,10 +1,8 @@
 // The rebuild of hints when a bucket becomes ready.
 ghost use Rattle.std.specs.Prelude.{◌≡◌, ◌<◌, Some, None, length, get_or};
 ghost use Rattle.bucket_table.specs.inside.SplitIndex.{RowsInvariant, KeepsDirectory};
-ghost use Rattle.bucket_table.specs.inside.Rebuild.{SetsEmpty, SetsIfEmpty};
 
 use super::SplitIndex;
-use crate::split::hint::Hint;
 use crate::split::hints::INTERVALS_PER_BUCKET;
 use ets_term::KeyHash;
 use node_list::At;
@@ -47,44 +45,23 @@ impl<H: KeyHash + Copy + Drop> SplitIndex<H> {
         ensures cells { self.new.list.cells ≡ self.old.list.cells }
     {
         self.list.reveal_invariant();
-        let interval_bits = self.hints.interval_bits;
-        let low = (dummy_key(bucket) >> interval_bits) as usize;
-        let end = low + INTERVALS_PER_BUCKET;
-        set_empty(&mut self.hints.current, low, end);
+        let first_interval = self.hints.interval_of(dummy_key(bucket));
+        let end = first_interval + INTERVALS_PER_BUCKET;
+        self.hints.current.set_empty(first_interval, end);
         let list = &self.list;
-        let current = &mut self.hints.current;
+        let hints = &mut self.hints;
         let mut at = list.after(start);
         while let Some(place) = at {
             let split_key = list.key(place);
-            let interval = (split_key >> interval_bits) as usize;
+            let interval = hints.interval_of(split_key);
             if interval >= end {
                 return;
             }
             if split_key % 2 != 1 {
                 return;
             }
-            set_if_empty(current, interval, place);
+            hints.current.set_if_empty(interval, place);
             at = list.after(place);
         }
-    }
-}
-
-/// Sets the hints of the intervals from `low` up to `high` to empty.
-fn set_empty(current: &mut Vec<Hint>, low: usize, high: usize)
-    ensures { SetsEmpty low high current.old.items current.new.items }
-{
-    for interval in low..high {
-        if interval < current.len() {
-            current[interval] = Hint::empty();
-        }
-    }
-}
-
-/// Sets the hint of an interval to a place if it is empty.
-fn set_if_empty(current: &mut Vec<Hint>, interval: usize, at: At)
-    ensures { SetsIfEmpty interval at current.old.items current.new.items }
-{
-    if interval < current.len() {
-        current[interval] = current[interval].or_place(at);
     }
 }

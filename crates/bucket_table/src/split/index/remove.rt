@@ -1,12 +1,11 @@
 // The removal of an item.
-ghost use Rattle.std.specs.Prelude.{◌≡◌, ◌+◌, Some, length, option_map};
+ghost use Rattle.std.specs.Prelude.{◌≡◌, ◌+◌, ◌/◌, ◌^◌, Some, None, length, get_or, option_map};
 ghost use Rattle.node_list.specs.Cells.{new_item};
 ghost use Rattle.node_list.specs.Changes.{without};
-ghost use Rattle.node_list.specs.Places.{HasItem, cells_after, item_at};
+ghost use Rattle.node_list.specs.Places.{HasItem, cells_after, item_at, key_at};
 ghost use Rattle.bucket_table.specs.inside.SplitIndex.{RowsInvariant, KeepsDirectory};
 
 use super::SplitIndex;
-use crate::split::hints::replace_first;
 use ets_term::{KeyHash, Term};
 use node_list::{At, Chain};
 
@@ -20,8 +19,9 @@ impl<H: KeyHash + Copy + Drop> SplitIndex<H> {
         ensures item { item_at at self.old.list.cells ≡ Some (new_item result.0 result.1) }
         ensures cells { self.new.list.cells ≡ without at self.old.list.cells }
     {
-        let start = self.start_before(at);
-        self.take_out(start, at)
+        let split_key = self.rehash_at(at);
+        let start = self.start_before(split_key, at);
+        self.remove_rehashed(split_key, start, at)
     }
 
     /// Removes the item at a place and returns the number of its objects. It moves none of them.
@@ -33,43 +33,9 @@ impl<H: KeyHash + Copy + Drop> SplitIndex<H> {
         ensures count { option_map (λ item. length item.chain) (item_at at self.old.list.cells) ≡ Some result }
         ensures cells { self.new.list.cells ≡ without at self.old.list.cells }
     {
-        let start = self.start_before(at);
-        self.delete_after(start, at)
-    }
-
-    /// Rehashes the interval of the item at a place, and returns a node before the item.
-    fn start_before(&mut self, at: At) -> At
-        requires rows { RowsInvariant H.hash self.old }
-        requires item { HasItem at self.old.list.cells }
-        ensures rows { RowsInvariant H.hash self.new }
-        ensures keeps { KeepsDirectory self.old self.new }
-        ensures list { self.new.list ≡ self.old.list }
-        ensures stands { HasItem at (cells_after result self.old.list.cells) }
-    {
-        self.list.reveal_invariant();
-        let split_key = self.list.key(at);
-        self.hints.rehash_interval(&self.list, split_key);
-        self.item_start(split_key)
-    }
-
-    /// Removes an item and returns its key and objects. `start` is a node before it.
-    fn take_out(&mut self, start: At, at: At) -> (Term, Chain)
-        requires rows { RowsInvariant H.hash self.old }
-        requires stands { HasItem at (cells_after start self.old.list.cells) }
-        ensures rows { RowsInvariant H.hash self.new }
-        ensures keeps { KeepsDirectory self.old self.new }
-        ensures item { item_at at self.old.list.cells ≡ Some (new_item result.0 result.1) }
-        ensures cells { self.new.list.cells ≡ without at self.old.list.cells }
-        ensures len { length self.new.list.cells + 1 ≡ length self.old.list.cells }
-    {
-        self.list.reveal_invariant();
-        let split_key = self.list.key(at);
-        self.hints.rehash_interval(&self.list, split_key);
-        let interval = self.hints.interval_of(split_key);
-        let hint = self.hints.hint_after_removal(&self.list, interval, at);
-        let slot = self.list.unlink(start, at);
-        replace_first(&mut self.hints.current, interval, at, hint);
-        slot
+        let split_key = self.rehash_at(at);
+        let start = self.start_before(split_key, at);
+        self.delete_rehashed(split_key, start, at)
     }
 
     /// Removes an item and returns the number of its objects. `start` is a node before it.
@@ -83,12 +49,75 @@ impl<H: KeyHash + Copy + Drop> SplitIndex<H> {
         ensures len { length self.new.list.cells + 1 ≡ length self.old.list.cells }
     {
         self.list.reveal_invariant();
+        let split_key = self.rehash_at(at);
+        self.delete_rehashed(split_key, start, at)
+    }
+
+    /// Rehashes the interval of the item at a place, and returns the item's split key.
+    fn rehash_at(&mut self, at: At) -> u64
+        requires rows { RowsInvariant H.hash self.old }
+        requires item { HasItem at self.old.list.cells }
+        ensures rows { RowsInvariant H.hash self.new }
+        ensures keeps { KeepsDirectory self.old self.new }
+        ensures list { self.new.list ≡ self.old.list }
+        ensures key { key_at at self.old.list.cells ≡ Some result }
+        ensures rehashed { get_or self.new.hints.previous (result / 2 ^ self.new.hints.interval_bits / 2) None
+            ≡ None }
+    {
         let split_key = self.list.key(at);
         self.hints.rehash_interval(&self.list, split_key);
+        split_key
+    }
+
+    /// Returns a node before the item at a place, which has this split key.
+    fn start_before(&self, split_key: u64, at: At) -> At
+        requires rows { RowsInvariant H.hash self.now }
+        requires item { HasItem at self.now.list.cells }
+        requires key { key_at at self.now.list.cells ≡ Some split_key }
+        ensures { HasItem at (cells_after result self.now.list.cells) }
+    {
+        self.list.reveal_invariant();
+        self.item_start(split_key)
+    }
+
+    /// Removes an item of a rehashed interval, and returns its key and objects. `start` is a node before it.
+    fn remove_rehashed(&mut self, split_key: u64, start: At, at: At) -> (Term, Chain)
+        requires rows { RowsInvariant H.hash self.old }
+        requires stands { HasItem at (cells_after start self.old.list.cells) }
+        requires key { key_at at self.old.list.cells ≡ Some split_key }
+        requires rehashed { get_or self.old.hints.previous (split_key / 2 ^ self.old.hints.interval_bits / 2) None
+            ≡ None }
+        ensures rows { RowsInvariant H.hash self.new }
+        ensures keeps { KeepsDirectory self.old self.new }
+        ensures item { item_at at self.old.list.cells ≡ Some (new_item result.0 result.1) }
+        ensures cells { self.new.list.cells ≡ without at self.old.list.cells }
+    {
+        self.list.reveal_invariant();
+        let interval = self.hints.interval_of(split_key);
+        let hint = self.hints.hint_after_removal(&self.list, interval, at);
+        let slot = self.list.unlink(start, at);
+        self.hints.current.replace_first(interval, at, hint);
+        slot
+    }
+
+    /// Removes an item of a rehashed interval, and returns the number of its objects. `start` is a node before it.
+    fn delete_rehashed(&mut self, split_key: u64, start: At, at: At) -> usize
+        requires rows { RowsInvariant H.hash self.old }
+        requires stands { HasItem at (cells_after start self.old.list.cells) }
+        requires key { key_at at self.old.list.cells ≡ Some split_key }
+        requires rehashed { get_or self.old.hints.previous (split_key / 2 ^ self.old.hints.interval_bits / 2) None
+            ≡ None }
+        ensures rows { RowsInvariant H.hash self.new }
+        ensures keeps { KeepsDirectory self.old self.new }
+        ensures count { option_map (λ item. length item.chain) (item_at at self.old.list.cells) ≡ Some result }
+        ensures cells { self.new.list.cells ≡ without at self.old.list.cells }
+        ensures len { length self.new.list.cells + 1 ≡ length self.old.list.cells }
+    {
+        self.list.reveal_invariant();
         let interval = self.hints.interval_of(split_key);
         let hint = self.hints.hint_after_removal(&self.list, interval, at);
         let count = self.list.delete_item(start, at);
-        replace_first(&mut self.hints.current, interval, at, hint);
+        self.hints.current.replace_first(interval, at, hint);
         count
     }
 }

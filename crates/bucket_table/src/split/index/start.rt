@@ -7,7 +7,6 @@ ghost use Rattle.bucket_table.specs.inside.SplitIndex.{RowsInvariant};
 
 use super::SplitIndex;
 use super::buckets::item_hash;
-use crate::split::hint::hint_at;
 use ets_term::KeyHash;
 use node_list::At;
 use split_key::{dummy_key, item_key};
@@ -48,7 +47,7 @@ impl<H: KeyHash + Copy + Drop> SplitIndex<H> {
     {
         self.list.reveal_invariant();
         let interval = self.hints.interval_of(split_key);
-        if let Some(Some(first)) = hint_at(&self.hints.current, interval) {
+        if let Some(Some(first)) = self.hints.current.get(interval) {
             if self.list.key(first) < split_key {
                 return Some(first);
             }

@@ -12,8 +12,8 @@ returns-in_default c = empty-next _ _ c.empty.ensures (next-none (2 ^ c.args.sel
 pub key-split_key-requires : goal.key-split_key-requires
 key-split_key-requires c = next-stands (2 ^ c.args.self.now.interval_bits) c.args.interval c.args.at c.in-Some.next c.args.list.now.cells (pow_pos c.args.self.now.interval_bits) c.reveal_invariant.ensures.sorted c.reveal_invariant.ensures.apart c.requires.item (sym c.after.ensures ∙ c.in-Some.is)
 
-pub returns-then-split_key-self : goal.returns-then-split_key-self
-returns-then-split_key-self c = empty-next _ _ c.empty-then-split_key-self.ensures (next-outside (2 ^ c.args.self.now.interval_bits) c.args.interval c.args.at c.in-Some.next c.args.list.now.cells (pow_pos c.args.self.now.interval_bits) c.reveal_invariant.ensures.sorted c.reveal_invariant.ensures.apart c.requires.item (sym c.after.ensures ∙ c.in-Some.is) c.key-split_key.result c.key-split_key.ensures c.if-split_key-self.true)
+pub returns-then-interval_of-interval : goal.returns-then-interval_of-interval
+returns-then-interval_of-interval c = empty-next _ _ c.empty-then-interval_of-interval.ensures (next-outside (2 ^ c.args.self.now.interval_bits) c.args.interval c.args.at c.in-Some.next c.args.list.now.cells (pow_pos c.args.self.now.interval_bits) c.reveal_invariant.ensures.sorted c.reveal_invariant.ensures.apart c.requires.item (sym c.after.ensures ∙ c.in-Some.is) c.key-split_key.result c.key-split_key.ensures (λ e. c.if-interval_of-interval.true (c.interval_of.ensures ∙ e)))
 
 pub returns-then-split_key-eq1 : goal.returns-then-split_key-eq1
-returns-then-split_key-eq1 c = next-inside (2 ^ c.args.self.now.interval_bits) c.args.interval c.args.at c.in-Some.next c.args.list.now.cells (pow_pos c.args.self.now.interval_bits) c.reveal_invariant.ensures.sorted c.reveal_invariant.ensures.apart c.requires.item (sym c.after.ensures ∙ c.in-Some.is) c.key-split_key.result c.key-split_key.ensures c.requires.parity c.at.result c.at.ensures c.if-split_key-self.false c.if-split_key-eq1.true
+returns-then-split_key-eq1 c = next-inside (2 ^ c.args.self.now.interval_bits) c.args.interval c.args.at c.in-Some.next c.args.list.now.cells (pow_pos c.args.self.now.interval_bits) c.reveal_invariant.ensures.sorted c.reveal_invariant.ensures.apart c.requires.item (sym c.after.ensures ∙ c.in-Some.is) c.key-split_key.result c.key-split_key.ensures c.requires.parity c.at.result c.at.ensures (sym c.interval_of.ensures ∙ c.if-interval_of-interval.false) c.if-split_key-eq1.true

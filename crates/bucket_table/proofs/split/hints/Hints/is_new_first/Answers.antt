@@ -1,31 +1,31 @@
-use Rattle.std.proofs.Common.{◌^◌, Some, None, refl, sym, ◌∙◌, ap, ℕ, ◌/◌, List, Option, get_or}
+use Rattle.std.proofs.Common.{◌^◌, Some, None, refl, sym, ◌∙◌, ap, ℕ, get_or}
 use Rattle.bucket_table.proofs.hints.Insert.{new-empty, stands, key-is, new-before, kept-behind}
 use Rattle.bucket_table.proofs.hints.Search.{hint-says}
 use Rattle.bucket_table.proofs.split.hints.Hints.is_new_first.Goals as goal
 
 pub key-requires : goal.key-requires
 key-requires c =
-    let read = c.hint_at.ensures ∙ ap (λ (hints : List (Option (Option ℕ))). get_or hints (c.args.split_key / 2 ^ c.args.self.now.interval_bits) None) c.deref.ensures.value in
-    let is = hint-says (2 ^ c.args.self.now.interval_bits) c.args.self.now.current.items c.args.list.now.cells c.args.split_key c.args.split_key c.hint_at.result (Some c.in-Some-Some.first) c.requires.hints.current read (c.in-Some-Some.is ∙ ap Some c.in-Some-Some.field-0-is) refl in
+    let read = c.get.ensures ∙ ap (λ (z : ℕ). get_or c.args.self.now.current z None) c.interval_of.ensures in
+    let is = hint-says (2 ^ c.args.self.now.interval_bits) c.args.self.now.current c.args.list.now.cells c.args.split_key c.args.split_key c.get.result (Some c.in-Some-Some.first) c.requires.hints.current read (c.in-Some-Some.is ∙ ap Some c.in-Some-Some.field-0-is) refl in
     stands (2 ^ c.args.self.now.interval_bits) c.args.split_key c.in-Some-Some.first c.args.list.now.cells c.reveal_invariant.ensures.sorted c.reveal_invariant.ensures.apart is
 
 pub returns-in-Some-None-clause-new : goal.returns-in-Some-None-clause-new
 returns-in-Some-None-clause-new c = λ _.
-    let read = c.hint_at.ensures ∙ ap (λ (hints : List (Option (Option ℕ))). get_or hints (c.args.split_key / 2 ^ c.args.self.now.interval_bits) None) c.deref.ensures.value in
-    let is = hint-says (2 ^ c.args.self.now.interval_bits) c.args.self.now.current.items c.args.list.now.cells c.args.split_key c.args.split_key c.hint_at.result None c.requires.hints.current read (c.in-Some-None.is ∙ ap Some c.in-Some-None.field-0-is) refl in
+    let read = c.get.ensures ∙ ap (λ (z : ℕ). get_or c.args.self.now.current z None) c.interval_of.ensures in
+    let is = hint-says (2 ^ c.args.self.now.interval_bits) c.args.self.now.current c.args.list.now.cells c.args.split_key c.args.split_key c.get.result None c.requires.hints.current read (c.in-Some-None.is ∙ ap Some c.in-Some-None.field-0-is) refl in
     new-empty (2 ^ c.args.self.now.interval_bits) c.args.split_key c.args.list.now.cells is
 
 pub returns-in-Some-Some-clause-new : goal.returns-in-Some-Some-clause-new
 returns-in-Some-Some-clause-new c = λ less.
-    let read = c.hint_at.ensures ∙ ap (λ (hints : List (Option (Option ℕ))). get_or hints (c.args.split_key / 2 ^ c.args.self.now.interval_bits) None) c.deref.ensures.value in
-    let is = hint-says (2 ^ c.args.self.now.interval_bits) c.args.self.now.current.items c.args.list.now.cells c.args.split_key c.args.split_key c.hint_at.result (Some c.in-Some-Some.first) c.requires.hints.current read (c.in-Some-Some.is ∙ ap Some c.in-Some-Some.field-0-is) refl in
+    let read = c.get.ensures ∙ ap (λ (z : ℕ). get_or c.args.self.now.current z None) c.interval_of.ensures in
+    let is = hint-says (2 ^ c.args.self.now.interval_bits) c.args.self.now.current c.args.list.now.cells c.args.split_key c.args.split_key c.get.result (Some c.in-Some-Some.first) c.requires.hints.current read (c.in-Some-Some.is ∙ ap Some c.in-Some-Some.field-0-is) refl in
     let k = key-is (2 ^ c.args.self.now.interval_bits) c.args.split_key c.in-Some-Some.first c.args.list.now.cells c.reveal_invariant.ensures.sorted c.reveal_invariant.ensures.apart is c.key.result c.key.ensures in
     new-before (2 ^ c.args.self.now.interval_bits) c.args.split_key c.in-Some-Some.first c.args.list.now.cells c.reveal_invariant.ensures.sorted c.reveal_invariant.ensures.apart is c.key.result k less
 
 pub returns-in-Some-Some-clause-old : goal.returns-in-Some-Some-clause-old
 returns-in-Some-Some-clause-old c = λ more.
-    let read = c.hint_at.ensures ∙ ap (λ (hints : List (Option (Option ℕ))). get_or hints (c.args.split_key / 2 ^ c.args.self.now.interval_bits) None) c.deref.ensures.value in
+    let read = c.get.ensures ∙ ap (λ (z : ℕ). get_or c.args.self.now.current z None) c.interval_of.ensures in
     let hint = c.in-Some-Some.is ∙ ap Some c.in-Some-Some.field-0-is in
-    let is = hint-says (2 ^ c.args.self.now.interval_bits) c.args.self.now.current.items c.args.list.now.cells c.args.split_key c.args.split_key c.hint_at.result (Some c.in-Some-Some.first) c.requires.hints.current read hint refl in
+    let is = hint-says (2 ^ c.args.self.now.interval_bits) c.args.self.now.current c.args.list.now.cells c.args.split_key c.args.split_key c.get.result (Some c.in-Some-Some.first) c.requires.hints.current read hint refl in
     let k = key-is (2 ^ c.args.self.now.interval_bits) c.args.split_key c.in-Some-Some.first c.args.list.now.cells c.reveal_invariant.ensures.sorted c.reveal_invariant.ensures.apart is c.key.result c.key.ensures in
     kept-behind (2 ^ c.args.self.now.interval_bits) c.args.split_key c.in-Some-Some.first c.args.list.now.cells c.reveal_invariant.ensures.sorted c.reveal_invariant.ensures.apart is c.key.result _ (sym read ∙ hint) k more

@@ -33,14 +33,14 @@ returns-clause-rows g c =
     let put = c.insert_item-at in
     let interval_bits = ap (λ (h : Hints). h.interval_bits) c.refresh-start.ensures.rest ∙ c.catch_up.ensures.interval_bits in
     let learned = anew g.H.KeyHash.hash index c.requires.rows hints interval_bits c.refresh-start.ensures.hints in
-    let G : Hints → Type 0 = λ h. get_or h.previous.items (split / 2 ^ h.interval_bits / 2) None ≡ None in
-    let S : ℕ → Type 0 = λ i. SetsFirst c.is_new_first-is_first.result i put.result hints.current.items c.set_first.new.current.items in
+    let G : Hints → Type 0 = λ h. get_or h.previous (split / 2 ^ h.interval_bits / 2) None ≡ None in
+    let S : ℕ → Type 0 = λ i. SetsFirst c.is_new_first-is_first.result i put.result hints.current c.set_first.new.self in
     let gone = subst G (sym c.refresh-start.ensures.rest) c.catch_up.ensures.gone in
     record {
-      rows = rows-put hash_of index.directory hints.interval_bits hints.current.items cells learned.rows c.set_first.new.current.items c.is_new_first-is_first.result put.result split c.args.key c.args.objects put.new.self.cells
+      rows = rows-put hash_of index.directory hints.interval_bits hints.current cells learned.rows c.set_first.new.self c.is_new_first-is_first.result put.result split c.args.key c.args.objects put.new.self.cells
           put.ensures.fresh (c.item_key-split_key.ensures ∙ ap key_of_item c.requires.hash) c.requires.new put.ensures.cells
           (subst S c.interval_of-interval.ensures c.set_first.ensures) c.is_new_first-is_first.ensures.new c.is_new_first-is_first.ensures.old;
-      previous = previous-put hints.interval_bits put.result split (new_item c.args.key c.args.objects) hints.previous.items cells put.new.self.cells c.refresh-start.ensures.hints.previous gone put.ensures.cells;
+      previous = previous-put hints.interval_bits put.result split (new_item c.args.key c.args.objects) hints.previous cells put.new.self.cells c.refresh-start.ensures.hints.previous gone put.ensures.cells;
     }
 
 pub returns-clause-now : goal.returns-clause-now

@@ -1,4 +1,4 @@
-use Rattle.std.proofs.Common.{ℕ, ◌^◌, Some, refl, ◌∙◌, ap, subst, List, Option, None, get_or, IfSome}
+use Rattle.std.proofs.Common.{ℕ, ◌^◌, Some, refl, ◌∙◌, ap, subst, None, get_or, IfSome}
 use Rattle.std.proofs.lemmas.Nat.{pow_pos}
 use Rattle.bucket_table.specs.inside.Intervals.{IsNearestBelow}
 use Rattle.bucket_table.proofs.hints.Insert.{stands}
@@ -8,19 +8,19 @@ use Rattle.bucket_table.proofs.split.index.SplitIndex.near_start.Goals as goal
 
 pub key-requires : goal.key-requires
 key-requires g c =
-    let read = c.hint_at.ensures ∙ (ap (λ (hints : List (Option (Option ℕ))). get_or hints c.interval_of-interval.result None) c.deref.ensures.value ∙ ap (λ (z : ℕ). get_or c.args.self.now.hints.current.items z None) c.interval_of-interval.ensures) in
-    let is = hint-says (2 ^ c.args.self.now.hints.interval_bits) c.args.self.now.hints.current.items c.args.self.now.list.cells c.args.split_key c.args.split_key c.hint_at.result (Some c.in-Some-Some.first) c.requires.rows.rows.hinted.hints read (c.in-Some-Some.is ∙ ap Some c.in-Some-Some.field-0-is) refl in
+    let read = c.get.ensures ∙ ap (λ (z : ℕ). get_or c.args.self.now.hints.current z None) c.interval_of-interval.ensures in
+    let is = hint-says (2 ^ c.args.self.now.hints.interval_bits) c.args.self.now.hints.current c.args.self.now.list.cells c.args.split_key c.args.split_key c.get.result (Some c.in-Some-Some.first) c.requires.rows.rows.hinted.hints read (c.in-Some-Some.is ∙ ap Some c.in-Some-Some.field-0-is) refl in
     stands (2 ^ c.args.self.now.hints.interval_bits) c.args.split_key c.in-Some-Some.first c.args.self.now.list.cells c.reveal_invariant.ensures.sorted c.reveal_invariant.ensures.apart is
 
 pub returns-then-key-split_key : goal.returns-then-key-split_key
 returns-then-key-split_key g c =
-    let read = c.hint_at.ensures ∙ (ap (λ (hints : List (Option (Option ℕ))). get_or hints c.interval_of-interval.result None) c.deref.ensures.value ∙ ap (λ (z : ℕ). get_or c.args.self.now.hints.current.items z None) c.interval_of-interval.ensures) in
-    let is = hint-says (2 ^ c.args.self.now.hints.interval_bits) c.args.self.now.hints.current.items c.args.self.now.list.cells c.args.split_key c.args.split_key c.hint_at.result (Some c.in-Some-Some.first) c.requires.rows.rows.hinted.hints read (c.in-Some-Some.is ∙ ap Some c.in-Some-Some.field-0-is) refl in
+    let read = c.get.ensures ∙ ap (λ (z : ℕ). get_or c.args.self.now.hints.current z None) c.interval_of-interval.ensures in
+    let is = hint-says (2 ^ c.args.self.now.hints.interval_bits) c.args.self.now.hints.current c.args.self.now.list.cells c.args.split_key c.args.split_key c.get.result (Some c.in-Some-Some.first) c.requires.rows.rows.hinted.hints read (c.in-Some-Some.is ∙ ap Some c.in-Some-Some.field-0-is) refl in
     own-lesser (2 ^ c.args.self.now.hints.interval_bits) c.args.split_key c.in-Some-Some.first c.args.self.now.list.cells c.reveal_invariant.ensures.sorted c.reveal_invariant.ensures.apart c.key.result is c.key.ensures c.if-key-split_key.true
 
 pub returns : goal.returns
 returns g c =
     let index = c.args.self.now in
-    let N : ℕ → Type 0 = λ i. IfSome c.bucket_hint_below.result (λ at. IsNearestBelow 0 i at index.hints.current.items) in
-    below-lesser (2 ^ index.hints.interval_bits) c.args.split_key index.list.cells index.hints.current.items c.reveal_invariant.ensures.sorted c.reveal_invariant.ensures.apart (pow_pos index.hints.interval_bits) c.requires.rows.rows.hinted.hints
+    let N : ℕ → Type 0 = λ i. IfSome c.bucket_hint_below.result (λ at. IsNearestBelow 0 i at index.hints.current) in
+    below-lesser (2 ^ index.hints.interval_bits) c.args.split_key index.list.cells index.hints.current c.reveal_invariant.ensures.sorted c.reveal_invariant.ensures.apart (pow_pos index.hints.interval_bits) c.requires.rows.rows.hinted.hints
     c.bucket_hint_below.result (subst N c.interval_of-interval.ensures c.bucket_hint_below.ensures)

@@ -43,8 +43,8 @@ returns-in-Empty-clause-rows g c =
     let f = seat-found i.item.term c.args.next c.args.self.now.list.cells c.reveal_invariant.ensures.apart c.requires.rows.rows.split.distinct (item-seat c.args.next c.args.self.now.list.cells i) in
     let index = c.args.self.now in
     record {
-      rows = rows-with (g.H.KeyHash.hash index.hasher) index.directory index.hints.interval_bits index.hints.current.items index.list.cells c.requires.rows.rows i.item.term c.args.next c.truncate.new.self f;
-      previous = hints-with (2 ^ (index.hints.interval_bits + 1)) index.hints.previous.items c.args.next c.truncate.new.self index.list.cells c.requires.rows.previous;
+      rows = rows-with (g.H.KeyHash.hash index.hasher) index.directory index.hints.interval_bits index.hints.current index.list.cells c.requires.rows.rows i.item.term c.args.next c.truncate.new.self f;
+      previous = hints-with (2 ^ (index.hints.interval_bits + 1)) index.hints.previous c.args.next c.truncate.new.self index.list.cells c.requires.rows.previous;
     }
 
 pub returns-in-Empty-clause-swept : goal.returns-in-Empty-clause-swept

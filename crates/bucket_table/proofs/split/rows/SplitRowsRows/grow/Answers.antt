@@ -39,7 +39,7 @@ pub invariant_of-self-in_err-double : goal.invariant_of-self-in_err-double
 invariant_of-self-in_err-double g c =
     let hints = c.start_generation.new.self in
     let rows = emptied g.H.KeyHash.hash c.self.inside.index c.self.invariant.rows hints c.in_ok-start_generation.ensures.rest c.in_ok-start_generation.ensures.ok in
-    let P : List (Option ℕ) → Type 0 = λ ds. ListInvariant (g.H.KeyHash.hash c.self.inside.index.hasher) ds hints.interval_bits hints.current.items c.self.inside.index.list.cells in
+    let P : List (Option ℕ) → Type 0 = λ ds. ListInvariant (g.H.KeyHash.hash c.self.inside.index.hasher) ds hints.interval_bits hints.current c.self.inside.index.list.cells in
     let D : List (Option ℕ) → Type 0 = λ ds. IsFirstUnready ds c.self.inside.first_unready in
     let same = sym c.in_err-double.ensures.err in
     record {
@@ -57,16 +57,14 @@ invariant_of-self-2 g c =
     let old = c.start_generation.new.self in
     let fewer : length items < 2 ^ 20 = omega arith in
     let cleared = emptied g.H.KeyHash.hash c.self.inside.index c.self.invariant.rows old c.in_ok-start_generation.ensures.rest c.in_ok-start_generation.ensures.ok in
-    let unknown = hints-none (2 ^ (old.interval_bits - 1)) old.previous.items cells c.in_ok-start_generation.ensures.ok in
+    let unknown = hints-none (2 ^ (old.interval_bits - 1)) old.previous cells c.in_ok-start_generation.ensures.ok in
     let after = c.in_ok-double.ensures.ok in
-    let rows = rows-grown hash_of items old.interval_bits old.current.items cells cleared.rows fewer c.double.new.self old.previous.items after unknown in
-    let xs : c.swap.new.x.items ≡ old.previous.items = λ j. (c.swap.ensures.x_after j).items in
-    let ys : c.swap.new.y.items ≡ old.current.items = λ j. (c.swap.ensures.y_after j).items in
+    let rows = rows-grown hash_of items old.interval_bits old.current cells cleared.rows fewer c.double.new.self old.previous after unknown in
     let some = some-interval_bits items old.interval_bits cleared.rows.hinted.doublings cleared.rows.hinted.size cleared.rows.hinted.narrow fewer in
     record {
       rows = record {
-        rows = rows-like hash_of c.double.new.self (old.interval_bits - 1) old.previous.items c.swap.new.x.items cells cells rows xs refl;
-        previous = previous-like old.interval_bits 0 old.current.items c.swap.new.y.items cells some ys cleared.rows.hinted.hints;
+        rows = rows-like hash_of c.double.new.self (old.interval_bits - 1) old.previous c.swap.new.x cells cells rows c.swap.ensures.x_after refl;
+        previous = previous-like old.interval_bits 0 old.current c.swap.new.y cells some c.swap.ensures.y_after cleared.rows.hinted.hints;
       };
       counted = c.self.invariant.counted;
       due = first_unready-grown items c.double.new.self (length items) c.self.inside.first_unready after c.self.invariant.due;

@@ -36,12 +36,12 @@ rebuild_with_parent-requires-clause-rows g c =
     let none = sym c.get.ensures ∙ none-is c.get.result (sym c.is_some.ensures ∙ c.if-is_some.false) in
     let F : List Cell → Type 0 = λ zs. IsFresh c.insert_dummy-at.result zs in
     let is = c.insert_dummy-at.ensures.cells ∙ (ap (put_cell (new_cell c.insert_dummy-at.result c.dummy_key.result None)) c.in_ok-reserve.ensures.cells ∙ ap (λ (k : ℕ). put_cell (new_cell c.insert_dummy-at.result k None) cells) c.dummy_key.ensures) in
-    let base = rows-ready hash_of items c.self.inside.index.hints.interval_bits c.self.inside.index.hints.current.items cells c.self.invariant.rows.rows c.args.bucket c.insert_dummy-at.result below none (subst F c.in_ok-reserve.ensures.cells c.insert_dummy-at.ensures.fresh) c.insert_dummy-at.new.self.cells is in
+    let base = rows-ready hash_of items c.self.inside.index.hints.interval_bits c.self.inside.index.hints.current cells c.self.invariant.rows.rows c.args.bucket c.insert_dummy-at.result below none (subst F c.in_ok-reserve.ensures.cells c.insert_dummy-at.ensures.fresh) c.insert_dummy-at.new.self.cells is in
     let hints = c.self.inside.index.hints in
-    let D : List (Option ℕ) → Type 0 = λ ds. ListInvariant hash_of ds hints.interval_bits hints.current.items c.insert_dummy-at.new.self.cells in
+    let D : List (Option ℕ) → Type 0 = λ ds. ListInvariant hash_of ds hints.interval_bits hints.current c.insert_dummy-at.new.self.cells in
     record {
       rows = subst D (sym c.set.ensures) base;
-      previous = hints-dummy (2 ^ (hints.interval_bits + 1)) hints.previous.items c.insert_dummy-at.result (key_of_dummy c.args.bucket) cells c.insert_dummy-at.new.self.cells c.self.invariant.rows.previous is;
+      previous = hints-dummy (2 ^ (hints.interval_bits + 1)) hints.previous c.insert_dummy-at.result (key_of_dummy c.args.bucket) cells c.insert_dummy-at.new.self.cells c.self.invariant.rows.previous is;
     }
 
 pub returns-clause-content : goal.returns-clause-content

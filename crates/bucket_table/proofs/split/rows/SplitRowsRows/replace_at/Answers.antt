@@ -44,7 +44,7 @@ invariant_of-self g c =
     let P : SplitRowsState g.row.H.Denot → Type 0 = λ v. IsSome (key_of_place v.places c.args.place) in
     let p = at-place c.args.place c.self.inside.index.list.cells c.reveal_invariant.ensures.apart c.self.invariant.rows.rows.split.distinct (subst P (sym c.self.view_is) c.requires) in
     let h = p.found in
-    let rows = rows-with (g.H.KeyHash.hash c.self.inside.index.hasher) c.self.inside.index.directory c.self.inside.index.hints.interval_bits c.self.inside.index.hints.current.items c.self.inside.index.list.cells c.self.invariant.rows.rows p.key c.args.place c.replace.new.dest h in
+    let rows = rows-with (g.H.KeyHash.hash c.self.inside.index.hasher) c.self.inside.index.directory c.self.inside.index.hints.interval_bits c.self.inside.index.hints.current c.self.inside.index.list.cells c.self.invariant.rows.rows p.key c.args.place c.replace.new.dest h in
     let hash_of = g.H.KeyHash.hash c.self.inside.index.hasher in
     let ss = slots_of c.self.inside.index.list.cells in
     let hs = c.log_hash.new.self.hashes.items in
@@ -53,7 +53,7 @@ invariant_of-self g c =
     let key = hash-key hash_of c.self.inside.index.directory p.key c.args.place c.self.inside.index.list.cells c.self.invariant.rows.rows.split.placed p.found c.key.result c.key.ensures in
     let hash : c.item_hash-hash.result ≡ hash_of p.key = c.item_hash-hash.ensures (hash_of p.key) key ∙ mod-eq_of_lt (g.met.H.KeyHash.below c.self.inside.index.hasher p.key) in
     record {
-      rows = record { rows = rows; previous = hints-with (2 ^ (c.self.inside.index.hints.interval_bits + 1)) c.self.inside.index.hints.previous.items c.args.place c.replace.new.dest c.self.inside.index.list.cells c.self.invariant.rows.previous };
+      rows = record { rows = rows; previous = hints-with (2 ^ (c.self.inside.index.hints.interval_bits + 1)) c.self.inside.index.hints.previous c.args.place c.replace.new.dest c.self.inside.index.list.cells c.self.invariant.rows.previous };
       counted = c.self.invariant.counted ∙ sym (ap length (h.replaced c.replace.new.dest) ∙ length-set_value (same p.key) ss c.replace.new.dest);
       due = c.self.invariant.due;
       logged = λ kept. subst N (sym (h.replaced c.replace.new.dest)) (among-with hash_of hs p.key c.replace.new.dest ss

@@ -37,7 +37,7 @@ invariant_of-self g c =
     let N : List Slot → Type 0 = λ zs. TombstonesAreAmong hash_of hs zs in
     let done = element-one _ _ c.chain_mut.result.now c.set_element.new.self c.args.index c.args.value one (objects-there c.self.inside.index.list.cells c.reveal_invariant.ensures.apart c.self.invariant.rows.rows.split.distinct c.args.place p c.chain_mut.result.now c.chain_mut.ensures.value) c.set_element.ensures in
     record {
-      rows = record { rows = rows-with hash_of c.self.inside.index.directory c.self.inside.index.hints.interval_bits c.self.inside.index.hints.current.items c.self.inside.index.list.cells c.self.invariant.rows.rows p.key c.args.place c.set_element.new.self h; previous = hints-with (2 ^ (c.self.inside.index.hints.interval_bits + 1)) c.self.inside.index.hints.previous.items c.args.place c.set_element.new.self c.self.inside.index.list.cells c.self.invariant.rows.previous };
+      rows = record { rows = rows-with hash_of c.self.inside.index.directory c.self.inside.index.hints.interval_bits c.self.inside.index.hints.current c.self.inside.index.list.cells c.self.invariant.rows.rows p.key c.args.place c.set_element.new.self h; previous = hints-with (2 ^ (c.self.inside.index.hints.interval_bits + 1)) c.self.inside.index.hints.previous c.args.place c.set_element.new.self c.self.inside.index.list.cells c.self.invariant.rows.previous };
       counted = c.self.invariant.counted ∙ sym (ap length (h.replaced c.set_element.new.self) ∙ length-set_value (same p.key) ss c.set_element.new.self);
       due = c.self.invariant.due;
       logged = λ kept. subst N (sym (h.replaced c.set_element.new.self)) (among-with hash_of hs p.key c.set_element.new.self ss (λ e. absurd (no-held c.set_element.new.self _ done e)) (c.self.invariant.logged kept));

@@ -1,0 +1,150 @@
+ghost use Rattle.std.specs.Prelude.{◌≡◌, ◌<◌, ◌^◌, [], Some, None, IfOk, OnOk, OnErr, length, get_or, replicate};
+ghost use Rattle.bucket_table.specs.inside.Intervals.{AreUnknown, HaveSameHints, SetsIfUnknown, SetsHint, SetsFirst, ReplacesFirst};
+ghost use Rattle.bucket_table.specs.inside.Rebuild.{SetsEmpty, SetsIfEmpty};
+
+use super::hint::Hint;
+use node_list::At;
+use std::alloc::{AllocError, Global};
+use std::marker::Model;
+
+/// A list of hints, one for each interval. Past the end of the list hints are unknown.
+#[derive(Drop)]
+pub struct HintList {
+    hints: Vec<Hint>,
+}
+
+impl Model for HintList {
+    ghost use Rattle.std.specs.Prelude.{List, Option, ℕ};
+    ghost use Rattle.std.specs.Coded.{coded_list, coded_option, coded_ℕ};
+
+    ghost Value = { List (Option (Option ℕ)) };
+
+    ghost coded = { coded_list (coded_option (coded_option coded_ℕ)) };
+
+    ghost view = { λ l. l.hints.items };
+}
+
+impl HintList {
+    /// Creates a list without hints.
+    pub fn new(alloc: Global) -> HintList
+        ensures { result ≡ [] }
+    {
+        HintList {
+            hints: Vec::new(alloc),
+        }
+    }
+
+    /// Creates the hints of this number of empty intervals.
+    pub fn of_empty_intervals(alloc: Global, intervals: usize) -> Result<HintList, AllocError>
+        ensures { IfOk result (λ list. list ≡ replicate intervals (Some None)) }
+    {
+        let mut hints = Vec::new(alloc);
+        hints.resize(intervals, Hint::empty())?;
+        Ok(HintList { hints })
+    }
+
+    /// Replaces the hints by `count` unknown ones, with memory for `intervals`. The memory is new, because growing a
+    /// block would copy it.
+    pub fn renew(&mut self, intervals: usize, count: usize) -> Result<(), AllocError>
+        ensures ok { OnOk result (AreUnknown self.new) }
+        ensures err { OnErr result (self.new ≡ self.old) }
+    {
+        let mut unknown = Vec::with_capacity(*self.hints.allocator(), intervals)?;
+        unknown.resize(count, Hint::unknown())?;
+        self.hints = unknown;
+        Ok(())
+    }
+
+    /// Removes all hints and frees their memory.
+    pub fn free(&mut self)
+        ensures { self.new ≡ [] }
+    {
+        self.hints = Vec::new(*self.hints.allocator());
+    }
+
+    /// Returns the number of hints.
+    pub fn len(&self) -> usize
+        ensures value { result ≡ length self.now }
+        ensures small { result < 2 ^ 63 }
+    {
+        self.hints.len()
+    }
+
+    /// Adds unknown hints, up to `len` hints in all. Without memory it does nothing.
+    pub fn extend_unknown(&mut self, len: usize)
+        ensures { HaveSameHints self.old self.new }
+    {
+        if self.hints.len() < len {
+            let _outcome = self.hints.resize(len, Hint::unknown());
+        }
+    }
+
+    /// Returns the hint of an interval.
+    pub fn get(&self, interval: usize) -> Option<Option<At>>
+        ensures { result ≡ get_or self.now interval None }
+    {
+        if interval < self.hints.len() {
+            self.hints[interval].get()
+        } else {
+            None
+        }
+    }
+
+    /// Sets the hint of an interval, if the list has one.
+    pub fn set(&mut self, interval: usize, hint: Hint)
+        ensures { SetsHint interval hint self.old self.new }
+    {
+        if interval < self.hints.len() {
+            self.hints[interval] = hint;
+        }
+    }
+
+    /// Sets the hint of an interval, if the list has one and it is unknown.
+    pub fn set_if_unknown(&mut self, interval: usize, hint: Hint)
+        ensures { SetsIfUnknown interval hint self.old self.new }
+    {
+        if interval < self.hints.len() && self.hints[interval].get().is_none() {
+            self.hints[interval] = hint;
+        }
+    }
+
+    /// Sets the hint of an interval to a place, if `is_first` is set.
+    pub fn set_first(&mut self, is_first: bool, interval: usize, at: At)
+        ensures { SetsFirst is_first interval at self.old self.new }
+    {
+        if is_first && interval < self.hints.len() {
+            self.hints[interval] = Hint::at(at);
+        }
+    }
+
+    /// Replaces the hint of an interval if it is `at`.
+    pub fn replace_first(&mut self, interval: usize, at: At, hint: Hint)
+        ensures { ReplacesFirst interval at hint self.old self.new }
+    {
+        if let Some(Some(first)) = self.get(interval) {
+            if first == at && interval < self.hints.len() {
+                self.hints[interval] = hint;
+            }
+        }
+    }
+
+    /// Sets the hints of the intervals from `low` up to `high` to empty.
+    pub fn set_empty(&mut self, low: usize, high: usize)
+        ensures { SetsEmpty low high self.old self.new }
+    {
+        for interval in low..high {
+            if interval < self.hints.len() {
+                self.hints[interval] = Hint::empty();
+            }
+        }
+    }
+
+    /// Sets the hint of an interval to a place if it is empty.
+    pub fn set_if_empty(&mut self, interval: usize, at: At)
+        ensures { SetsIfEmpty interval at self.old self.new }
+    {
+        if interval < self.hints.len() {
+            self.hints[interval] = self.hints[interval].or_place(at);
+        }
+    }
+}
