@@ -77,7 +77,7 @@ impl<H: KeyHash + Copy + Drop> SplitIndex<H> {
         ensures { HasItem at (cells_after result self.now.list.cells) }
     {
         self.list.reveal_invariant();
-        self.item_start(split_key)
+        self.search_start(split_key)
     }
 
     /// Removes an item of a rehashed interval, and returns its key and objects. `start` is a node before it.

@@ -12,21 +12,9 @@ use node_list::At;
 use split_key::{dummy_key, item_key};
 
 impl<H: KeyHash + Copy + Drop> SplitIndex<H> {
-    /// Returns a node before all items of a hash: the first item of a near interval by the hints, or the dummy of the
-    /// nearest ready bucket.
-    pub fn search_start(&self, hash: u32) -> At
-        requires rows { RowsInvariant H.hash self.now }
-        ensures { HasKeyBelow (key_of_item hash) result self.now.list.cells }
-    {
-        match self.near_start(item_key(hash)) {
-            Some(first) => first,
-            None => self.far_start(hash),
-        }
-    }
-
-    /// Returns a node before all items of a split key, as `search_start` does. It computes the hash only if no near
-    /// hint helps.
-    pub fn item_start(&self, split_key: u64) -> At
+    /// Returns a node before all items of a split key: the first item of a near interval by the hints, or the dummy of
+    /// the nearest ready bucket. It computes the hash only if no near hint helps.
+    pub fn search_start(&self, split_key: u64) -> At
         requires rows { RowsInvariant H.hash self.now }
         requires small { split_key < 2 ^ 33 }
         ensures { (hash : ℕ) → split_key ≡ key_of_item hash → hash < 2 ^ 32

@@ -75,7 +75,7 @@ impl<H: KeyHash + Copy + Drop> SplitIndex<H> {
     {
         self.list.reveal_invariant();
         let split_key = item_key(hash);
-        let mut at = self.search_start(hash);
+        let mut at = self.search_start(split_key);
         while let Some(next) = self.list.after(at) {
             self.list.reveal_invariant();
             if split_key < self.list.key(next) {

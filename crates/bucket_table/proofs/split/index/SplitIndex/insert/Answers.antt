@@ -1,5 +1,5 @@
 use Rattle.bucket_table.specs.inside.Intervals.{SetsFirst}
-use Rattle.std.proofs.Common.{◌≡◌, ◌/◌, ◌^◌, ℕ, Some, None, get_or, ◌∙◌, sym, ap, subst}
+use Rattle.std.proofs.Common.{◌≡◌, ◌/◌, ◌^◌, ℕ, Some, None, get_or, ◌∙◌, sym, ap, subst, arith}
 use Rattle.split_key.specs.Keys.{key_of_item}
 use Rattle.node_list.specs.Cells.{new_cell, new_item}
 use Rattle.node_list.specs.Changes.{put_cell}
@@ -8,14 +8,23 @@ use Rattle.bucket_table.proofs.hints.Start.{lesser-up-to}
 use Rattle.bucket_table.proofs.hints.Rehash.{previous-put}
 use Rattle.bucket_table.proofs.hints.Replace.{right, anew}
 use Rattle.bucket_table.proofs.directory.Placed.{placed-parity}
+use Rattle.bucket_table.proofs.hints.Rebuild.{item-small}
 use Rattle.bucket_table.proofs.hints.Invariant.{rows-put}
 use Rattle.bucket_table.proofs.split.index.SplitIndex.insert.Goals as goal
 
 pub catch_up-requires : goal.catch_up-requires
 catch_up-requires g c = record { hints = right g.H.KeyHash.hash c.args.self.now c.requires.rows }
 
-pub search_start-before-requires : goal.search_start-before-requires
-search_start-before-requires g c = record { rows = anew g.H.KeyHash.hash c.args.self.now c.requires.rows c.catch_up.new.self c.catch_up.ensures.interval_bits c.catch_up.ensures.hints }
+pub search_start-before-requires-clause-rows : goal.search_start-before-requires-clause-rows
+search_start-before-requires-clause-rows g c = anew g.H.KeyHash.hash c.args.self.now c.requires.rows c.catch_up.new.self c.catch_up.ensures.interval_bits c.catch_up.ensures.hints
+
+pub search_start-before-requires-clause-small : goal.search_start-before-requires-clause-small
+search_start-before-requires-clause-small g c =
+    let small = item-small c.args.hash in
+    omega (arith, c.item_key-split_key.ensures, small)
+
+pub refresh-start-requires-clause-below : goal.refresh-start-requires-clause-below
+refresh-start-requires-clause-below g c = c.search_start-before.ensures c.args.hash c.item_key-split_key.ensures (omega arith)
 
 pub refresh-start-requires-clause-parity : goal.refresh-start-requires-clause-parity
 refresh-start-requires-clause-parity g c = placed-parity (g.H.KeyHash.hash c.args.self.now.hasher) c.args.self.now.directory c.args.self.now.list.cells c.requires.rows.rows.split.placed

@@ -4,14 +4,20 @@ use Rattle.node_list.specs.Places.{cells_after}
 use Rattle.bucket_table.specs.inside.Nodes.{slots_of}
 use Rattle.bucket_table.specs.inside.Directory.{HaveSplitKeys}
 use Rattle.bucket_table.specs.inside.TombstoneLog.{TombstonesAreAmong}
+use Rattle.bucket_table.proofs.hints.Rebuild.{item-small}
 use Rattle.bucket_table.proofs.sweep.Order.{sweeps-on}
 use Rattle.bucket_table.proofs.sweep.PurgeHash.{next-there, beyond-next, nothing-behind, run-purged, run-gone, among-rest}
 use Rattle.bucket_table.proofs.split.index.SplitIndex.purge_hash.Goals as goal
 
+pub search_start-at-requires-clause-small : goal.search_start-at-requires-clause-small
+search_start-at-requires-clause-small g c =
+    let small = item-small c.args.hash in
+    omega (arith, c.item_key-split_key.ensures, small)
+
 pub loop-next-init : goal.loop-next-init
 loop-next-init g c = record {
   rows = c.requires.rows;
-  stands = (let b = c.search_start-at.ensures in record { cell = b.cell; later = b.later; is = b.is });
+  stands = (let b = c.search_start-at.ensures c.args.hash c.item_key-split_key.ensures (omega arith) in record { cell = b.cell; later = b.later; is = b.is });
   slots = refl;
   rest = λ hs a. a;
   each = record { alike = λ at. refl; len = refl; fewer = omega arith };
@@ -24,21 +30,21 @@ key-requires g c = next-there c.loop-next.at c.in-Some.next c.loop-next.self.lis
 pub returns-then-split_key-key-clause-purged : goal.returns-then-split_key-key-clause-purged
 returns-then-split_key-key-clause-purged g c =
     let s = c.requires.rows.rows.split in
-    let b = c.search_start-at.ensures in
+    let b = c.search_start-at.ensures c.args.hash c.item_key-split_key.ensures (omega arith) in
     run-purged (g.H.KeyHash.hash c.args.self.now.hasher) c.args.self.now.directory c.item_key-split_key.result c.args.hash c.item_key-split_key.ensures c.search_start-at.result c.loop-next.at c.args.self.now.list.cells c.loop-next.self.list.cells
-    b.cell b.later b.is (omega (arith, b.below, c.item_key-split_key.ensures)) c.reveal_invariant.ensures.sorted s.placed c.loop-next.invariant.stands c.loop-next.invariant.slots
+    b.cell b.later b.is (b.below) c.reveal_invariant.ensures.sorted s.placed c.loop-next.invariant.stands c.loop-next.invariant.slots
 
 pub returns-then-split_key-key-clause-gone : goal.returns-then-split_key-key-clause-gone
 returns-then-split_key-key-clause-gone g c =
     let s = c.requires.rows.rows.split in
-    let b = c.search_start-at.ensures in
+    let b = c.search_start-at.ensures c.args.hash c.item_key-split_key.ensures (omega arith) in
     let i = c.loop-next.invariant in
     let N : g.row.H.Denot → Type 0 = λ h. HaveSplitKeys (g.H.KeyHash.hash h) c.loop-next.self.directory c.loop-next.self.list.cells in
     let D : List (Option ℕ) → Type 0 = λ ds. HaveSplitKeys (g.H.KeyHash.hash c.args.self.now.hasher) ds c.loop-next.self.list.cells in
     let placed = subst D i.keeps.directory (subst N i.keeps.hasher i.rows.rows.split.placed) in
     let none = beyond-next (g.H.KeyHash.hash c.args.self.now.hasher) c.args.self.now.directory c.item_key-split_key.result c.args.hash c.item_key-split_key.ensures c.loop-next.at c.in-Some.next c.key.result c.loop-next.self.list.cells c.reveal_invariant-in-Some.ensures.apart c.reveal_invariant-in-Some.ensures.sorted placed c.loop-next.invariant.stands (sym c.in-Some.ensures) c.key.ensures c.if-split_key-key.true in
     run-gone (g.H.KeyHash.hash c.args.self.now.hasher) c.args.self.now.directory c.item_key-split_key.result c.args.hash c.item_key-split_key.ensures c.search_start-at.result c.loop-next.at c.args.self.now.list.cells c.loop-next.self.list.cells
-    b.cell b.later b.is (omega (arith, b.below, c.item_key-split_key.ensures)) c.reveal_invariant.ensures.sorted s.placed c.loop-next.invariant.stands c.loop-next.invariant.slots none c.loop-next.invariant.rest
+    b.cell b.later b.is (b.below) c.reveal_invariant.ensures.sorted s.placed c.loop-next.invariant.stands c.loop-next.invariant.slots none c.loop-next.invariant.rest
 
 pub loop-next-preserved : goal.loop-next-preserved
 loop-next-preserved g c =
@@ -57,14 +63,14 @@ loop-next-preserved g c =
 pub returns-clause-purged : goal.returns-clause-purged
 returns-clause-purged g c =
     let s = c.requires.rows.rows.split in
-    let b = c.search_start-at.ensures in
+    let b = c.search_start-at.ensures c.args.hash c.item_key-split_key.ensures (omega arith) in
     run-purged (g.H.KeyHash.hash c.args.self.now.hasher) c.args.self.now.directory c.item_key-split_key.result c.args.hash c.item_key-split_key.ensures c.search_start-at.result c.loop-next.at c.args.self.now.list.cells c.loop-next.self.list.cells
-    b.cell b.later b.is (omega (arith, b.below, c.item_key-split_key.ensures)) c.reveal_invariant.ensures.sorted s.placed c.loop-next.invariant.stands c.loop-next.invariant.slots
+    b.cell b.later b.is (b.below) c.reveal_invariant.ensures.sorted s.placed c.loop-next.invariant.stands c.loop-next.invariant.slots
 
 pub returns-clause-gone : goal.returns-clause-gone
 returns-clause-gone g c =
     let s = c.requires.rows.rows.split in
-    let b = c.search_start-at.ensures in
+    let b = c.search_start-at.ensures c.args.hash c.item_key-split_key.ensures (omega arith) in
     let none = nothing-behind (g.H.KeyHash.hash c.args.self.now.hasher) c.args.hash c.loop-next.at c.loop-next.self.list.cells (sym c.after.ensures ∙ c.in_default.is) in
     run-gone (g.H.KeyHash.hash c.args.self.now.hasher) c.args.self.now.directory c.item_key-split_key.result c.args.hash c.item_key-split_key.ensures c.search_start-at.result c.loop-next.at c.args.self.now.list.cells c.loop-next.self.list.cells
-    b.cell b.later b.is (omega (arith, b.below, c.item_key-split_key.ensures)) c.reveal_invariant.ensures.sorted s.placed c.loop-next.invariant.stands c.loop-next.invariant.slots none c.loop-next.invariant.rest
+    b.cell b.later b.is (b.below) c.reveal_invariant.ensures.sorted s.placed c.loop-next.invariant.stands c.loop-next.invariant.slots none c.loop-next.invariant.rest
