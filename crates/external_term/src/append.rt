@@ -4,7 +4,7 @@ ghost use Rattle.external_term.specs.Encoding.{integer_bytes, atom_bytes, pid_by
 
 use crate::identifier::NODE;
 use crate::integer::Magnitude;
-use crate::put::{digit_count, put, put_digits, put_long, put_number, put_short};
+use crate::put::{digit_count, put, put_digits, put_tag_and_u8, put_tag_and_u32, put_u32};
 use ets_term::{Atom, Integer};
 
 /// Appends a magnitude with its sign, as SMALL_BIG_EXT.
@@ -13,7 +13,7 @@ fn append_big(sign: u8, n: Magnitude, out: &mut Vec<u8>)
     ensures items { out.new.items ≡ out.old.items ++ big_bytes sign n }
     ensures capacity { vec_capacity out.old ≤ vec_capacity out.new }
 {
-    put_short(110, digit_count(n) as u8, out);
+    put_tag_and_u8(110, digit_count(n) as u8, out);
     out.push_reserved(sign);
     put_digits(n, out);
 }
@@ -26,9 +26,9 @@ fn append_positive(n: Magnitude, out: &mut Vec<u8>)
     ensures capacity { vec_capacity out.old ≤ vec_capacity out.new }
 {
     if n < 256 {
-        put_short(97, n as u8, out);
+        put_tag_and_u8(97, n as u8, out);
     } else if n < 0x8000_0000 {
-        put_long(98, n as usize, out);
+        put_tag_and_u32(98, n as usize, out);
     } else {
         append_big(0, n, out);
     }
@@ -43,7 +43,7 @@ fn append_negative(n: Magnitude, out: &mut Vec<u8>)
     ensures capacity { vec_capacity out.old ≤ vec_capacity out.new }
 {
     if n < 0x8000_0000 {
-        put_long(98, 0xFFFF_FFFF - n as usize, out);
+        put_tag_and_u32(98, 0xFFFF_FFFF - n as usize, out);
     } else {
         append_big(1, n + 1, out);
     }
@@ -69,7 +69,7 @@ pub(crate) fn append_name(text: &[u8], out: &mut Vec<u8>)
     ensures items { out.new.items ≡ out.old.items ++ atom_bytes text.now }
     ensures capacity { vec_capacity out.old ≤ vec_capacity out.new }
 {
-    put_short(119, text.len() as u8, out);
+    put_tag_and_u8(119, text.len() as u8, out);
     put(text, out);
 }
 
@@ -88,7 +88,7 @@ fn append_node(out: &mut Vec<u8>)
     ensures items { out.new.items ≡ out.old.items ++ node_bytes }
     ensures capacity { vec_capacity out.old ≤ vec_capacity out.new }
 {
-    put_short(119, 13, out);
+    put_tag_and_u8(119, 13, out);
     put(NODE, out);
 }
 
@@ -100,7 +100,7 @@ pub(crate) fn append_pid(n: u32, out: &mut Vec<u8>)
 {
     out.push_reserved(88);
     append_node(out);
-    put_number(n as usize, out);
+    put_u32(n as usize, out);
     put(&[0, 0, 0, 0, 0, 0, 0, 0], out);
 }
 
@@ -113,7 +113,7 @@ pub(crate) fn append_reference(n: u32, out: &mut Vec<u8>)
     put(&[90, 0, 1], out);
     append_node(out);
     put(&[0, 0, 0, 0], out);
-    put_number(n as usize, out);
+    put_u32(n as usize, out);
 }
 
 /// Appends a binary as BINARY_EXT.
@@ -122,7 +122,7 @@ pub(crate) fn append_binary(bytes: &[u8], out: &mut Vec<u8>)
     ensures items { out.new.items ≡ out.old.items ++ binary_bytes bytes.now }
     ensures capacity { vec_capacity out.old ≤ vec_capacity out.new }
 {
-    put_long(109, bytes.len(), out);
+    put_tag_and_u32(109, bytes.len(), out);
     put(bytes, out);
 }
 
@@ -134,8 +134,8 @@ pub(crate) fn append_tuple_header(n: usize, out: &mut Vec<u8>)
     ensures capacity { vec_capacity out.old ≤ vec_capacity out.new }
 {
     if n < 256 {
-        put_short(104, n as u8, out);
+        put_tag_and_u8(104, n as u8, out);
     } else {
-        put_long(105, n, out);
+        put_tag_and_u32(105, n, out);
     }
 }

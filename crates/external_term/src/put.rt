@@ -23,7 +23,7 @@ fn byte_of(n: usize, unit: usize) -> u8
 }
 
 /// Appends a tag and a length of one byte.
-pub(crate) fn put_short(tag: u8, n: u8, out: &mut Vec<u8>)
+pub(crate) fn put_tag_and_u8(tag: u8, n: u8, out: &mut Vec<u8>)
     requires { vec_len out.old + 2 ≤ vec_capacity out.old }
     ensures items { out.new.items ≡ out.old.items ++ tag ∷ n ∷ [] }
     ensures capacity { vec_capacity out.old ≤ vec_capacity out.new }
@@ -33,7 +33,7 @@ pub(crate) fn put_short(tag: u8, n: u8, out: &mut Vec<u8>)
 }
 
 /// Appends a tag and a number of two bytes.
-pub(crate) fn put_medium(tag: u8, n: usize, out: &mut Vec<u8>)
+pub(crate) fn put_tag_and_u16(tag: u8, n: usize, out: &mut Vec<u8>)
     requires { vec_len out.old + 3 ≤ vec_capacity out.old }
     ensures items { out.new.items ≡ out.old.items ++ tag ∷ big2 n }
     ensures capacity { vec_capacity out.old ≤ vec_capacity out.new }
@@ -44,7 +44,7 @@ pub(crate) fn put_medium(tag: u8, n: usize, out: &mut Vec<u8>)
 }
 
 /// Appends a number of four bytes.
-pub(crate) fn put_number(n: usize, out: &mut Vec<u8>)
+pub(crate) fn put_u32(n: usize, out: &mut Vec<u8>)
     requires { vec_len out.old + 4 ≤ vec_capacity out.old }
     ensures items { out.new.items ≡ out.old.items ++ big4 n }
     ensures capacity { vec_capacity out.old ≤ vec_capacity out.new }
@@ -56,13 +56,13 @@ pub(crate) fn put_number(n: usize, out: &mut Vec<u8>)
 }
 
 /// Appends a tag and a number of four bytes.
-pub(crate) fn put_long(tag: u8, n: usize, out: &mut Vec<u8>)
+pub(crate) fn put_tag_and_u32(tag: u8, n: usize, out: &mut Vec<u8>)
     requires { vec_len out.old + 5 ≤ vec_capacity out.old }
     ensures items { out.new.items ≡ out.old.items ++ tag ∷ big4 n }
     ensures capacity { vec_capacity out.old ≤ vec_capacity out.new }
 {
     out.push_reserved(tag);
-    put_number(n, out);
+    put_u32(n, out);
 }
 
 /// Returns the number of bytes of a magnitude.

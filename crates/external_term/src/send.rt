@@ -5,7 +5,7 @@ ghost use Rattle.external_term.specs.Sent.{AppendsOrPrefix};
 ghost use Rattle.external_term.specs.inside.Block.{block_bytes};
 
 use crate::append::{append_integer, append_name, append_pid, append_reference};
-use crate::put::put_long;
+use crate::put::put_tag_and_u32;
 use ets_term::{Atom, Integer};
 use std::io::{Error, Write};
 
@@ -105,7 +105,7 @@ pub(crate) fn send_binary<W: Write>(
     ensures sent { AppendsOrPrefix (W.contents out.old) (W.contents out.new) (binary_bytes bytes.now) result }
 {
     block.clear();
-    put_long(109, bytes.len(), block);
+    put_tag_and_u32(109, bytes.len(), block);
     send_bytes(block.as_slice(), out)?;
     send_bytes(bytes, out)
 }

@@ -7,7 +7,7 @@ ghost use Rattle.external_term.specs.inside.Block.{block_bytes};
 
 use crate::append::append_tuple_header;
 use crate::fault::ExternalSendFault;
-use crate::put::{put_long, put_medium};
+use crate::put::{put_tag_and_u16, put_tag_and_u32};
 use crate::send::{
     WriterFault, send_atom, send_binary, send_bytes, send_integer, send_pid, send_reference,
 };
@@ -115,7 +115,7 @@ fn send_long_list<W: Write>(
     ensures sent { AppendsOrPrefix (W.contents out.old) (W.contents out.new) (long_list_bytes (map encode items.now)) result }
 {
     block.clear();
-    put_long(108, items.len(), block);
+    put_tag_and_u32(108, items.len(), block);
     send_bytes(block.as_slice(), out)?;
     send_items(items, block, out)?;
     send_bytes(&[106], out)
@@ -145,7 +145,7 @@ fn send_string<W: Write>(
     ensures sent { AppendsOrPrefix (W.contents out.old) (W.contents out.new) (string_bytes (map encode items.now)) result }
 {
     block.clear();
-    put_medium(107, items.len(), block);
+    put_tag_and_u16(107, items.len(), block);
     send_bytes(block.as_slice(), out)?;
     send_chars(items, block, out)
 }

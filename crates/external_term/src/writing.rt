@@ -7,7 +7,7 @@ use crate::append::{
     append_atom, append_binary, append_integer, append_pid, append_reference, append_tuple_header,
 };
 use crate::fault::ExternalWriteFault;
-use crate::put::{put_long, put_medium};
+use crate::put::{put_tag_and_u16, put_tag_and_u32};
 use crate::sizes::size_of_term;
 use crate::small::{byte_of_term, is_string};
 use ets_term::Term;
@@ -93,7 +93,7 @@ fn append_string(items: &[Term], out: &mut Vec<u8>)
     ensures items { out.new.items ≡ out.old.items ++ string_bytes (map encode items.now) }
     ensures capacity { vec_capacity out.old ≤ vec_capacity out.new }
 {
-    put_medium(107, items.len(), out);
+    put_tag_and_u16(107, items.len(), out);
     append_chars(items, out);
 }
 
@@ -115,7 +115,7 @@ fn append_long_list(items: &[Term], out: &mut Vec<u8>)
     ensures items { out.new.items ≡ out.old.items ++ long_list_bytes (map encode items.now) }
     ensures capacity { vec_capacity out.old ≤ vec_capacity out.new }
 {
-    put_long(108, items.len(), out);
+    put_tag_and_u32(108, items.len(), out);
     append_items(items, out);
     out.push_reserved(106);
 }

@@ -34,7 +34,7 @@ send_long_list-returns-in_err-send_bytes-clause-sent g t c =
     let now = g.W.Write.contents c.send_bytes.new.out in
     let header : List ℕ = 108 ∷ big4 (length ts) in
     let back : List ℕ = joined (map encode ts) ++ 106 ∷ [] in
-    let form : c.as_slice.result.now ≡ header = form-is c.clear.new.self.items c.put_long.new.out.items c.as_slice.result.now header c.clear.ensures.items c.put_long.ensures.items c.as_slice.ensures.value in
+    let form : c.as_slice.result.now ≡ header = form-is c.clear.new.self.items c.put_tag_and_u32.new.out.items c.as_slice.result.now header c.clear.ensures.items c.put_tag_and_u32.ensures.items c.as_slice.ensures.value in
     sends-as old now (header ++ back) (long_list_bytes (map encode ts)) c.from_residual.result (list-pieces ts)
     (sends-first old now header back c.from_residual.result c.from_residual.ensures.0 (prefix-as old now c.as_slice.result.now header form c.in_err-send_bytes.ensures))
 
@@ -48,7 +48,7 @@ send_long_list-returns-in_err-send_items-clause-sent g t c =
     let header : List ℕ = 108 ∷ big4 (length ts) in
     let row = joined (map encode ts) in
     let back : List ℕ = row ++ 106 ∷ [] in
-    let form : c.as_slice.result.now ≡ header = form-is c.clear.new.self.items c.put_long.new.out.items c.as_slice.result.now header c.clear.ensures.items c.put_long.ensures.items c.as_slice.ensures.value in
+    let form : c.as_slice.result.now ≡ header = form-is c.clear.new.self.items c.put_tag_and_u32.new.out.items c.as_slice.result.now header c.clear.ensures.items c.put_tag_and_u32.ensures.items c.as_slice.ensures.value in
     sends-as old new (header ++ back) (long_list_bytes (map encode ts)) r (list-pieces ts)
     (sends-fault old new (header ++ back) r c.from_residual-in_err-send_items.ensures.0
     (prefix-then old now new header back (appends-as old now c.as_slice.result.now header form c.in_ok-send_bytes.ensures) (prefix-first now new row (106 ∷ []) c.in_err-send_items.ensures.sent)))
@@ -64,7 +64,7 @@ send_long_list-returns-clause-sent g t c =
     let header : List ℕ = 108 ∷ big4 (length ts) in
     let row = joined (map encode ts) in
     let back : List ℕ = row ++ 106 ∷ [] in
-    let form : c.as_slice.result.now ≡ header = form-is c.clear.new.self.items c.put_long.new.out.items c.as_slice.result.now header c.clear.ensures.items c.put_long.ensures.items c.as_slice.ensures.value in
+    let form : c.as_slice.result.now ≡ header = form-is c.clear.new.self.items c.put_tag_and_u32.new.out.items c.as_slice.result.now header c.clear.ensures.items c.put_tag_and_u32.ensures.items c.as_slice.ensures.value in
     sends-as old new (header ++ back) (long_list_bytes (map encode ts)) r (list-pieces ts)
     (sends-then old now new header back r (appends-as old now c.as_slice.result.now header form c.in_ok-send_bytes.ensures)
     (sends-then now later new row (106 ∷ []) r c.in_ok-send_items.ensures.sent c.send_bytes-2.ensures))
