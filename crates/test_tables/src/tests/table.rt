@@ -1,11 +1,13 @@
-// Expected answers from the rules of the manual. A test is a list of steps, each with its answer as a number. One
-// function runs it on tables over each form of rows.
+// Expected answers from the rules of the manual. A test is a list of steps, each with its answer. One function runs it
+// on tables over each form of rows.
+use answers::Answer;
 use bucket_table::{PlainRows, Rows, SplitRows};
 use ets_term::{AllSame, Fnv, Integer, Position};
 use std::alloc::Global;
 use steps::change;
 use table_ops::{Kind, Table};
 
+mod answers;
 mod calls;
 mod lists;
 mod long;
@@ -14,89 +16,150 @@ mod refused;
 mod searches;
 mod steps;
 mod terms;
+mod updates;
+
+/// The key of the objects that a step reads or changes.
+#[derive(Clone, Copy)]
+pub struct Key(pub Integer);
+
+/// The object `{A,B}`.
+#[derive(Clone, Copy)]
+pub struct Object(pub Integer, pub Integer);
+
+/// The object `{A,B,C}`.
+#[derive(Clone, Copy)]
+pub struct Triple(pub Integer, pub Integer, pub Integer);
+
+/// The depth of the second element of an object.
+#[derive(Clone, Copy)]
+pub struct Depth(pub usize);
+
+/// The position of an element.
+#[derive(Clone, Copy)]
+pub struct Pos(pub Position);
+
+/// What a counter is incremented by.
+#[derive(Clone, Copy)]
+pub struct Incr(pub Integer);
+
+/// The counter of the default object `{0,Counter}`.
+#[derive(Clone, Copy)]
+pub struct Start(pub Integer);
+
+/// A value that is written to the second element.
+#[derive(Clone, Copy)]
+pub struct Value(pub Integer);
+
+/// What a deletion makes of a slot that has no more objects.
+#[derive(Clone, Copy)]
+pub enum Emptied {
+    LeaveTombstone,
+    RemoveSlot,
+}
+
+impl Emptied {
+    fn holds(self) -> bool {
+        match self {
+            Emptied::LeaveTombstone => true,
+            Emptied::RemoveSlot => false,
+        }
+    }
+}
 
 /// A call, mostly on pairs of integers.
 #[derive(Clone, Copy)]
 pub enum Step {
-    Insert(Integer, Integer),
-    InsertTwo(Integer, Integer, Integer, Integer),
-    InsertNew(Integer, Integer),
-    /// An integer, which is no object.
-    InsertOne(Integer),
-    /// `{A,B,C}`.
-    InsertThree(Integer, Integer, Integer),
-    /// The pair of a key and a term of this depth.
-    InsertDeep(Integer, usize),
-    InsertNewDeep(Integer, usize),
-    Lookup(Integer),
-    Element(Integer, Position),
-    Take(Integer, bool),
-    Delete(Integer, bool),
-    DeleteObject(Integer, Integer, bool),
-    DeleteAll(bool),
+    Insert(Object),
+    InsertTwo(Object, Object),
+    InsertTriple(Triple),
+    /// Inserts an integer, which is not an object.
+    InsertInteger(Integer),
+    /// Inserts the pair of a key and lists within lists.
+    InsertDeep(Key, Depth),
+    InsertNew(Object),
+    InsertNewDeep(Key, Depth),
+    Lookup(Key),
+    LookupElement(Key, Pos),
+    Take(Key, Emptied),
+    Delete(Key, Emptied),
+    DeleteObject(Object, Emptied),
+    DeleteAll(Emptied),
     Purge,
-    Count(Integer, Integer),
-    CountFrom(Integer, Integer, Integer),
-    Write(Integer, Integer),
-    Matches(Integer),
-    Below(Integer),
-    DeleteBelow(Integer, bool),
-    DeleteMatching(Integer, bool),
-    Objects,
-    Size,
-    Slots,
+    UpdateCounter(Key, Incr),
+    /// Updates a counter, which starts with a default object if its key is missing.
+    UpdateCounterFrom(Key, Incr, Start),
+    UpdateElement(Key, Value),
+    /// Searches by `match` and by `match_object` for `{Key,'$1'}`.
+    Match(Key),
+    MatchDelete(Key, Emptied),
+    /// Searches by `select` and by `select_count` for the objects whose second element is less than an integer.
+    SelectBelow(Integer),
+    SelectDeleteBelow(Integer, Emptied),
+    AllObjects,
+    CountObjects,
+    CountSlots,
+    /// Doubles the buckets, and makes the first unready one ready.
     Grow,
 }
 
-/// The numbers of refusals.
-const BADARG: Integer = -1;
-
-const LIMIT: Integer = -2;
-
+/// The number for a step that was refused memory.
 const MEMORY: Integer = -3;
 
-/// Runs a step. Returns its answer.
+/// Runs a step. Returns the number for its answer.
 fn answer<R: Rows>(alloc: Global, table: &mut Table<R>, step: Step) -> Integer {
     change(alloc, table, step).unwrap_or(MEMORY)
 }
 
+/// Runs a step. Returns whether it has this answer.
+fn gives<R: Rows>(alloc: Global, table: &mut Table<R>, step: Step, wanted: Answer) -> bool {
+    answer(alloc, table, step) == wanted.number()
+}
+
 /// Returns whether each step has its answer.
-fn runs<R: Rows>(alloc: Global, table: &mut Table<R>, steps: &[(Step, Integer)]) -> bool {
+fn runs<R: Rows>(alloc: Global, table: &mut Table<R>, steps: &[(Step, Answer)]) -> bool {
     for (step, wanted) in steps {
-        if answer(alloc, table, *step) != *wanted {
+        if !gives(alloc, table, *step, *wanted) {
             return false;
         }
     }
     true
 }
 
-fn plain_table(alloc: Global, kind: Kind, keypos: u32, limit: u32) -> Table<PlainRows> {
-    Table::new(alloc, PlainRows::new(alloc), kind, keypos.max(1), limit)
+/// The position of the key in each object of a table.
+#[derive(Clone, Copy)]
+pub struct Keypos(pub u32);
+
+/// The greatest number of objects in a table.
+#[derive(Clone, Copy)]
+pub struct MaxObjects(pub u32);
+
+fn plain_table(alloc: Global, kind: Kind, keypos: Keypos, limit: MaxObjects) -> Table<PlainRows> {
+    Table::new(alloc, PlainRows::new(alloc), kind, keypos.0.max(1), limit.0)
 }
 
 fn split_table(
     alloc: Global,
     kind: Kind,
-    keypos: u32,
-    limit: u32,
+    keypos: Keypos,
+    limit: MaxObjects,
 ) -> Option<Table<SplitRows<Fnv>>> {
     let rows = SplitRows::new(alloc, Fnv).ok()?;
-    Some(Table::new(alloc, rows, kind, keypos.max(1), limit))
+    Some(Table::new(alloc, rows, kind, keypos.0.max(1), limit.0))
 }
 
 /// Builds a table over split rows with one hash for all keys.
 fn one_bucket_table(
     alloc: Global,
     kind: Kind,
-    keypos: u32,
-    limit: u32,
+    keypos: Keypos,
+    limit: MaxObjects,
 ) -> Option<Table<SplitRows<AllSame>>> {
     let rows = SplitRows::new(alloc, AllSame).ok()?;
-    Some(Table::new(alloc, rows, kind, keypos.max(1), limit))
+    Some(Table::new(alloc, rows, kind, keypos.0.max(1), limit.0))
 }
 
 /// A table by its kind, its keypos and its greatest number of objects, and the steps on it with their answers.
-type Life = (Kind, u32, u32, &'static [(Step, Integer)]);
+type Life = (Kind, Keypos, MaxObjects, &'static [(Step, Answer)]);
 
 fn plain_runs(alloc: Global, life: Life) -> bool {
     let (kind, keypos, limit, steps) = life;

@@ -48,9 +48,17 @@ fn sum<R: Rows>(rows: &R) -> Integer {
     all
 }
 
-/// Replaces the object of key 1 by 10, removes key 2, and then removes all keys. Returns the sums between these
-/// calls, and last the number of slots.
-fn calls<R: Rows>(rows: &mut R, alloc: Global) -> [Integer; 4] {
+/// What rows have before and after calls.
+#[derive(Clone, Copy, PartialEq, Eq)]
+struct Seen {
+    sum: Integer,
+    sum_replaced: Integer,
+    sum_removed: Integer,
+    slots_cleared: usize,
+}
+
+/// Replaces the object of key 1 by 10, removes key 2, and then removes all keys. Returns what rows have in between.
+fn calls<R: Rows>(rows: &mut R, alloc: Global) -> Option<Seen> {
     let before = sum(rows);
     let one = Term::Int(1);
     let was = state_of(rows.replace(&one, Chain::one(alloc, Term::Int(10))));
@@ -61,18 +69,29 @@ fn calls<R: Rows>(rows: &mut R, alloc: Global) -> [Integer; 4] {
     rows.clear(true);
     rows.purge();
     if was != KeyState::Object(1) || gone != KeyState::Object(2) {
-        return [0; 4];
+        return None;
     }
-    [before, replaced, removed, rows.len() as Integer]
+    Some(Seen {
+        sum: before,
+        sum_replaced: replaced,
+        sum_removed: removed,
+        slots_cleared: rows.len(),
+    })
 }
 
 /// Returns whether the calls do what they should between two marks.
 fn is_free<R: Rows>(rows: &mut R, alloc: Global) -> Result<bool, AllocError> {
     fill(rows, alloc)?;
     let began = mark(alloc);
-    let sums = calls(rows, alloc);
+    let seen = calls(rows, alloc);
     let ended = mark(alloc);
-    Ok(began && ended && sums == [10, 19, 17, 0])
+    let wanted = Seen {
+        sum: 1 + 2 + 3 + 4,
+        sum_replaced: 10 + 2 + 3 + 4,
+        sum_removed: 10 + 3 + 4,
+        slots_cleared: 0,
+    };
+    Ok(began && ended && seen == Some(wanted))
 }
 
 fn is_free_of_plain(alloc: Global) -> Result<bool, AllocError> {

@@ -23,10 +23,15 @@ fn readies_each<R: Rows>(rows: &mut R, wanted: &[(u32, Readying)]) -> Result<boo
     Ok(all)
 }
 
+/// The greatest number of buckets, and how often two buckets are doubled to get there.
+const MAX_BUCKETS: u32 = 1_048_576;
+
+const DOUBLINGS: usize = 19;
+
 fn doubles<R: Rows>(rows: &mut R) -> Result<bool, AllocError> {
     let two = rows.buckets() == 2;
-    let grown = grows(rows, 19, Growth::Grown)? && grows(rows, 2, Growth::AtMost)?;
-    Ok(two && grown && rows.buckets() == 1_048_576)
+    let grown = grows(rows, DOUBLINGS, Growth::Grown)? && grows(rows, 2, Growth::AtMost)?;
+    Ok(two && grown && rows.buckets() == MAX_BUCKETS)
 }
 
 fn split_doubles(alloc: Global) -> Result<bool, AllocError> {
@@ -41,12 +46,13 @@ fn doubles_nineteen_times(rt: HostRuntime) {
     assert!(rt; split_doubles(rt.alloc()) == Ok(true));
 }
 
+/// Buckets of the greatest number of them, and what `ready` answers of each.
 const AT_MOST_BUCKETS: [(u32, Readying); 5] = [
-    (1_048_576, Readying::NotABucket),
+    (MAX_BUCKETS, Readying::NotABucket),
     (0, Readying::AlreadyReady),
     (3, Readying::Ready),
     (3, Readying::AlreadyReady),
-    (1_048_575, Readying::Ready),
+    (MAX_BUCKETS - 1, Readying::Ready),
 ];
 
 /// Returns whether `ready` gives these answers after a number of doublings, and bucket 1 is the first unready bucket
@@ -64,7 +70,7 @@ fn readies_some<R: Rows>(
 
 fn split_readies(alloc: Global, wanted: &[(u32, Readying)]) -> Result<bool, AllocError> {
     let mut rows = SplitRows::new(alloc, AllSame)?;
-    let readied = readies_some(&mut rows, 19, wanted);
+    let readied = readies_some(&mut rows, DOUBLINGS, wanted);
     drop(rows);
     readied
 }
@@ -74,6 +80,7 @@ fn readies_buckets(rt: HostRuntime) {
     assert!(rt; split_readies(rt.alloc(), &AT_MOST_BUCKETS) == Ok(true));
 }
 
+/// Buckets of plain rows, and what `ready` answers of each.
 const ONE_BUCKET: [(u32, Readying); 2] = [(0, Readying::AlreadyReady), (1, Readying::NotABucket)];
 
 fn is_one_bucket<R: Rows>(rows: &mut R, wanted: &[(u32, Readying)]) -> Result<bool, AllocError> {

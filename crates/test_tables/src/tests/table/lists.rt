@@ -1,25 +1,76 @@
 // Lists of 10,000 objects whose keys repeat. The value of an object is the last digit of its index, its key the index
 // modulo 97.
+use super::answers::Answer::{self, False, SystemLimit, True};
 use super::steps::{lookup_digits, try_insert, try_insert_new};
 use super::terms::tuple;
-use super::{LIMIT, plain_table, split_table};
+use super::{Keypos, MaxObjects, plain_table, split_table};
 use bucket_table::Rows;
 use ets_term::{Integer, Items, Term};
 use std::alloc::Global;
 use std::process::Abort;
 use table_ops::{Kind, Table};
 
-/// A kind and a limit, the answer of the insertion, and what the table then has: the number of objects and of slots,
-/// and the values of key 0 as the digits of one number, which wraps.
-type Row = (Kind, u32, Integer, usize, usize, Integer);
+/// A table, the answer of the insertion, and what the table then has.
+#[derive(Clone, Copy)]
+struct Row {
+    kind: Kind,
+    max_objects: MaxObjects,
+    answer: Answer,
+    objects: usize,
+    slots: usize,
+    /// The values of key 0 as the digits of one number, which wraps.
+    values: Integer,
+}
 
 const ROWS: [Row; 6] = [
-    (Kind::Set, 97, 1, 97, 97, 1),
-    (Kind::Set, 96, LIMIT, 0, 0, 0),
-    (Kind::Bag, 970, 1, 970, 97, 741_852_963),
-    (Kind::Bag, 969, LIMIT, 0, 0, 0),
-    (Kind::DuplicateBag, 10_000, 1, 10_000, 97, SAME_KEY),
-    (Kind::DuplicateBag, 9_999, LIMIT, 0, 0, 0),
+    Row {
+        kind: Kind::Set,
+        max_objects: MaxObjects(97),
+        answer: True,
+        objects: 97,
+        slots: 97,
+        values: 1,
+    },
+    Row {
+        kind: Kind::Set,
+        max_objects: MaxObjects(96),
+        answer: SystemLimit,
+        objects: 0,
+        slots: 0,
+        values: 0,
+    },
+    Row {
+        kind: Kind::Bag,
+        max_objects: MaxObjects(970),
+        answer: True,
+        objects: 970,
+        slots: 97,
+        values: 741_852_963,
+    },
+    Row {
+        kind: Kind::Bag,
+        max_objects: MaxObjects(969),
+        answer: SystemLimit,
+        objects: 0,
+        slots: 0,
+        values: 0,
+    },
+    Row {
+        kind: Kind::DuplicateBag,
+        max_objects: MaxObjects(10_000),
+        answer: True,
+        objects: 10_000,
+        slots: 97,
+        values: SAME_KEY,
+    },
+    Row {
+        kind: Kind::DuplicateBag,
+        max_objects: MaxObjects(9_999),
+        answer: SystemLimit,
+        objects: 0,
+        slots: 0,
+        values: 0,
+    },
 ];
 
 /// The digits of key 0 in a duplicate bag, 104 of them.
@@ -34,40 +85,41 @@ fn push_objects(alloc: Global, objects: &mut Items<Term>) -> Option<()> {
 }
 
 fn has<R: Rows>(table: &Table<R>, row: Row) -> bool {
-    let (_, _, _, size, slots, values) = row;
-    table.size() == size && table.slots() == slots && lookup_digits(table, 0) == values
+    table.size() == row.objects
+        && table.slots() == row.slots
+        && lookup_digits(table, 0) == row.values
 }
 
 /// Returns whether `insert` of the list does what the row says.
 fn inserts<R: Rows>(table: &mut Table<R>, list: &[Term], row: Row) -> bool {
-    let (_, _, answer, _, _, _) = row;
-    try_insert(table, list) == answer && has(table, row)
+    try_insert(table, list) == row.answer.number() && has(table, row)
 }
 
 /// Returns whether `insert_new` of the list does what the row says, and does not insert it again.
 fn inserts_new<R: Rows>(table: &mut Table<R>, list: &[Term], row: Row) -> bool {
-    let (_, _, answer, _, _, _) = row;
-    let again = if answer == 1 { 0 } else { answer };
+    let answer = row.answer.number();
+    let again = match row.answer {
+        True => False.number(),
+        _ => answer,
+    };
     try_insert_new(table, list) == answer && has(table, row) && try_insert_new(table, list) == again
 }
 
 fn plain_does(alloc: Global, list: &[Term], row: Row) -> bool {
-    let (kind, limit, _, _, _, _) = row;
-    let mut first = plain_table(alloc, kind, 1, limit);
+    let mut first = plain_table(alloc, row.kind, Keypos(1), row.max_objects);
     let done = inserts(&mut first, list, row);
     drop(first);
-    let mut second = plain_table(alloc, kind, 1, limit);
+    let mut second = plain_table(alloc, row.kind, Keypos(1), row.max_objects);
     let done_new = inserts_new(&mut second, list, row);
     drop(second);
     done && done_new
 }
 
 fn split_does(alloc: Global, list: &[Term], row: Row) -> Option<bool> {
-    let (kind, limit, _, _, _, _) = row;
-    let mut first = split_table(alloc, kind, 1, limit)?;
+    let mut first = split_table(alloc, row.kind, Keypos(1), row.max_objects)?;
     let done = inserts(&mut first, list, row);
     drop(first);
-    let mut second = split_table(alloc, kind, 1, limit)?;
+    let mut second = split_table(alloc, row.kind, Keypos(1), row.max_objects)?;
     let done_new = inserts_new(&mut second, list, row);
     drop(second);
     Some(done && done_new)

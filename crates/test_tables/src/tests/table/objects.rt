@@ -1,7 +1,19 @@
 // What an object is: its key, its depth, and lists with an element that is not an object.
-use super::steps::{count_of, insert, ops, specs, try_insert, try_insert_new};
+use super::Emptied::{LeaveTombstone, RemoveSlot};
+use super::Step::{
+    CountObjects, CountSlots, Delete, DeleteObject, Insert, InsertDeep, InsertNew, InsertNewDeep,
+    InsertTriple, Lookup, LookupElement, Take, UpdateCounter, UpdateCounterFrom, UpdateElement,
+};
+use super::answers::Answer::{
+    self, Badarg, False, Int, ListOf, Objects, Slots, SystemLimit, True, Values,
+};
+use super::steps::{count_of, insert, try_insert, try_insert_new};
 use super::terms::{Part, as_integer, atom, tuple, tuple_of};
-use super::{BADARG, LIMIT, Life, Step, first_mismatch, plain_table, split_table};
+use super::updates::{ops, specs};
+use super::{
+    Depth, Incr, Key, Keypos, Life, MaxObjects, Object, Pos, Start, Step, Triple, Value,
+    first_mismatch, plain_table, split_table,
+};
 use bucket_table::Rows;
 use ets_term::{Integer, Items, Term};
 use std::alloc::Global;
@@ -9,62 +21,62 @@ use std::process::Abort;
 use std::slice;
 use table_ops::{Kind, Table};
 
-const KEY_STANDS_SECOND: [(Step, Integer); 15] = [
-    (Step::Insert(1, 7), 1),
-    (Step::Insert(2, 7), 1),
-    (Step::Insert(2, 8), 1),
-    (Step::Size, 2),
-    (Step::Element(7, 1), 2),
-    (Step::Element(8, 2), 8),
-    (Step::Element(1, 1), BADARG),
-    (Step::InsertNew(3, 7), 0),
-    (Step::InsertNew(3, 9), 1),
-    (Step::Write(7, 5), BADARG),
-    (Step::Count(7, 1), BADARG),
-    (Step::DeleteObject(1, 7, false), 3),
-    (Step::DeleteObject(2, 7, false), 2),
-    (Step::Take(8, false), 8),
-    (Step::Size, 1),
+const KEY_STANDS_SECOND: [(Step, Answer); 15] = [
+    (Insert(Object(1, 7)), True),
+    (Insert(Object(2, 7)), True),
+    (Insert(Object(2, 8)), True),
+    (CountObjects, Objects(2)),
+    (LookupElement(Key(7), Pos(1)), Int(2)),
+    (LookupElement(Key(8), Pos(2)), Int(8)),
+    (LookupElement(Key(1), Pos(1)), Badarg),
+    (InsertNew(Object(3, 7)), False),
+    (InsertNew(Object(3, 9)), True),
+    (UpdateElement(Key(7), Value(5)), Badarg),
+    (UpdateCounter(Key(7), Incr(1)), Badarg),
+    (DeleteObject(Object(1, 7), RemoveSlot), Objects(3)),
+    (DeleteObject(Object(2, 7), RemoveSlot), Objects(2)),
+    (Take(Key(8), RemoveSlot), Values(&[8])),
+    (CountObjects, Objects(1)),
 ];
 
-const KEY_STANDS_THIRD: [(Step, Integer); 14] = [
-    (Step::Insert(1, 2), BADARG),
-    (Step::InsertNew(1, 2), BADARG),
-    (Step::InsertThree(1, 2, 7), 1),
-    (Step::InsertThree(4, 5, 7), 1),
-    (Step::InsertThree(4, 5, 8), 1),
-    (Step::Lookup(7), 25),
-    (Step::Lookup(4), 0),
-    (Step::Element(7, 1), 2),
-    (Step::Element(8, 4), BADARG),
-    (Step::DeleteObject(1, 2, false), BADARG),
-    (Step::CountFrom(9, 1, 1), BADARG),
-    (Step::Delete(7, false), 1),
-    (Step::InsertThree(4, 5, 8), 1),
-    (Step::Size, 1),
+const KEY_STANDS_THIRD: [(Step, Answer); 14] = [
+    (Insert(Object(1, 2)), Badarg),
+    (InsertNew(Object(1, 2)), Badarg),
+    (InsertTriple(Triple(1, 2, 7)), True),
+    (InsertTriple(Triple(4, 5, 7)), True),
+    (InsertTriple(Triple(4, 5, 8)), True),
+    (Lookup(Key(7)), Values(&[2, 5])),
+    (Lookup(Key(4)), Values(&[])),
+    (LookupElement(Key(7), Pos(1)), ListOf(2)),
+    (LookupElement(Key(8), Pos(4)), Badarg),
+    (DeleteObject(Object(1, 2), RemoveSlot), Badarg),
+    (UpdateCounterFrom(Key(9), Incr(1), Start(1)), Badarg),
+    (Delete(Key(7), RemoveSlot), Objects(1)),
+    (InsertTriple(Triple(4, 5, 8)), True),
+    (CountObjects, Objects(1)),
 ];
 
-const DEEPEST_OBJECTS: [(Step, Integer); 14] = [
-    (Step::InsertDeep(7, 127), 1),
-    (Step::InsertDeep(8, 128), LIMIT),
-    (Step::InsertDeep(7, 128), LIMIT),
-    (Step::InsertNewDeep(8, 128), LIMIT),
-    (Step::InsertNewDeep(7, 128), 0),
-    (Step::InsertNewDeep(8, 127), 1),
-    (Step::InsertNewDeep(9, 127), LIMIT),
-    (Step::Element(7, 1), 7),
-    (Step::Element(8, 2), 1),
-    (Step::Size, 2),
-    (Step::Delete(7, true), 1),
-    (Step::InsertNewDeep(7, 128), LIMIT),
-    (Step::InsertNewDeep(7, 127), 1),
-    (Step::Slots, 2),
+const DEEPEST_OBJECTS: [(Step, Answer); 14] = [
+    (InsertDeep(Key(7), Depth(127)), True),
+    (InsertDeep(Key(8), Depth(128)), SystemLimit),
+    (InsertDeep(Key(7), Depth(128)), SystemLimit),
+    (InsertNewDeep(Key(8), Depth(128)), SystemLimit),
+    (InsertNewDeep(Key(7), Depth(128)), False),
+    (InsertNewDeep(Key(8), Depth(127)), True),
+    (InsertNewDeep(Key(9), Depth(127)), SystemLimit),
+    (LookupElement(Key(7), Pos(1)), Int(7)),
+    (LookupElement(Key(8), Pos(2)), ListOf(1)),
+    (CountObjects, Objects(2)),
+    (Delete(Key(7), LeaveTombstone), Objects(1)),
+    (InsertNewDeep(Key(7), Depth(128)), SystemLimit),
+    (InsertNewDeep(Key(7), Depth(127)), True),
+    (CountSlots, Slots(2)),
 ];
 
 const LIVES: [Life; 3] = [
-    (Kind::Set, 2, 10, &KEY_STANDS_SECOND),
-    (Kind::Bag, 3, 10, &KEY_STANDS_THIRD),
-    (Kind::Set, 1, 2, &DEEPEST_OBJECTS),
+    (Kind::Set, Keypos(2), MaxObjects(10), &KEY_STANDS_SECOND),
+    (Kind::Bag, Keypos(3), MaxObjects(10), &KEY_STANDS_THIRD),
+    (Kind::Set, Keypos(1), MaxObjects(2), &DEEPEST_OBJECTS),
 ];
 
 #[test]
@@ -79,8 +91,8 @@ fn object_at_end(alloc: Global) -> Option<Term> {
 
 /// Returns whether an object whose key is `'$end_of_table'` is not inserted.
 fn inserts_none<R: Rows>(table: &mut Table<R>, object: &Term) -> bool {
-    try_insert(table, slice::from_ref(object)) == BADARG
-        && try_insert_new(table, slice::from_ref(object)) == BADARG
+    try_insert(table, slice::from_ref(object)) == Badarg.number()
+        && try_insert_new(table, slice::from_ref(object)) == Badarg.number()
 }
 
 /// Returns whether no counter of that key is updated, with the object as a Default or without.
@@ -150,14 +162,14 @@ fn has_no_end<R: Rows>(alloc: Global, table: &mut Table<R>) -> Option<bool> {
 }
 
 fn plain_has_no_end(alloc: Global) -> Option<bool> {
-    let mut table = plain_table(alloc, Kind::Set, 1, 10);
+    let mut table = plain_table(alloc, Kind::Set, Keypos(1), MaxObjects(10));
     let none = has_no_end(alloc, &mut table);
     drop(table);
     none
 }
 
 fn split_has_no_end(alloc: Global) -> Option<bool> {
-    let mut table = split_table(alloc, Kind::Set, 1, 10)?;
+    let mut table = split_table(alloc, Kind::Set, Keypos(1), MaxObjects(10))?;
     let none = has_no_end(alloc, &mut table);
     drop(table);
     none
@@ -205,7 +217,7 @@ fn refuses_at<R: Rows>(
     let second = try_insert_new(table, objects.as_slice());
     drop(objects);
     pushed?;
-    Some(first == BADARG && second == BADARG && table.size() == 1)
+    Some(first == Badarg.number() && second == Badarg.number() && table.size() == 1)
 }
 
 /// Returns whether no list of five terms with such a term at any index is inserted, nor the list of it alone.
@@ -229,7 +241,7 @@ fn refuses_made<R: Rows>(alloc: Global, table: &mut Table<R>, made: Option<Term>
 /// Returns whether no list with a term that is not an object is inserted into a table of `{3,0}`.
 fn refuses_all<R: Rows>(alloc: Global, table: &mut Table<R>) -> Option<bool> {
     Some(
-        insert(table, tuple(alloc, &[3, 0]))? == 1
+        insert(table, tuple(alloc, &[3, 0]))? == True.number()
             && refuses_made(alloc, table, Some(Term::Int(7)))?
             && refuses_made(alloc, table, tuple(alloc, &[]))?
             && refuses_made(alloc, table, object_at_end(alloc))?,
@@ -237,14 +249,14 @@ fn refuses_all<R: Rows>(alloc: Global, table: &mut Table<R>) -> Option<bool> {
 }
 
 fn plain_refuses_all(alloc: Global) -> Option<bool> {
-    let mut table = plain_table(alloc, Kind::Set, 1, 10);
+    let mut table = plain_table(alloc, Kind::Set, Keypos(1), MaxObjects(10));
     let refused = refuses_all(alloc, &mut table);
     drop(table);
     refused
 }
 
 fn split_refuses_all(alloc: Global) -> Option<bool> {
-    let mut table = split_table(alloc, Kind::DuplicateBag, 1, 10)?;
+    let mut table = split_table(alloc, Kind::DuplicateBag, Keypos(1), MaxObjects(10))?;
     let refused = refuses_all(alloc, &mut table);
     drop(table);
     refused

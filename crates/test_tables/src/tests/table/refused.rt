@@ -1,9 +1,21 @@
 // Out of memory. `.ci/refusals` runs these tests with each allocation refused in turn. A step that is refused memory
 // must change nothing, and must have the answer of ample memory when it is run again. If the refused allocation is one
 // of the test itself, the test makes it again.
+use super::Emptied::{LeaveTombstone, RemoveSlot};
+use super::Step::{
+    CountSlots, DeleteAll, DeleteObject, Grow, Insert, InsertDeep, InsertNew, InsertNewDeep,
+    InsertTwo, Lookup, LookupElement, Match, MatchDelete, Purge, SelectBelow, SelectDeleteBelow,
+    Take, UpdateCounter, UpdateCounterFrom, UpdateElement,
+};
+use super::answers::Answer::{
+    self, Deleted, False, Int, ListOf, Matched, Objects, Selected, Slots, True, Values,
+};
 use super::steps::{count_of, total_of_objects};
 use super::terms::{pattern_of_key, spec_below};
-use super::{MEMORY, Step, answer, plain_table};
+use super::{
+    Depth, Incr, Key, Keypos, MEMORY, MaxObjects, Object, Pos, Start, Step, Value, answer,
+    plain_table,
+};
 use bucket_table::{Rows, SplitRows};
 use ets_term::{AllSame, Fnv, Integer, KeyHash};
 use match_spec::{Pattern, Spec};
@@ -11,46 +23,48 @@ use std::alloc::Global;
 use std::process::Abort;
 use table_ops::{Kind, Looks, Table};
 
-const LIFE: [(Step, Integer); 26] = [
-    (Step::InsertTwo(1, 1, 2, 2), 1),
-    (Step::InsertTwo(3, 3, 1, 4), 1),
-    (Step::InsertNew(1, 5), 0),
-    (Step::InsertNew(4, 5), 1),
-    (Step::InsertDeep(5, 3), 1),
-    (Step::InsertNewDeep(6, 3), 1),
-    (Step::Grow, 1),
-    (Step::Grow, 1),
-    (Step::Insert(7, 6), 1),
-    (Step::Insert(7, 7), 1),
-    (Step::Lookup(7), 7),
-    (Step::Element(7, 2), 7),
-    (Step::Count(7, 1), 8),
-    (Step::CountFrom(8, 1, 1), 2),
-    (Step::Write(8, 3), 1),
-    (Step::Matches(8), 202),
-    (Step::Below(9), 600_006),
-    (Step::Take(8, true), 3),
-    (Step::CountFrom(8, 1, 4), 5),
-    (Step::DeleteMatching(8, true), 7),
-    (Step::DeleteBelow(4, true), 2),
-    (Step::Slots, 8),
-    (Step::Insert(8, 9), 1),
-    (Step::DeleteObject(8, 9, false), 5),
-    (Step::Purge, 5),
-    (Step::DeleteAll(false), 0),
+const MAX_OBJECTS: MaxObjects = MaxObjects(9);
+
+const LIFE: [(Step, Answer); 26] = [
+    (InsertTwo(Object(1, 1), Object(2, 2)), True),
+    (InsertTwo(Object(3, 3), Object(1, 4)), True),
+    (InsertNew(Object(1, 5)), False),
+    (InsertNew(Object(4, 5)), True),
+    (InsertDeep(Key(5), Depth(3)), True),
+    (InsertNewDeep(Key(6), Depth(3)), True),
+    (Grow, True),
+    (Grow, True),
+    (Insert(Object(7, 6)), True),
+    (Insert(Object(7, 7)), True),
+    (Lookup(Key(7)), Values(&[7])),
+    (LookupElement(Key(7), Pos(2)), Int(7)),
+    (UpdateCounter(Key(7), Incr(1)), Int(8)),
+    (UpdateCounterFrom(Key(8), Incr(1), Start(1)), Int(2)),
+    (UpdateElement(Key(8), Value(3)), True),
+    (Match(Key(8)), Matched(1)),
+    (SelectBelow(9), Selected(6)),
+    (Take(Key(8), LeaveTombstone), Values(&[3])),
+    (UpdateCounterFrom(Key(8), Incr(1), Start(4)), Int(5)),
+    (MatchDelete(Key(8), LeaveTombstone), Objects(7)),
+    (SelectDeleteBelow(4, LeaveTombstone), Deleted(2)),
+    (CountSlots, Slots(8)),
+    (Insert(Object(8, 9)), True),
+    (DeleteObject(Object(8, 9), RemoveSlot), Objects(5)),
+    (Purge, Slots(5)),
+    (DeleteAll(RemoveSlot), Slots(0)),
 ];
 
-const BAG_LIFE: [(Step, Integer); 10] = [
-    (Step::InsertTwo(1, 1, 1, 2), 1),
-    (Step::InsertTwo(1, 1, 1, 3), 1),
-    (Step::Insert(1, 4), 1),
-    (Step::InsertNew(2, 5), 1),
-    (Step::Element(1, 2), 4),
-    (Step::Matches(1), 808),
-    (Step::DeleteBelow(3, false), 2),
-    (Step::Lookup(1), 34),
-    (Step::Take(1, false), 34),
-    (Step::Lookup(2), 5),
+const BAG_LIFE: [(Step, Answer); 10] = [
+    (InsertTwo(Object(1, 1), Object(1, 2)), True),
+    (InsertTwo(Object(1, 1), Object(1, 3)), True),
+    (Insert(Object(1, 4)), True),
+    (InsertNew(Object(2, 5)), True),
+    (LookupElement(Key(1), Pos(2)), ListOf(4)),
+    (Match(Key(1)), Matched(4)),
+    (SelectDeleteBelow(3, RemoveSlot), Deleted(2)),
+    (Lookup(Key(1)), Values(&[3, 4])),
+    (Take(Key(1), RemoveSlot), Values(&[3, 4])),
+    (Lookup(Key(2)), Values(&[5])),
 ];
 
 /// Returns a number for the objects of a table, and how many objects and slots it has.
@@ -61,20 +75,20 @@ fn state<R: Rows>(table: &Table<R>) -> Option<(Integer, usize, usize)> {
 
 /// Returns whether a step has its answer at once, or was refused memory, changed nothing, and has its answer when it is
 /// run again.
-fn does_again<R: Rows>(alloc: Global, table: &mut Table<R>, step: Step, wanted: Integer) -> bool {
+fn does_again<R: Rows>(alloc: Global, table: &mut Table<R>, step: Step, wanted: Answer) -> bool {
     let before = state(table);
     let first = answer(alloc, table, step);
     if first != MEMORY {
-        return first == wanted;
+        return first == wanted.number();
     }
-    state(table) == before && answer(alloc, table, step) == wanted
+    state(table) == before && answer(alloc, table, step) == wanted.number()
 }
 
 /// Returns the index of the first step with another answer.
 fn first_mismatch_again<R: Rows>(
     alloc: Global,
     table: &mut Table<R>,
-    steps: &[(Step, Integer)],
+    steps: &[(Step, Answer)],
 ) -> Option<usize> {
     for (index, (step, wanted)) in steps.iter().enumerate() {
         if !does_again(alloc, table, *step, *wanted) {
@@ -84,8 +98,8 @@ fn first_mismatch_again<R: Rows>(
     None
 }
 
-fn first_plain_mismatch(alloc: Global, kind: Kind, steps: &[(Step, Integer)]) -> Option<usize> {
-    let mut table = plain_table(alloc, kind, 1, 9);
+fn first_plain_mismatch(alloc: Global, kind: Kind, steps: &[(Step, Answer)]) -> Option<usize> {
+    let mut table = plain_table(alloc, kind, Keypos(1), MAX_OBJECTS);
     let mismatch = first_mismatch_again(alloc, &mut table, steps);
     drop(table);
     mismatch
@@ -102,7 +116,7 @@ fn refused_steps_of_plain_rows(rt: HostRuntime) {
 
 fn try_split<H: KeyHash + Copy>(alloc: Global, hash: H, kind: Kind) -> Option<Table<SplitRows<H>>> {
     match SplitRows::new(alloc, hash) {
-        Ok(rows) => Some(Table::new(alloc, rows, kind, 1, 9)),
+        Ok(rows) => Some(Table::new(alloc, rows, kind, 1, MAX_OBJECTS.0)),
         Err(_) => None,
     }
 }
@@ -124,7 +138,7 @@ fn first_split_mismatch<H: KeyHash + Copy + Drop>(
     alloc: Global,
     hash: H,
     kind: Kind,
-    steps: &[(Step, Integer)],
+    steps: &[(Step, Answer)],
 ) -> Option<usize> {
     let mut table = split_again(alloc, hash, kind)?;
     let mismatch = first_mismatch_again(alloc, &mut table, steps);
@@ -184,10 +198,10 @@ fn never_falls_under<R: Rows>(alloc: Global, table: &mut Table<R>, key: Integer)
 
 /// Does so on a table of four objects, or of fewer if memory runs out.
 fn never_falls_of_four(alloc: Global) -> bool {
-    let mut table = plain_table(alloc, Kind::Set, 1, 9);
+    let mut table = plain_table(alloc, Kind::Set, Keypos(1), MAX_OBJECTS);
     for key in 1..5u32 {
         let key = Integer::from(key);
-        let _ = answer(alloc, &mut table, Step::Insert(key, key));
+        let _ = answer(alloc, &mut table, Insert(Object(key, key)));
     }
     let never = never_falls_under(alloc, &mut table, 4);
     drop(table);

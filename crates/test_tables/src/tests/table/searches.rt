@@ -2,7 +2,7 @@
 // 1,000.
 use super::steps::{count_matches, count_of, insert, insert_all};
 use super::terms::{pattern_of_key, pattern_of_value, spec_of_keys, tuple, tuples};
-use super::{plain_table, split_table};
+use super::{Key, Keypos, MaxObjects, Value, plain_table, split_table};
 use bucket_table::Rows;
 use ets_term::{Integer, Term};
 use match_spec::{Pattern, Spec};
@@ -10,8 +10,33 @@ use std::alloc::Global;
 use std::process::Abort;
 use table_ops::{Kind, Looks, Table};
 
-/// How many objects each of two calls finds, and how many objects both test.
-type Found = Option<(usize, usize, u64)>;
+/// How many objects a call finds.
+#[derive(Clone, Copy, PartialEq, Eq)]
+struct Found(usize);
+
+/// How many objects a call deletes.
+#[derive(Clone, Copy, PartialEq, Eq)]
+struct Deleted(usize);
+
+/// How many slots the table then has.
+#[derive(Clone, Copy, PartialEq, Eq)]
+struct Slots(usize);
+
+/// How many objects the table then has.
+#[derive(Clone, Copy, PartialEq, Eq)]
+struct Objects(usize);
+
+/// How many objects are tested in all.
+#[derive(Clone, Copy, PartialEq, Eq)]
+struct Tested(u64);
+
+/// What each of two calls finds, and what both test. None means out of memory.
+type Search = Option<(Found, Found, Tested)>;
+
+/// Returns the result of two calls that find this many objects each.
+fn both_find(found: Found, tested: Tested) -> Search {
+    Some((found, found, tested))
+}
 
 fn fill<R: Rows>(alloc: Global, table: &mut Table<R>) -> Option<()> {
     for key in 1..1_001u32 {
@@ -21,15 +46,15 @@ fn fill<R: Rows>(alloc: Global, table: &mut Table<R>) -> Option<()> {
 }
 
 /// Searches by `select` and `select_count`.
-fn select_by_spec<R: Rows>(table: &Table<R>, spec: &Spec) -> Found {
+fn select_by_spec<R: Rows>(table: &Table<R>, spec: &Spec) -> Search {
     let mut looks = Looks::new();
     let results = count_of(table.select_counted(spec, &mut looks).ok())?;
     let count = table.select_count_counted(spec, &mut looks).ok()?;
-    Some((results, count, looks.count()))
+    Some((Found(results), Found(count), Tested(looks.count())))
 }
 
 /// Searches by a match specification with a clause for each key.
-fn select_by_keys<R: Rows>(alloc: Global, table: &Table<R>, keys: &[Integer]) -> Found {
+fn select_by_keys<R: Rows>(alloc: Global, table: &Table<R>, keys: &[Integer]) -> Search {
     let spec = spec_of_keys(alloc, keys)?;
     let found = select_by_spec(table, &spec);
     drop(spec);
@@ -37,26 +62,27 @@ fn select_by_keys<R: Rows>(alloc: Global, table: &Table<R>, keys: &[Integer]) ->
 }
 
 /// Searches by `match` and `match_object` with a pattern.
-fn match_by_pattern<R: Rows>(table: &Table<R>, made: Option<Pattern>) -> Found {
+fn match_by_pattern<R: Rows>(table: &Table<R>, made: Option<Pattern>) -> Search {
     let pattern = made?;
     let found = count_matches(table, &pattern);
     drop(pattern);
-    found
+    let (bindings, objects, looks) = found?;
+    Some((Found(bindings), Found(objects), Tested(looks)))
 }
 
-fn matches_key<R: Rows>(alloc: Global, table: &Table<R>, key: Integer) -> Found {
-    match_by_pattern(table, pattern_of_key(alloc, key))
+fn matches_key<R: Rows>(alloc: Global, table: &Table<R>, key: Key) -> Search {
+    match_by_pattern(table, pattern_of_key(alloc, key.0))
 }
 
-fn matches_value<R: Rows>(alloc: Global, table: &Table<R>, value: Integer) -> Found {
-    match_by_pattern(table, pattern_of_value(alloc, value))
+fn matches_value<R: Rows>(alloc: Global, table: &Table<R>, value: Value) -> Search {
+    match_by_pattern(table, pattern_of_value(alloc, value.0))
 }
 
 fn matches_all<R: Rows>(alloc: Global, table: &Table<R>) -> bool {
-    matches_key(alloc, table, 7) == Some((1, 1, 2))
-        && matches_key(alloc, table, 2_000) == Some((0, 0, 0))
-        && matches_value(alloc, table, 7) == Some((0, 0, 2_000))
-        && matches_value(alloc, table, 0) == Some((1_000, 1_000, 2_000))
+    matches_key(alloc, table, Key(7)) == both_find(Found(1), Tested(2))
+        && matches_key(alloc, table, Key(2_000)) == both_find(Found(0), Tested(0))
+        && matches_value(alloc, table, Value(7)) == both_find(Found(0), Tested(2_000))
+        && matches_value(alloc, table, Value(0)) == both_find(Found(1_000), Tested(2_000))
 }
 
 fn is_zero_alone(bindings: &[Term]) -> bool {
@@ -78,50 +104,67 @@ fn answers_bindings<R: Rows>(alloc: Global, table: &Table<R>) -> Option<bool> {
 }
 
 fn selects_all<R: Rows>(alloc: Global, table: &Table<R>) -> bool {
-    select_by_keys(alloc, table, &[7]) == Some((1, 1, 2))
-        && select_by_keys(alloc, table, &[7, 7]) == Some((1, 1, 2))
-        && select_by_keys(alloc, table, &[7, 8]) == Some((2, 2, 2_000))
-        && select_by_keys(alloc, table, &[2_000]) == Some((0, 0, 0))
-        && select_by_keys(alloc, table, &[2_000, 7]) == Some((1, 1, 2_000))
+    select_by_keys(alloc, table, &[7]) == both_find(Found(1), Tested(2))
+        && select_by_keys(alloc, table, &[7, 7]) == both_find(Found(1), Tested(2))
+        && select_by_keys(alloc, table, &[7, 8]) == both_find(Found(2), Tested(2_000))
+        && select_by_keys(alloc, table, &[2_000]) == both_find(Found(0), Tested(0))
+        && select_by_keys(alloc, table, &[2_000, 7]) == both_find(Found(1), Tested(2_000))
 }
 
 /// Deletes by a clause for each key. Returns how many objects it deletes, leaves and tests.
-fn delete_by_keys<R: Rows>(alloc: Global, table: &mut Table<R>, keys: &[Integer]) -> Found {
+fn delete_by_keys<R: Rows>(
+    alloc: Global,
+    table: &mut Table<R>,
+    keys: &[Integer],
+) -> Option<(Deleted, Objects, Tested)> {
     let spec = spec_of_keys(alloc, keys)?;
     let mut looks = Looks::new();
     let gone = table.select_delete_counted(&spec, false, &mut looks);
     drop(spec);
-    Some((gone.ok()?, table.size(), looks.count()))
+    Some((
+        Deleted(gone.ok()?),
+        Objects(table.size()),
+        Tested(looks.count()),
+    ))
 }
 
 /// Deletes by the pattern of a key. Returns how many slots and objects it leaves, and how many objects it tests.
-fn delete_by_pattern<R: Rows>(alloc: Global, table: &mut Table<R>, key: Integer) -> Found {
-    let pattern = pattern_of_key(alloc, key)?;
+fn delete_by_pattern<R: Rows>(
+    alloc: Global,
+    table: &mut Table<R>,
+    key: Key,
+) -> Option<(Slots, Objects, Tested)> {
+    let pattern = pattern_of_key(alloc, key.0)?;
     let mut looks = Looks::new();
     let done = table.match_delete_counted(&pattern, true, &mut looks);
     drop(pattern);
     done.ok()?;
-    Some((table.slots(), table.size(), looks.count()))
+    Some((
+        Slots(table.slots()),
+        Objects(table.size()),
+        Tested(looks.count()),
+    ))
 }
 
 fn deletes_all<R: Rows>(alloc: Global, table: &mut Table<R>) -> bool {
-    delete_by_keys(alloc, table, &[2_000]) == Some((0, 1_000, 0))
-        && delete_by_keys(alloc, table, &[7]) == Some((1, 999, 1))
-        && delete_by_keys(alloc, table, &[7, 8]) == Some((1, 998, 999))
-        && delete_by_pattern(alloc, table, 9) == Some((998, 997, 1))
-        && delete_by_pattern(alloc, table, 9) == Some((998, 997, 0))
-        && delete_by_pattern(alloc, table, 2_000) == Some((998, 997, 0))
-        && select_by_keys(alloc, table, &[10, 11]) == Some((2, 2, 1_994))
+    delete_by_keys(alloc, table, &[2_000]) == Some((Deleted(0), Objects(1_000), Tested(0)))
+        && delete_by_keys(alloc, table, &[7]) == Some((Deleted(1), Objects(999), Tested(1)))
+        && delete_by_keys(alloc, table, &[7, 8]) == Some((Deleted(1), Objects(998), Tested(999)))
+        && delete_by_pattern(alloc, table, Key(9)) == Some((Slots(998), Objects(997), Tested(1)))
+        && delete_by_pattern(alloc, table, Key(9)) == Some((Slots(998), Objects(997), Tested(0)))
+        && delete_by_pattern(alloc, table, Key(2_000))
+            == Some((Slots(998), Objects(997), Tested(0)))
+        && select_by_keys(alloc, table, &[10, 11]) == both_find(Found(2), Tested(1_994))
 }
 
-/// Pairs of the key 7, three times, and of its neighbours.
+/// The objects `{Key,0}` of the key 7, three times, and of its neighbours.
 const SEVEN_THRICE: [[Integer; 2]; 5] = [[6, 0], [7, 0], [7, 0], [7, 0], [8, 0]];
 
 /// Returns whether a search tests each of three objects under one key of a duplicate bag.
 fn tries_three<R: Rows>(alloc: Global, table: &mut Table<R>) -> Option<bool> {
     insert_all(table, tuples(alloc, &SEVEN_THRICE))?;
-    let three = matches_key(alloc, table, 7) == Some((3, 3, 6));
-    let all = select_by_keys(alloc, table, &[7, 6]) == Some((4, 4, 10));
+    let three = matches_key(alloc, table, Key(7)) == both_find(Found(3), Tested(6));
+    let all = select_by_keys(alloc, table, &[7, 6]) == both_find(Found(4), Tested(10));
     Some(three && all)
 }
 
@@ -132,28 +175,28 @@ fn searches<R: Rows>(alloc: Global, table: &mut Table<R>) -> Option<bool> {
 }
 
 fn plain_searches(alloc: Global) -> Option<bool> {
-    let mut table = plain_table(alloc, Kind::Set, 1, 1_000);
+    let mut table = plain_table(alloc, Kind::Set, Keypos(1), MaxObjects(1_000));
     let found = searches(alloc, &mut table);
     drop(table);
     found
 }
 
 fn split_searches(alloc: Global) -> Option<bool> {
-    let mut table = split_table(alloc, Kind::Set, 1, 1_000)?;
+    let mut table = split_table(alloc, Kind::Set, Keypos(1), MaxObjects(1_000))?;
     let found = searches(alloc, &mut table);
     drop(table);
     found
 }
 
 fn plain_tries_three(alloc: Global) -> Option<bool> {
-    let mut table = plain_table(alloc, Kind::DuplicateBag, 1, 10);
+    let mut table = plain_table(alloc, Kind::DuplicateBag, Keypos(1), MaxObjects(10));
     let tried = tries_three(alloc, &mut table);
     drop(table);
     tried
 }
 
 fn split_tries_three(alloc: Global) -> Option<bool> {
-    let mut table = split_table(alloc, Kind::DuplicateBag, 1, 10)?;
+    let mut table = split_table(alloc, Kind::DuplicateBag, Keypos(1), MaxObjects(10))?;
     let tried = tries_three(alloc, &mut table);
     drop(table);
     tried

@@ -1,23 +1,16 @@
 // How a step runs on a table, and the number for its answer.
+use super::answers::{number_of_matches, number_of_selected, refusal_code};
 use super::terms::{
     as_integer, digits, nest, number, pair, pattern_of_key, spec_below, total_of, tuple, tuples,
 };
-use super::{BADARG, LIMIT, MEMORY, Step};
+use super::updates::{update_counter, update_counter_from, update_element};
+use super::{MEMORY, Step};
 use bucket_table::Rows;
-use counters::{ElementSpecs, Ops, read_element_specs, read_ops};
 use ets_term::{Integer, Items, Position, Term};
 use match_spec::Pattern;
 use std::alloc::Global;
 use std::slice;
-use table_ops::{Looks, Refusal, Table};
-
-pub fn refusal_code(refusal: Refusal) -> Integer {
-    match refusal {
-        Refusal::Badarg => BADARG,
-        Refusal::SystemLimit => LIMIT,
-        Refusal::Memory => MEMORY,
-    }
-}
+use table_ops::{Looks, Table};
 
 pub fn try_insert<R: Rows>(table: &mut Table<R>, objects: &[Term]) -> Integer {
     match table.insert(objects) {
@@ -81,77 +74,6 @@ fn delete_object<R: Rows>(table: &mut Table<R>, made: Option<Term>, hold: bool) 
     }
 }
 
-/// Builds the operation that adds an increment to the element after the key.
-pub fn ops(alloc: Global, increment: Integer, keypos: u32) -> Option<Ops> {
-    let update = Term::Int(increment);
-    let ops = read_ops(alloc, &update, keypos);
-    drop(update);
-    ops.ok()
-}
-
-/// Updates the counter after the key, with a Default or without.
-fn update_counter<R: Rows>(
-    alloc: Global,
-    table: &mut Table<R>,
-    key: Integer,
-    increment: Integer,
-    default: Option<&Term>,
-) -> Option<Integer> {
-    let ops = ops(alloc, increment, table.keypos())?;
-    let key = Term::Int(key);
-    let counted = table.update_counter(&key, &ops, default);
-    drop(key);
-    drop(ops);
-    match counted {
-        Ok(answer) => {
-            let value = number(Some(&answer));
-            drop(answer);
-            Some(value)
-        }
-        Err(refusal) => Some(refusal_code(refusal)),
-    }
-}
-
-fn update_counter_from<R: Rows>(
-    alloc: Global,
-    table: &mut Table<R>,
-    key: Integer,
-    increment: Integer,
-    start: Integer,
-) -> Option<Integer> {
-    let default = tuple(alloc, &[0, start])?;
-    let answer = update_counter(alloc, table, key, increment, Some(&default));
-    drop(default);
-    answer
-}
-
-/// Builds the element value for the second element. It is read for a key that is first; the table checks it again.
-pub fn specs(alloc: Global, value: Integer) -> Option<ElementSpecs> {
-    let update = tuple(alloc, &[2, value])?;
-    let specs = read_element_specs(alloc, &update, 1);
-    drop(update);
-    specs.ok()
-}
-
-/// Writes the second element.
-fn update_element<R: Rows>(
-    alloc: Global,
-    table: &mut Table<R>,
-    key: Integer,
-    value: Integer,
-) -> Option<Integer> {
-    let specs = specs(alloc, value)?;
-    let key = Term::Int(key);
-    let updated = table.update_element(&key, &specs, None);
-    drop(specs);
-    drop(key);
-    match updated {
-        Ok(true) => Some(1),
-        Ok(false) => Some(0),
-        Err(refusal) => Some(refusal_code(refusal)),
-    }
-}
-
 /// Counts the results, and drops them.
 pub fn count_of(found: Option<Items<Term>>) -> Option<usize> {
     let items = found?;
@@ -174,12 +96,8 @@ fn count_matches_of_key<R: Rows>(alloc: Global, table: &Table<R>, key: Integer) 
     let found = count_matches(table, &pattern);
     drop(pattern);
     let (bindings, objects, looks) = found?;
-    let counts = as_integer(bindings).wrapping_add(as_integer(objects));
-    Some(
-        counts
-            .wrapping_mul(100)
-            .wrapping_add(looks.min(99) as Integer),
-    )
+    let results = as_integer(bindings).wrapping_add(as_integer(objects));
+    Some(number_of_matches(results, looks as Integer))
 }
 
 fn select_below<R: Rows>(alloc: Global, table: &Table<R>, limit: Integer) -> Option<Integer> {
@@ -187,11 +105,7 @@ fn select_below<R: Rows>(alloc: Global, table: &Table<R>, limit: Integer) -> Opt
     let results = count_of(table.select(&spec).ok());
     let count = table.select_count(&spec).ok();
     drop(spec);
-    Some(
-        as_integer(results?)
-            .wrapping_mul(100_000)
-            .wrapping_add(as_integer(count?)),
-    )
+    Some(number_of_selected(as_integer(results?), as_integer(count?)))
 }
 
 fn delete_below<R: Rows>(
@@ -284,15 +198,18 @@ pub fn insert_all<R: Rows>(table: &mut Table<R>, made: Option<Items<Term>>) -> O
 /// Runs a step: here one that inserts.
 pub fn change<R: Rows>(alloc: Global, table: &mut Table<R>, step: Step) -> Option<Integer> {
     match step {
-        Step::Insert(key, value) => insert(table, tuple(alloc, &[key, value])),
-        Step::InsertTwo(key, value, other, second) => {
-            insert_all(table, tuples(alloc, &[[key, value], [other, second]]))
+        Step::Insert(object) => insert(table, tuple(alloc, &[object.0, object.1])),
+        Step::InsertTwo(first, second) => {
+            insert_all(
+                table,
+                tuples(alloc, &[[first.0, first.1], [second.0, second.1]]),
+            )
         }
-        Step::InsertNew(key, value) => insert_new(table, tuple(alloc, &[key, value])),
-        Step::InsertOne(value) => insert(table, Some(Term::Int(value))),
-        Step::InsertThree(a, b, c) => insert(table, tuple(alloc, &[a, b, c])),
-        Step::InsertDeep(key, depth) => insert(table, deep_object(alloc, key, depth)),
-        Step::InsertNewDeep(key, depth) => insert_new(table, deep_object(alloc, key, depth)),
+        Step::InsertTriple(triple) => insert(table, tuple(alloc, &[triple.0, triple.1, triple.2])),
+        Step::InsertInteger(value) => insert(table, Some(Term::Int(value))),
+        Step::InsertDeep(key, depth) => insert(table, deep_object(alloc, key.0, depth.0)),
+        Step::InsertNew(object) => insert_new(table, tuple(alloc, &[object.0, object.1])),
+        Step::InsertNewDeep(key, depth) => insert_new(table, deep_object(alloc, key.0, depth.0)),
         _ => remove(alloc, table, step),
     }
 }
@@ -300,14 +217,14 @@ pub fn change<R: Rows>(alloc: Global, table: &mut Table<R>, step: Step) -> Optio
 /// Runs a step that deletes.
 fn remove<R: Rows>(alloc: Global, table: &mut Table<R>, step: Step) -> Option<Integer> {
     match step {
-        Step::Take(key, hold) => Some(take(table, key, hold)),
-        Step::Delete(key, hold) => Some(delete_key(table, key, hold)),
-        Step::DeleteObject(key, value, hold) => delete_object(
+        Step::Take(key, emptied) => Some(take(table, key.0, emptied.holds())),
+        Step::Delete(key, emptied) => Some(delete_key(table, key.0, emptied.holds())),
+        Step::DeleteObject(object, emptied) => delete_object(
             table,
-            tuple(alloc, &[key, value]),
-            hold,
+            tuple(alloc, &[object.0, object.1]),
+            emptied.holds(),
         ),
-        Step::DeleteAll(hold) => Some(clear(table, hold)),
+        Step::DeleteAll(emptied) => Some(clear(table, emptied.holds())),
         Step::Purge => Some(purge(table)),
         _ => update(alloc, table, step),
     }
@@ -316,13 +233,18 @@ fn remove<R: Rows>(alloc: Global, table: &mut Table<R>, step: Step) -> Option<In
 /// Runs a step that updates, or deletes what a pattern or a match specification chooses.
 fn update<R: Rows>(alloc: Global, table: &mut Table<R>, step: Step) -> Option<Integer> {
     match step {
-        Step::Count(key, increment) => update_counter(alloc, table, key, increment, None),
-        Step::CountFrom(key, increment, start) => {
-            update_counter_from(alloc, table, key, increment, start)
+        Step::UpdateCounter(key, incr) => update_counter(alloc, table, key.0, incr.0, None),
+        Step::UpdateCounterFrom(key, incr, start) => {
+            update_counter_from(alloc, table, key.0, incr.0, start.0)
         }
-        Step::Write(key, value) => update_element(alloc, table, key, value),
-        Step::DeleteBelow(limit, hold) => delete_below(alloc, table, limit, hold),
-        Step::DeleteMatching(key, hold) => delete_matching(alloc, table, key, hold),
+        Step::UpdateElement(key, value) => update_element(alloc, table, key.0, value.0),
+        Step::SelectDeleteBelow(limit, emptied) => delete_below(
+            alloc,
+            table,
+            limit,
+            emptied.holds(),
+        ),
+        Step::MatchDelete(key, emptied) => delete_matching(alloc, table, key.0, emptied.holds()),
         Step::Grow => grow(table),
         _ => read(alloc, table, step),
     }
@@ -339,12 +261,12 @@ pub fn lookup_digits<R: Rows>(table: &Table<R>, key: Integer) -> Integer {
 /// Runs a step that changes nothing.
 fn read<R: Rows>(alloc: Global, table: &Table<R>, step: Step) -> Option<Integer> {
     match step {
-        Step::Lookup(key) => Some(lookup_digits(table, key)),
-        Step::Element(key, position) => Some(element(table, key, position)),
-        Step::Matches(key) => count_matches_of_key(alloc, table, key),
-        Step::Below(limit) => select_below(alloc, table, limit),
-        Step::Objects => total_of_objects(table),
-        Step::Slots => Some(as_integer(table.slots())),
+        Step::Lookup(key) => Some(lookup_digits(table, key.0)),
+        Step::LookupElement(key, position) => Some(element(table, key.0, position.0)),
+        Step::Match(key) => count_matches_of_key(alloc, table, key.0),
+        Step::SelectBelow(limit) => select_below(alloc, table, limit),
+        Step::AllObjects => total_of_objects(table),
+        Step::CountSlots => Some(as_integer(table.slots())),
         _ => Some(as_integer(table.size())),
     }
 }

@@ -1,4 +1,5 @@
 // Terms, patterns and match specifications that the tests are built of, and numbers for objects.
+use super::answers::add_digit;
 use ets_term::{Atom, Integer, Items, Term};
 use match_spec::{Pattern, Spec};
 use std::alloc::Global;
@@ -55,7 +56,7 @@ pub fn number(term: Option<&Term>) -> Integer {
 pub fn digits(objects: &[Term]) -> Integer {
     let mut all: Integer = 0;
     for object in objects {
-        all = all.wrapping_mul(10).wrapping_add(number(object.element(2)));
+        all = add_digit(all, number(object.element(2)));
     }
     all
 }

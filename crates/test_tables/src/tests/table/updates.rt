@@ -1,0 +1,79 @@
+// Updates of counters and elements, and the numbers for their answers.
+use super::answers::refusal_code;
+use super::terms::{number, tuple};
+use bucket_table::Rows;
+use counters::{ElementSpecs, Ops, read_element_specs, read_ops};
+use ets_term::{Integer, Term};
+use std::alloc::Global;
+use table_ops::Table;
+
+/// Builds the operation that adds an increment to the element after the key.
+pub fn ops(alloc: Global, increment: Integer, keypos: u32) -> Option<Ops> {
+    let update = Term::Int(increment);
+    let ops = read_ops(alloc, &update, keypos);
+    drop(update);
+    ops.ok()
+}
+
+/// Updates the counter after the key, with a Default or without.
+pub fn update_counter<R: Rows>(
+    alloc: Global,
+    table: &mut Table<R>,
+    key: Integer,
+    increment: Integer,
+    default: Option<&Term>,
+) -> Option<Integer> {
+    let ops = ops(alloc, increment, table.keypos())?;
+    let key = Term::Int(key);
+    let counted = table.update_counter(&key, &ops, default);
+    drop(key);
+    drop(ops);
+    match counted {
+        Ok(answer) => {
+            let value = number(Some(&answer));
+            drop(answer);
+            Some(value)
+        }
+        Err(refusal) => Some(refusal_code(refusal)),
+    }
+}
+
+pub fn update_counter_from<R: Rows>(
+    alloc: Global,
+    table: &mut Table<R>,
+    key: Integer,
+    increment: Integer,
+    start: Integer,
+) -> Option<Integer> {
+    let default = tuple(alloc, &[0, start])?;
+    let answer = update_counter(alloc, table, key, increment, Some(&default));
+    drop(default);
+    answer
+}
+
+/// Builds the element value for the second element. It is read for a key that is first; the table checks it again.
+pub fn specs(alloc: Global, value: Integer) -> Option<ElementSpecs> {
+    let update = tuple(alloc, &[2, value])?;
+    let specs = read_element_specs(alloc, &update, 1);
+    drop(update);
+    specs.ok()
+}
+
+/// Writes the second element.
+pub fn update_element<R: Rows>(
+    alloc: Global,
+    table: &mut Table<R>,
+    key: Integer,
+    value: Integer,
+) -> Option<Integer> {
+    let specs = specs(alloc, value)?;
+    let key = Term::Int(key);
+    let updated = table.update_element(&key, &specs, None);
+    drop(specs);
+    drop(key);
+    match updated {
+        Ok(true) => Some(1),
+        Ok(false) => Some(0),
+        Err(refusal) => Some(refusal_code(refusal)),
+    }
+}
