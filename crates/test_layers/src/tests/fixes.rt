@@ -37,8 +37,20 @@ fn split_table(alloc: Global, kind: Kind) -> Option<Walked<SplitRows<Fnv>>> {
     Some(Walked::new(alloc, table))
 }
 
+/// The object `{Key,Value}`.
+#[derive(Clone, Copy)]
+struct Object(Integer, Integer);
+
+/// The key that a call names.
+#[derive(Clone, Copy)]
+struct Key(Integer);
+
+/// The process that makes a call.
+#[derive(Clone, Copy)]
+struct Pid(u32);
+
 /// Builds the object `{Key,Value}`.
-fn object(alloc: Global, key: Integer, value: Integer) -> Option<Term> {
+fn build_object(alloc: Global, key: Integer, value: Integer) -> Option<Term> {
     let mut items = Items::new(alloc);
     Some(Term::Tuple(keep_if_some(push_both(&mut items, key, value), items)?))
 }
@@ -54,7 +66,7 @@ fn insert<R: Rows>(
     key: Integer,
     value: Integer,
 ) -> Option<bool> {
-    let objects = [object(alloc, key, value)?];
+    let objects = [build_object(alloc, key, value)?];
     let inserted = table.insert(&objects).is_ok();
     drop(objects);
     Some(inserted)

@@ -17,7 +17,7 @@ fn fnv_1a_from(hash: u32, bytes: &[u8]) -> u32 {
     hash
 }
 
-/// The vectors that the authors of FNV-1a publish.
+/// Texts and their hashes, as the authors of FNV-1a publish them.
 const PUBLISHED: [(&str, u32); 3] = [("", 0x811c9dc5), ("a", 0xe40c292c), ("foobar", 0xbf9cf968)];
 
 fn are_hashed(rows: &[(&'static str, u32)]) -> bool {

@@ -19,7 +19,7 @@ fn binary(alloc: Global) -> Option<Term> {
     Some(Term::Binary(Items::from_vec([0, 255].to_vec(alloc).ok()?)))
 }
 
-/// Pushes a term of each kind.
+/// Pushes a term of each kind: `a`, -2^64-1, a pid, an identifier, a tuple, a list and a binary.
 fn push_terms(alloc: Global, terms: &mut Items<Term>) -> Option<()> {
     push_pair(alloc, terms)?;
     terms.push(Term::Pid(7)).ok()?;
@@ -48,12 +48,13 @@ fn hash_to(alloc: Global, seed: u64, wanted: &[u32]) -> Option<bool> {
     Some(hashed)
 }
 
-/// The hashes of the terms by the least seed.
+/// The hashes of these terms by the least seed: of `a`, -2^64-1, the pid, the identifier, the tuple, the list and the
+/// binary.
 const LEAST: [u32; 7] = [
     3020293046, 4059663398, 1234998835, 1461041013, 751183608, 4116343985, 1269847963,
 ];
 
-/// The hashes of the terms by the greatest seed.
+/// The hashes of the same terms by the greatest seed.
 const GREATEST: [u32; 7] = [
     3212429134, 1991252696, 160548916, 3176778760, 509562988, 4265502097, 1497524047,
 ];

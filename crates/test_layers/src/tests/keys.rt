@@ -20,6 +20,7 @@ fn eight_buckets_in_order(rt: HostRuntime) {
     assert!(rt; are_in_order(&EIGHT_IN_ORDER));
 }
 
+/// A bucket, and the split key of its dummy.
 const DUMMIES: [(u32, u64); 4] = [
     (0, 0),
     (1, 4_294_967_296),
@@ -41,7 +42,7 @@ fn keys_of_dummies(rt: HostRuntime) {
     assert!(rt; have_dummies(&DUMMIES));
 }
 
-/// The hash 58490007 is that of the atom `a` by FNV-1a.
+/// A hash, and the split key of an item of this hash. The hash 58490007 is that of the atom `a` by FNV-1a.
 const ITEMS: [(u32, u64); 4] = [
     (0, 1),
     (1, 4_294_967_297),
@@ -64,6 +65,7 @@ fn keys_of_items(rt: HostRuntime) {
     assert!(rt; rev32(1) == 2_147_483_648 && rev32(2_147_483_648) == 1);
 }
 
+/// A bucket, and its parent.
 const PARENTS: [(u32, u32); 5] = [(1, 0), (3, 1), (6, 2), (12, 4), (u32::MAX, 2_147_483_647)];
 
 fn have_parents(rows: &[(u32, u32)]) -> bool {

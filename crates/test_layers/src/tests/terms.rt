@@ -1,7 +1,7 @@
 //! Expected values from the rules of terms: the order across kinds, the limits of atoms, and each public call once.
 use super::depths::nest;
 use super::keep_if_some;
-use super::text::long_text;
+use super::text::past_limits::long_text;
 use ets_term::{AllSame, Atom, AtomFault, Fnv, Integer, Items, KeyHash, MAX_DEPTH, Position, Term};
 use std::alloc::Global;
 use std::hash::{DefaultHasher, Hash, Hasher};
@@ -84,11 +84,17 @@ fn is_too_long(alloc: Global, count: usize) -> Option<bool> {
     Some(matches!(fault, Some(AtomFault::TooLong)))
 }
 
+/// The longest atom whose text is inline.
+const MAX_INLINE: usize = 22;
+
+/// The longest atom.
+const MAX_LENGTH: usize = 255;
+
 #[test]
 fn atoms_have_up_to_255_characters(rt: HostRuntime) {
     let alloc = rt.alloc();
-    assert!(rt; keep_text(alloc, &[0, 22, 23, 255]) == Some(true));
-    assert!(rt; is_too_long(alloc, 256) == Some(true));
+    assert!(rt; keep_text(alloc, &[0, MAX_INLINE, MAX_INLINE + 1, MAX_LENGTH]) == Some(true));
+    assert!(rt; is_too_long(alloc, MAX_LENGTH + 1) == Some(true));
 }
 
 fn is_unprintable(alloc: Global, text: &str) -> bool {
@@ -270,6 +276,7 @@ fn first_depth_mismatch(alloc: Global, rows: &[usize]) -> Option<Option<usize>> 
     Some(None)
 }
 
+/// Depths past powers of two, at the limit of 128, and above it.
 const LEVELS: [usize; 8] = [4, 9, 17, 33, 65, 128, 129, 2000];
 
 #[test]

@@ -1,7 +1,7 @@
 use super::*;
 
 fn is_new<R: Rows>(alloc: Global, table: &mut Walked<R>, key: Integer) -> Option<bool> {
-    let objects = [object(alloc, key, 2)?];
+    let objects = [build_object(alloc, key, 2)?];
     let first = table.insert_new(&objects) == Ok(true);
     let second = table.insert_new(&objects) == Ok(false);
     drop(objects);
@@ -48,7 +48,7 @@ fn is_taken<R: Rows>(table: &mut Walked<R>, key: Integer) -> bool {
 }
 
 fn is_deleted<R: Rows>(alloc: Global, table: &mut Walked<R>, key: Integer) -> Option<bool> {
-    let own = object(alloc, key, 1)?;
+    let own = build_object(alloc, key, 1)?;
     let done = table.delete_object(&own).is_ok();
     drop(own);
     Some(done && !is_member(table, key))

@@ -1,30 +1,61 @@
 // Out of memory. `.ci/refusals` runs these tests with each allocation refused in turn. A call that ran out of memory
 // must have changed nothing: no key, no order, no fix. Made again, it must have the answer of ample memory.
+use self::Expected::{Done, IsFixed, IsNotFixed, NotDone, Objects, Refused};
+use self::Step::{
+    AllObjects, Delete, DeleteObject, Fix, Grow, Insert, InsertNew, LookupSecond, Ready, Release,
+    Take,
+};
 use super::*;
 use bucket_table::{Growth, Readying};
 use fixed_walk::FixFault;
 use table_ops::Refusal;
 
-/// A call, with numbers for keys, values and processes.
+/// A call.
 #[derive(Clone, Copy)]
 enum Step {
-    Insert(Integer, Integer),
-    InsertNew(Integer, Integer),
-    Element(Integer),
-    Take(Integer),
-    Delete(Integer),
-    DeleteObject(Integer, Integer),
-    Objects,
-    Fix(u32),
-    Release(u32),
+    Insert(Object),
+    InsertNew(Object),
+    /// Looks up the second element of the object of a key.
+    LookupSecond(Key),
+    Take(Key),
+    Delete(Key),
+    DeleteObject(Object),
+    AllObjects,
+    Fix(Pid),
+    Release(Pid),
     Grow,
+    /// Makes the first unready bucket ready.
     Ready,
 }
 
-/// The answer of a call that was refused memory.
+/// The expected answer of a call, or what it leaves.
+#[derive(Clone, Copy)]
+enum Expected {
+    Done,
+    NotDone,
+    /// How many objects are answered.
+    Objects(Integer),
+    IsFixed,
+    IsNotFixed,
+    /// A refusal, other than out of memory.
+    Refused,
+}
+
+impl Expected {
+    fn number(self) -> Integer {
+        match self {
+            Expected::Done | Expected::IsFixed => 1,
+            Expected::NotDone | Expected::IsNotFixed => 0,
+            Expected::Objects(count) => count,
+            Expected::Refused => OTHERWISE,
+        }
+    }
+}
+
+/// The number for a call that was refused memory.
 const MEMORY: Integer = -1;
 
-/// The answer of a call with another refusal.
+/// The number for a call with another refusal.
 const OTHERWISE: Integer = -2;
 
 fn refusal_code(refused: &Refusal) -> Integer {
@@ -34,10 +65,10 @@ fn refusal_code(refused: &Refusal) -> Integer {
     }
 }
 
-fn object_again(alloc: Global, key: Integer, value: Integer) -> Option<Term> {
-    match object(alloc, key, value) {
+fn object_again(alloc: Global, object: Object) -> Option<Term> {
+    match build_object(alloc, object.0, object.1) {
         Some(made) => Some(made),
-        None => object(alloc, key, value),
+        None => build_object(alloc, object.0, object.1),
     }
 }
 
@@ -151,19 +182,19 @@ fn try_ready<R: Rows>(table: &mut Walked<R>) -> Integer {
 
 fn answer<R: Rows>(alloc: Global, table: &mut Walked<R>, step: Step) -> Integer {
     match step {
-        Step::Insert(key, value) => try_insert(table, object_again(alloc, key, value)),
-        Step::InsertNew(key, value) => try_insert_new(table, object_again(alloc, key, value)),
-        Step::DeleteObject(key, value) => try_delete_object(table, object_again(alloc, key, value)),
-        Step::Element(key) => element(table, key),
-        Step::Take(key) => try_take(table, key),
+        Step::Insert(object) => try_insert(table, object_again(alloc, object)),
+        Step::InsertNew(object) => try_insert_new(table, object_again(alloc, object)),
+        Step::DeleteObject(object) => try_delete_object(table, object_again(alloc, object)),
+        Step::LookupSecond(key) => element(table, key.0),
+        Step::Take(key) => try_take(table, key.0),
         Step::Delete(key) => {
-            delete(table, key);
+            delete(table, key.0);
             1
         }
-        Step::Objects => count_objects(table),
-        Step::Fix(pid) => try_fix(table, pid),
+        Step::AllObjects => count_objects(table),
+        Step::Fix(pid) => try_fix(table, pid.0),
         Step::Release(pid) => {
-            table.release(pid);
+            table.release(pid.0);
             Integer::from(table.is_fixed())
         }
         Step::Grow => try_grow(table),
@@ -204,20 +235,20 @@ fn state<R: Rows>(table: &Walked<R>) -> (Integer, usize, u32, bool) {
 
 /// Returns whether a call has its answer at once, or was refused memory, changed nothing, and has its answer when it is
 /// made again.
-fn runs_again<R: Rows>(alloc: Global, table: &mut Walked<R>, step: Step, wanted: Integer) -> bool {
+fn runs_again<R: Rows>(alloc: Global, table: &mut Walked<R>, step: Step, wanted: Expected) -> bool {
     let before = state(table);
     let first = answer(alloc, table, step);
     if first != MEMORY {
-        return first == wanted;
+        return first == wanted.number();
     }
-    state(table) == before && answer(alloc, table, step) == wanted
+    state(table) == before && answer(alloc, table, step) == wanted.number()
 }
 
 /// Returns the index of the first call with another answer.
 fn first_mismatch_again<R: Rows>(
     alloc: Global,
     table: &mut Walked<R>,
-    steps: &[(Step, Integer)],
+    steps: &[(Step, Expected)],
 ) -> Option<usize> {
     for (index, (step, wanted)) in steps.iter().enumerate() {
         if !runs_again(alloc, table, *step, *wanted) {
@@ -227,45 +258,45 @@ fn first_mismatch_again<R: Rows>(
     None
 }
 
-const LIFE: [(Step, Integer); 24] = [
-    (Step::Insert(1, 1), 1),
-    (Step::Insert(1, 2), 1),
-    (Step::Insert(2, 3), 1),
-    (Step::Fix(0), 1),
-    (Step::Fix(0), 1),
-    (Step::Fix(1), 1),
-    (Step::Delete(2), 1),
-    (Step::Insert(3, 4), 1),
-    (Step::Insert(2, 5), 1),
-    (Step::InsertNew(4, 6), 1),
-    (Step::InsertNew(4, 7), 0),
-    (Step::Insert(5, 8), 1),
-    (Step::Insert(6, 9), 1),
-    (Step::Take(1), 2),
-    (Step::Element(7), OTHERWISE),
-    (Step::Objects, 5),
-    (Step::DeleteObject(3, 4), 1),
-    (Step::Release(0), 1),
-    (Step::Fix(2), 1),
-    (Step::Release(0), 1),
-    (Step::Release(1), 1),
-    (Step::Release(2), 0),
-    (Step::Insert(3, 1), 1),
-    (Step::Objects, 5),
+const LIFE: [(Step, Expected); 24] = [
+    (Insert(Object(1, 1)), Done),
+    (Insert(Object(1, 2)), Done),
+    (Insert(Object(2, 3)), Done),
+    (Fix(Pid(0)), Done),
+    (Fix(Pid(0)), Done),
+    (Fix(Pid(1)), Done),
+    (Delete(Key(2)), Done),
+    (Insert(Object(3, 4)), Done),
+    (Insert(Object(2, 5)), Done),
+    (InsertNew(Object(4, 6)), Done),
+    (InsertNew(Object(4, 7)), NotDone),
+    (Insert(Object(5, 8)), Done),
+    (Insert(Object(6, 9)), Done),
+    (Take(Key(1)), Objects(2)),
+    (LookupSecond(Key(7)), Refused),
+    (AllObjects, Objects(5)),
+    (DeleteObject(Object(3, 4)), Done),
+    (Release(Pid(0)), IsFixed),
+    (Fix(Pid(2)), Done),
+    (Release(Pid(0)), IsFixed),
+    (Release(Pid(1)), IsFixed),
+    (Release(Pid(2)), IsNotFixed),
+    (Insert(Object(3, 1)), Done),
+    (AllObjects, Objects(5)),
 ];
 
-const GROWTH: [(Step, Integer); 8] = [
-    (Step::Fix(0), 1),
-    (Step::Ready, 1),
-    (Step::Grow, 1),
-    (Step::Ready, 1),
-    (Step::Insert(7, 1), 1),
-    (Step::Ready, 1),
-    (Step::Grow, 1),
-    (Step::Ready, 1),
+const GROWTH: [(Step, Expected); 8] = [
+    (Fix(Pid(0)), Done),
+    (Ready, Done),
+    (Grow, Done),
+    (Ready, Done),
+    (Insert(Object(7, 1)), Done),
+    (Ready, Done),
+    (Grow, Done),
+    (Ready, Done),
 ];
 
-fn first_mismatch_on_plain_rows(alloc: Global, steps: &[(Step, Integer)]) -> Option<usize> {
+fn first_mismatch_on_plain_rows(alloc: Global, steps: &[(Step, Expected)]) -> Option<usize> {
     let mut table = plain_table(alloc, Kind::Bag);
     let mismatch = first_mismatch_again(alloc, &mut table, steps);
     drop(table);

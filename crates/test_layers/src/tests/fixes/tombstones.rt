@@ -1,22 +1,37 @@
+use self::Row::{
+    Delete, FirstIs, FirstIsEnd, Fix, Insert, IsFixed, IsNotFixed, NextIs, NextIsBadarg, NextIsEnd,
+    Release, ReleaseAll,
+};
 use super::*;
 
-/// A call and its expected answer.
+/// How many slots a table has, tombstones included.
+#[derive(Clone, Copy)]
+struct Slots(usize);
+
+/// How many objects a table has.
+#[derive(Clone, Copy)]
+struct Objects(usize);
+
+/// A call and its expected answer, or what a table must have.
 #[derive(Clone, Copy)]
 enum Row {
-    /// Inserts `{key,value}`.
-    Insert(Integer, Integer),
-    Delete(Integer),
-    Fix(u32),
-    Release(u32),
-    ReleaseAll(u32),
-    /// `first` returns this key, or the end.
-    First(Option<Integer>),
-    /// `next` of a key returns this key, or the end.
-    Next(Integer, Option<Integer>),
-    /// `next` of a key is badarg.
-    NoNext(Integer),
-    /// Whether the table is fixed, and how many slots and objects it has.
-    Has(bool, usize, usize),
+    Insert(Object),
+    Delete(Key),
+    Fix(Pid),
+    Release(Pid),
+    ReleaseAll(Pid),
+    /// `first` returns this key.
+    FirstIs(Key),
+    /// `first` returns `'$end_of_table'`.
+    FirstIsEnd,
+    /// `next` of the first key returns the second.
+    NextIs(Key, Key),
+    /// `next` of the key returns `'$end_of_table'`.
+    NextIsEnd(Key),
+    /// `next` of the key is badarg.
+    NextIsBadarg(Key),
+    IsFixed(Slots, Objects),
+    IsNotFixed(Slots, Objects),
 }
 
 fn has_next<R: Rows>(table: &Walked<R>, key: Integer, wanted: Option<Integer>) -> bool {
@@ -26,11 +41,15 @@ fn has_next<R: Rows>(table: &Walked<R>, key: Integer, wanted: Option<Integer>) -
     }
 }
 
+fn has<R: Rows>(table: &Walked<R>, slots: Slots, objects: Objects) -> bool {
+    table.slots() == slots.0 && table.size() == objects.0
+}
+
 fn changes<R: Rows>(table: &mut Walked<R>, row: Row) -> bool {
     match row {
-        Row::Delete(key) => delete(table, key),
-        Row::Release(pid) => table.release(pid),
-        Row::ReleaseAll(pid) => table.release_all(pid),
+        Row::Delete(key) => delete(table, key.0),
+        Row::Release(pid) => table.release(pid.0),
+        Row::ReleaseAll(pid) => table.release_all(pid.0),
         _ => {}
     }
     true
@@ -38,20 +57,21 @@ fn changes<R: Rows>(table: &mut Walked<R>, row: Row) -> bool {
 
 fn answers<R: Rows>(table: &Walked<R>, row: Row) -> bool {
     match row {
-        Row::First(wanted) => is_key(table.first(), wanted),
-        Row::Next(key, wanted) => has_next(table, key, wanted),
-        Row::NoNext(key) => key_after(table, key).is_err(),
-        Row::Has(fixed, slots, objects) => {
-            table.is_fixed() == fixed && table.slots() == slots && table.size() == objects
-        }
+        Row::FirstIs(key) => is_key(table.first(), Some(key.0)),
+        Row::FirstIsEnd => is_key(table.first(), None),
+        Row::NextIs(key, next) => has_next(table, key.0, Some(next.0)),
+        Row::NextIsEnd(key) => has_next(table, key.0, None),
+        Row::NextIsBadarg(key) => key_after(table, key.0).is_err(),
+        Row::IsFixed(slots, objects) => table.is_fixed() && has(table, slots, objects),
+        Row::IsNotFixed(slots, objects) => !table.is_fixed() && has(table, slots, objects),
         _ => true,
     }
 }
 
 fn holds<R: Rows>(alloc: Global, table: &mut Walked<R>, row: Row) -> Option<bool> {
     match row {
-        Row::Insert(key, value) => insert(alloc, table, key, value),
-        Row::Fix(pid) => Some(table.fix(pid).is_ok()),
+        Row::Insert(object) => insert(alloc, table, object.0, object.1),
+        Row::Fix(pid) => Some(table.fix(pid.0).is_ok()),
         _ => Some(changes(table, row) && answers(table, row)),
     }
 }
@@ -84,17 +104,17 @@ fn both_hold(alloc: Global, rows: &[Row]) -> Option<bool> {
 }
 
 const DELETED_KEY_KEEPS_ITS_PLACE: [Row; 11] = [
-    Row::Insert(1, 1),
-    Row::Insert(2, 1),
-    Row::Fix(7),
-    Row::Delete(1),
-    Row::Has(true, 2, 1),
-    Row::First(Some(2)),
-    Row::Next(1, Some(2)),
-    Row::Insert(1, 2),
-    Row::First(Some(1)),
-    Row::Next(1, Some(2)),
-    Row::Next(2, None),
+    Insert(Object(1, 1)),
+    Insert(Object(2, 1)),
+    Fix(Pid(7)),
+    Delete(Key(1)),
+    IsFixed(Slots(2), Objects(1)),
+    FirstIs(Key(2)),
+    NextIs(Key(1), Key(2)),
+    Insert(Object(1, 2)),
+    FirstIs(Key(1)),
+    NextIs(Key(1), Key(2)),
+    NextIsEnd(Key(2)),
 ];
 
 #[test]
@@ -103,24 +123,24 @@ fn a_deleted_key_keeps_its_place(rt: HostRuntime) {
 }
 
 const LAST_RELEASE_REMOVES_TOMBSTONES: [Row; 18] = [
-    Row::Insert(1, 1),
-    Row::Insert(2, 1),
-    Row::Insert(3, 1),
-    Row::Fix(7),
-    Row::Fix(8),
-    Row::Fix(7),
-    Row::Delete(2),
-    Row::Release(8),
-    Row::Has(true, 3, 2),
-    Row::Release(7),
-    Row::Has(true, 3, 2),
-    Row::Next(2, Some(3)),
-    Row::Release(8),
-    Row::Has(true, 3, 2),
-    Row::Release(7),
-    Row::Has(false, 2, 2),
-    Row::NoNext(2),
-    Row::Next(1, Some(3)),
+    Insert(Object(1, 1)),
+    Insert(Object(2, 1)),
+    Insert(Object(3, 1)),
+    Fix(Pid(7)),
+    Fix(Pid(8)),
+    Fix(Pid(7)),
+    Delete(Key(2)),
+    Release(Pid(8)),
+    IsFixed(Slots(3), Objects(2)),
+    Release(Pid(7)),
+    IsFixed(Slots(3), Objects(2)),
+    NextIs(Key(2), Key(3)),
+    Release(Pid(8)),
+    IsFixed(Slots(3), Objects(2)),
+    Release(Pid(7)),
+    IsNotFixed(Slots(2), Objects(2)),
+    NextIsBadarg(Key(2)),
+    NextIs(Key(1), Key(3)),
 ];
 
 #[test]
@@ -129,18 +149,18 @@ fn last_release_removes_tombstones(rt: HostRuntime) {
 }
 
 const ALL_FIXES_OF_A_PROCESS_END: [Row; 12] = [
-    Row::Insert(1, 1),
-    Row::Fix(7),
-    Row::Fix(7),
-    Row::Fix(8),
-    Row::Delete(1),
-    Row::ReleaseAll(7),
-    Row::Has(true, 1, 0),
-    Row::ReleaseAll(7),
-    Row::ReleaseAll(9),
-    Row::Has(true, 1, 0),
-    Row::ReleaseAll(8),
-    Row::Has(false, 0, 0),
+    Insert(Object(1, 1)),
+    Fix(Pid(7)),
+    Fix(Pid(7)),
+    Fix(Pid(8)),
+    Delete(Key(1)),
+    ReleaseAll(Pid(7)),
+    IsFixed(Slots(1), Objects(0)),
+    ReleaseAll(Pid(7)),
+    ReleaseAll(Pid(9)),
+    IsFixed(Slots(1), Objects(0)),
+    ReleaseAll(Pid(8)),
+    IsNotFixed(Slots(0), Objects(0)),
 ];
 
 #[test]
@@ -149,22 +169,22 @@ fn all_fixes_of_a_process_end(rt: HostRuntime) {
 }
 
 const A_TABLE_THAT_NOBODY_FIXES: [Row; 16] = [
-    Row::First(None),
-    Row::NoNext(1),
-    Row::Release(7),
-    Row::ReleaseAll(7),
-    Row::Has(false, 0, 0),
-    Row::Insert(1, 1),
-    Row::Insert(2, 1),
-    Row::Release(7),
-    Row::Has(false, 2, 2),
-    Row::Delete(2),
-    Row::Has(false, 1, 1),
-    Row::NoNext(2),
-    Row::Insert(2, 2),
-    Row::First(Some(1)),
-    Row::Next(1, Some(2)),
-    Row::Next(2, None),
+    FirstIsEnd,
+    NextIsBadarg(Key(1)),
+    Release(Pid(7)),
+    ReleaseAll(Pid(7)),
+    IsNotFixed(Slots(0), Objects(0)),
+    Insert(Object(1, 1)),
+    Insert(Object(2, 1)),
+    Release(Pid(7)),
+    IsNotFixed(Slots(2), Objects(2)),
+    Delete(Key(2)),
+    IsNotFixed(Slots(1), Objects(1)),
+    NextIsBadarg(Key(2)),
+    Insert(Object(2, 2)),
+    FirstIs(Key(1)),
+    NextIs(Key(1), Key(2)),
+    NextIsEnd(Key(2)),
 ];
 
 #[test]

@@ -109,7 +109,7 @@ fn delete_object<R: Rows>(
     value: u32,
 ) -> Option<bool> {
     expectation.set(key, expectation.values(key) & !value);
-    let object = object(alloc, Integer::from(key), Integer::from(value))?;
+    let object = build_object(alloc, Integer::from(key), Integer::from(value))?;
     let deleted = table.delete_object(&object).is_ok();
     drop(object);
     Some(deleted)

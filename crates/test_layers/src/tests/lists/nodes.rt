@@ -47,28 +47,44 @@ fn add_item(list: &mut NodeList, alloc: Global, key: u64, number: Integer) -> Re
     Ok(list.insert_item(head, key, Term::Int(number), chain))
 }
 
+/// The split keys of the dummies of the buckets 0 to 3.
+const DUMMY_0: u64 = 0;
+
+const DUMMY_1: u64 = 4_294_967_296;
+
+const DUMMY_2: u64 = 2_147_483_648;
+
+const DUMMY_3: u64 = 6_442_450_944;
+
+/// The split key of an item of hash 3.
+const ITEM_OF_HASH_3: u64 = 6_442_450_945;
+
 /// Inserts the dummies of the buckets 1 to 3, and an item of hash 3, after the dummy of bucket 0.
 fn add_in_split_order(list: &mut NodeList, alloc: Global) -> Result<(), AllocError> {
-    add_dummy(list, 4_294_967_296)?;
-    add_item(list, alloc, 6_442_450_945, 3)?;
-    add_dummy(list, 2_147_483_648)?;
-    add_dummy(list, 6_442_450_944)?;
+    add_dummy(list, DUMMY_1)?;
+    add_item(list, alloc, ITEM_OF_HASH_3, 3)?;
+    add_dummy(list, DUMMY_2)?;
+    add_dummy(list, DUMMY_3)?;
     Ok(())
 }
 
-/// Keys, and how many nodes a search for each visits: one more each time, because nodes are sorted by their keys.
-const SPLIT_ORDER: [(u64, u64); 5] = [
-    (0, 2),
-    (2_147_483_648, 3),
-    (4_294_967_296, 4),
-    (6_442_450_944, 5),
-    (6_442_450_945, 5),
+/// How many nodes a search visits.
+#[derive(Clone, Copy)]
+struct Visits(u64);
+
+/// Split keys, and how many nodes a search for each visits: one more each time, because nodes are sorted by their keys.
+const SPLIT_ORDER: [(u64, Visits); 5] = [
+    (DUMMY_0, Visits(2)),
+    (DUMMY_2, Visits(3)),
+    (DUMMY_1, Visits(4)),
+    (DUMMY_3, Visits(5)),
+    (ITEM_OF_HASH_3, Visits(5)),
 ];
 
 /// Returns the first key for which a search visits another number of nodes.
-fn first_key_mismatch(list: &NodeList, wanted: &[(u64, u64)]) -> Option<u64> {
+fn first_key_mismatch(list: &NodeList, wanted: &[(u64, Visits)]) -> Option<u64> {
     for (key, nodes) in wanted {
-        if count_visited(list, *key) != *nodes {
+        if count_visited(list, *key) != nodes.0 {
             return Some(*key);
         }
     }
@@ -79,7 +95,7 @@ fn first_key_mismatch(list: &NodeList, wanted: &[(u64, u64)]) -> Option<u64> {
 fn has_split_order(
     list: &mut NodeList,
     alloc: Global,
-    wanted: &[(u64, u64)],
+    wanted: &[(u64, Visits)],
 ) -> Result<bool, AllocError> {
     add_in_split_order(list, alloc)?;
     Ok(first_key_mismatch(list, wanted) == None && list.len() == 5)
@@ -161,7 +177,7 @@ fn unlinks(list: &mut NodeList, at: At, number: Integer) -> bool
 fn unlinks_item(
     list: &mut NodeList,
     alloc: Global,
-    wanted: &[(u64, u64)],
+    wanted: &[(u64, Visits)],
 ) -> Result<bool, AllocError> {
     add_dummy(list, 8)?;
     let at = add_item(list, alloc, 5, 1)?;
@@ -191,13 +207,22 @@ fn add_five(list: &mut NodeList, alloc: Global) -> Result<(), AllocError> {
     Ok(())
 }
 
+/// The places of the items that `add_five` inserts.
+const FIRST_ITEM: Option<At> = Some(2);
+
+const SECOND_ITEM: Option<At> = Some(3);
+
+const THIRD_ITEM: Option<At> = Some(5);
+
+/// The first item from each place on, after `add_five`: from the head, a dummy, two items, a dummy, an item, and past
+/// the end.
 const PLACES_OF_FIVE: [Option<At>; 7] = [
-    Some(2),
-    Some(2),
-    Some(2),
-    Some(3),
-    Some(5),
-    Some(5),
+    FIRST_ITEM,
+    FIRST_ITEM,
+    FIRST_ITEM,
+    SECOND_ITEM,
+    THIRD_ITEM,
+    THIRD_ITEM,
     None,
 ];
 
@@ -225,7 +250,11 @@ fn comes_and_goes(list: &mut NodeList, alloc: Global) -> Result<bool, AllocError
     Ok(unlinks(list, last, 3))
 }
 
-const PLACE_OF_SECOND: [Option<At>; 7] = [Some(2), Some(2), Some(2), None, None, None, None];
+/// The place of the only item that `leaves_second` leaves.
+const ONLY_ITEM: Option<At> = Some(2);
+
+/// The first item from each place on, if only the place 2 has an item.
+const PLACE_OF_SECOND: [Option<At>; 7] = [ONLY_ITEM, ONLY_ITEM, ONLY_ITEM, None, None, None, None];
 
 /// Returns whether a free place has no item until a later item gets it.
 fn finds_no_unlinked(
@@ -283,7 +312,8 @@ fn has_much_room(list: &mut NodeList) -> Result<bool, AllocError> {
     Ok(list.len() == 1)
 }
 
-const UNLINKED: [(u64, u64); 2] = [(4, 2), (8, 2)];
+/// Split keys around an unlinked item, and how many nodes a search for each visits.
+const UNLINKED: [(u64, Visits); 2] = [(4, Visits(2)), (8, Visits(2))];
 
 /// What a new list is tried with.
 #[derive(Clone, Copy)]

@@ -1,5 +1,6 @@
 //! Long and deep texts whose terms are known.
-use super::{long_text, writes};
+use super::past_limits::long_text;
+use super::writer::writes;
 use ets_term::{MAX_DEPTH, Term};
 use std::alloc::{AllocError, Global};
 use term_text::{TextFault, print_term, read_term};

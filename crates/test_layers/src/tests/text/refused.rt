@@ -1,7 +1,7 @@
 // Out of memory. `.ci/refusals` runs these tests with each allocation refused in turn. What is read or printed again
 // must give the result of ample memory. Printing that is refused memory must leave the text as it was.
 use super::*;
-use term_text::TextFault;
+use term_text::{TextFault, read_term};
 
 /// Reads a text, again if memory runs out.
 pub(crate) fn read_again(alloc: Global, text: &str) -> Result<(Term, usize), TextFault> {
@@ -68,6 +68,7 @@ fn first_mismatch_again(
     None
 }
 
+/// Texts, and how their terms are printed after the front.
 const TERMS: [(&str, &str); 7] = [
     ("-9223372036854775808", "a front: -9223372036854775808"),
     ("<0.4294967295.0>", "a front: <0.4294967295.0>"),
@@ -108,6 +109,7 @@ fn first_fault_mismatch_again(
     None
 }
 
+/// Texts, and their syntax errors, each with its offset.
 const FAULTS: [(&str, TextFault); 4] = [
     (
         "[1,2,{'an atom of more than 22 characters'",

@@ -69,14 +69,15 @@ pub fn writes_default(
     }
 }
 
+/// An update of a missing key gives `{Answer,Object}`, or a refusal.
 const STARTED: [&str; 7] = [
-    "[{x,10},h,{2,1},{11,{h,11}}]",
-    "[{x,10},h,1,{11,{h,11}}]",
-    "[{x,10},h,[{2,1},{2,-5}],{[11,6],{h,6}}]",
-    "[{x},h,[],{[],{h}}]",
-    "[{x},h,1,badarg]",
-    "[{x},{x},1,badarg]",
-    "[7,h,1,badarg]",
+    "[default, {x,10}, key, h, update, {2,1}, gives, {11,{h,11}}]",
+    "[default, {x,10}, key, h, update, 1, gives, {11,{h,11}}]",
+    "[default, {x,10}, key, h, update, [{2,1},{2,-5}], gives, {[11,6],{h,6}}]",
+    "[default, {x}, key, h, update, [], gives, {[],{h}}]",
+    "[default, {x}, key, h, update, 1, gives, badarg]",
+    "[default, {x}, key, {x}, update, 1, gives, badarg]",
+    "[default, 7, key, h, update, 1, gives, badarg]",
 ];
 
 #[test]
@@ -87,11 +88,12 @@ fn counters_begin_at_their_defaults(rt: HostRuntime) {
     );
 }
 
+/// Element values for a missing key give the object, or a refusal.
 const WRITTEN: [&str; 4] = [
-    "[{0,1},3,{2,9},{3,9}]",
-    "[{0,1},3,[],{3,1}]",
-    "[{x},{x},{2,9},badarg]",
-    "[7,3,{2,9},badarg]",
+    "[default, {0,1}, key, 3, set, {2,9}, gives, {3,9}]",
+    "[default, {0,1}, key, 3, set, [], gives, {3,1}]",
+    "[default, {x}, key, {x}, set, {2,9}, gives, badarg]",
+    "[default, 7, key, 3, set, {2,9}, gives, badarg]",
 ];
 
 #[test]
@@ -123,7 +125,7 @@ fn is_object_of(alloc: Global, keypos: u32, default: &str, key: &str) -> Option<
     }
 }
 
-/// Keypos, Default and key that do not make an object.
+/// The keypos, a default object and a key that do not make an object.
 const NO_OBJECTS: [(u32, &str, &str); 4] = [
     (2, "{x}", "h"),
     (0, "{x}", "h"),

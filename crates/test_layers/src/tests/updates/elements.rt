@@ -39,17 +39,17 @@ pub fn writes(alloc: Global, object: &Term, values: &Term, made: &Term) -> Optio
 
 /// Of several values for a position the last is written. A position above the size is refused anywhere in a list.
 const WRITTEN: [&str; 11] = [
-    "[{k,1,2},{2,y},{k,y,2}]",
-    "[{k,1,2},[{2,y}],{k,y,2}]",
-    "[{k,1,2},[{2,x},{2,y}],{k,y,2}]",
-    "[{k,1,2},[{2,y},{2,x},{2,y}],{k,y,2}]",
-    "[{k,1,2},[{3,x},{2,y}],{k,y,x}]",
-    "[{k,1,2},[],{k,1,2}]",
-    "[{k,1,2},{4,x},badarg]",
-    "[{k,1,2},[{4,x}],badarg]",
-    "[{k,1,2},[{2,x},{4,x}],badarg]",
-    "[{k,1,2},[{4,x},{2,x}],badarg]",
-    "[1,[],badarg]",
+    "[{k,1,2}, set, {2,y}, gives, {k,y,2}]",
+    "[{k,1,2}, set, [{2,y}], gives, {k,y,2}]",
+    "[{k,1,2}, set, [{2,x},{2,y}], gives, {k,y,2}]",
+    "[{k,1,2}, set, [{2,y},{2,x},{2,y}], gives, {k,y,2}]",
+    "[{k,1,2}, set, [{3,x},{2,y}], gives, {k,y,x}]",
+    "[{k,1,2}, set, [], gives, {k,1,2}]",
+    "[{k,1,2}, set, {4,x}, gives, badarg]",
+    "[{k,1,2}, set, [{4,x}], gives, badarg]",
+    "[{k,1,2}, set, [{2,x},{4,x}], gives, badarg]",
+    "[{k,1,2}, set, [{4,x},{2,x}], gives, badarg]",
+    "[1, set, [], gives, badarg]",
 ];
 
 #[test]
@@ -78,6 +78,7 @@ fn first_valid_value(alloc: Global, texts: &[&'static str]) -> Option<Option<&'s
     Some(None)
 }
 
+/// Texts that are not element values for an object whose key is first.
 const WRONG: [&str; 15] = [
     "{0,x}",
     "{1,x}",

@@ -151,26 +151,26 @@ fn writes_default_again(
 /// The form of a row.
 #[derive(Clone, Copy)]
 enum Call {
-    /// `[Object,Updates,Answer,Made]`
+    /// `[Object, update, Operations, gives, Answer, leaves, Object]`
     Count,
-    /// `[Default,Key,Updates,Answer,Made]`
+    /// `[default, Default, key, Key, update, Operations, gives, Answer, leaves, Object]`
     Start,
-    /// `[Object,Values,Made]`
+    /// `[Object, set, Values, gives, Object]`
     Write,
-    /// `[Default,Key,Values,Made]`
+    /// `[default, Default, key, Key, set, Values, gives, Object]`
     WriteDefault,
 }
 
 fn holds_again(alloc: Global, call: Call, row: &[Term]) -> Option<bool> {
     match (call, row) {
-        (Call::Count, [object, updates, answer, made]) => {
+        (Call::Count, [object, _, updates, _, answer, _, made]) => {
             counts_again(alloc, object, updates, (answer, made))
         }
-        (Call::Start, [default, key, updates, answer, made]) => {
+        (Call::Start, [_, default, _, key, _, updates, _, answer, _, made]) => {
             starts_again(alloc, default, key, updates, (answer, made))
         }
-        (Call::Write, [object, values, made]) => writes_again(alloc, object, values, made),
-        (Call::WriteDefault, [default, key, values, made]) => {
+        (Call::Write, [object, _, values, _, made]) => writes_again(alloc, object, values, made),
+        (Call::WriteDefault, [_, default, _, key, _, values, _, made]) => {
             writes_default_again(alloc, default, key, values, made)
         }
         _ => None,
@@ -198,27 +198,39 @@ fn first_mismatch_again(alloc: Global, rows: &[(Call, &'static str)]) -> Option<
 }
 
 const REFUSED: [(Call, &str); 9] = [
-    (Call::Count, "[{c,5},3,8,{c,8}]"),
+    (Call::Count, "[{c,5}, update, 3, gives, 8, leaves, {c,8}]"),
     (
         Call::Count,
-        "[{c,5,x},[{2,1},{2,1},{2,1},{2,1},{2,1},{2,1},{2,1},{2,1},{2,-9}],[6,7,8,9,10,11,12,13,4],{c,4,x}]",
+        "[{c,5,x}, update, [{2,1},{2,1},{2,1},{2,1},{2,1},{2,1},{2,1},{2,1},{2,-9}], gives, [6,7,8,9,10,11,12,13,4], leaves, {c,4,x}]",
     ),
-    (Call::Count, "[{c,5,a},[{2,1},{2,1},{3,1}],badarg,{c,5,a}]"),
+    (
+        Call::Count,
+        "[{c,5,a}, update, [{2,1},{2,1},{3,1}], gives, badarg, leaves, {c,5,a}]",
+    ),
     (
         Call::Start,
-        "[{x,10,[1,2,3]},[a,key],[{2,1},{2,-5}],[11,6],{[a,key],6,[1,2,3]}]",
+        "[default, {x,10,[1,2,3]}, key, [a,key], update, [{2,1},{2,-5}], gives, [11,6], leaves, {[a,key],6,[1,2,3]}]",
     ),
-    (Call::Start, "[{x},[a,key],[{2,1}],badarg,none]"),
+    (
+        Call::Start,
+        "[default, {x}, key, [a,key], update, [{2,1}], gives, badarg, leaves, none]",
+    ),
     (
         Call::Write,
-        "[{k,1,2},[{2,'a text that needs memory of its own'},{3,[x,{y}]}],{k,'a text that needs memory of its own',[x,{y}]}]",
+        "[{k,1,2}, set, [{2,'a text that needs memory of its own'},{3,[x,{y}]}], gives, {k,'a text that needs memory of its own',[x,{y}]}]",
     ),
-    (Call::Write, "[{k,1,2},[{2,[a,list]},{4,x}],badarg]"),
+    (
+        Call::Write,
+        "[{k,1,2}, set, [{2,[a,list]},{4,x}], gives, badarg]",
+    ),
     (
         Call::WriteDefault,
-        "[{0,1,<<\"binary\">>},[a,key],[{2,[9]}],{[a,key],[9],<<\"binary\">>}]",
+        "[default, {0,1,<<\"binary\">>}, key, [a,key], set, [{2,[9]}], gives, {[a,key],[9],<<\"binary\">>}]",
     ),
-    (Call::WriteDefault, "[{0,1},[a,key],[{3,[9]}],badarg]"),
+    (
+        Call::WriteDefault,
+        "[default, {0,1}, key, [a,key], set, [{3,[9]}], gives, badarg]",
+    ),
 ];
 
 #[test]

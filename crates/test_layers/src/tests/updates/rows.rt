@@ -6,27 +6,30 @@ use super::*;
 /// The form of a row of text.
 #[derive(Clone, Copy)]
 pub enum Call {
-    /// Operations on an object whose key is at this position: `[Object,Updates,Answer,Made]`.
+    /// Operations on an object whose key is at this position:
+    /// `[Object, update, Operations, gives, Answer, leaves, Object]`.
     Count(u32),
-    /// Element values for an object whose key is first: `[Object,Values,Made]`.
+    /// Element values for an object whose key is first: `[Object, set, Values, gives, Object]`.
     Write,
-    /// Operations on a Default whose key is at this position: `[Default,Key,Updates,Answer]`, where the answer is
-    /// `{Answer,Made}`, or a refusal.
+    /// Operations on a default object whose key is at this position:
+    /// `[default, Default, key, Key, update, Operations, gives, Result]`, where the result is `{Answer,Object}` or a
+    /// refusal.
     Start(u32),
-    /// Element values for a Default whose key is first: `[Default,Key,Values,Made]`.
+    /// Element values for a default object whose key is first:
+    /// `[default, Default, key, Key, set, Values, gives, Object]`.
     WriteDefault,
 }
 
 fn holds(alloc: Global, call: Call, row: &[Term]) -> Option<bool> {
     match (call, row) {
-        (Call::Count(keypos), [object, updates, answer, made]) => {
+        (Call::Count(keypos), [object, _, updates, _, answer, _, made]) => {
             counts(alloc, keypos, object, updates, (answer, made))
         }
-        (Call::Write, [object, values, made]) => writes(alloc, object, values, made),
-        (Call::Start(keypos), [default, key, updates, answer]) => {
+        (Call::Write, [object, _, values, _, made]) => writes(alloc, object, values, made),
+        (Call::Start(keypos), [_, default, _, key, _, updates, _, answer]) => {
             starts(alloc, keypos, (default, key), updates, answer)
         }
-        (Call::WriteDefault, [default, key, values, made]) => {
+        (Call::WriteDefault, [_, default, _, key, _, values, _, made]) => {
             writes_default(alloc, default, key, values, made)
         }
         _ => Some(false),

@@ -1,0 +1,128 @@
+//! A writer that fails at its k-th write, or takes a part of the bytes.
+use super::past_limits::long_text;
+use ets_term::Term;
+use std::alloc::{AllocError, Global};
+use std::io::{self, Error, ErrorKind, Write};
+use std::process::Abort;
+use term_text::{WriteFault, read_term, write_bytes, write_term};
+
+/// A writer that takes at most `most` bytes a write, and fails after `left` writes.
+#[derive(Drop)]
+struct FailingWriter {
+    taken: Vec<u8>,
+    most: usize,
+    left: usize,
+}
+
+impl Write for FailingWriter {
+    fn write(&mut self, buf: &[u8]) -> io::Result<usize> {
+        if self.left == 0 {
+            return Err(Error::from(ErrorKind::Other));
+        }
+        self.left -= 1;
+        let n = buf.len().min(self.most);
+        match self.taken.extend_from_slice(&buf[..n]) {
+            Ok(()) => Ok(n),
+            Err(_) => Err(Error::from(ErrorKind::Other)),
+        }
+    }
+
+    fn flush(&mut self) -> io::Result<()> {
+        Ok(())
+    }
+}
+
+/// Returns whether a writer that fails after `left` bytes has this prefix of the text.
+fn leaves_a_prefix(alloc: Global, term: &Term, text: &str, left: usize) -> bool {
+    let mut out = FailingWriter {
+        taken: Vec::new(alloc),
+        most: 1,
+        left,
+    };
+    let written = write_term(term, &mut out);
+    let failed = matches!(&written, Err(WriteFault::Io(_)));
+    drop(written);
+    let is_prefix = out.taken.len() == left && text.as_bytes().starts_with(out.taken.as_slice());
+    drop(out);
+    failed && is_prefix
+}
+
+/// Returns whether a term is written as this text.
+pub fn writes(alloc: Global, term: &Term, text: &str) -> bool {
+    let mut whole = Vec::new(alloc);
+    let written = write_term(term, &mut whole);
+    let done = written.is_ok();
+    drop(written);
+    let same = whole.as_slice() == text.as_bytes();
+    drop(whole);
+    done && same
+}
+
+fn leaves_each_prefix(alloc: Global, term: &Term, text: &str) -> bool {
+    for left in 0..text.len() {
+        if !leaves_a_prefix(alloc, term, text, left) {
+            return false;
+        }
+    }
+    true
+}
+
+/// Returns whether the term of a text is written as this text, and after a fault as a prefix of it.
+fn is_written(alloc: Global, text: &str) -> bool {
+    match read_term(alloc, text) {
+        Ok((term, _)) => {
+            let done = writes(alloc, &term, text) && leaves_each_prefix(alloc, &term, text);
+            drop(term);
+            done
+        }
+        Err(_) => false,
+    }
+}
+
+#[test]
+fn a_fault_leaves_a_prefix_of_the_text(rt: HostRuntime) {
+    assert!(rt; is_written(rt.alloc(), "{a,'B',[<0.1.0>,#Tid<2>],<<1,2>>,-3}"));
+}
+
+/// Returns whether 100,000 bytes are written to a writer that takes 1,000 at a time.
+fn is_written_in_parts(alloc: Global) -> Result<bool, AllocError> {
+    let text = long_text(alloc, "", "0123456789", 10_000, "")?;
+    let mut out = FailingWriter {
+        taken: Vec::new(alloc),
+        most: 1_000,
+        left: 100,
+    };
+    let written = write_bytes(text.as_bytes(), &mut out);
+    let done = written.is_ok();
+    drop(written);
+    let whole = out.taken.as_slice() == text.as_bytes() && out.left == 0;
+    drop(out);
+    drop(text);
+    Ok(done && whole)
+}
+
+#[test]
+fn a_writer_may_take_a_hundredth(rt: HostRuntime) {
+    assert!(rt; is_written_in_parts(rt.alloc()) == Ok(true));
+}
+
+/// Returns whether a writer that takes nothing is a fault.
+fn is_stuck(alloc: Global) -> bool {
+    let mut stuck = FailingWriter {
+        taken: Vec::new(alloc),
+        most: 0,
+        left: 9,
+    };
+    let term = Term::Int(7);
+    let written = write_term(&term, &mut stuck);
+    drop(term);
+    drop(stuck);
+    let is_stuck = matches!(&written, Err(WriteFault::Zero));
+    drop(written);
+    is_stuck
+}
+
+#[test]
+fn a_writer_that_takes_nothing_is_a_fault(rt: HostRuntime) {
+    assert!(rt; is_stuck(rt.alloc()));
+}
