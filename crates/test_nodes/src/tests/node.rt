@@ -1,7 +1,7 @@
 // Tests what no script of tests/scripts can say. A test is a table of rows: a step, and the reply that the rules of
 // docs/calls.md want, written by hand. A test reports the place of a wrong row.
-use crate::tests::keep_if_ok;
 use crate::tests::text::{is_spelled, term, terms};
+use crate::tests::{Bucket, Pid, Tid, keep_if_ok};
 use ets_term::{AllSame, Atom, Fnv, Items, KeyHash, Term};
 use node_core::{Call, Limits, Node, Reply, Step};
 use std::alloc::{AllocError, Global};
@@ -20,19 +20,21 @@ mod why;
 /// A step, whose call is a text.
 #[derive(Clone, Copy)]
 enum Event<'a> {
-    Enrol(u32),
-    End(u32),
+    Enrol(Pid),
+    End(Pid),
     /// The process makes this call, such as `lookup(t,a)`.
-    Ask(u32, &'a str),
-    Grow(u32),
-    Ready(u32, u32),
+    Ask(Pid, &'a str),
+    /// The buckets of the table are doubled.
+    Grow(Tid),
+    /// The bucket of the table becomes ready.
+    Ready(Tid, Bucket),
 }
 
-/// A step, and its reply: a term, a list in any order after `~`, or a refusal such as `** badarg`.
+/// A step, and its reply: a term, a list after `any order: `, or a refusal such as `** badarg`.
 type Row = (Event<'static>, &'static str);
 
 /// Returns the step of a call that a process makes.
-fn ask(alloc: Global, pid: u32, call: &str) -> Result<Step, AllocError> {
+fn ask(alloc: Global, pid: Pid, call: &str) -> Result<Step, AllocError> {
     let Some((name, rest)) = call.split_once('(') else {
         return Err(AllocError);
     };
@@ -41,7 +43,7 @@ fn ask(alloc: Global, pid: u32, call: &str) -> Result<Step, AllocError> {
     };
     let arguments = terms(alloc, arguments)?;
     match Atom::new(alloc, name) {
-        Ok(name) => Ok(Step::Ask(pid, Call::new(name, arguments))),
+        Ok(name) => Ok(Step::Ask(pid.0, Call::new(name, arguments))),
         Err(_) => {
             drop(arguments);
             Err(AllocError)
@@ -51,11 +53,11 @@ fn ask(alloc: Global, pid: u32, call: &str) -> Result<Step, AllocError> {
 
 fn step(alloc: Global, event: Event) -> Result<Step, AllocError> {
     match event {
-        Event::Enrol(pid) => Ok(Step::Enrol(pid)),
-        Event::End(pid) => Ok(Step::End(pid)),
+        Event::Enrol(pid) => Ok(Step::Enrol(pid.0)),
+        Event::End(pid) => Ok(Step::End(pid.0)),
         Event::Ask(pid, call) => ask(alloc, pid, call),
-        Event::Grow(id) => Ok(Step::Grow(id)),
-        Event::Ready(id, bucket) => Ok(Step::Ready(id, bucket)),
+        Event::Grow(id) => Ok(Step::Grow(id.0)),
+        Event::Ready(id, bucket) => Ok(Step::Ready(id.0, bucket.0)),
     }
 }
 
@@ -95,7 +97,7 @@ fn are_spelled(alloc: Global, items: &[Term], text: &str) -> Result<bool, AllocE
 /// Returns whether the text is that of the reply.
 fn is(alloc: Global, reply: &Reply, wanted: &str) -> Result<bool, AllocError> {
     match reply {
-        Reply::Value(value) => match wanted.strip_prefix("~") {
+        Reply::Value(value) => match wanted.strip_prefix("any order: ") {
             Some(wanted) => has_items(alloc, value, wanted),
             None => is_spelled(alloc, value, wanted),
         },

@@ -1,6 +1,5 @@
-// Terms as the tests write them: `{a,-1}`, `[x,[]]`, `#7` for an identifier, `<7` for a pid, `@7` for lists in lists,
-// seven deep. An atom is any other word, without quotes. A text that is no term is a fault of its test, which then
-// fails as if memory ran out.
+// Terms as Erlang writes them: `{a,-1}`, `['$1',[]]`, `#Tid<7>`, `<0.7.0>`; and `deep(7)` for lists in lists, seven deep.
+// A text that is no term is a fault of its test, which then fails as if memory ran out.
 use crate::tests::keep_if_ok;
 use ets_term::{Atom, Integer, Items, Term};
 use std::alloc::{AllocError, Global};
@@ -102,14 +101,17 @@ fn word(alloc: Global, word: &str) -> Result<Term, AllocError> {
     if let Ok(n) = word.parse::<Integer>() {
         return Ok(Term::Int(n));
     }
-    if let Some(n) = number(word, "#") {
+    if let Some(n) = number(word, "#Tid<", ">") {
         return Ok(Term::Tid(n));
     }
-    if let Some(n) = number(word, "<") {
+    if let Some(n) = number(word, "<0.", ".0>") {
         return Ok(Term::Pid(n));
     }
-    match number(word, "@") {
-        Some(depth) => nest(alloc, depth),
+    if let Some(depth) = number(word, "deep(", ")") {
+        return nest(alloc, depth);
+    }
+    match between(word, "'", "'") {
+        Some(quoted) => atom(alloc, quoted),
         None => atom(alloc, word),
     }
 }
@@ -121,9 +123,14 @@ fn atom(alloc: Global, word: &str) -> Result<Term, AllocError> {
     }
 }
 
-/// Returns the number after this sign.
-fn number(word: &str, sign: &str) -> Option<u32> {
-    word.strip_prefix(sign)?.parse::<u32>().ok()
+/// Returns the text between two signs.
+fn between<'a>(word: &'a str, start: &str, end: &str) -> Option<&'a str> {
+    word.strip_prefix(start)?.strip_suffix(end)
+}
+
+/// Returns the number between two signs.
+fn number(word: &str, start: &str, end: &str) -> Option<u32> {
+    between(word, start, end)?.parse::<u32>().ok()
 }
 
 fn nest(alloc: Global, depth: u32) -> Result<Term, AllocError> {

@@ -1,7 +1,8 @@
 // Each test is a table of rows: a call, and the answer that the rules want. A test reports the place of a wrong row.
 use crate::tests::text::{is_spelled, term};
+use crate::tests::{Pid, Tid};
 use bucket_table::PlainRows;
-use ets_term::{Atom, Integer, Items, Term};
+use ets_term::{Atom, Items, Term};
 use fixed_walk::Walked;
 use ownership::{InfoItem, NewOptions, World, WorldFault};
 use std::alloc::{AllocError, Global};
@@ -16,29 +17,32 @@ mod refused;
 /// A call of a world.
 #[derive(Clone, Copy)]
 enum Event<'a> {
-    Enrol(u32),
-    End(u32),
+    Enrol(Pid),
+    End(Pid),
     /// The process makes a table of this name with these options.
-    New(u32, &'a str, &'a str),
-    /// The table with this identifier is deleted.
-    Drop(u32),
+    New(Pid, &'a str, &'a str),
+    /// The table is deleted.
+    Drop(Tid),
     /// The process gives the table to another, with this gift.
-    Give(u32, u32, u32, &'a str),
+    Give(Pid, Tid, Pid, &'a str),
     /// The process sets these options of the table.
-    Set(u32, u32, &'a str),
-    Receive(u32),
+    Set(Pid, Tid, &'a str),
+    Receive(Pid),
     /// An item of the table, or `undefined`.
-    Info(u32, &'a str),
+    Info(Tid, &'a str),
     /// The identifier of the table that a term names, or `none`.
     Resolve(&'a str),
-    /// Whether the process may read the table, write to it, and owns it: 1 or 0 each.
-    May(u32, u32),
+    /// What the process may do with the table: `read`, `write` or `own`.
+    Rights(Pid, Tid),
     /// The process fixes the table.
-    Fix(u32, u32),
+    Fix(Pid, Tid),
 }
 
-/// A call, and its answer: a term, `{}` for a call without a result, or a refusal such as `** badarg`.
+/// A call, and its answer: a term, `DONE`, or a refusal such as `** badarg`.
 type Row = (Event<'static>, &'static str);
+
+/// The answer of a call without a result.
+const DONE: &str = "{}";
 
 type Tables = World<PlainRows>;
 
@@ -109,14 +113,14 @@ fn resolve(alloc: Global, world: &Tables, named: &str) -> Result<Term, WorldFaul
     let found = world.resolve(&named);
     drop(named);
     match found {
-        Some(id) => Ok(Term::Int(id as Integer)),
+        Some(id) => Ok(Term::Tid(id)),
         None => Ok(term(alloc, "none")?),
     }
 }
 
 fn rights(alloc: Global, world: &Tables, pid: u32, id: u32) -> Result<Term, WorldFault> {
     let mut rights = Items::new(alloc);
-    match push_rights(world, pid, id, &mut rights) {
+    match push_rights(alloc, world, pid, id, &mut rights) {
         Ok(()) => Ok(Term::List(rights)),
         Err(_) => {
             drop(rights);
@@ -126,14 +130,22 @@ fn rights(alloc: Global, world: &Tables, pid: u32, id: u32) -> Result<Term, Worl
 }
 
 fn push_rights(
+    alloc: Global,
     world: &Tables,
     pid: u32,
     id: u32,
     rights: &mut Items<Term>,
 ) -> Result<(), AllocError> {
-    rights.push(Term::Int(world.may_read(pid, id) as Integer))?;
-    rights.push(Term::Int(world.may_write(pid, id) as Integer))?;
-    rights.push(Term::Int(world.is_owner(pid, id) as Integer))
+    if world.may_read(pid, id) {
+        rights.push(term(alloc, "read")?)?;
+    }
+    if world.may_write(pid, id) {
+        rights.push(term(alloc, "write")?)?;
+    }
+    if world.is_owner(pid, id) {
+        rights.push(term(alloc, "own")?)?;
+    }
+    Ok(())
 }
 
 fn fix(alloc: Global, world: &mut Tables, pid: u32, id: u32) -> Result<Term, WorldFault> {
@@ -149,9 +161,9 @@ fn fix(alloc: Global, world: &mut Tables, pid: u32, id: u32) -> Result<Term, Wor
 /// Returns the answer of a call that only reads.
 fn query(alloc: Global, world: &Tables, event: Event) -> Result<Term, WorldFault> {
     match event {
-        Event::Info(id, item) => info(alloc, world, id, item),
+        Event::Info(id, item) => info(alloc, world, id.0, item),
         Event::Resolve(named) => resolve(alloc, world, named),
-        Event::May(pid, id) => rights(alloc, world, pid, id),
+        Event::Rights(pid, id) => rights(alloc, world, pid.0, id.0),
         _ => Ok(empty_tuple(alloc)),
     }
 }
@@ -186,12 +198,12 @@ fn set(
 /// Makes a call that has no result.
 fn run_call(alloc: Global, world: &mut Tables, event: Event) -> Result<(), WorldFault> {
     match event {
-        Event::Enrol(pid) => world.enrol(pid),
-        Event::End(pid) => world.end(pid),
-        Event::Give(pid, id, to, gift) => give(alloc, world, pid, id, to, gift),
-        Event::Set(pid, id, options) => set(alloc, world, pid, id, options),
+        Event::Enrol(pid) => world.enrol(pid.0),
+        Event::End(pid) => world.end(pid.0),
+        Event::Give(pid, id, to, gift) => give(alloc, world, pid.0, id.0, to.0, gift),
+        Event::Set(pid, id, options) => set(alloc, world, pid.0, id.0, options),
         Event::Drop(id) => {
-            world.drop_table(id);
+            world.drop_table(id.0);
             Ok(())
         }
         _ => Ok(()),
@@ -200,9 +212,9 @@ fn run_call(alloc: Global, world: &mut Tables, event: Event) -> Result<(), World
 
 fn answer(alloc: Global, world: &mut Tables, event: Event) -> Result<Term, WorldFault> {
     match event {
-        Event::New(pid, name, options) => new_table(alloc, world, pid, name, options),
-        Event::Receive(pid) => Ok(Term::List(world.receive(pid))),
-        Event::Fix(pid, id) => fix(alloc, world, pid, id),
+        Event::New(pid, name, options) => new_table(alloc, world, pid.0, name, options),
+        Event::Receive(pid) => Ok(Term::List(world.receive(pid.0))),
+        Event::Fix(pid, id) => fix(alloc, world, pid.0, id.0),
         _ => {
             run_call(alloc, world, event)?;
             query(alloc, world, event)

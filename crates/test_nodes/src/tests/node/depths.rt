@@ -1,36 +1,51 @@
 use super::Event::{Ask, Enrol};
-use super::{Row, wrong};
+use super::{Pid, Row, wrong};
 use std::process::Abort;
 
 /// Arguments and stored objects are at most 128 deep. A step checks its process first, then the depth, then all else.
 const DEEP: [Row; 27] = [
-    (Enrol(0), "<0"),
-    (Enrol(1), "<1"),
-    (Ask(0, "new(t,[named_table])"), "t"),
-    (Ask(0, "insert(t,{a,@127})"), "true"),
-    (Ask(0, "insert(t,{a,@128})"), "** system_limit"),
-    (Ask(0, "insert(u,{a,@128})"), "** system_limit"),
-    (Ask(0, "insert(t,[{b,1},{a,@127}])"), "** system_limit"),
-    (Ask(0, "lookup(t,b)"), "[]"),
-    (Ask(0, "lookup(t,@128)"), "[]"),
-    (Ask(0, "lookup(t,@129)"), "** system_limit"),
-    (Ask(0, "update_counter(t,@127,1,{x,1})"), "2"),
-    (Ask(0, "update_counter(t,@128,1,{x,1})"), "** system_limit"),
-    (Ask(0, "update_counter(t,@129,1,{x,1})"), "** system_limit"),
-    (Ask(0, "update_element(t,a,{2,@128})"), "** system_limit"),
-    (Ask(0, "update_element(t,a,{2,@127})"), "true"),
-    (Ask(0, "next(t,@129)"), "** system_limit"),
-    (Ask(0, "insert(t,@129,a,b)"), "** system_limit"),
-    (Ask(0, "foo(@129)"), "** system_limit"),
-    (Ask(0, "foo(@128)"), "** badarg"),
-    (Ask(0, "foo()"), "** badarg"),
-    (Ask(1, "match(u,@129)"), "** system_limit"),
-    (Ask(1, "update_counter(t,a,@129)"), "** system_limit"),
-    (Ask(1, "update_counter(t,a,@128)"), "** badarg"),
-    (Ask(2, "update_counter(t,a,@129)"), "** noproc"),
-    (Ask(2, "select(t,@129)"), "** noproc"),
-    (Ask(2, "next(t,@129)"), "** noproc"),
-    (Ask(2, "foo(@129)"), "** noproc"),
+    (Enrol(Pid(0)), "<0.0.0>"),
+    (Enrol(Pid(1)), "<0.1.0>"),
+    (Ask(Pid(0), "new(t,[named_table])"), "t"),
+    (Ask(Pid(0), "insert(t,{a,deep(127)})"), "true"),
+    (Ask(Pid(0), "insert(t,{a,deep(128)})"), "** system_limit"),
+    (Ask(Pid(0), "insert(u,{a,deep(128)})"), "** system_limit"),
+    (
+        Ask(Pid(0), "insert(t,[{b,1},{a,deep(127)}])"),
+        "** system_limit",
+    ),
+    (Ask(Pid(0), "lookup(t,b)"), "[]"),
+    (Ask(Pid(0), "lookup(t,deep(128))"), "[]"),
+    (Ask(Pid(0), "lookup(t,deep(129))"), "** system_limit"),
+    (Ask(Pid(0), "update_counter(t,deep(127),1,{x,1})"), "2"),
+    (
+        Ask(Pid(0), "update_counter(t,deep(128),1,{x,1})"),
+        "** system_limit",
+    ),
+    (
+        Ask(Pid(0), "update_counter(t,deep(129),1,{x,1})"),
+        "** system_limit",
+    ),
+    (
+        Ask(Pid(0), "update_element(t,a,{2,deep(128)})"),
+        "** system_limit",
+    ),
+    (Ask(Pid(0), "update_element(t,a,{2,deep(127)})"), "true"),
+    (Ask(Pid(0), "next(t,deep(129))"), "** system_limit"),
+    (Ask(Pid(0), "insert(t,deep(129),a,b)"), "** system_limit"),
+    (Ask(Pid(0), "foo(deep(129))"), "** system_limit"),
+    (Ask(Pid(0), "foo(deep(128))"), "** badarg"),
+    (Ask(Pid(0), "foo()"), "** badarg"),
+    (Ask(Pid(1), "match(u,deep(129))"), "** system_limit"),
+    (
+        Ask(Pid(1), "update_counter(t,a,deep(129))"),
+        "** system_limit",
+    ),
+    (Ask(Pid(1), "update_counter(t,a,deep(128))"), "** badarg"),
+    (Ask(Pid(2), "update_counter(t,a,deep(129))"), "** noproc"),
+    (Ask(Pid(2), "select(t,deep(129))"), "** noproc"),
+    (Ask(Pid(2), "next(t,deep(129))"), "** noproc"),
+    (Ask(Pid(2), "foo(deep(129))"), "** noproc"),
 ];
 
 #[test]

@@ -1,61 +1,93 @@
 use super::Event::{Ask, Enrol, Grow, Ready};
-use super::{Row, wrong_in};
+use super::{Bucket, Pid, Row, Tid, wrong_in};
+use Pending::{Nothing, ToGrow, ToReady};
 use ets_term::{AllSame, Fnv, KeyHash};
 use node_core::{Limits, Node, Step};
 use std::alloc::{AllocError, Global};
 use std::process::Abort;
 
-/// Returns the pending step, if any: to double a table, or to ready one of its buckets.
-fn due<H: KeyHash + Copy + Drop>(node: &Node<H>) -> Option<(u32, Option<u32>)> {
-    let step = node.due()?;
-    let work = work_of(&step);
-    drop(step);
-    work
+/// The pending step of a node.
+#[derive(Clone, Copy, PartialEq, Eq)]
+enum Pending {
+    Nothing,
+    /// To double the buckets of the table.
+    ToGrow(Tid),
+    /// To make the bucket of the table ready.
+    ToReady(Tid, Bucket),
+    /// Another step, which is never pending.
+    Other,
 }
 
-fn work_of(step: &Step) -> Option<(u32, Option<u32>)> {
+/// Returns the pending step, if any.
+fn first_pending<H: KeyHash + Copy + Drop>(node: &Node<H>) -> Pending {
+    match node.due() {
+        Some(step) => {
+            let pending = pending_of(&step);
+            drop(step);
+            pending
+        }
+        None => Nothing,
+    }
+}
+
+fn pending_of(step: &Step) -> Pending {
     match step {
-        Step::Grow(id) => Some((*id, None)),
-        Step::Ready(id, bucket) => Some((*id, Some(*bucket))),
-        _ => None,
+        Step::Grow(id) => ToGrow(Tid(*id)),
+        Step::Ready(id, bucket) => ToReady(Tid(*id), Bucket(*bucket)),
+        _ => Pending::Other,
     }
 }
 
 /// A step, its reply, and the pending step after it.
-type DueRow = (Row, Option<(u32, Option<u32>)>);
+type PendingRow = (Row, Pending);
 
-const DUE: [DueRow; 15] = [
-    ((Enrol(0), "<0"), None),
-    ((Ask(0, "new(t,[])"), "#0"), Some((0, Some(1)))),
-    ((Ask(0, "new(u,[])"), "#1"), Some((0, Some(1)))),
-    ((Ready(0, 1), "ok"), Some((1, Some(1)))),
-    ((Ready(1, 1), "ok"), None),
+const STEPS: [PendingRow; 15] = [
+    ((Enrol(Pid(0)), "<0.0.0>"), Nothing),
+    (
+        (Ask(Pid(0), "new(t,[])"), "#Tid<0>"),
+        ToReady(Tid(0), Bucket(1)),
+    ),
+    (
+        (Ask(Pid(0), "new(u,[])"), "#Tid<1>"),
+        ToReady(Tid(0), Bucket(1)),
+    ),
+    ((Ready(Tid(0), Bucket(1)), "ok"), ToReady(Tid(1), Bucket(1))),
+    ((Ready(Tid(1), Bucket(1)), "ok"), Nothing),
     (
         (
-            Ask(0, "insert(#0,[{1},{2},{3},{4},{5},{6},{7},{8}])"),
+            Ask(Pid(0), "insert(#Tid<0>,[{1},{2},{3},{4},{5},{6},{7},{8}])"),
             "true",
         ),
-        None,
+        Nothing,
     ),
-    ((Ask(0, "safe_fixtable(#0,true)"), "true"), None),
-    ((Ask(0, "insert(#0,{9})"), "true"), Some((0, None))),
-    ((Ask(0, "delete(#0,9)"), "true"), Some((0, None))),
-    ((Ask(0, "safe_fixtable(#0,false)"), "true"), None),
-    ((Ask(0, "insert(#0,{9})"), "true"), Some((0, None))),
-    ((Grow(0), "ok"), Some((0, Some(2)))),
-    ((Ready(0, 3), "ok"), Some((0, Some(2)))),
-    ((Ready(0, 2), "ok"), None),
-    ((Ask(0, "delete_all_objects(#0)"), "true"), None),
+    (
+        (Ask(Pid(0), "safe_fixtable(#Tid<0>,true)"), "true"),
+        Nothing,
+    ),
+    ((Ask(Pid(0), "insert(#Tid<0>,{9})"), "true"), ToGrow(Tid(0))),
+    ((Ask(Pid(0), "delete(#Tid<0>,9)"), "true"), ToGrow(Tid(0))),
+    (
+        (Ask(Pid(0), "safe_fixtable(#Tid<0>,false)"), "true"),
+        Nothing,
+    ),
+    ((Ask(Pid(0), "insert(#Tid<0>,{9})"), "true"), ToGrow(Tid(0))),
+    ((Grow(Tid(0)), "ok"), ToReady(Tid(0), Bucket(2))),
+    ((Ready(Tid(0), Bucket(3)), "ok"), ToReady(Tid(0), Bucket(2))),
+    ((Ready(Tid(0), Bucket(2)), "ok"), Nothing),
+    (
+        (Ask(Pid(0), "delete_all_objects(#Tid<0>)"), "true"),
+        Nothing,
+    ),
 ];
 
 /// Returns the place of the first row with another reply or another pending step.
 fn wrong_due_in<H: KeyHash + Copy + Drop>(
     alloc: Global,
     node: &mut Node<H>,
-    rows: &[DueRow],
+    rows: &[PendingRow],
 ) -> Result<Option<usize>, AllocError> {
     for (place, (row, wanted)) in rows.iter().enumerate() {
-        if wrong_in(alloc, node, &[*row])?.is_some() || due(node) != *wanted {
+        if wrong_in(alloc, node, &[*row])?.is_some() || first_pending(node) != *wanted {
             return Ok(Some(place));
         }
     }
@@ -66,7 +98,7 @@ fn wrong_due_in<H: KeyHash + Copy + Drop>(
 fn wrong_due<H: KeyHash + Copy + Drop>(
     alloc: Global,
     hasher: H,
-    rows: &[DueRow],
+    rows: &[PendingRow],
 ) -> Result<Option<usize>, AllocError> {
     let mut node = Node::new(alloc, Limits::usual(), hasher);
     let place = wrong_due_in(alloc, &mut node, rows);
@@ -76,6 +108,6 @@ fn wrong_due<H: KeyHash + Copy + Drop>(
 
 #[test]
 fn the_first_table_with_work_is_due(rt: HostRuntime) {
-    assert_eq!(rt; wrong_due(rt.alloc(), Fnv, &DUE), Ok(None));
-    assert_eq!(rt; wrong_due(rt.alloc(), AllSame, &DUE), Ok(None));
+    assert_eq!(rt; wrong_due(rt.alloc(), Fnv, &STEPS), Ok(None));
+    assert_eq!(rt; wrong_due(rt.alloc(), AllSame, &STEPS), Ok(None));
 }

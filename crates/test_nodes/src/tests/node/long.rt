@@ -6,7 +6,7 @@ mod processes;
 mod runs;
 
 use super::Event::{Ask, Enrol};
-use super::{Row, does, wrong_in};
+use super::{Pid, Row, does, wrong_in};
 use crate::tests::keep_if_ok;
 use ets_term::Fnv;
 use node_core::{Limits, Node};
@@ -46,8 +46,8 @@ fn fill_template(alloc: Global, template: &str, number: u32) -> Result<String, A
 
 /// Process 0 and its table t, a duplicate bag.
 const STARTED: [Row; 2] = [
-    (Enrol(0), "<0"),
-    (Ask(0, "new(t,[named_table,duplicate_bag])"), "t"),
+    (Enrol(Pid(0)), "<0.0.0>"),
+    (Ask(Pid(0), "new(t,[named_table,duplicate_bag])"), "t"),
 ];
 
 /// A trial of a new node.
@@ -94,7 +94,7 @@ fn answers(
     call: &str,
     wanted: &str,
 ) -> Result<bool, AllocError> {
-    does(alloc, node, Ask(0, call), wanted)
+    does(alloc, node, Ask(Pid(0), call), wanted)
 }
 
 /// Returns whether a call has this reply, both templates filled in with a number.

@@ -1,17 +1,17 @@
 use super::Event::{Ask, End, Enrol};
-use super::{Row, wrong, wrong_within};
+use super::{Pid, Row, wrong, wrong_within};
 use node_core::Limits;
 use std::process::Abort;
 
 const ONCE: [Row; 8] = [
-    (Enrol(7), "<7"),
-    (Enrol(7), "** badarg"),
-    (Enrol(4294967295), "<4294967295"),
-    (End(7), "true"),
-    (End(7), "** noproc"),
-    (Enrol(7), "** badarg"),
-    (End(8), "** noproc"),
-    (Ask(7, "new(t,[])"), "** noproc"),
+    (Enrol(Pid(7)), "<0.7.0>"),
+    (Enrol(Pid(7)), "** badarg"),
+    (Enrol(Pid(4294967295)), "<0.4294967295.0>"),
+    (End(Pid(7)), "true"),
+    (End(Pid(7)), "** noproc"),
+    (Enrol(Pid(7)), "** badarg"),
+    (End(Pid(8)), "** noproc"),
+    (Ask(Pid(7), "new(t,[])"), "** noproc"),
 ];
 
 #[test]
@@ -20,12 +20,12 @@ fn a_process_enrols_and_ends_once(rt: HostRuntime) {
 }
 
 const AS_MANY: [Row; 6] = [
-    (Enrol(4), "<4"),
-    (End(4), "true"),
-    (Enrol(5), "<5"),
-    (Enrol(6), "** system_limit"),
-    (Enrol(5), "** badarg"),
-    (Enrol(4), "** badarg"),
+    (Enrol(Pid(4)), "<0.4.0>"),
+    (End(Pid(4)), "true"),
+    (Enrol(Pid(5)), "<0.5.0>"),
+    (Enrol(Pid(6)), "** system_limit"),
+    (Enrol(Pid(5)), "** badarg"),
+    (Enrol(Pid(4)), "** badarg"),
 ];
 
 #[test]

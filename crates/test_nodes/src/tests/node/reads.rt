@@ -1,46 +1,49 @@
 // `read` and `read_into` reply as `step` does, and only to calls that change nothing.
 use super::Event::{Ask, Enrol};
-use super::{Row, ask, is, wrong_in};
+use super::{Pid, Row, ask, is, wrong_in};
 use ets_term::Fnv;
 use node_core::{Limits, Node, Reply, Step};
 use std::alloc::{AllocError, Global};
 use std::process::Abort;
 
 const MADE: [Row; 3] = [
-    (Enrol(0), "<0"),
-    (Ask(0, "new(t,[named_table])"), "t"),
-    (Ask(0, "insert(t,{a,1})"), "true"),
+    (Enrol(Pid(0)), "<0.0.0>"),
+    (Ask(Pid(0), "new(t,[named_table])"), "t"),
+    (Ask(Pid(0), "insert(t,{a,1})"), "true"),
 ];
 
-/// A process, its call, and the reply; the empty text for a call that `read` leaves to `step`.
-type ReadRow = (u32, &'static str, &'static str);
+/// A process, its call, and the reply.
+type ReadRow = (Pid, &'static str, &'static str);
+
+/// In place of the reply to a call that `read` leaves to `step`.
+const LEFT_TO_STEP: &str = "";
 
 const READS: [ReadRow; 25] = [
-    (0, "lookup(t,a)", "[{a,1}]"),
-    (0, "lookup(t,b)", "[]"),
-    (0, "lookup_element(t,a,2)", "1"),
-    (0, "lookup_element(t,b,2)", "** badarg"),
-    (0, "lookup_element(t,b,2,no)", "no"),
-    (0, "member(t,a)", "true"),
-    (0, "tab2list(t)", "[{a,1}]"),
-    (0, "match(t,{a,$1})", "[[1]]"),
-    (0, "match_object(t,{a,_})", "[{a,1}]"),
-    (0, "select(t,[{{$1,1},[],[$1]}])", "[a]"),
-    (0, "select_count(t,[{{$1,1},[],[true]}])", "1"),
-    (0, "first(t)", "a"),
-    (0, "next(t,a)", "$end_of_table"),
-    (0, "first_lookup(t)", "{a,[{a,1}]}"),
-    (0, "next_lookup(t,a)", "$end_of_table"),
-    (0, "whereis(t)", "#0"),
-    (0, "info(t,size)", "1"),
-    (0, "lookup(u,a)", "** badarg"),
-    (1, "lookup(t,a)", "** noproc"),
-    (0, "lookup(t,a)", "[{a,1}]"),
-    (0, "insert(t,{b,2})", ""),
-    (0, "take(t,a)", ""),
-    (1, "delete(t)", ""),
-    (0, "lookup(t)", ""),
-    (0, "lookups(t,a)", ""),
+    (Pid(0), "lookup(t,a)", "[{a,1}]"),
+    (Pid(0), "lookup(t,b)", "[]"),
+    (Pid(0), "lookup_element(t,a,2)", "1"),
+    (Pid(0), "lookup_element(t,b,2)", "** badarg"),
+    (Pid(0), "lookup_element(t,b,2,no)", "no"),
+    (Pid(0), "member(t,a)", "true"),
+    (Pid(0), "tab2list(t)", "[{a,1}]"),
+    (Pid(0), "match(t,{a,'$1'})", "[[1]]"),
+    (Pid(0), "match_object(t,{a,_})", "[{a,1}]"),
+    (Pid(0), "select(t,[{{'$1',1},[],['$1']}])", "[a]"),
+    (Pid(0), "select_count(t,[{{'$1',1},[],[true]}])", "1"),
+    (Pid(0), "first(t)", "a"),
+    (Pid(0), "next(t,a)", "'$end_of_table'"),
+    (Pid(0), "first_lookup(t)", "{a,[{a,1}]}"),
+    (Pid(0), "next_lookup(t,a)", "'$end_of_table'"),
+    (Pid(0), "whereis(t)", "#Tid<0>"),
+    (Pid(0), "info(t,size)", "1"),
+    (Pid(0), "lookup(u,a)", "** badarg"),
+    (Pid(1), "lookup(t,a)", "** noproc"),
+    (Pid(0), "lookup(t,a)", "[{a,1}]"),
+    (Pid(0), "insert(t,{b,2})", LEFT_TO_STEP),
+    (Pid(0), "take(t,a)", LEFT_TO_STEP),
+    (Pid(1), "delete(t)", LEFT_TO_STEP),
+    (Pid(0), "lookup(t)", LEFT_TO_STEP),
+    (Pid(0), "lookups(t,a)", LEFT_TO_STEP),
 ];
 
 /// Returns whether a call by `read` has this reply.

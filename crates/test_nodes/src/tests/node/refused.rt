@@ -1,7 +1,7 @@
 // Out of memory: run with each allocation refused in turn, by `rt try --test --fail-alloc N`. A step that runs out of
 // memory changes nothing, so it has the reply of a first run when it runs again. A test repeats its own allocations.
 use super::Event::{Ask, End, Enrol, Grow, Ready};
-use super::{Event, Row, is, step};
+use super::{Bucket, Event, Pid, Row, Tid, is, step};
 use ets_term::Fnv;
 use node_core::{Limits, Node, Reply, Step};
 use std::alloc::{AllocError, Global};
@@ -53,39 +53,48 @@ fn answers_again(
 }
 
 const LIFE: [Row; 27] = [
-    (Enrol(0), "<0"),
+    (Enrol(Pid(0)), "<0.0.0>"),
     (
-        Ask(0, "new(a_name_that_is_longer_than_its_place,[named_table])"),
+        Ask(
+            Pid(0),
+            "new(a_name_that_is_longer_than_its_place,[named_table])",
+        ),
         "a_name_that_is_longer_than_its_place",
     ),
-    (Ask(0, "new(u,[bag])"), "#1"),
-    (Ask(0, "insert(#0,[{k,1},{l,1}])"), "true"),
-    (Ask(0, "insert(#0,{k,2})"), "true"),
-    (Ask(0, "insert_new(#0,{k,3})"), "false"),
-    (Ask(0, "lookup(#0,k)"), "[{k,2}]"),
-    (Ask(0, "insert(#1,[{k,1},{k,2}])"), "true"),
-    (Ask(0, "insert(#1,{k,2})"), "true"),
-    (Ask(0, "lookup_element(#1,k,2)"), "[1,2]"),
-    (Ask(0, "take(#1,k)"), "[{k,1},{k,2}]"),
-    (Ask(0, "tab2list(#0)"), "~[{k,2},{l,1}]"),
-    (Grow(0), "ok"),
-    (Ready(0, 3), "ok"),
-    (Ask(0, "safe_fixtable(#0,true)"), "true"),
-    (Ask(0, "delete(#0,l)"), "true"),
-    (Ask(0, "first(#0)"), "k"),
-    (Ask(0, "member(#0,l)"), "false"),
-    (Enrol(1), "<1"),
-    (Enrol(2), "<2"),
-    (Ask(0, "give_away(#1,<1,{a,gift})"), "true"),
-    (Ask(0, "setopts(#0,{heir,<2,{an,heir}})"), "true"),
-    (Ask(0, "info(#0,heir)"), "<2"),
-    (End(0), "true"),
-    (Ask(1, "receive()"), "[{ETS-TRANSFER,#1,<0,{a,gift}}]"),
+    (Ask(Pid(0), "new(u,[bag])"), "#Tid<1>"),
+    (Ask(Pid(0), "insert(#Tid<0>,[{k,1},{l,1}])"), "true"),
+    (Ask(Pid(0), "insert(#Tid<0>,{k,2})"), "true"),
+    (Ask(Pid(0), "insert_new(#Tid<0>,{k,3})"), "false"),
+    (Ask(Pid(0), "lookup(#Tid<0>,k)"), "[{k,2}]"),
+    (Ask(Pid(0), "insert(#Tid<1>,[{k,1},{k,2}])"), "true"),
+    (Ask(Pid(0), "insert(#Tid<1>,{k,2})"), "true"),
+    (Ask(Pid(0), "lookup_element(#Tid<1>,k,2)"), "[1,2]"),
+    (Ask(Pid(0), "take(#Tid<1>,k)"), "[{k,1},{k,2}]"),
+    (Ask(Pid(0), "tab2list(#Tid<0>)"), "any order: [{k,2},{l,1}]"),
+    (Grow(Tid(0)), "ok"),
+    (Ready(Tid(0), Bucket(3)), "ok"),
+    (Ask(Pid(0), "safe_fixtable(#Tid<0>,true)"), "true"),
+    (Ask(Pid(0), "delete(#Tid<0>,l)"), "true"),
+    (Ask(Pid(0), "first(#Tid<0>)"), "k"),
+    (Ask(Pid(0), "member(#Tid<0>,l)"), "false"),
+    (Enrol(Pid(1)), "<0.1.0>"),
+    (Enrol(Pid(2)), "<0.2.0>"),
+    (Ask(Pid(0), "give_away(#Tid<1>,<0.1.0>,{a,gift})"), "true"),
     (
-        Ask(2, "receive()"),
-        "[{ETS-TRANSFER,a_name_that_is_longer_than_its_place,<0,{an,heir}}]",
+        Ask(Pid(0), "setopts(#Tid<0>,{heir,<0.2.0>,{an,heir}})"),
+        "true",
     ),
-    (Ask(2, "info(#0,fixed)"), "false"),
+    (Ask(Pid(0), "info(#Tid<0>,heir)"), "<0.2.0>"),
+    (End(Pid(0)), "true"),
+    (
+        Ask(Pid(1), "receive()"),
+        "[{'ETS-TRANSFER',#Tid<1>,<0.0.0>,{a,gift}}]",
+    ),
+    (
+        Ask(Pid(2), "receive()"),
+        "[{'ETS-TRANSFER',a_name_that_is_longer_than_its_place,<0.0.0>,{an,heir}}]",
+    ),
+    (Ask(Pid(2), "info(#Tid<0>,fixed)"), "false"),
 ];
 
 /// Returns the place of the first row with another reply. Runs each step that runs out of memory again.
@@ -117,23 +126,23 @@ fn a_refused_step_is_done_again(rt: HostRuntime) {
 
 /// Lists over lists of the same and of another length, with objects of the same and of another shape.
 const OVER: [Row; 14] = [
-    (Enrol(0), "<0"),
-    (Ask(0, "new(t,[named_table,bag])"), "t"),
+    (Enrol(Pid(0)), "<0.0.0>"),
+    (Ask(Pid(0), "new(t,[named_table,bag])"), "t"),
     (
-        Ask(0, "insert(t,[{a,1},{a,{b,[c]}},{b,2},{c,3,4}])"),
+        Ask(Pid(0), "insert(t,[{a,1},{a,{b,[c]}},{b,2},{c,3,4}])"),
         "true",
     ),
-    (Ask(0, "lookup(t,b)"), "[{b,2}]"),
-    (Ask(0, "lookup(t,c)"), "[{c,3,4}]"),
-    (Ask(0, "lookup(t,b)"), "[{b,2}]"),
-    (Ask(0, "lookup(t,a)"), "[{a,1},{a,{b,[c]}}]"),
-    (Ask(0, "lookup(t,a)"), "[{a,1},{a,{b,[c]}}]"),
-    (Ask(0, "lookup(t,d)"), "[]"),
-    (Ask(0, "member(t,b)"), "true"),
-    (Ask(0, "lookup(u,b)"), "** badarg"),
-    (Ask(0, "lookup(t,c)"), "[{c,3,4}]"),
-    (Ask(1, "lookup(t,c)"), "** noproc"),
-    (Ask(0, "lookup(t,b)"), "[{b,2}]"),
+    (Ask(Pid(0), "lookup(t,b)"), "[{b,2}]"),
+    (Ask(Pid(0), "lookup(t,c)"), "[{c,3,4}]"),
+    (Ask(Pid(0), "lookup(t,b)"), "[{b,2}]"),
+    (Ask(Pid(0), "lookup(t,a)"), "[{a,1},{a,{b,[c]}}]"),
+    (Ask(Pid(0), "lookup(t,a)"), "[{a,1},{a,{b,[c]}}]"),
+    (Ask(Pid(0), "lookup(t,d)"), "[]"),
+    (Ask(Pid(0), "member(t,b)"), "true"),
+    (Ask(Pid(0), "lookup(u,b)"), "** badarg"),
+    (Ask(Pid(0), "lookup(t,c)"), "[{c,3,4}]"),
+    (Ask(Pid(1), "lookup(t,c)"), "** noproc"),
+    (Ask(Pid(0), "lookup(t,b)"), "[{b,2}]"),
 ];
 
 /// Returns whether a step writes this reply over another. After out of memory the reply must be `NoProcess`.

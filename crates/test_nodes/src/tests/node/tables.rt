@@ -1,16 +1,16 @@
 use super::Event::{Ask, Enrol};
-use super::{Row, term, wrong_in, wrong_within};
+use super::{Pid, Row, Tid, term, wrong_in, wrong_within};
 use ets_term::{Fnv, Term};
 use node_core::{Limits, Node};
 use std::alloc::{AllocError, Global};
 use std::process::Abort;
 
 const AS_MANY: [Row; 5] = [
-    (Enrol(0), "<0"),
-    (Ask(0, "new(t,[named_table])"), "t"),
-    (Ask(0, "new(u,[])"), "** system_limit"),
-    (Ask(0, "new(t,[named_table])"), "** badarg"),
-    (Ask(0, "new(u,[heap])"), "** badarg"),
+    (Enrol(Pid(0)), "<0.0.0>"),
+    (Ask(Pid(0), "new(t,[named_table])"), "t"),
+    (Ask(Pid(0), "new(u,[])"), "** system_limit"),
+    (Ask(Pid(0), "new(t,[named_table])"), "** badarg"),
+    (Ask(Pid(0), "new(u,[heap])"), "** badarg"),
 ];
 
 #[test]
@@ -24,10 +24,14 @@ fn as_many_are_made_as_the_limit(rt: HostRuntime) {
 }
 
 const TWO: [Row; 3] = [
-    (Enrol(0), "<0"),
-    (Ask(0, "new(t,[named_table])"), "t"),
-    (Ask(0, "new(u,[])"), "#1"),
+    (Enrol(Pid(0)), "<0.0.0>"),
+    (Ask(Pid(0), "new(t,[named_table])"), "t"),
+    (Ask(Pid(0), "new(u,[])"), "#Tid<1>"),
 ];
+
+fn tid_of(id: Option<u32>) -> Option<Tid> {
+    Some(Tid(id?))
+}
 
 /// Returns the identifier of the table that a term names after these steps.
 fn resolve_after(
@@ -35,13 +39,13 @@ fn resolve_after(
     node: &mut Node<Fnv>,
     rows: &[Row],
     named: &Term,
-) -> Result<Option<u32>, AllocError> {
+) -> Result<Option<Tid>, AllocError> {
     let _made = wrong_in(alloc, node, rows)?;
-    Ok(node.resolve(named))
+    Ok(tid_of(node.resolve(named)))
 }
 
 /// Does so with a new node.
-fn resolve_in_new(alloc: Global, rows: &[Row], named: &Term) -> Result<Option<u32>, AllocError> {
+fn resolve_in_new(alloc: Global, rows: &[Row], named: &Term) -> Result<Option<Tid>, AllocError> {
     let mut node = Node::new(alloc, Limits::usual(), Fnv);
     let resolved = resolve_after(alloc, &mut node, rows, named);
     drop(node);
@@ -49,7 +53,7 @@ fn resolve_in_new(alloc: Global, rows: &[Row], named: &Term) -> Result<Option<u3
 }
 
 /// Does so after the steps that make a table named t, and one without a name.
-fn resolve(alloc: Global, named: &str) -> Result<Option<u32>, AllocError> {
+fn resolve(alloc: Global, named: &str) -> Result<Option<Tid>, AllocError> {
     let named = term(alloc, named)?;
     let resolved = resolve_in_new(alloc, &TWO, &named);
     drop(named);
@@ -57,12 +61,12 @@ fn resolve(alloc: Global, named: &str) -> Result<Option<u32>, AllocError> {
 }
 
 /// What a term names in a node with these two tables.
-const NAMED: [(&str, Option<u32>); 7] = [
-    ("t", Some(0)),
-    ("#0", Some(0)),
-    ("#1", Some(1)),
+const NAMED: [(&str, Option<Tid>); 7] = [
+    ("t", Some(Tid(0))),
+    ("#Tid<0>", Some(Tid(0))),
+    ("#Tid<1>", Some(Tid(1))),
     ("u", None),
-    ("#2", None),
+    ("#Tid<2>", None),
     ("0", None),
     ("[t]", None),
 ];
@@ -70,7 +74,7 @@ const NAMED: [(&str, Option<u32>); 7] = [
 /// Returns the first term that names another table.
 fn wrong_named(
     alloc: Global,
-    rows: &[(&'static str, Option<u32>)],
+    rows: &[(&'static str, Option<Tid>)],
 ) -> Result<Option<&'static str>, AllocError> {
     for (named, wanted) in rows {
         if resolve(alloc, *named)? != *wanted {
@@ -86,20 +90,20 @@ fn names_and_identifiers_are_resolved(rt: HostRuntime) {
 }
 
 const REFUSED: [Row; 4] = [
-    (Enrol(0), "<0"),
-    (Ask(0, "new(t,[named_table])"), "t"),
-    (Ask(0, "new(u,[])"), "#1"),
-    (Ask(0, "new(t,[named_table])"), "** badarg"),
+    (Enrol(Pid(0)), "<0.0.0>"),
+    (Ask(Pid(0), "new(t,[named_table])"), "t"),
+    (Ask(Pid(0), "new(u,[])"), "#Tid<1>"),
+    (Ask(Pid(0), "new(t,[named_table])"), "** badarg"),
 ];
 
 /// Returns the next identifier after these steps.
-fn next_after(alloc: Global, node: &mut Node<Fnv>, rows: &[Row]) -> Result<u32, AllocError> {
+fn next_after(alloc: Global, node: &mut Node<Fnv>, rows: &[Row]) -> Result<Tid, AllocError> {
     let _made = wrong_in(alloc, node, rows)?;
-    Ok(node.next_identifier())
+    Ok(Tid(node.next_identifier()))
 }
 
 /// Returns the next identifier of a node that made two tables and refused a third.
-fn next(alloc: Global) -> Result<u32, AllocError> {
+fn next(alloc: Global) -> Result<Tid, AllocError> {
     let mut node = Node::new(alloc, Limits::usual(), Fnv);
     let next = next_after(alloc, &mut node, &REFUSED);
     drop(node);
@@ -108,5 +112,5 @@ fn next(alloc: Global) -> Result<u32, AllocError> {
 
 #[test]
 fn a_refused_table_takes_no_identifier(rt: HostRuntime) {
-    assert_eq!(rt; next(rt.alloc()), Ok(2));
+    assert!(rt; next(rt.alloc()) == Ok(Tid(2)));
 }

@@ -1,6 +1,6 @@
 // `run` and `run_through` answer each step, a refused one too, if there is memory.
 use super::Event::{Ask, End, Enrol, Grow, Ready};
-use super::{Row, is, step};
+use super::{Bucket, Pid, Row, Tid, is, step};
 use crate::tests::keep_if_ok;
 use ets_term::Fnv;
 use node_core::{Limits, Node, Reply, Step};
@@ -9,22 +9,22 @@ use std::process::Abort;
 
 /// Each kind of step, answered and refused.
 const LIFE: [Row; 16] = [
-    (Enrol(0), "<0"),
-    (Enrol(0), "** badarg"),
-    (Ask(0, "new(t,[named_table])"), "t"),
-    (Ask(0, "new(t,[named_table])"), "** badarg"),
-    (Ask(0, "insert(t,[{a,1},{b,2},{c,3}])"), "true"),
-    (Ask(0, "insert_new(t,{a,4})"), "false"),
-    (Ask(0, "update_counter(t,c,[{2,1},{2,1}])"), "[4,5]"),
-    (Ask(1, "lookup(t,a)"), "** noproc"),
-    (Grow(0), "ok"),
-    (Ready(0, 3), "ok"),
-    (Ready(1, 0), "** badarg"),
-    (Ask(0, "take(t,b)"), "[{b,2}]"),
-    (Ask(0, "take(t,b)"), "[]"),
-    (Ask(0, "tab2list(t)"), "~[{a,1},{c,5}]"),
-    (End(0), "true"),
-    (End(0), "** noproc"),
+    (Enrol(Pid(0)), "<0.0.0>"),
+    (Enrol(Pid(0)), "** badarg"),
+    (Ask(Pid(0), "new(t,[named_table])"), "t"),
+    (Ask(Pid(0), "new(t,[named_table])"), "** badarg"),
+    (Ask(Pid(0), "insert(t,[{a,1},{b,2},{c,3}])"), "true"),
+    (Ask(Pid(0), "insert_new(t,{a,4})"), "false"),
+    (Ask(Pid(0), "update_counter(t,c,[{2,1},{2,1}])"), "[4,5]"),
+    (Ask(Pid(1), "lookup(t,a)"), "** noproc"),
+    (Grow(Tid(0)), "ok"),
+    (Ready(Tid(0), Bucket(3)), "ok"),
+    (Ready(Tid(1), Bucket(0)), "** badarg"),
+    (Ask(Pid(0), "take(t,b)"), "[{b,2}]"),
+    (Ask(Pid(0), "take(t,b)"), "[]"),
+    (Ask(Pid(0), "tab2list(t)"), "any order: [{a,1},{c,5}]"),
+    (End(Pid(0)), "true"),
+    (End(Pid(0)), "** noproc"),
 ];
 
 fn push_steps(alloc: Global, steps: &mut Vec<Step>, rows: &[Row]) -> Result<(), AllocError> {
@@ -86,10 +86,10 @@ fn every_step_is_answered_where_there_is_memory(rt: HostRuntime) {
 
 /// Starts a process twice and ends it twice.
 const TWICE: [Row; 4] = [
-    (Enrol(0), "<0"),
-    (Enrol(0), "** badarg"),
-    (End(0), "true"),
-    (End(0), "** noproc"),
+    (Enrol(Pid(0)), "<0.0.0>"),
+    (Enrol(Pid(0)), "** badarg"),
+    (End(Pid(0)), "true"),
+    (End(Pid(0)), "** noproc"),
 ];
 
 /// Returns the place of the first row with another reply, or without one.

@@ -1,14 +1,19 @@
 // Traversals among the steps of others: the result of each, and the state that it leaves. The rules give the wanted
 // values.
-use super::Event::{Ask, Enrol};
-use super::{Event, Row, does, has_items, term, wrong_in};
+use super::Event::Ask;
+use super::{Pid, Row, does, has_items, term, wrong_in};
 use ets_term::{AllSame, Fnv, KeyHash, Term};
 use node_core::{Limits, Node, Others, Walk, WalkFault, walk_among};
 use plan_follower::{Plan, PlanFollower};
+use starts::{
+    ASKS, CLEARS, EMPTY, ENDED, ENDS, ENROLS, FREE, GONE, HIDDEN, MADE_ANEW, NINE, ONE, SEVENTY,
+    TWO,
+};
 use std::alloc::{AllocError, Global};
 use std::process::Abort;
 
 mod plan_follower;
+mod starts;
 
 /// A walk over the table t: the steps before it, the process that walks, its limit, and what others do meanwhile.
 #[derive(Clone, Copy)]
@@ -19,8 +24,12 @@ struct WalkTrial<'a> {
     plan: Plan,
 }
 
+/// How many keys the others saw.
+#[derive(Clone, Copy, PartialEq, Eq)]
+struct KeysSeen(usize);
+
 /// The keys of a walk as a list, or its fault; and how many keys the others saw.
-type Outcome = (Result<Term, WalkFault>, usize);
+type Outcome = (Result<Term, WalkFault>, KeysSeen);
 
 /// Walks, if each step before the walk has the reply of its row.
 fn walk<H: KeyHash + Copy + Drop>(
@@ -45,7 +54,7 @@ fn walk_over<H: KeyHash + Copy + Drop>(
 ) -> Outcome {
     let mut others = PlanFollower::new(alloc, tried.plan);
     let walked = walk_among(node, tried.walker, table, tried.limit, &mut others);
-    let seen = others.seen().len();
+    let seen = KeysSeen(others.seen().len());
     drop(others);
     (keys_of(walked), seen)
 }
@@ -90,8 +99,12 @@ fn walk_finds<H: KeyHash + Copy + Drop>(
     comes
 }
 
-/// The fault of a walk, how many keys the others saw, and whether a step after it has the reply of its row.
-type End = (Option<WalkFault>, usize, bool);
+/// Whether a step after the walk has the reply of its row.
+#[derive(Clone, Copy, PartialEq, Eq)]
+struct ThenReplied(bool);
+
+/// How a walk ends.
+type End = (Option<WalkFault>, KeysSeen, ThenReplied);
 
 fn end_in<H: KeyHash + Copy + Drop>(
     alloc: Global,
@@ -103,7 +116,7 @@ fn end_in<H: KeyHash + Copy + Drop>(
     let fault = walked.err();
     let (event, wanted) = then;
     match does(alloc, node, event, wanted) {
-        Ok(stands) => Ok((fault, seen, stands)),
+        Ok(replied) => Ok((fault, seen, ThenReplied(replied))),
         Err(error) => {
             drop(fault);
             Err(error)
@@ -124,40 +137,6 @@ fn end<H: KeyHash + Copy + Drop>(
     end
 }
 
-/// The table is fixed no more.
-const FREE: Row = (Ask(0, "info(t,fixed)"), "false");
-
-/// The public table t of process 0, and process 1.
-const EMPTY: [Row; 3] = [
-    (Enrol(0), "<0"),
-    (Enrol(1), "<1"),
-    (Ask(0, "new(t,[named_table,public])"), "t"),
-];
-
-const ONE: [Row; 4] = [
-    (Enrol(0), "<0"),
-    (Enrol(1), "<1"),
-    (Ask(0, "new(t,[named_table,public])"), "t"),
-    (Ask(0, "insert(t,{1})"), "true"),
-];
-
-const TWO: [Row; 4] = [
-    (Enrol(0), "<0"),
-    (Enrol(1), "<1"),
-    (Ask(0, "new(t,[named_table,public])"), "t"),
-    (Ask(0, "insert(t,[{1,a},{2,b}])"), "true"),
-];
-
-const NINE: [Row; 4] = [
-    (Enrol(0), "<0"),
-    (Enrol(1), "<1"),
-    (Ask(0, "new(t,[named_table,public])"), "t"),
-    (
-        Ask(0, "insert(t,[{1},{2},{3},{4},{5},{6},{7},{8},{9}])"),
-        "true",
-    ),
-];
-
 const KEYS_AGAIN: WalkTrial<'static> = WalkTrial {
     rows: &NINE,
     walker: 0,
@@ -171,19 +150,6 @@ fn keys_that_go_and_come_again_are_walked_once(rt: HostRuntime) {
     assert!(rt; walk_finds(rt.alloc(), Fnv, KEYS_AGAIN, all) == Ok(true));
     assert!(rt; walk_finds(rt.alloc(), AllSame, KEYS_AGAIN, all) == Ok(true));
 }
-
-const SEVENTY: [Row; 4] = [
-    (Enrol(0), "<0"),
-    (Enrol(7), "<7"),
-    (Ask(0, "new(t,[named_table])"), "t"),
-    (
-        Ask(
-            0,
-            "insert(t,[{1},{2},{3},{4},{5},{6},{7},{8},{9},{10},{11},{12},{13},{14},{15},{16},{17},{18},{19},{20},{21},{22},{23},{24},{25},{26},{27},{28},{29},{30},{31},{32},{33},{34},{35},{36},{37},{38},{39},{40},{41},{42},{43},{44},{45},{46},{47},{48},{49},{50},{51},{52},{53},{54},{55},{56},{57},{58},{59},{60},{61},{62},{63},{64},{65},{66},{67},{68},{69},{70}])",
-        ),
-        "true",
-    ),
-];
 
 const BY_ANOTHER: WalkTrial<'static> = WalkTrial {
     rows: &SEVENTY,
@@ -208,36 +174,13 @@ const FURTHER: WalkTrial<'static> = WalkTrial {
 
 #[test]
 fn a_key_past_the_limit_ends_the_walk(rt: HostRuntime) {
-    let past = (Some(WalkFault::LimitReached), 5, true);
+    let past = (
+        Some(WalkFault::LimitReached),
+        KeysSeen(5),
+        ThenReplied(true),
+    );
     assert!(rt; end(rt.alloc(), AllSame, FURTHER, FREE) == Ok(past));
 }
-
-const GONE: [Event; 1] = [Ask(1, "delete(t)")];
-
-const MADE_ANEW: [Event; 3] = [
-    Ask(1, "delete(t)"),
-    Ask(1, "new(t,[named_table,public])"),
-    Ask(1, "insert(t,[{1,a},{2,b}])"),
-];
-
-/// A step of the walker among others.
-const ENROLS: [Event; 3] = [
-    Ask(1, "insert(t,{3,c})"),
-    Enrol(0),
-    Ask(1, "insert(t,{4,d})"),
-];
-
-const ENDS: [Event; 3] = [
-    Ask(1, "insert(t,{3,c})"),
-    Event::End(0),
-    Ask(1, "insert(t,{4,d})"),
-];
-
-const ASKS: [Event; 3] = [
-    Ask(1, "insert(t,{3,c})"),
-    Ask(0, "delete(t)"),
-    Ask(1, "insert(t,{4,d})"),
-];
 
 /// What others do in a walk over two keys, and a step after it with its reply.
 type Stop = (Plan, Row);
@@ -264,16 +207,19 @@ fn stops(alloc: Global, stop: Stop, wanted: &WalkFault) -> Result<bool, AllocErr
         limit: 9,
         plan,
     };
-    let (fault, _, stands) = end(alloc, Fnv, tried, then)?;
+    let (fault, _, then) = end(alloc, Fnv, tried, then)?;
     let same = fault.as_ref() == Some(wanted);
     drop(fault);
-    Ok(same && stands)
+    Ok(same && then.0)
 }
 
 const LOST: [Stop; 3] = [
-    (Plan::Always(&GONE), (Ask(0, "whereis(t)"), "undefined")),
+    (
+        Plan::Always(&GONE),
+        (Ask(Pid(0), "whereis(t)"), "undefined"),
+    ),
     (Plan::Always(&MADE_ANEW), FREE),
-    (Plan::Always(&MADE_ANEW), (Ask(0, "info(t,size)"), "2")),
+    (Plan::Always(&MADE_ANEW), (Ask(Pid(0), "info(t,size)"), "2")),
 ];
 
 #[test]
@@ -281,7 +227,7 @@ fn a_table_that_goes_is_lost(rt: HostRuntime) {
     assert_eq!(rt; wrong_stop(rt.alloc(), &WalkFault::Lost, &LOST), Ok(None));
 }
 
-const LEFT: Row = (Ask(0, "tab2list(t)"), "~[{1,a},{2,b},{3,c}]");
+const LEFT: Row = (Ask(Pid(0), "tab2list(t)"), "any order: [{1,a},{2,b},{3,c}]");
 
 const OWN_STEPS: [Stop; 6] = [
     (Plan::Always(&ENROLS), LEFT),
@@ -306,8 +252,6 @@ fn want_of_memory_ends_the_walk(rt: HostRuntime) {
     assert_eq!(rt; wrong_stop(rt.alloc(), &WalkFault::Memory, &rows), Ok(None));
 }
 
-const CLEARS: [Event; 1] = [Ask(1, "delete_all_objects(t)")];
-
 const EMPTIED: WalkTrial<'static> = WalkTrial {
     rows: &TWO,
     walker: 0,
@@ -317,21 +261,8 @@ const EMPTIED: WalkTrial<'static> = WalkTrial {
 
 #[test]
 fn a_table_that_is_emptied_has_one_key(rt: HostRuntime) {
-    assert!(rt; end(rt.alloc(), Fnv, EMPTIED, FREE) == Ok((None, 1, true)));
+    assert!(rt; end(rt.alloc(), Fnv, EMPTIED, FREE) == Ok((None, KeysSeen(1), ThenReplied(true))));
 }
-
-const HIDDEN: [Row; 3] = [
-    (Enrol(0), "<0"),
-    (Enrol(1), "<1"),
-    (Ask(1, "new(t,[named_table,private])"), "t"),
-];
-
-const ENDED: [Row; 4] = [
-    (Enrol(0), "<0"),
-    (Enrol(1), "<1"),
-    (Ask(1, "new(t,[named_table])"), "t"),
-    (Event::End(0), "true"),
-];
 
 /// Returns the fault of a walk.
 fn fault_of(alloc: Global, rows: &[Row], limit: u32) -> Result<Option<WalkFault>, AllocError> {

@@ -1,82 +1,82 @@
 use super::Event::{End, Enrol, Fix, Info, New, Receive, Resolve, Set};
-use super::{Row, wrong_life};
+use super::{DONE, Pid, Row, Tid, wrong_life};
 use std::process::Abort;
 
 /// A living heir inherits.
 const INHERITED: [Row; 11] = [
-    (Enrol(0), "{}"),
-    (Enrol(1), "{}"),
-    (New(0, "t", "[named_table,{heir,<1,gift}]"), "t"),
-    (End(0), "{}"),
-    (Receive(1), "[{ETS-TRANSFER,t,<0,gift}]"),
-    (Info(0, "owner"), "<1"),
-    (Receive(1), "[]"),
-    (End(1), "{}"),
-    (Info(0, "size"), "undefined"),
+    (Enrol(Pid(0)), DONE),
+    (Enrol(Pid(1)), DONE),
+    (New(Pid(0), "t", "[named_table,{heir,<0.1.0>,gift}]"), "t"),
+    (End(Pid(0)), DONE),
+    (Receive(Pid(1)), "[{'ETS-TRANSFER',t,<0.0.0>,gift}]"),
+    (Info(Tid(0), "owner"), "<0.1.0>"),
+    (Receive(Pid(1)), "[]"),
+    (End(Pid(1)), DONE),
+    (Info(Tid(0), "size"), "undefined"),
     (Resolve("t"), "none"),
-    (End(1), "** noproc"),
+    (End(Pid(1)), "** noproc"),
 ];
 
 /// Tables without a living heir are deleted.
 const NO_HEIR: [Row; 12] = [
-    (Enrol(0), "{}"),
-    (Enrol(1), "{}"),
-    (New(0, "t", "[named_table,{heir,<1,gift}]"), "t"),
-    (New(0, "u", "[named_table,{heir,<0,own}]"), "u"),
-    (New(0, "v", "[{heir,<7,unknown}]"), "#2"),
-    (New(1, "w", "[]"), "#3"),
-    (End(1), "{}"),
-    (End(0), "{}"),
+    (Enrol(Pid(0)), DONE),
+    (Enrol(Pid(1)), DONE),
+    (New(Pid(0), "t", "[named_table,{heir,<0.1.0>,gift}]"), "t"),
+    (New(Pid(0), "u", "[named_table,{heir,<0.0.0>,own}]"), "u"),
+    (New(Pid(0), "v", "[{heir,<0.7.0>,unknown}]"), "#Tid<2>"),
+    (New(Pid(1), "w", "[]"), "#Tid<3>"),
+    (End(Pid(1)), DONE),
+    (End(Pid(0)), DONE),
     (Resolve("t"), "none"),
     (Resolve("u"), "none"),
-    (Resolve("#2"), "none"),
-    (Resolve("#3"), "none"),
+    (Resolve("#Tid<2>"), "none"),
+    (Resolve("#Tid<3>"), "none"),
 ];
 
 /// Messages come in order of creation.
 const IN_ORDER: [Row; 11] = [
-    (Enrol(0), "{}"),
-    (Enrol(1), "{}"),
-    (Enrol(2), "{}"),
-    (New(0, "a", "[{heir,<1,1}]"), "#0"),
-    (New(0, "b", "[{heir,<2,2}]"), "#1"),
-    (New(1, "c", "[]"), "#2"),
-    (New(0, "d", "[named_table,{heir,<1,[x]}]"), "d"),
-    (End(0), "{}"),
+    (Enrol(Pid(0)), DONE),
+    (Enrol(Pid(1)), DONE),
+    (Enrol(Pid(2)), DONE),
+    (New(Pid(0), "a", "[{heir,<0.1.0>,1}]"), "#Tid<0>"),
+    (New(Pid(0), "b", "[{heir,<0.2.0>,2}]"), "#Tid<1>"),
+    (New(Pid(1), "c", "[]"), "#Tid<2>"),
+    (New(Pid(0), "d", "[named_table,{heir,<0.1.0>,[x]}]"), "d"),
+    (End(Pid(0)), DONE),
     (
-        Receive(1),
-        "[{ETS-TRANSFER,#0,<0,1},{ETS-TRANSFER,d,<0,[x]}]",
+        Receive(Pid(1)),
+        "[{'ETS-TRANSFER',#Tid<0>,<0.0.0>,1},{'ETS-TRANSFER',d,<0.0.0>,[x]}]",
     ),
-    (Receive(2), "[{ETS-TRANSFER,#1,<0,2}]"),
-    (Info(3, "heir"), "<1"),
+    (Receive(Pid(2)), "[{'ETS-TRANSFER',#Tid<1>,<0.0.0>,2}]"),
+    (Info(Tid(3), "heir"), "<0.1.0>"),
 ];
 
 /// An exit releases the fixes of its process.
 const FIXES: [Row; 12] = [
-    (Enrol(0), "{}"),
-    (Enrol(1), "{}"),
-    (Enrol(2), "{}"),
-    (New(0, "t", "[public,{heir,<2,x}]"), "#0"),
-    (Fix(0, 0), "{}"),
-    (Fix(1, 0), "{}"),
-    (End(1), "{}"),
-    (Info(0, "fixed"), "true"),
-    (Set(0, 0, "[]"), "{}"),
-    (End(0), "{}"),
-    (Info(0, "fixed"), "false"),
-    (Info(0, "owner"), "<2"),
+    (Enrol(Pid(0)), DONE),
+    (Enrol(Pid(1)), DONE),
+    (Enrol(Pid(2)), DONE),
+    (New(Pid(0), "t", "[public,{heir,<0.2.0>,x}]"), "#Tid<0>"),
+    (Fix(Pid(0), Tid(0)), DONE),
+    (Fix(Pid(1), Tid(0)), DONE),
+    (End(Pid(1)), DONE),
+    (Info(Tid(0), "fixed"), "true"),
+    (Set(Pid(0), Tid(0), "[]"), DONE),
+    (End(Pid(0)), DONE),
+    (Info(Tid(0), "fixed"), "false"),
+    (Info(Tid(0), "owner"), "<0.2.0>"),
 ];
 
 /// A number is enrolled once.
 const ENROLLED: [Row; 8] = [
-    (Enrol(7), "{}"),
-    (Enrol(7), "** badarg"),
-    (Enrol(0), "{}"),
-    (End(0), "{}"),
-    (Enrol(0), "** badarg"),
-    (Enrol(4294967295), "{}"),
-    (Enrol(1), "** system_limit"),
-    (End(1), "** noproc"),
+    (Enrol(Pid(7)), DONE),
+    (Enrol(Pid(7)), "** badarg"),
+    (Enrol(Pid(0)), DONE),
+    (End(Pid(0)), DONE),
+    (Enrol(Pid(0)), "** badarg"),
+    (Enrol(Pid(4294967295)), DONE),
+    (Enrol(Pid(1)), "** system_limit"),
+    (End(Pid(1)), "** noproc"),
 ];
 
 const LIVES: [&[Row]; 5] = [&INHERITED, &NO_HEIR, &IN_ORDER, &FIXES, &ENROLLED];

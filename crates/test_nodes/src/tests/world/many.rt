@@ -5,13 +5,15 @@ use ownership::{World, WorldFault};
 use std::alloc::Global;
 use std::process::Abort;
 
+/// How many processes enrol, and how many tables they make.
 const MANY: u32 = 300;
 
+/// In place of the owner of a table that does not exist.
 const GONE: u32 = 1_000;
 
 /// Makes a table of the process, with this heir.
 fn make(alloc: Global, world: &mut Tables, pid: u32, heir: u32) -> Result<(), WorldFault> {
-    let options = format!(in alloc; "[{{heir,<{heir},1}}]")?;
+    let options = format!(in alloc; "[{{heir,<0.{heir}.0>,1}}]")?;
     let made = new_table(alloc, world, pid, "t", options.as_str());
     drop(options);
     drop(made?);

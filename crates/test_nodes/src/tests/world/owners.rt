@@ -1,69 +1,69 @@
-use super::Event::{Drop, End, Enrol, Give, Info, May, New, Receive, Resolve, Set};
-use super::{Row, wrong_life};
+use super::Event::{Drop, End, Enrol, Give, Info, New, Receive, Resolve, Rights, Set};
+use super::{DONE, Pid, Row, Tid, wrong_life};
 use std::process::Abort;
 
 /// An owner gives its table away.
 const GIVEN: [Row; 14] = [
-    (Enrol(0), "{}"),
-    (Enrol(1), "{}"),
-    (New(0, "x", "[]"), "#0"),
-    (Give(1, 0, 1, "g"), "** badarg"),
-    (Give(0, 0, 0, "g"), "** badarg"),
-    (Give(0, 0, 2, "g"), "** badarg"),
-    (Give(0, 1, 1, "g"), "** badarg"),
-    (Give(0, 0, 1, "g"), "{}"),
-    (Receive(1), "[{ETS-TRANSFER,#0,<0,g}]"),
-    (May(0, 0), "[1,0,0]"),
-    (May(1, 0), "[1,1,1]"),
+    (Enrol(Pid(0)), DONE),
+    (Enrol(Pid(1)), DONE),
+    (New(Pid(0), "x", "[]"), "#Tid<0>"),
+    (Give(Pid(1), Tid(0), Pid(1), "g"), "** badarg"),
+    (Give(Pid(0), Tid(0), Pid(0), "g"), "** badarg"),
+    (Give(Pid(0), Tid(0), Pid(2), "g"), "** badarg"),
+    (Give(Pid(0), Tid(1), Pid(1), "g"), "** badarg"),
+    (Give(Pid(0), Tid(0), Pid(1), "g"), DONE),
+    (Receive(Pid(1)), "[{'ETS-TRANSFER',#Tid<0>,<0.0.0>,g}]"),
+    (Rights(Pid(0), Tid(0)), "[read]"),
+    (Rights(Pid(1), Tid(0)), "[read,write,own]"),
     (Resolve("x"), "none"),
-    (End(0), "{}"),
-    (Info(0, "owner"), "<1"),
+    (End(Pid(0)), DONE),
+    (Info(Tid(0), "owner"), "<0.1.0>"),
 ];
 
 /// An owner sets the heir.
 const HEIRS: [Row; 13] = [
-    (Enrol(0), "{}"),
-    (Enrol(1), "{}"),
-    (New(0, "t", "[named_table]"), "t"),
-    (Set(0, 0, "[{heir,<1,a},{heir,none}]"), "{}"),
-    (Info(0, "heir"), "none"),
-    (Set(0, 0, "{heir,<1,a}"), "{}"),
-    (Info(0, "heir"), "<1"),
-    (Set(1, 0, "[]"), "** badarg"),
-    (Set(0, 0, "[{heir,none},{heir,1,a}]"), "** badarg"),
-    (Set(0, 0, "heir"), "** badarg"),
-    (Set(0, 1, "[]"), "** badarg"),
-    (Set(0, 0, "[]"), "{}"),
-    (Info(0, "heir"), "<1"),
+    (Enrol(Pid(0)), DONE),
+    (Enrol(Pid(1)), DONE),
+    (New(Pid(0), "t", "[named_table]"), "t"),
+    (Set(Pid(0), Tid(0), "[{heir,<0.1.0>,a},{heir,none}]"), DONE),
+    (Info(Tid(0), "heir"), "none"),
+    (Set(Pid(0), Tid(0), "{heir,<0.1.0>,a}"), DONE),
+    (Info(Tid(0), "heir"), "<0.1.0>"),
+    (Set(Pid(1), Tid(0), "[]"), "** badarg"),
+    (Set(Pid(0), Tid(0), "[{heir,none},{heir,1,a}]"), "** badarg"),
+    (Set(Pid(0), Tid(0), "heir"), "** badarg"),
+    (Set(Pid(0), Tid(1), "[]"), "** badarg"),
+    (Set(Pid(0), Tid(0), "[]"), DONE),
+    (Info(Tid(0), "heir"), "<0.1.0>"),
 ];
 
 /// Protection says who uses a table.
 const RIGHTS: [Row; 9] = [
-    (New(0, "a", "[public]"), "#0"),
-    (New(0, "b", "[]"), "#1"),
-    (New(0, "c", "[private]"), "#2"),
-    (May(0, 2), "[1,1,1]"),
-    (May(1, 0), "[1,1,0]"),
-    (May(1, 1), "[1,0,0]"),
-    (May(1, 2), "[0,0,0]"),
-    (May(0, 3), "[0,0,0]"),
-    (Info(2, "protection"), "private"),
+    (New(Pid(0), "a", "[public]"), "#Tid<0>"),
+    (New(Pid(0), "b", "[]"), "#Tid<1>"),
+    (New(Pid(0), "c", "[private]"), "#Tid<2>"),
+    (Rights(Pid(0), Tid(2)), "[read,write,own]"),
+    (Rights(Pid(1), Tid(0)), "[read,write]"),
+    (Rights(Pid(1), Tid(1)), "[read]"),
+    (Rights(Pid(1), Tid(2)), "[]"),
+    (Rights(Pid(0), Tid(3)), "[]"),
+    (Info(Tid(2), "protection"), "private"),
 ];
 
 /// A name is free once its table is gone.
 const NAMES: [Row; 12] = [
-    (New(0, "t", "[named_table]"), "t"),
-    (New(0, "t", "[]"), "#1"),
-    (New(0, "t", "[named_table]"), "** badarg"),
-    (Resolve("t"), "0"),
-    (Resolve("#1"), "1"),
+    (New(Pid(0), "t", "[named_table]"), "t"),
+    (New(Pid(0), "t", "[]"), "#Tid<1>"),
+    (New(Pid(0), "t", "[named_table]"), "** badarg"),
+    (Resolve("t"), "#Tid<0>"),
+    (Resolve("#Tid<1>"), "#Tid<1>"),
     (Resolve("1"), "none"),
-    (Drop(0), "{}"),
+    (Drop(Tid(0)), DONE),
     (Resolve("t"), "none"),
-    (Resolve("#0"), "none"),
-    (New(0, "t", "[named_table]"), "t"),
-    (Resolve("t"), "2"),
-    (Drop(0), "{}"),
+    (Resolve("#Tid<0>"), "none"),
+    (New(Pid(0), "t", "[named_table]"), "t"),
+    (Resolve("t"), "#Tid<2>"),
+    (Drop(Tid(0)), DONE),
 ];
 
 const LIVES: [&[Row]; 4] = [&GIVEN, &HEIRS, &RIGHTS, &NAMES];

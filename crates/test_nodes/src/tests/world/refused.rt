@@ -2,7 +2,7 @@
 // memory changes nothing that can be observed, and has the answer of a first call when it is made again. A test repeats
 // its own allocations.
 use super::Event::{End, Enrol, Fix, Give, Info, New, Receive, Set};
-use super::{Event, Row, Tables, answer, refusal};
+use super::{DONE, Event, Pid, Row, Tables, Tid, answer, refusal};
 use crate::tests::keep_if_ok;
 use crate::tests::text::{is_spelled, term};
 use ets_term::{Integer, Term};
@@ -11,46 +11,59 @@ use std::alloc::{AllocError, Global};
 use std::process::Abort;
 
 const LIFE: [Row; 28] = [
-    (Enrol(0), "{}"),
-    (Enrol(1), "{}"),
-    (Enrol(1), "** badarg"),
-    (Enrol(2), "{}"),
-    (Enrol(3), "** system_limit"),
+    (Enrol(Pid(0)), DONE),
+    (Enrol(Pid(1)), DONE),
+    (Enrol(Pid(1)), "** badarg"),
+    (Enrol(Pid(2)), DONE),
+    (Enrol(Pid(3)), "** system_limit"),
     (
-        New(0, "a_name_longer_than_its_place", "[named_table]"),
+        New(Pid(0), "a_name_longer_than_its_place", "[named_table]"),
         "a_name_longer_than_its_place",
     ),
-    (New(0, "u", "[{heir,<2,[x,y]}]"), "#1"),
-    (New(0, "v", "[bag,public]"), "#2"),
+    (New(Pid(0), "u", "[{heir,<0.2.0>,[x,y]}]"), "#Tid<1>"),
+    (New(Pid(0), "v", "[bag,public]"), "#Tid<2>"),
     (
-        New(0, "a_name_longer_than_its_place", "[named_table]"),
+        New(Pid(0), "a_name_longer_than_its_place", "[named_table]"),
         "** badarg",
     ),
-    (New(1, "w", "[named_table,{heir,<0,x}]"), "w"),
-    (New(0, "x", "[{heir,<1,{a,gift}}]"), "** system_limit"),
-    (Info(0, "name"), "a_name_longer_than_its_place"),
-    (Fix(0, 0), "{}"),
-    (Fix(1, 0), "{}"),
-    (Fix(0, 3), "{}"),
-    (Set(0, 0, "{heir,<1,{an,heir}}"), "{}"),
-    (Set(0, 2, "[{heir,<2,{a,b}},{heir,<1,{c,[d]}}]"), "{}"),
-    (Set(0, 2, "[{heir,<2,{e,f}},{heir,7,x}]"), "** badarg"),
-    (Give(0, 1, 2, "{a,{deep,[gift]}}"), "{}"),
-    (Give(0, 1, 2, "{a,gift}"), "** badarg"),
-    (Give(1, 3, 0, "{another,gift}"), "{}"),
-    (Set(0, 3, "{heir,<2,{last,gift}}"), "{}"),
-    (End(0), "{}"),
-    (End(0), "** noproc"),
+    (New(Pid(1), "w", "[named_table,{heir,<0.0.0>,x}]"), "w"),
     (
-        Receive(1),
-        "[{ETS-TRANSFER,a_name_longer_than_its_place,<0,{an,heir}},{ETS-TRANSFER,#2,<0,{c,[d]}}]",
+        New(Pid(0), "x", "[{heir,<0.1.0>,{a,gift}}]"),
+        "** system_limit",
+    ),
+    (Info(Tid(0), "name"), "a_name_longer_than_its_place"),
+    (Fix(Pid(0), Tid(0)), DONE),
+    (Fix(Pid(1), Tid(0)), DONE),
+    (Fix(Pid(0), Tid(3)), DONE),
+    (Set(Pid(0), Tid(0), "{heir,<0.1.0>,{an,heir}}"), DONE),
+    (
+        Set(
+            Pid(0),
+            Tid(2),
+            "[{heir,<0.2.0>,{a,b}},{heir,<0.1.0>,{c,[d]}}]",
+        ),
+        DONE,
     ),
     (
-        Receive(2),
-        "[{ETS-TRANSFER,#1,<0,{a,{deep,[gift]}}},{ETS-TRANSFER,w,<0,{last,gift}}]",
+        Set(Pid(0), Tid(2), "[{heir,<0.2.0>,{e,f}},{heir,7,x}]"),
+        "** badarg",
     ),
-    (End(1), "{}"),
-    (Info(0, "name"), "undefined"),
+    (Give(Pid(0), Tid(1), Pid(2), "{a,{deep,[gift]}}"), DONE),
+    (Give(Pid(0), Tid(1), Pid(2), "{a,gift}"), "** badarg"),
+    (Give(Pid(1), Tid(3), Pid(0), "{another,gift}"), DONE),
+    (Set(Pid(0), Tid(3), "{heir,<0.2.0>,{last,gift}}"), DONE),
+    (End(Pid(0)), DONE),
+    (End(Pid(0)), "** noproc"),
+    (
+        Receive(Pid(1)),
+        "[{'ETS-TRANSFER',a_name_longer_than_its_place,<0.0.0>,{an,heir}},{'ETS-TRANSFER',#Tid<2>,<0.0.0>,{c,[d]}}]",
+    ),
+    (
+        Receive(Pid(2)),
+        "[{'ETS-TRANSFER',#Tid<1>,<0.0.0>,{a,{deep,[gift]}}},{'ETS-TRANSFER',w,<0.0.0>,{last,gift}}]",
+    ),
+    (End(Pid(1)), DONE),
+    (Info(Tid(0), "name"), "undefined"),
 ];
 
 const ITEMS: [InfoItem; 10] = [

@@ -137,7 +137,7 @@ fn inserts(alloc: Global, start: &str, object: &str) -> Result<bool, AllocError>
         end: "])",
     };
     let listed = Long {
-        start: "~[",
+        start: "any order: [",
         middle: object,
         end: "]",
     };
@@ -164,21 +164,21 @@ fn finds(
     Ok(
         starts(alloc, node)?
             && wrong_number(alloc, node, "insert(t,{N,x})", "true")?.is_none()
-            && answers(alloc, node, "match(t,{$1,x})", bound)?
-            && answers(alloc, node, "select(t,[{{$1,_},[],[$1]}])", results)?
+            && answers(alloc, node, "match(t,{'$1',x})", bound)?
+            && answers(alloc, node, "select(t,[{{'$1',_},[],['$1']}])", results)?
             && answers(alloc, node, "select_delete(t,[{_,[],[true]}])", "2100")?,
     )
 }
 
 /// The keys of many objects as bindings of a pattern, and as results.
 const BOUND: Long<'static> = Long {
-    start: "~[",
+    start: "any order: [",
     middle: "[N],",
     end: "]",
 };
 
 const RESULTS: Long<'static> = Long {
-    start: "~[",
+    start: "any order: [",
     middle: "N,",
     end: "]",
 };

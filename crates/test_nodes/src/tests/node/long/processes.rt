@@ -18,12 +18,12 @@ fn does_for(
 }
 
 fn enters(alloc: Global, node: &mut Node<Fnv>, pid: u32) -> Result<bool, AllocError> {
-    does_for(alloc, node, Enrol(pid), "<N", pid)
+    does_for(alloc, node, Enrol(Pid(pid)), "<0.N.0>", pid)
 }
 
 /// Returns whether a process makes an unnamed table, which gets the identifier.
 fn makes(alloc: Global, node: &mut Node<Fnv>, pid: u32, id: u32) -> Result<bool, AllocError> {
-    does_for(alloc, node, Ask(pid, "new(u,[])"), "#N", id)
+    does_for(alloc, node, Ask(Pid(pid), "new(u,[])"), "#Tid<N>", id)
 }
 
 /// Returns the table with this identifier, if it exists.
@@ -47,7 +47,7 @@ fn all_enter(alloc: Global, node: &mut Node<Fnv>, count: u32) -> Result<bool, Al
 /// Returns whether every sixteenth process ends.
 fn some_end(alloc: Global, node: &mut Node<Fnv>, count: u32) -> Result<bool, AllocError> {
     for pid in 0..count {
-        if pid % 16 == 0 && !does(alloc, node, End(pid), "true")? {
+        if pid % 16 == 0 && !does(alloc, node, End(Pid(pid)), "true")? {
             return Ok(false);
         }
     }
@@ -81,7 +81,7 @@ fn makes_all(alloc: Global, node: &mut Node<Fnv>, count: u32) -> Result<bool, Al
 pub fn has_tables(alloc: Global, node: &mut Node<Fnv>, count: u32) -> Result<bool, AllocError> {
     if !starts(alloc, node)?
         || !makes_all(alloc, node, count)?
-        || !does(alloc, node, End(0), "true")?
+        || !does(alloc, node, End(Pid(0)), "true")?
     {
         return Ok(false);
     }

@@ -9,11 +9,11 @@ fn life(alloc: Global, count: u32) -> Result<Vec<Step>, AllocError> {
 }
 
 fn push_life(alloc: Global, steps: &mut Vec<Step>, count: u32) -> Result<(), AllocError> {
-    push(steps, step(alloc, Enrol(0))?)?;
-    push(steps, ask(alloc, 0, "new(t,[])")?)?;
+    push(steps, step(alloc, Enrol(Pid(0)))?)?;
+    push(steps, ask(alloc, Pid(0), "new(t,[])")?)?;
     for number in 0..count {
         push(steps, insertion(alloc, number)?)?;
-        push(steps, ask(alloc, 0, "lookup(#0,a)")?)?;
+        push(steps, ask(alloc, Pid(0), "lookup(#Tid<0>,a)")?)?;
     }
     Ok(())
 }
@@ -23,8 +23,8 @@ fn push(steps: &mut Vec<Step>, step: Step) -> Result<(), AllocError> {
 }
 
 fn insertion(alloc: Global, number: u32) -> Result<Step, AllocError> {
-    let call = fill_template(alloc, "insert(#0,{a,N})", number)?;
-    let step = ask(alloc, 0, call.as_str());
+    let call = fill_template(alloc, "insert(#Tid<0>,{a,N})", number)?;
+    let step = ask(alloc, Pid(0), call.as_str());
     drop(call);
     step
 }

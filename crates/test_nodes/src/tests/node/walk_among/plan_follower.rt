@@ -2,7 +2,7 @@
 ghost use Rattle.std.specs.Prelude.{◌≡◌, []};
 
 use super::super::Event::{Ask, Grow, Ready};
-use super::super::{Event, step};
+use super::super::{Bucket, Event, Pid, Tid, step};
 use crate::tests::keep_if_ok;
 use ets_term::{Integer, Term};
 use node_core::{Others, Step};
@@ -119,12 +119,12 @@ fn push_delete_and_insert(
 ) -> Result<(), AllocError> {
     push_ask(alloc, steps, format!(in alloc; "delete(t,{key})")?)?;
     push_ask(alloc, steps, format!(in alloc; "insert(t,{{{key}}})")?)?;
-    push_steps(alloc, steps, &[Grow(0), Ready(0, bucket)])
+    push_steps(alloc, steps, &[Grow(Tid(0)), Ready(Tid(0), Bucket(bucket))])
 }
 
 /// Appends a call of process 1.
 fn push_ask(alloc: Global, steps: &mut Vec<Step>, call: String) -> Result<(), AllocError> {
-    let pushed = push_steps(alloc, steps, &[Ask(1, call.as_str())]);
+    let pushed = push_steps(alloc, steps, &[Ask(Pid(1), call.as_str())]);
     drop(call);
     pushed
 }

@@ -1,246 +1,268 @@
 // Misuses of each kind, and steps past a limit, each with its reason in words. The steps before them have none.
+use super::super::{Bucket, Pid, Tid};
 use super::Event::{Ask, End, Enrol, Grow, Ready};
 use super::Row;
 
+/// In place of the reason of a step that is not refused.
+const NO_REASON: &str = "";
+
 /// Steps that name no living process, no call or no table of the process.
 pub const STEPS: [Row; 22] = [
-    (Enrol(6), ""),
-    (Enrol(7), ""),
-    (Enrol(8), ""),
-    (End(6), ""),
-    (Ask(7, "new(t,[named_table])"), ""),
-    (Ask(7, "new(mine,[named_table,private])"), ""),
-    (Enrol(7), "process number already used"),
-    (End(9), "no such process (or it has exited)"),
+    (Enrol(Pid(6)), NO_REASON),
+    (Enrol(Pid(7)), NO_REASON),
+    (Enrol(Pid(8)), NO_REASON),
+    (End(Pid(6)), NO_REASON),
+    (Ask(Pid(7), "new(t,[named_table])"), NO_REASON),
+    (Ask(Pid(7), "new(mine,[named_table,private])"), NO_REASON),
+    (Enrol(Pid(7)), "process number already used"),
+    (End(Pid(9)), "no such process (or it has exited)"),
     (
-        Ask(6, "lokup(nosuch)"),
+        Ask(Pid(6), "lokup(nosuch)"),
         "no such process (or it has exited)",
     ),
-    (Grow(3), "no such table"),
-    (Ready(3, 1), "no such table"),
-    (Ask(7, "lokup(t,a)"), "unknown call"),
-    (Ask(7, "lookup(t)"), "wrong number of arguments"),
-    (Ask(7, "receive(1,2,3,4,5,6)"), "wrong number of arguments"),
-    (Ask(7, "insert(nosuch,a)"), "argument 1: no such table"),
-    (Ask(7, "lookup(5,a)"), "argument 1: no such table"),
-    (Ask(7, "delete(#9)"), "argument 1: no such table"),
-    (Ask(7, "give_away(nosuch,x,g)"), "argument 1: no such table"),
+    (Grow(Tid(3)), "no such table"),
+    (Ready(Tid(3), Bucket(1)), "no such table"),
+    (Ask(Pid(7), "lokup(t,a)"), "unknown call"),
+    (Ask(Pid(7), "lookup(t)"), "wrong number of arguments"),
     (
-        Ask(8, "lookup_element(mine,a,0)"),
+        Ask(Pid(7), "receive(1,2,3,4,5,6)"),
+        "wrong number of arguments",
+    ),
+    (Ask(Pid(7), "insert(nosuch,a)"), "argument 1: no such table"),
+    (Ask(Pid(7), "lookup(5,a)"), "argument 1: no such table"),
+    (Ask(Pid(7), "delete(#Tid<9>)"), "argument 1: no such table"),
+    (
+        Ask(Pid(7), "give_away(nosuch,x,g)"),
+        "argument 1: no such table",
+    ),
+    (
+        Ask(Pid(8), "lookup_element(mine,a,0)"),
         "argument 1: the process may not read this table",
     ),
     (
-        Ask(8, "insert(t,a)"),
+        Ask(Pid(8), "insert(t,a)"),
         "argument 1: the process may not write to this table",
     ),
     (
-        Ask(8, "setopts(t,x)"),
+        Ask(Pid(8), "setopts(t,x)"),
         "argument 1: the process does not own this table",
     ),
     (
-        Ask(8, "give_away(t,<8,g)"),
+        Ask(Pid(8), "give_away(t,<0.8.0>,g)"),
         "argument 1: the process does not own this table",
     ),
 ];
 
 /// Calls with something else than an object, a key, a position, a pattern or a specification.
 pub const OBJECTS: [Row; 21] = [
-    (Enrol(7), ""),
-    (Ask(7, "new(t,[named_table])"), ""),
-    (Ask(7, "new(all,[named_table,bag,public])"), ""),
-    (Ask(7, "insert(t,{a,x})"), ""),
-    (Ask(7, "insert(all,[{a,1,x},{a,2}])"), ""),
+    (Enrol(Pid(7)), NO_REASON),
+    (Ask(Pid(7), "new(t,[named_table])"), NO_REASON),
+    (Ask(Pid(7), "new(all,[named_table,bag,public])"), NO_REASON),
+    (Ask(Pid(7), "insert(t,{a,x})"), NO_REASON),
+    (Ask(Pid(7), "insert(all,[{a,1,x},{a,2}])"), NO_REASON),
     (
-        Ask(7, "insert(t,a)"),
+        Ask(Pid(7), "insert(t,a)"),
         "argument 2: not a tuple that has the key position, or the key is '$end_of_table'",
     ),
     (
-        Ask(7, "insert(t,{})"),
+        Ask(Pid(7), "insert(t,{})"),
         "argument 2: not a tuple that has the key position, or the key is '$end_of_table'",
     ),
     (
-        Ask(7, "insert_new(t,[{b},c])"),
+        Ask(Pid(7), "insert_new(t,[{b},c])"),
         "argument 2: not a tuple that has the key position, or the key is '$end_of_table'",
     ),
     (
-        Ask(7, "delete_object(t,{})"),
+        Ask(Pid(7), "delete_object(t,{})"),
         "argument 2: not a tuple that has the key position, or the key is '$end_of_table'",
     ),
-    (Ask(7, "lookup_element(t,zz,2)"), "argument 2: no such key"),
     (
-        Ask(7, "lookup_element(t,a,5)"),
+        Ask(Pid(7), "lookup_element(t,zz,2)"),
+        "argument 2: no such key",
+    ),
+    (
+        Ask(Pid(7), "lookup_element(t,a,5)"),
         "argument 3: position is past the end of the object",
     ),
     (
-        Ask(7, "lookup_element(t,a,18446744073709551617)"),
+        Ask(Pid(7), "lookup_element(t,a,18446744073709551617)"),
         "argument 3: position is past the end of the object",
     ),
     (
-        Ask(7, "lookup_element(all,a,3)"),
+        Ask(Pid(7), "lookup_element(all,a,3)"),
         "argument 3: position is past the end of the object",
     ),
     (
-        Ask(7, "lookup_element(t,zz,0)"),
+        Ask(Pid(7), "lookup_element(t,zz,0)"),
         "argument 3: position must be at least 1",
     ),
     (
-        Ask(7, "lookup_element(t,zz,x,d)"),
+        Ask(Pid(7), "lookup_element(t,zz,x,d)"),
         "argument 3: position must be at least 1",
     ),
-    (Ask(7, "next(t,zz)"), "argument 2: no such key"),
-    (Ask(7, "next_lookup(t,zz)"), "argument 2: no such key"),
+    (Ask(Pid(7), "next(t,zz)"), "argument 2: no such key"),
+    (Ask(Pid(7), "next_lookup(t,zz)"), "argument 2: no such key"),
     (
-        Ask(7, "match(t,5)"),
+        Ask(Pid(7), "match(t,5)"),
         "argument 2: pattern must be a tuple or an atom",
     ),
     (
-        Ask(7, "match_delete(t,[])"),
+        Ask(Pid(7), "match_delete(t,[])"),
         "argument 2: pattern must be a tuple or an atom",
     ),
     (
-        Ask(7, "select(t,[{x}])"),
+        Ask(Pid(7), "select(t,[{x}])"),
         "argument 2: malformed match specification",
     ),
     (
-        Ask(7, "select_delete(t,x)"),
+        Ask(Pid(7), "select_delete(t,x)"),
         "argument 2: malformed match specification",
     ),
 ];
 
 /// Updates of counters and elements.
 pub const UPDATES: [Row; 21] = [
-    (Enrol(7), ""),
-    (Ask(7, "new(t,[named_table])"), ""),
-    (Ask(7, "new(all,[named_table,bag,public])"), ""),
-    (Ask(7, "insert(t,{a,x})"), ""),
-    (Ask(7, "insert(t,{n,1})"), ""),
-    (Ask(7, "insert(all,[{a,1,x},{a,2}])"), ""),
-    (Ask(7, "update_element(t,zz,{2,1})"), ""),
-    (Ask(7, "update_element(t,zz,{18446744073709551617,1})"), ""),
-    (Ask(7, "update_counter(t,zz,1)"), "argument 2: no such key"),
+    (Enrol(Pid(7)), NO_REASON),
+    (Ask(Pid(7), "new(t,[named_table])"), NO_REASON),
+    (Ask(Pid(7), "new(all,[named_table,bag,public])"), NO_REASON),
+    (Ask(Pid(7), "insert(t,{a,x})"), NO_REASON),
+    (Ask(Pid(7), "insert(t,{n,1})"), NO_REASON),
+    (Ask(Pid(7), "insert(all,[{a,1,x},{a,2}])"), NO_REASON),
+    (Ask(Pid(7), "update_element(t,zz,{2,1})"), NO_REASON),
     (
-        Ask(7, "update_counter(t,a,1)"),
+        Ask(Pid(7), "update_element(t,zz,{18446744073709551617,1})"),
+        NO_REASON,
+    ),
+    (
+        Ask(Pid(7), "update_counter(t,zz,1)"),
+        "argument 2: no such key",
+    ),
+    (
+        Ask(Pid(7), "update_counter(t,a,1)"),
         "argument 3: the element is missing or not an integer",
     ),
     (
-        Ask(7, "update_counter(t,n,[{2,1},{3,1}])"),
+        Ask(Pid(7), "update_counter(t,n,[{2,1},{3,1}])"),
         "argument 3: the element is missing or not an integer",
     ),
     (
-        Ask(7, "update_counter(t,zz,{1,1})"),
+        Ask(Pid(7), "update_counter(t,zz,{1,1})"),
         "argument 3: malformed update, or it would change the key",
     ),
     (
-        Ask(7, "update_counter(t,zz,[{2,1},{2,x}])"),
+        Ask(Pid(7), "update_counter(t,zz,[{2,1},{2,x}])"),
         "argument 3: malformed update, or it would change the key",
     ),
     (
-        Ask(7, "update_counter(all,a,1)"),
+        Ask(Pid(7), "update_counter(all,a,1)"),
         "argument 1: the table is not a set",
     ),
     (
-        Ask(7, "update_counter(t,n,1,x)"),
+        Ask(Pid(7), "update_counter(t,n,1,x)"),
         "argument 4: not a tuple that has the key position, or the key is '$end_of_table'",
     ),
     (
-        Ask(7, "update_counter(t,zz,1,{x,y})"),
+        Ask(Pid(7), "update_counter(t,zz,1,{x,y})"),
         "argument 3: the element is missing or not an integer",
     ),
     (
-        Ask(7, "update_element(t,zz,{1,1})"),
+        Ask(Pid(7), "update_element(t,zz,{1,1})"),
         "argument 3: malformed update, or it would change the key",
     ),
     (
-        Ask(7, "update_element(t,a,{3,1})"),
+        Ask(Pid(7), "update_element(t,a,{3,1})"),
         "argument 3: position is past the end of the object",
     ),
     (
-        Ask(7, "update_element(t,a,{18446744073709551617,1})"),
+        Ask(Pid(7), "update_element(t,a,{18446744073709551617,1})"),
         "argument 3: position is past the end of the object",
     ),
     (
-        Ask(7, "update_element(all,a,{2,1})"),
+        Ask(Pid(7), "update_element(all,a,{2,1})"),
         "argument 1: the table is not a set",
     ),
     (
-        Ask(7, "update_element(t,a,[{2,1}],{})"),
+        Ask(Pid(7), "update_element(t,a,[{2,1}],{})"),
         "argument 4: not a tuple that has the key position, or the key is '$end_of_table'",
     ),
 ];
 
 /// Calls that make tables, report on them, fix them or give them away.
 pub const TABLES: [Row; 22] = [
-    (Enrol(6), ""),
-    (Enrol(7), ""),
-    (Enrol(8), ""),
-    (End(6), ""),
-    (Ask(7, "new(t,[named_table])"), ""),
-    (Ask(7, "new(mine,[named_table,private])"), ""),
-    (Ask(8, "info(#9,size)"), ""),
-    (Ask(8, "give_away(t,x,g)"), "argument 2: not a pid"),
+    (Enrol(Pid(6)), NO_REASON),
+    (Enrol(Pid(7)), NO_REASON),
+    (Enrol(Pid(8)), NO_REASON),
+    (End(Pid(6)), NO_REASON),
+    (Ask(Pid(7), "new(t,[named_table])"), NO_REASON),
+    (Ask(Pid(7), "new(mine,[named_table,private])"), NO_REASON),
+    (Ask(Pid(8), "info(#Tid<9>,size)"), NO_REASON),
+    (Ask(Pid(8), "give_away(t,x,g)"), "argument 2: not a pid"),
     (
-        Ask(7, "give_away(t,<7,g)"),
+        Ask(Pid(7), "give_away(t,<0.7.0>,g)"),
         "argument 2: the process already owns the table",
     ),
     (
-        Ask(7, "give_away(t,<6,g)"),
+        Ask(Pid(7), "give_away(t,<0.6.0>,g)"),
         "argument 2: no such process (or it has exited)",
     ),
     (
-        Ask(7, "setopts(t,[{heir,none},x])"),
+        Ask(Pid(7), "setopts(t,[{heir,none},x])"),
         "argument 2: unknown or malformed option",
     ),
-    (Ask(7, "info(5,foo)"), "argument 2: unknown info item"),
+    (Ask(Pid(7), "info(5,foo)"), "argument 2: unknown info item"),
     (
-        Ask(7, "info(5,size)"),
+        Ask(Pid(7), "info(5,size)"),
         "argument 1: table name must be an atom",
     ),
     (
-        Ask(7, "whereis(5)"),
+        Ask(Pid(7), "whereis(5)"),
         "argument 1: table name must be an atom",
     ),
     (
-        Ask(7, "safe_fixtable(nosuch,yes)"),
+        Ask(Pid(7), "safe_fixtable(nosuch,yes)"),
         "argument 2: must be true or false",
     ),
     (
-        Ask(8, "safe_fixtable(mine,true)"),
+        Ask(Pid(8), "safe_fixtable(mine,true)"),
         "argument 1: the process may not read this table",
     ),
     (
-        Ask(7, "new(t,[named_table])"),
+        Ask(Pid(7), "new(t,[named_table])"),
         "argument 1: table name already in use",
     ),
     (
-        Ask(7, "new(t,[named_table,seet])"),
+        Ask(Pid(7), "new(t,[named_table,seet])"),
         "argument 2: unknown or malformed option",
     ),
     (
-        Ask(7, "new(u,[{keypos,0}])"),
+        Ask(Pid(7), "new(u,[{keypos,0}])"),
         "argument 2: unknown or malformed option",
     ),
     (
-        Ask(7, "new(u,[{heir,x,y}])"),
+        Ask(Pid(7), "new(u,[{heir,x,y}])"),
         "argument 2: unknown or malformed option",
     ),
     (
-        Ask(7, "new(5,seet)"),
+        Ask(Pid(7), "new(5,seet)"),
         "argument 1: table name must be an atom",
     ),
-    (Ask(7, "new(t,[{keypos,2},compressed])"), ""),
+    (Ask(Pid(7), "new(t,[{keypos,2},compressed])"), NO_REASON),
 ];
 
 /// Steps that pass a limit, of one process, one table and one object.
 pub const LIMITED: [Row; 8] = [
-    (Enrol(7), ""),
-    (Enrol(8), "process limit reached"),
-    (Enrol(7), "process number already used"),
-    (Ask(7, "new(t,[named_table])"), ""),
-    (Ask(7, "new(u,[])"), "table limit reached"),
-    (Ask(7, "insert(t,[{a,1},{b,2}])"), "object limit reached"),
-    (Ask(7, "insert(t,{a,1})"), ""),
+    (Enrol(Pid(7)), NO_REASON),
+    (Enrol(Pid(8)), "process limit reached"),
+    (Enrol(Pid(7)), "process number already used"),
+    (Ask(Pid(7), "new(t,[named_table])"), NO_REASON),
+    (Ask(Pid(7), "new(u,[])"), "table limit reached"),
     (
-        Ask(7, "update_counter(t,b,1,{b,1})"),
+        Ask(Pid(7), "insert(t,[{a,1},{b,2}])"),
+        "object limit reached",
+    ),
+    (Ask(Pid(7), "insert(t,{a,1})"), NO_REASON),
+    (
+        Ask(Pid(7), "update_counter(t,b,1,{b,1})"),
         "integer range, depth limit or object limit would be exceeded",
     ),
 ];

@@ -1,0 +1,103 @@
+// The steps before a walk, and the steps of others meanwhile.
+use super::super::Event::{self, Ask, Enrol};
+use super::super::{Pid, Row};
+
+/// The table is fixed no more.
+pub const FREE: Row = (Ask(Pid(0), "info(t,fixed)"), "false");
+
+/// The public table t of process 0, and process 1.
+pub const EMPTY: [Row; 3] = [
+    (Enrol(Pid(0)), "<0.0.0>"),
+    (Enrol(Pid(1)), "<0.1.0>"),
+    (Ask(Pid(0), "new(t,[named_table,public])"), "t"),
+];
+
+/// The same table with one key.
+pub const ONE: [Row; 4] = [
+    (Enrol(Pid(0)), "<0.0.0>"),
+    (Enrol(Pid(1)), "<0.1.0>"),
+    (Ask(Pid(0), "new(t,[named_table,public])"), "t"),
+    (Ask(Pid(0), "insert(t,{1})"), "true"),
+];
+
+/// The same table with two keys.
+pub const TWO: [Row; 4] = [
+    (Enrol(Pid(0)), "<0.0.0>"),
+    (Enrol(Pid(1)), "<0.1.0>"),
+    (Ask(Pid(0), "new(t,[named_table,public])"), "t"),
+    (Ask(Pid(0), "insert(t,[{1,a},{2,b}])"), "true"),
+];
+
+/// The same table with nine keys.
+pub const NINE: [Row; 4] = [
+    (Enrol(Pid(0)), "<0.0.0>"),
+    (Enrol(Pid(1)), "<0.1.0>"),
+    (Ask(Pid(0), "new(t,[named_table,public])"), "t"),
+    (
+        Ask(Pid(0), "insert(t,[{1},{2},{3},{4},{5},{6},{7},{8},{9}])"),
+        "true",
+    ),
+];
+
+/// The protected table t of process 0 with seventy keys, and process 7.
+pub const SEVENTY: [Row; 4] = [
+    (Enrol(Pid(0)), "<0.0.0>"),
+    (Enrol(Pid(7)), "<0.7.0>"),
+    (Ask(Pid(0), "new(t,[named_table])"), "t"),
+    (
+        Ask(
+            Pid(0),
+            "insert(t,[{1},{2},{3},{4},{5},{6},{7},{8},{9},{10},{11},{12},{13},{14},{15},{16},{17},{18},{19},{20},{21},{22},{23},{24},{25},{26},{27},{28},{29},{30},{31},{32},{33},{34},{35},{36},{37},{38},{39},{40},{41},{42},{43},{44},{45},{46},{47},{48},{49},{50},{51},{52},{53},{54},{55},{56},{57},{58},{59},{60},{61},{62},{63},{64},{65},{66},{67},{68},{69},{70}])",
+        ),
+        "true",
+    ),
+];
+
+/// Others delete the table.
+pub const GONE: [Event; 1] = [Ask(Pid(1), "delete(t)")];
+
+/// Others delete the table and make another of its name.
+pub const MADE_ANEW: [Event; 3] = [
+    Ask(Pid(1), "delete(t)"),
+    Ask(Pid(1), "new(t,[named_table,public])"),
+    Ask(Pid(1), "insert(t,[{1,a},{2,b}])"),
+];
+
+/// The walker enrols again, among the steps of another.
+pub const ENROLS: [Event; 3] = [
+    Ask(Pid(1), "insert(t,{3,c})"),
+    Enrol(Pid(0)),
+    Ask(Pid(1), "insert(t,{4,d})"),
+];
+
+/// The walker exits, among the steps of another.
+pub const ENDS: [Event; 3] = [
+    Ask(Pid(1), "insert(t,{3,c})"),
+    Event::End(Pid(0)),
+    Ask(Pid(1), "insert(t,{4,d})"),
+];
+
+/// The walker deletes the table, among the steps of another.
+pub const ASKS: [Event; 3] = [
+    Ask(Pid(1), "insert(t,{3,c})"),
+    Ask(Pid(0), "delete(t)"),
+    Ask(Pid(1), "insert(t,{4,d})"),
+];
+
+/// Others delete all objects.
+pub const CLEARS: [Event; 1] = [Ask(Pid(1), "delete_all_objects(t)")];
+
+/// The private table t of process 1.
+pub const HIDDEN: [Row; 3] = [
+    (Enrol(Pid(0)), "<0.0.0>"),
+    (Enrol(Pid(1)), "<0.1.0>"),
+    (Ask(Pid(1), "new(t,[named_table,private])"), "t"),
+];
+
+/// The table t of process 1, and process 0, which has exited.
+pub const ENDED: [Row; 4] = [
+    (Enrol(Pid(0)), "<0.0.0>"),
+    (Enrol(Pid(1)), "<0.1.0>"),
+    (Ask(Pid(1), "new(t,[named_table])"), "t"),
+    (Event::End(Pid(0)), "true"),
+];
