@@ -15,27 +15,31 @@ fn is_key(alloc: Global, found: Option<&Term>, wanted: Option<&'static str>) -> 
     }
 }
 
+/// The position of the key in each object.
+#[derive(Clone, Copy)]
+struct Keypos(Position);
+
 /// A pattern, the position of the key, and the key that it binds.
-type PatternRow = (&'static str, Position, Option<&'static str>);
+type PatternRow = (&'static str, Keypos, Option<&'static str>);
 
 const PATTERNS: [PatternRow; 11] = [
-    ("{7,'_'}", 1, Some("7")),
-    ("{7,'_'}", 2, None),
-    ("{7,'_'}", 3, None),
-    ("{7,'_'}", 0, None),
-    ("{7,'_'}", 18446744073709551617, None),
-    ("{'$1',{a,[b]}}", 2, Some("{a,[b]}")),
-    ("{{a,'_'},b}", 1, None),
-    ("{{a,['$1']},b}", 1, None),
-    ("'_'", 1, None),
-    ("'$1'", 1, None),
-    ("a", 1, None),
+    ("{7,'_'}", Keypos(1), Some("7")),
+    ("{7,'_'}", Keypos(2), None),
+    ("{7,'_'}", Keypos(3), None),
+    ("{7,'_'}", Keypos(0), None),
+    ("{7,'_'}", Keypos(18446744073709551617), None),
+    ("{'$1',{a,[b]}}", Keypos(2), Some("{a,[b]}")),
+    ("{{a,'_'},b}", Keypos(1), None),
+    ("{{a,['$1']},b}", Keypos(1), None),
+    ("'_'", Keypos(1), None),
+    ("'$1'", Keypos(1), None),
+    ("a", Keypos(1), None),
 ];
 
 fn pattern_binds(alloc: Global, row: PatternRow) -> Option<bool> {
     let (text, keypos, wanted) = row;
     let pattern = Pattern::compile(alloc, &read(alloc, text)?).ok()?;
-    is_key(alloc, pattern.bound_key(keypos), wanted)
+    is_key(alloc, pattern.bound_key(keypos.0), wanted)
 }
 
 fn patterns_bind(alloc: Global, rows: &[PatternRow]) -> bool {

@@ -9,6 +9,18 @@ pub(crate) struct Random {
     state: u64,
 }
 
+fn unary(name: &'static str) -> (&'static str, u64) {
+    (name, 1)
+}
+
+fn binary(name: &'static str) -> (&'static str, u64) {
+    (name, 2)
+}
+
+fn ternary(name: &'static str) -> (&'static str, u64) {
+    (name, 3)
+}
+
 impl Random {
     pub(crate) fn new(seed: u64) -> Random {
         Random { state: seed }
@@ -154,42 +166,43 @@ impl Random {
         }
     }
 
+    /// Draws a function, with how many arguments it mostly gets.
     fn function(&mut self) -> (&'static str, u64) {
         match self.below(34) {
-            0 => ("is_atom", 1),
-            1 => ("is_integer", 1),
-            2 => ("is_number", 1),
-            3 => ("is_list", 1),
-            4 => ("is_tuple", 1),
-            5 => ("is_binary", 1),
-            6 => ("is_pid", 1),
-            7 => ("is_reference", 1),
-            8 => ("not", 1),
-            9 => ("abs", 1),
-            10 => ("hd", 1),
-            11 => ("tl", 1),
-            12 => ("length", 1),
-            13 => ("size", 1),
-            14 => ("xor", 2),
-            15 => ("element", 2),
-            16 => ("+", 2),
-            17 => ("-", 2),
-            18 => ("*", 2),
-            19 => ("div", 2),
-            20 => ("rem", 2),
-            21 => (">", 2),
-            22 => (">=", 2),
-            23 => ("<", 2),
-            24 => ("=<", 2),
-            25 => ("=:=", 2),
-            26 => ("==", 2),
-            27 => ("=/=", 2),
-            28 => ("/=", 2),
-            29 => ("and", 3),
-            30 => ("or", 2),
-            31 => ("andalso", 3),
-            32 => ("orelse", 2),
-            _ => ("const", 1),
+            0 => unary("is_atom"),
+            1 => unary("is_integer"),
+            2 => unary("is_number"),
+            3 => unary("is_list"),
+            4 => unary("is_tuple"),
+            5 => unary("is_binary"),
+            6 => unary("is_pid"),
+            7 => unary("is_reference"),
+            8 => unary("not"),
+            9 => unary("abs"),
+            10 => unary("hd"),
+            11 => unary("tl"),
+            12 => unary("length"),
+            13 => unary("size"),
+            14 => binary("xor"),
+            15 => binary("element"),
+            16 => binary("+"),
+            17 => binary("-"),
+            18 => binary("*"),
+            19 => binary("div"),
+            20 => binary("rem"),
+            21 => binary(">"),
+            22 => binary(">="),
+            23 => binary("<"),
+            24 => binary("=<"),
+            25 => binary("=:="),
+            26 => binary("=="),
+            27 => binary("=/="),
+            28 => binary("/="),
+            29 => ternary("and"),
+            30 => binary("or"),
+            31 => ternary("andalso"),
+            32 => binary("orelse"),
+            _ => unary("const"),
         }
     }
 
