@@ -1,3 +1,4 @@
+pub mod Refusals
 pub mod Fixes
 pub mod TableState
 pub mod Walk

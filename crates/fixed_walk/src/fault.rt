@@ -1,4 +1,5 @@
 use std::alloc::AllocError;
+use table_ops::Refusal;
 
 /// Why a fix is refused. A refused fix changes nothing.
 #[derive(Debug, Drop, PartialEq, Eq)]
@@ -23,3 +24,28 @@ impl From<AllocError> for FixFault {
 /// The key given to a step of a traversal has no slot.
 #[derive(Debug, Clone, Copy, PartialEq, Eq)]
 pub struct Badarg;
+
+impl From<FixFault> for Refusal {
+    ghost use Rattle.std.specs.Prelude.{◌≡◌};
+    ghost use Rattle.fixed_walk.specs.Refusals.{refusal_of_fix};
+
+    ghost from_gives = { λ f e. e ≡ refusal_of_fix f };
+
+    fn from(fault: FixFault) -> Refusal {
+        match fault {
+            FixFault::SystemLimit => Refusal::SystemLimit,
+            FixFault::Memory => Refusal::Memory,
+        }
+    }
+}
+
+impl From<Badarg> for Refusal {
+    ghost use Rattle.std.specs.Prelude.{◌≡◌};
+    ghost use Rattle.table_ops.specs.declared.refusal.Refusal.TheVariants as refusal;
+
+    ghost from_gives = { λ _ e. e ≡ refusal.Badarg };
+
+    fn from(_error: Badarg) -> Refusal {
+        Refusal::Badarg
+    }
+}

@@ -9,6 +9,7 @@ ghost use Rattle.node_core.specs.inside.Walker.{WalkSoFar, TurnResult, WalkResul
 use crate::node::Node;
 use crate::step::Step;
 use ets_term::{Items, KeyHash, Term};
+use fixed_walk::FixFault;
 use std::alloc::AllocError;
 
 /// What others do during a traversal. It keeps the keys that it was given, and the steps that it handed in. A traversal
@@ -60,6 +61,20 @@ pub enum WalkFault {
     Memory,
     /// The process already has 4,294,967,295 fixes of the table. Nothing was done.
     SystemLimit,
+}
+
+impl From<FixFault> for WalkFault {
+    ghost use Rattle.std.specs.Prelude.{◌≡◌};
+    ghost use Rattle.node_core.specs.inside.Refusals.{walk_fault_of};
+
+    ghost from_gives = { λ f e. e ≡ walk_fault_of f };
+
+    fn from(fault: FixFault) -> WalkFault {
+        match fault {
+            FixFault::SystemLimit => WalkFault::SystemLimit,
+            FixFault::Memory => WalkFault::Memory,
+        }
+    }
 }
 
 /// Traverses a table for a process, which fixes it for that time (stdlib manual, ets:safe_fixtable/2): `first`, and

@@ -21,6 +21,7 @@ use Rattle.table_ops.proofs.TupleLaws.{fit-of}
 use Rattle.table_ops.specs.Outcomes.{gives}
 use Rattle.fixed_walk.specs.Fixes.{max_fixes, fix_count, with_count}
 use Rattle.fixed_walk.specs.TableState.{TableState, IncrementsFix, after_release}
+use Rattle.fixed_walk.specs.declared.fault.FixFault.{FixFault}
 use Rattle.fixed_walk.specs.declared.fault.FixFault.TheVariants as fixing
 use Rattle.fixed_walk.specs.Walk.{first_key, next_key}
 use Rattle.fixed_walk.specs.laws.Walks.{walk_answer}
@@ -43,6 +44,7 @@ use Rattle.node_core.specs.rules.Walking.{Fixes, Releases, key_reply, First, Nex
 use Rattle.node_core.specs.laws.Kept.{slots_in}
 use Rattle.node_core.specs.laws.Reached.{HasNoEnd}
 use Rattle.node_core.specs.Woven.{fix, release, first, next, can_read, fixes_in}
+use Rattle.node_core.specs.inside.Refusals.{walk_fault_of}
 use Rattle.node_core.specs.inside.Walker.{exists_in, CanContinue, call_of, FindsKey, FixesTable, UnfixesTable}
 use Rattle.node_core.proofs.buckets.ObservableTables.{at-observable}
 use Rattle.node_core.proofs.buckets.Steps.{done-observable, done-buckets}
@@ -315,16 +317,20 @@ module _ (p t : ℕ) where
         more : (n : ℕ) → n + 1 ≡ suc n
         more n = omega arith
 
-    pub held-most : IncrementsFix p was (Err fixing.SystemLimit) f → FixesTable p t (observable s) (Err fault.SystemLimit) (observable (with_table s t f))
+    held-most : IncrementsFix p was (Err fixing.SystemLimit) f → FixesTable p t (observable s) (Err fault.SystemLimit) (observable (with_table s t f))
     held-most h =
         let l = lent s was there can in
         (can_read-observable s ∙ can, count-before s l.table l.at ∙ (ap (λ (g : TableState). fix_count g.fixes p) (sym l.is) ∙ h.0), ap observable (same-after s f l.table l.at (h.1 ∙ l.is)))
 
-    pub held-not : IncrementsFix p was (Err fixing.Memory) f → FixesTable p t (observable s) (Err fault.Memory) (observable (with_table s t f))
+    held-not : IncrementsFix p was (Err fixing.Memory) f → FixesTable p t (observable s) (Err fault.Memory) (observable (with_table s t f))
     held-not h =
         let l = lent s was there can in
         let few : fixes_in p t (observable s) < max_fixes = subst (λ n. n < max_fixes) (sym (count-before s l.table l.at ∙ ap (λ (g : TableState). fix_count g.fixes p) (sym l.is))) h.0 in
         (can_read-observable s ∙ can, few, ap observable (same-after s f l.table l.at (h.1 ∙ l.is)))
+
+    pub held-refused : (why : FixFault) → IncrementsFix p was (Err why) f → FixesTable p t (observable s) (Err (walk_fault_of why)) (observable (with_table s t f))
+    held-refused fixing.SystemLimit h = held-most h
+    held-refused fixing.Memory h = held-not h
 
     pub held-buckets : IncrementsFix p was (Ok tt) f → step_on_buckets s (fix p t) true_reply (with_table s t f)
     held-buckets h =
@@ -332,8 +338,12 @@ module _ (p t : ℕ) where
         let once : IncrementsFix p l.table.fixed (Ok tt) f = subst (λ g. IncrementsFix p g (Ok tt) f) l.is h in
         done-buckets s (with_table s t f) (fix p t) true_reply (fix-done s l.table l.at l.living l.readable f once)
 
-    pub held-same : f ≡ was → with_table s t f ≡ s
+    held-same : f ≡ was → with_table s t f ≡ s
     held-same same = let l = lent s was there can in same-after s f l.table l.at (same ∙ l.is)
+
+    pub held-refused-buckets : (why : FixFault) → IncrementsFix p was (Err why) f → with_table s t f ≡ s
+    held-refused-buckets fixing.SystemLimit h = held-same h.1
+    held-refused-buckets fixing.Memory h = held-same h.1
 
     pub let-go-buckets : f ≡ after_release p was → step_on_buckets s (release p t) true_reply (with_table s t f)
     let-go-buckets h =

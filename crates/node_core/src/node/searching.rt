@@ -14,7 +14,7 @@ use crate::step::Reply;
 use bucket_table::Rows;
 use ets_term::{Integer, Items, KeyHash, Term};
 use fixed_walk::Walked;
-use match_spec::{Pattern, Spec, SpecFault};
+use match_spec::{Pattern, Spec};
 use std::alloc::Global;
 use table_ops::Refusal;
 
@@ -115,11 +115,8 @@ fn pattern_of(alloc: Global, argument: &Term) -> Result<Pattern, Refusal>
     ensures badarg { IsErrOf result Refusal.Badarg → is_pattern (data_of argument.now) ≡ false }
     ensures limit { ¬ IsErrOf result Refusal.SystemLimit }
 {
-    match Pattern::compile(alloc, argument) {
-        Ok(pattern) => Ok(pattern),
-        Err(SpecFault::Badarg) => Err(Refusal::Badarg),
-        Err(SpecFault::Memory) => Err(Refusal::Memory),
-    }
+    let pattern = Pattern::compile(alloc, argument)?;
+    Ok(pattern)
 }
 
 /// Compiles the match specification of an argument.
@@ -129,11 +126,8 @@ fn spec_of(alloc: Global, argument: &Term) -> Result<Spec, Refusal>
     ensures badarg { IsErrOf result Refusal.Badarg → is_spec (data_of argument.now) ≡ false }
     ensures limit { ¬ IsErrOf result Refusal.SystemLimit }
 {
-    match Spec::compile(alloc, argument) {
-        Ok(spec) => Ok(spec),
-        Err(SpecFault::Badarg) => Err(Refusal::Badarg),
-        Err(SpecFault::Memory) => Err(Refusal::Memory),
-    }
+    let spec = Spec::compile(alloc, argument)?;
+    Ok(spec)
 }
 
 /// Deletes the objects that match a pattern.

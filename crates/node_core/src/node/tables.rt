@@ -32,8 +32,7 @@ impl<H: KeyHash + Copy + Drop> Node<H> {
         };
         match NewOptions::read(self.alloc, options) {
             Ok(options) => self.new_table(pid, name, options),
-            Err(WorldFault::Badarg) => Err(Refusal::Badarg),
-            Err(_) => Err(Refusal::Memory),
+            Err(fault) => refusal_of(fault),
         }
     }
 

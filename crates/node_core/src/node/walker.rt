@@ -11,7 +11,6 @@ ghost use Rattle.node_core.specs.inside.Walker.{CanContinue, FindsKey, FixesTabl
 use super::Node;
 use crate::walk::WalkFault;
 use ets_term::{KeyHash, Term};
-use fixed_walk::FixFault;
 use std::alloc::Global;
 
 impl<H: KeyHash + Copy + Drop> Node<H> {
@@ -38,11 +37,8 @@ impl<H: KeyHash + Copy + Drop> Node<H> {
             return Err(WalkFault::Lost);
         };
         table.reveal_invariant();
-        match table.fix(pid) {
-            Ok(()) => Ok(()),
-            Err(FixFault::SystemLimit) => Err(WalkFault::SystemLimit),
-            Err(FixFault::Memory) => Err(WalkFault::Memory),
-        }
+        table.fix(pid)?;
+        Ok(())
     }
 
     /// Releases one fix if the process may read the table, and returns whether it may. It takes no memory.

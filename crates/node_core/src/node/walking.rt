@@ -12,7 +12,6 @@ use super::replies::{atom_reply, true_reply};
 use crate::step::Reply;
 use crate::terms;
 use ets_term::{Items, KeyHash, Term};
-use fixed_walk::FixFault;
 use std::alloc::{AllocError, Global};
 use table_ops::Refusal;
 
@@ -42,11 +41,8 @@ impl<H: KeyHash + Copy + Drop> Node<H> {
         let Some(table) = self.usable_mut(Access::Read, pid, table) else {
             return Err(Refusal::Badarg);
         };
-        match table.fix(pid) {
-            Ok(()) => Ok(true_reply(alloc)),
-            Err(FixFault::SystemLimit) => Err(Refusal::SystemLimit),
-            Err(FixFault::Memory) => Err(Refusal::Memory),
-        }
+        table.fix(pid)?;
+        Ok(true_reply(alloc))
     }
 
     fn release(&mut self, pid: u32, table: &Term) -> Result<Reply, Refusal>
@@ -72,10 +68,8 @@ impl<H: KeyHash + Copy + Drop> Node<H> {
         ensures { Refines (reads self.now pid table.now (Next key.now)) self.now result self.now }
     {
         let table = self.readable(pid, table).ok_or(Refusal::Badarg)?;
-        match table.next(key) {
-            Ok(found) => Ok(key_reply(self.alloc, found)?),
-            Err(_) => Err(Refusal::Badarg),
-        }
+        let found = table.next(key)?;
+        Ok(key_reply(self.alloc, found)?)
     }
 
     pub(crate) fn first_lookup(&self, pid: u32, table: &Term) -> Result<Reply, Refusal>
@@ -90,10 +84,8 @@ impl<H: KeyHash + Copy + Drop> Node<H> {
             self.now result self.now }
     {
         let table = self.readable(pid, table).ok_or(Refusal::Badarg)?;
-        match table.next_lookup(key) {
-            Ok(found) => Ok(slot_reply(self.alloc, found)?),
-            Err(_) => Err(Refusal::Badarg),
-        }
+        let found = table.next_lookup(key)?;
+        Ok(slot_reply(self.alloc, found)?)
     }
 }
 

@@ -40,15 +40,11 @@ impl<R: Rows> World<R> {
         if !self.is_owner(pid, id) {
             return Err(WorldFault::Badarg);
         }
-        match heir_in_setopts(self.alloc, options) {
-            Ok(Some(heir)) => {
-                self.set_heir_at(id, heir);
-                Ok(())
-            }
-            Ok(None) => Ok(()),
-            Err(WorldFault::Badarg) => Err(WorldFault::Badarg),
-            Err(_) => Err(WorldFault::Memory),
-        }
+        let Some(heir) = heir_in_setopts(self.alloc, options)? else {
+            return Ok(());
+        };
+        self.set_heir_at(id, heir);
+        Ok(())
     }
 
     /// Sets or removes the heir of a table of the process. Returns `Badarg` if the table does not exist or `pid` does
