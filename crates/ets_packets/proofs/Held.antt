@@ -9,7 +9,7 @@ use Rattle.ets_packets.specs.Replies.{PacketReply, reply_body}
 use Rattle.ets_packets.specs.Exchanges.{Exchange, Run, requests, replies}
 use Rattle.ets_packets.specs.inside.Answering.{AnswersHeld, AnswersPacket, BreaksHeld, BreaksPacket, IsRest}
 use Rattle.ets_packets.specs.inside.Buffer.{BeginsWith}
-use Rattle.ets_packets.specs.inside.Output.{Sends, Breaks}
+use Rattle.ets_packets.specs.Output.{Sends, Breaks}
 use Rattle.ets_packets.proofs.Exchanges.{one, run-join, run-one, requests-one, replies-one}
 use Rattle.ets_packets.proofs.KnownBytes.{between, sends-more, sends-none, breaks-more}
 

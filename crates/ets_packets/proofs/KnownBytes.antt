@@ -3,7 +3,7 @@ use Rattle.std.proofs.Common.{ℕ, List, [], ◌++◌, refl, sym, ap, subst, ◌
 use Rattle.std.specs.Prelude.{Result, Ok, Err, OnOk, OnErr}
 use Rattle.std.specs.Io.KnownBytes.{Appends, Consumes, Keeps}
 use Rattle.ets_packets.specs.Traffic.{Flow}
-use Rattle.ets_packets.specs.inside.Output.{Sends, Breaks}
+use Rattle.ets_packets.specs.Output.{Sends, Breaks}
 
 -- what passed between these
 abbrev pub between : Option (List ℕ) → Option (List ℕ) → Flow

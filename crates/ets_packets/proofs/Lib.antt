@@ -1,4 +1,4 @@
-mod KnownBytes
+pub mod KnownBytes
 mod Exchanges
 mod Held
 mod Progress

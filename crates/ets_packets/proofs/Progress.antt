@@ -14,7 +14,7 @@ use Rattle.ets_packets.specs.inside.Answering.{AnswersHeld, BreaksHeld, EndsAfte
 use Rattle.ets_packets.specs.inside.Buffer.{Refills, RefillStops, fault_of}
 use Rattle.ets_packets.specs.declared.buffer.RefillFault.{RefillFault}
 use Rattle.ets_packets.specs.declared.buffer.RefillFault.TheVariants as refill
-use Rattle.ets_packets.specs.inside.Output.{Sends, Breaks}
+use Rattle.ets_packets.specs.Output.{Sends, Breaks}
 use Rattle.ets_packets.proofs.Exchanges.{run-join, requests-join, replies-join}
 use Rattle.ets_packets.proofs.KnownBytes.{between, appends-more, appends-same, consumes-more, kept-left, same-known, sends-on, breaks-on}
 

@@ -8,7 +8,8 @@
 //! *Weakness.* Only tests show that replies are flushed before each read. No contract says when memory is available.
 //!
 //! *Mechanism.* Bytes are read in pieces of at most 65,536 and buffered. Each whole packet is answered into a buffer,
-//! which is written before the next read, and when it has 65,536 bytes.
+//! which is written before the next read, and when it has 65,536 bytes. This buffer with its writer is `Output`, which
+//! also takes the answers of scripts.
 //!
 //! *Limits.* The body of a packet has at most 16,777,216 bytes. A reader is asked at most 2^64 - 1 times. A term whose
 //! reply would have 2^32 bytes or more is left out, with status 7.
@@ -25,4 +26,5 @@ mod run;
 
 pub use fault::PacketFault;
 pub use front::MAX_PACKET;
+pub use output::{Output, WriteFault, output_buffer};
 pub use run::run_packets;

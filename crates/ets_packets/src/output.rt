@@ -1,29 +1,31 @@
 //! The output buffer with its writer. Bytes are written in large blocks.
-ghost use Rattle.std.specs.Prelude.{◌≡◌, [], IfOk, OnOk, OnErr};
+ghost use Rattle.std.specs.Prelude.{◌≡◌, [], ◌∷◌, ◌++◌, IfOk, OnOk, OnErr};
 ghost use Rattle.std.specs.Io.KnownBytes.{Appends};
+ghost use Rattle.term_text.specs.Printed.{printed};
 ghost use Rattle.ets_packets.specs.Traffic.{flow};
-ghost use Rattle.ets_packets.specs.inside.Output.{Sends, Breaks, Adds, Fails, HasWriterOf, waiting, writer_flow};
+ghost use Rattle.ets_packets.specs.Output.{Sends, Breaks, Adds, Fails, HasWriterOf, buffered_bytes, writer_flow};
 
+use ets_term::Term;
 use std::alloc::{AllocError, Global};
 use std::io::Write;
-use term_text::write_bytes;
+use term_text::{append_term, write_bytes, write_term};
 
 /// The buffer is written once it has this many bytes.
 const BLOCK_SIZE: usize = 65_536;
 
 /// The writer failed, or took no byte.
 #[derive(Debug, Drop)]
-pub(crate) struct WriteFault;
+pub struct WriteFault;
 
 /// A writer, and before it a buffer with the bytes that are not written yet.
 #[derive(Drop)]
-pub(crate) struct Output<'a, W> {
+pub struct Output<'a, W> {
     bytes: &'a mut Vec<u8>,
     writer: &'a mut W,
 }
 
 /// Returns an empty buffer, with capacity for more than a block.
-pub(crate) fn output_buffer(alloc: Global) -> Result<Vec<u8>, AllocError>
+pub fn output_buffer(alloc: Global) -> Result<Vec<u8>, AllocError>
     ensures { IfOk result (λ bytes. bytes.items ≡ []) }
 {
     Vec::with_capacity(alloc, 2 * BLOCK_SIZE)
@@ -31,7 +33,7 @@ pub(crate) fn output_buffer(alloc: Global) -> Result<Vec<u8>, AllocError>
 
 impl<'a, W: Write> Output<'a, W> {
     /// Puts a buffer before a writer.
-    pub(crate) fn new(bytes: &'a mut Vec<u8>, writer: &'a mut W) -> Output<'a, W>
+    pub fn new(bytes: &'a mut Vec<u8>, writer: &'a mut W) -> Output<'a, W>
         ensures bytes { result.bytes.now ≡ bytes.old }
         ensures writer { result.writer.now ≡ writer.old }
         ensures same_writer { result.writer.ghost_name ≡ writer.entry.ghost_name }
@@ -40,13 +42,13 @@ impl<'a, W: Write> Output<'a, W> {
     }
 
     /// Writes the buffered bytes, and flushes the writer.
-    pub(crate) fn flush(&mut self) -> Result<(), WriteFault>
+    pub fn flush(&mut self) -> Result<(), WriteFault>
         ensures same_writer { HasWriterOf self.old self.new }
         ensures ok { OnOk result (Sends (writer_flow W.contents self.old self.new)
-            (waiting self.old) (waiting self.new)) }
-        ensures empty { OnOk result (waiting self.new ≡ []) }
+            (buffered_bytes self.old) (buffered_bytes self.new)) }
+        ensures empty { OnOk result (buffered_bytes self.new ≡ []) }
         ensures err { OnErr result (Breaks (writer_flow W.contents self.old self.new)
-            (waiting self.old)) }
+            (buffered_bytes self.old)) }
     {
         self.send()?;
         match self.writer.flush() {
@@ -60,10 +62,10 @@ impl<'a, W: Write> Output<'a, W> {
     fn send(&mut self) -> Result<(), WriteFault>
         ensures same_writer { HasWriterOf self.old self.new }
         ensures ok { OnOk result (Appends (W.contents self.old.writer.now)
-            (W.contents self.new.writer.now) (waiting self.old)) }
-        ensures empty { OnOk result (waiting self.new ≡ []) }
+            (W.contents self.new.writer.now) (buffered_bytes self.old)) }
+        ensures empty { OnOk result (buffered_bytes self.new ≡ []) }
         ensures err { OnErr result (Breaks (writer_flow W.contents self.old self.new)
-            (waiting self.old)) }
+            (buffered_bytes self.old)) }
     {
         write_whole(self.writer, self.bytes.as_slice())?;
         self.bytes.clear();
@@ -71,7 +73,8 @@ impl<'a, W: Write> Output<'a, W> {
     }
 
     /// Adds bytes, and writes the buffer if it has a block.
-    pub(crate) fn add(&mut self, bytes: &[u8]) -> Result<(), WriteFault>
+    #[inline(always)]
+    pub fn add(&mut self, bytes: &[u8]) -> Result<(), WriteFault>
         ensures same_writer { HasWriterOf self.old self.new }
         ensures ok { OnOk result (Adds W.contents self.old self.new bytes.now) }
         ensures err { OnErr result (Fails W.contents self.old self.new bytes.now) }
@@ -84,6 +87,35 @@ impl<'a, W: Write> Output<'a, W> {
             self.send()?;
         }
         Ok(())
+    }
+
+    /// Adds the text of a term and an LF, and writes the buffer if it has a block.
+    pub fn add_term(&mut self, term: &Term) -> Result<(), WriteFault>
+        ensures same_writer { HasWriterOf self.old self.new }
+        ensures ok { OnOk result (Adds W.contents self.old self.new
+            (printed term.now ++ 10 ∷ [])) }
+        ensures err { OnErr result (Fails W.contents self.old self.new
+            (printed term.now ++ 10 ∷ [])) }
+    {
+        self.put_term(term)?;
+        self.add(b"\n")
+    }
+
+    /// Adds the text of a term; if there is no memory for it, writes it after the buffered bytes.
+    fn put_term(&mut self, term: &Term) -> Result<(), WriteFault>
+        ensures same_writer { HasWriterOf self.old self.new }
+        ensures ok { OnOk result (Adds W.contents self.old self.new (printed term.now)) }
+        ensures err { OnErr result (Fails W.contents self.old self.new (printed term.now)) }
+    {
+        match append_term(term, self.bytes) {
+            Ok(()) => return Ok(()),
+            Err(_) => {}
+        }
+        self.send()?;
+        match write_term(term, self.writer) {
+            Ok(()) => Ok(()),
+            Err(_) => Err(WriteFault),
+        }
     }
 }
 

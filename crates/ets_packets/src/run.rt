@@ -5,7 +5,7 @@ ghost use Rattle.ets_packets.specs.Packets.{big4, max_packet, packet};
 ghost use Rattle.ets_packets.specs.Stops.{Completes, Stops};
 ghost use Rattle.ets_packets.specs.Traffic.{flow, traffic};
 ghost use Rattle.ets_packets.specs.inside.Answering.{AnswersHeld, AnswersPacket, BreaksHeld, BreaksPacket, EndsAfter};
-ghost use Rattle.ets_packets.specs.inside.Output.{Adds, Fails, HasWriterOf, waiting, writer_flow};
+ghost use Rattle.ets_packets.specs.Output.{Adds, Fails, HasWriterOf, buffered_bytes, writer_flow};
 
 use crate::buffer::Buffer;
 use crate::fault::PacketFault;
@@ -63,7 +63,7 @@ fn answer_all<R: Read, W: Write>(
     buffer: &mut Buffer,
     server: &mut Server,
 ) -> Result<(), PacketFault>
-    requires waiting { waiting output.old ≡ [] }
+    requires waiting { buffered_bytes output.old ≡ [] }
     requires held { buffer.old ≡ [] }
     ensures same_writer { HasWriterOf output.old output.new }
     ensures ok { OnOk result (Completes server.old.store
@@ -103,9 +103,9 @@ fn answer_held<W: Write>(
 ) -> Result<bool, WriteFault>
     ensures same_writer { HasWriterOf output.old output.new }
     ensures ok { IfOk result (AnswersHeld (writer_flow W.contents output.old output.new)
-        (waiting output.old) (waiting output.new) buffer.old buffer.new server.old.store server.new.store) }
+        (buffered_bytes output.old) (buffered_bytes output.new) buffer.old buffer.new server.old.store server.new.store) }
     ensures err { OnErr result (BreaksHeld (writer_flow W.contents output.old output.new)
-        (waiting output.old) buffer.old server.old.store) }
+        (buffered_bytes output.old) buffer.old server.old.store) }
 {
     loop {
         let len = match front_of(buffer.bytes()) {
@@ -126,9 +126,9 @@ fn answer_packet<W: Write>(
 ) -> Result<(), WriteFault>
     ensures same_writer { HasWriterOf output.old output.new }
     ensures ok { OnOk result (AnswersPacket (writer_flow W.contents output.old output.new)
-        (waiting output.old) (waiting output.new) body.now server.old.store server.new.store) }
+        (buffered_bytes output.old) (buffered_bytes output.new) body.now server.old.store server.new.store) }
     ensures err { OnErr result (BreaksPacket (writer_flow W.contents output.old output.new)
-        (waiting output.old) body.now server.old.store server.new.store) }
+        (buffered_bytes output.old) body.now server.old.store server.new.store) }
 {
     clear(server.alloc, &mut server.rest);
     let status = answer(server.alloc, &mut server.store, body, &mut server.rest);

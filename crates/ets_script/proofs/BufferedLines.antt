@@ -4,10 +4,10 @@ use Rattle.std.proofs.lemmas.List.{nil_from_length}
 use Rattle.std.proofs.lemmas.List.Elements.{All-append}
 use Rattle.std.proofs.lemmas.Bool.{true≢false}
 use Rattle.std.specs.Io.KnownBytes.{IsAtEnd}
+use Rattle.ets_packets.proofs.KnownBytes.{between}
 use Rattle.ets_script.specs.Lines.{Line, text, too_long, IsOneLine, IsLine}
 use Rattle.ets_script.specs.inside.LineBuffers.{LineBufferState, Refills, PassedOver, Stays, IsPassed, Waits}
 use Rattle.ets_script.proofs.LineBuffers.{no-byte}
-use Rattle.ets_script.proofs.KnownBytes.{between}
 
 pub weaker-line : (bytes : List ℕ) (line : Line) (L M : Type 0) → (L → M) → IsLine bytes line L → IsLine bytes line M
 weaker-line bytes (text t) L M f (before, one, short, inl p) = (before, one, short, inl p)

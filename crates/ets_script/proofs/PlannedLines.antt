@@ -2,12 +2,13 @@
 use Rattle.std.proofs.Common.{◌≡◌, ℕ, ◌≤◌, ◌<◌, ◌⊎◌, Bool, true, false, List, [], ◌∷◌, ◌++◌, length, take, drop, refl, sym, ap, ◌∙◌, subst, arith, Option, inl, inr, append-nil, append_assoc, length-append}
 use Rattle.std.specs.Prelude.{⊤}
 use Rattle.std.specs.Io.KnownBytes.{Consumes, IsAtEnd, prepend_known}
+use Rattle.ets_packets.proofs.KnownBytes.{between, same-known}
 use Rattle.ets_script.specs.Lines.{Line, text, too_long, IsOneLine, IsLine, IsCutInto}
 use Rattle.ets_script.specs.Plan.{PlanState, line_plan, lines_plan}
 use Rattle.ets_script.specs.inside.LineBuffers.{LineBufferState, rest_of, Refills, PassedOver, EndsLine, Stays, IsPassed, Waits}
 use Rattle.ets_script.specs.inside.PlanCodes.{LimitedPlanState}
 use Rattle.ets_script.specs.inside.Planning.{with_line, with_lines, last_line, AreWhole, PlansAll}
-use Rattle.ets_script.proofs.KnownBytes.{between, nothing-held, read-more, same-known, taken-front, the_none, unheld}
+use Rattle.ets_script.proofs.KnownBytes.{nothing-held, read-more, taken-front, the_none, unheld}
 use Rattle.ets_script.proofs.BufferedLines.{weaker-line, none-or-some, one-line-of, both-one-line, Ended}
 
 -- a line after lines

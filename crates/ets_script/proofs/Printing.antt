@@ -5,11 +5,11 @@ use Rattle.std.specs.Prelude.{Some, codes, slice_index_or, Result, Ok, Err, OnOk
 use Rattle.std.specs.Io.KnownBytes.{Appends}
 use Rattle.node_shared.specs.declared.entry.Entry.{Entry}
 use Rattle.node_shared.specs.Journal.{process_of}
+use Rattle.ets_packets.specs.Output.{Sends, Breaks}
+use Rattle.ets_packets.proofs.KnownBytes.{between, sends-on, sends-two, sends-none, breaks-on, breaks-first, breaks-two}
 use Rattle.ets_script.specs.Replies.{reply_text}
 use Rattle.ets_script.specs.Threads.{line_of, own_text, entry_text, stopped_text}
 use Rattle.ets_script.specs.inside.Journal.{stop_text}
-use Rattle.ets_script.specs.inside.Output.{Sends, Breaks}
-use Rattle.ets_script.proofs.KnownBytes.{between, sends-on, sends-two, sends-none, breaks-on, breaks-first, breaks-two}
 
 -- of a text after the buffered text all but this rest was printed
 pub record Printed (a : Option (List ℕ)) (p whole : List ℕ) (b : Option (List ℕ)) (q rest : List ℕ) : Type 0 where

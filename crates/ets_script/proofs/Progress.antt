@@ -1,13 +1,14 @@
 -- A script on its way: the lines so far and their answers.
 use Rattle.std.proofs.Common.{◌≡◌, ℕ, suc, ◌<◌, ◌⊎◌, Bool, true, false, List, [], ◌++◌, length, take, drop, refl, sym, ap, ◌∙◌, subst, arith, Option, inl, inr, append-nil, append_assoc, length-append}
 use Rattle.std.specs.Io.KnownBytes.{Consumes, prepend_known}
+use Rattle.ets_packets.specs.Output.{Sends}
+use Rattle.ets_packets.proofs.KnownBytes.{between, sends-on, sends-more, sends-none, same-known}
 use Rattle.ets_script.specs.Lines.{Line, IsOneLine}
 use Rattle.ets_script.specs.Replies.{printed}
 use Rattle.ets_script.specs.Script.{ScriptState, AnswersLine, AreWholeLines}
 use Rattle.ets_script.specs.inside.LineBuffers.{LineBufferState, rest_of, Refills, PassedOver, EndsLine, Stays, IsPassed, Waits}
-use Rattle.ets_script.specs.inside.Output.{Sends}
 use Rattle.ets_script.specs.declared.answer.Answer.{Answer}
-use Rattle.ets_script.proofs.KnownBytes.{between, sends-on, sends-more, sends-none, nothing-held, read-more, same-known, taken-front, the_none, unheld}
+use Rattle.ets_script.proofs.KnownBytes.{nothing-held, read-more, taken-front, the_none, unheld}
 use Rattle.ets_script.proofs.BufferedLines.{both-one-line, one-line-of}
 use Rattle.ets_script.proofs.AnsweredLines.{then-line}
 

@@ -3,25 +3,26 @@ use Rattle.std.proofs.Common.{◌≡◌, ℕ, suc, ◌≤◌, ◌<◌, ◌⊎◌
 use Rattle.std.specs.Prelude.{⊤, Result, Ok, Err, IfErr, OnOk, OnErr}
 use Rattle.std.specs.Result.{IsErrAnd}
 use Rattle.std.specs.Io.KnownBytes.{Appends, Consumes, Keeps, IsAtEnd}
-use Rattle.ets_script.specs.Flows.{both_flows}
+use Rattle.ets_packets.specs.Traffic.{traffic}
+use Rattle.ets_packets.specs.Output.{Sends, Breaks}
+use Rattle.ets_packets.proofs.KnownBytes.{between, sends-on, breaks-on, breaks-more, appends-same, appends-more, kept-left, same-known}
 use Rattle.ets_script.specs.Lines.{Line, IsOneLine}
 use Rattle.ets_script.specs.Replies.{printed}
 use Rattle.ets_script.specs.Script.{ScriptState, AnswersLine, ScriptText, AreLines}
 use Rattle.ets_script.specs.Stops.{Stops, Completes}
 use Rattle.ets_script.specs.inside.LineBuffers.{LineBufferState, EndsLine, Waits}
-use Rattle.ets_script.specs.inside.Output.{Sends, Breaks}
 use Rattle.ets_script.specs.inside.Answered.{AnswersPart, EndsAll, BreaksAtEnd}
 use Rattle.ets_script.specs.declared.answer.Answer.{Answer}
 use Rattle.ets_script.specs.declared.fault.ScriptFault.{ScriptFault}
 use Rattle.ets_script.specs.declared.fault.ScriptFault.TheVariants as faults
-use Rattle.ets_script.proofs.KnownBytes.{between, sends-on, breaks-on, breaks-more, appends-same, appends-more, kept-left, same-known, taken-front, the_none, unheld}
+use Rattle.ets_script.proofs.KnownBytes.{taken-front, the_none, unheld}
 use Rattle.ets_script.proofs.AnsweredLines.{last-lines, no-more, none-is, then-line}
 use Rattle.ets_script.proofs.BufferedLines.{Ended, both-one-line, one-line-held, one-line-of, weaker-line}
 use Rattle.ets_script.proofs.Progress.{Progress, progress-flush, progress-wait}
 
 -- the writer failed at the answer to a line
 pub broken-line : (start s1 s2 : ScriptState) (before old w1 w2 : Option (List ℕ)) (h1 : LineBufferState) (left : Option (List ℕ)) (p1 : List ℕ) (n : ℕ) (line : Line) (answer : Answer) → Progress start before old h1 left p1 w1 s1
-    → EndsLine h1.bytes h1.is_skipping n line → AnswersLine s1 line answer s2 → Breaks (between w1 w2) (p1 ++ printed answer) → Stops start (both_flows (between before left) (between old w2)) faults.Write
+    → EndsLine h1.bytes h1.is_skipping n line → AnswersLine s1 line answer s2 → Breaks (between w1 w2) (p1 ++ printed answer) → Stops start (traffic (between before left) (between old w2)) faults.Write
 broken-line start s1 s2 before old w1 w2 h1 left p1 n line answer g ends answers broken =
     let bytes = g.skipped ++ take n h1.bytes in
     let b = breaks-more old w1 w2 g.out p1 (printed answer) g.sent broken in
@@ -42,7 +43,7 @@ broken-line start s1 s2 before old w1 w2 h1 left p1 n line answer g ends answers
     )
 
 -- the writer failed before more was read
-pub flush-broken : (start now : ScriptState) (before old w1 w2 : Option (List ℕ)) (h : LineBufferState) (left : Option (List ℕ)) (p : List ℕ) → Progress start before old h left p w1 now → Breaks (between w1 w2) p → Stops start (both_flows (between before left) (between old w2)) faults.Write
+pub flush-broken : (start now : ScriptState) (before old w1 w2 : Option (List ℕ)) (h : LineBufferState) (left : Option (List ℕ)) (p : List ℕ) → Progress start before old h left p w1 now → Breaks (between w1 w2) p → Stops start (traffic (between before left) (between old w2)) faults.Write
 flush-broken start now before old w1 w2 h left p g broken =
     let b = breaks-on old w1 w2 g.out p g.sent broken in
     let M : Type 0 = (g.skipped ++ h.bytes ≡ []) × IsAtEnd left in (
@@ -57,7 +58,7 @@ flush-broken start now before old w1 w2 h left p g broken =
     )
 
 -- the reader failed after all that waited had gone out
-pub read-failed : (start now : ScriptState) (before old w : Option (List ℕ)) (h : LineBufferState) (l1 l2 : Option (List ℕ)) (p : List ℕ) → Progress start before old h l1 p w now → p ≡ [] → IsOneLine h.bytes → Keeps l1 l2 → Stops start (both_flows (between before l2) (between old w)) faults.Read
+pub read-failed : (start now : ScriptState) (before old w : Option (List ℕ)) (h : LineBufferState) (l1 l2 : Option (List ℕ)) (p : List ℕ) → Progress start before old h l1 p w now → p ≡ [] → IsOneLine h.bytes → Keeps l1 l2 → Stops start (traffic (between before l2) (between old w)) faults.Read
 read-failed start now before old w h l1 l2 p g none one kept =
     let all = subst (λ (k : List ℕ). Sends (between old w) g.out k) none g.sent in (
       g.input,
@@ -71,7 +72,7 @@ read-failed start now before old w h l1 l2 p g none one kept =
     )
 
 -- the last line was answered, and all went out
-pub script-completes : (start s1 s2 : ScriptState) (before old w1 w2 : Option (List ℕ)) (h : LineBufferState) (left : Option (List ℕ)) (p : List ℕ) → Progress start before old h left p w1 s1 → Ended h left → EndsAll h s1 s2 p (between w1 w2) → Completes start s2 (both_flows (between before left) (between old w2))
+pub script-completes : (start s1 s2 : ScriptState) (before old w1 w2 : Option (List ℕ)) (h : LineBufferState) (left : Option (List ℕ)) (p : List ℕ) → Progress start before old h left p w1 s1 → Ended h left → EndsAll h s1 s2 p (between w1 w2) → Completes start s2 (traffic (between before left) (between old w2))
 script-completes start s1 s2 before old w1 w2 h left p g e all = (
   g.input ++ (g.skipped ++ h.bytes),
   g.out ++ printed all.answer,
@@ -82,7 +83,7 @@ script-completes start s1 s2 before old w1 w2 h left p g e all = (
 )
 
 -- the writer failed after the last line
-pub end-broken : (start s1 s2 : ScriptState) (before old w1 w2 : Option (List ℕ)) (h : LineBufferState) (left : Option (List ℕ)) (p : List ℕ) → Progress start before old h left p w1 s1 → Ended h left → BreaksAtEnd h s1 s2 p (between w1 w2) → Stops start (both_flows (between before left) (between old w2)) faults.Write
+pub end-broken : (start s1 s2 : ScriptState) (before old w1 w2 : Option (List ℕ)) (h : LineBufferState) (left : Option (List ℕ)) (p : List ℕ) → Progress start before old h left p w1 s1 → Ended h left → BreaksAtEnd h s1 s2 p (between w1 w2) → Stops start (traffic (between before left) (between old w2)) faults.Write
 end-broken start s1 s2 before old w1 w2 h left p g e all =
     let b = breaks-more old w1 w2 g.out p (printed all.answer) g.sent all.broken in
     let M : Type 0 = (the_none ≡ []) × IsAtEnd left in (
@@ -98,11 +99,11 @@ end-broken start s1 s2 before old w1 w2 h left p g e all =
     )
 
 -- a script that had no memory to begin with
-pub not-begun : (start : ScriptState) (before old : Option (List ℕ)) → Stops start (both_flows (between before before) (between old old)) faults.Memory
+pub not-begun : (start : ScriptState) (before old : Option (List ℕ)) → Stops start (traffic (between before before) (between old old)) faults.Memory
 not-begun start before old = (same-known before, appends-same old)
 
 pub read-broken : (start now : ScriptState) (before old w1 w2 : Option (List ℕ)) (h1 h2 : LineBufferState) (l1 l2 : Option (List ℕ)) (p1 p2 : List ℕ) → Progress start before old h1 l1 p1 w1 now → IsOneLine h1.bytes
-    → Sends (between w1 w2) p1 p2 → p2 ≡ [] → Waits h1 h2 → Keeps l1 l2 → Stops start (both_flows (between before l2) (between old w2)) faults.Read
+    → Sends (between w1 w2) p1 p2 → p2 ≡ [] → Waits h1 h2 → Keeps l1 l2 → Stops start (traffic (between before l2) (between old w2)) faults.Read
 read-broken start now before old w1 w2 h1 h2 l1 l2 p1 p2 g one sent none waits kept =
     read-failed start now before old w2 h2 l1 l2 p2 (progress-wait start now before old w2 h1 h2 l1 p2 (progress-flush start now before old w1 w2 h1 l1 p1 p2 g sent) one waits) none (one-line-held h1 h2 one waits) kept
 
@@ -122,6 +123,6 @@ end-err (Err e) h s1 s2 p1 p2 w1 w2 w3 answer answers printed_so broken =
 
 -- a fault is reported as it was found
 pub stop-told : {N : Type 0} (start : ScriptState) (before after old new : Option (List ℕ)) (r : Result N ScriptFault) (fault : ScriptFault) → IsErrAnd r (λ told. told ≡ fault)
-    → Stops start (both_flows (between before after) (between old new)) fault → IfErr r (Stops start (both_flows (between before after) (between old new)))
+    → Stops start (traffic (between before after) (between old new)) fault → IfErr r (Stops start (traffic (between before after) (between old new)))
 stop-told start before after old new (Ok x) fault told stops = tt
-stop-told start before after old new (Err e) fault told stops = subst (Stops start (both_flows (between before after) (between old new))) (sym told) stops
+stop-told start before after old new (Err e) fault told stops = subst (Stops start (traffic (between before after) (between old new))) (sym told) stops

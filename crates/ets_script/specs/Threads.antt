@@ -15,7 +15,7 @@ use Rattle.node_shared.specs.Closing.{Closes}
 use Rattle.node_shared.specs.Journal.{IsRun, of, has_entries, process_of}
 use Rattle.node_shared.specs.Records.{RecordState}
 use Rattle.node_shared.specs.Working.{job_step}
-use Rattle.ets_script.specs.Flows.{Flows}
+use Rattle.ets_packets.specs.Traffic.{Traffic}
 use Rattle.ets_script.specs.Lines.{Line, IsCutInto}
 use Rattle.ets_script.specs.Plan.{PlanState, empty_plan, lines_plan}
 use Rattle.ets_script.specs.Replies.{printed, reply_text}
@@ -80,7 +80,7 @@ pub record ThreadsText (limits : Limits) (input output : List ℕ) : Type 0 wher
   pub prints : output ≡ threads_text plan.answers plan.names done left
 
 -- the reader had all of a script, which was read to its end, and all that it prints was written
-abbrev pub ThreadsEnd : Limits → Flows → Type 0
+abbrev pub ThreadsEnd : Limits → Traffic → Type 0
 ThreadsEnd limits streams =
     (input : List ℕ) × (output : List ℕ)
     × Consumes streams.reader.before streams.reader.after input × IsAtEnd streams.reader.after
@@ -92,7 +92,7 @@ IsUnclosed limits fault = (clients : List RecordState) × Closes limits clients 
 
 -- At a write fault a prefix of the text of a whole script was written. At any other nothing was. A process differs, or
 -- is missing, only where the journal of a run of the node and the records of its clients say so.
-abbrev pub ThreadsStop : Limits → Flows → ScriptFault → Type 0
+abbrev pub ThreadsStop : Limits → Traffic → ScriptFault → Type 0
 ThreadsStop limits streams Write =
     (input : List ℕ) × (output : List ℕ) × (unsent : List ℕ)
     × Consumes streams.reader.before streams.reader.after input × IsAtEnd streams.reader.after
@@ -105,11 +105,11 @@ ThreadsStop limits streams (Missing p) =
     Appends streams.writer.before streams.writer.after [] × IsUnclosed limits (close.Missing p)
 
 -- the program's status: 0 after a whole script, else 1
-abbrev pub ThreadsStatus : Limits → Flows → ℕ → Type 0
+abbrev pub ThreadsStatus : Limits → Traffic → ℕ → Type 0
 ThreadsStatus limits streams status =
     ((status ≡ 0) × ThreadsEnd limits streams)
     ⊎ ((status ≡ 1) × (fault : ScriptFault) × ThreadsStop limits streams fault)
 
 -- the same with the usual limits, with this number of objects in one table
-abbrev pub ProgramThreads : ℕ → Flows → ℕ → Type 0
+abbrev pub ProgramThreads : ℕ → Traffic → ℕ → Type 0
 ProgramThreads objects = ThreadsStatus (usual objects)

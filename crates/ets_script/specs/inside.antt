@@ -1,5 +1,4 @@
 pub mod LineBuffers
-pub mod Output
 pub mod Answered
 pub mod Parsing
 pub mod Codes

@@ -1,10 +1,10 @@
 //! The answer to a line, and how it is printed.
 ghost use Rattle.std.specs.Prelude.{◌≡◌, ◌++◌, true, OnOk, OnErr, codes};
 ghost use Rattle.term_text.specs.Printed as text;
+ghost use Rattle.ets_packets.specs.Output.{Adds, Fails, HasWriterOf};
 ghost use Rattle.ets_script.specs.Replies.{printed, reply_text};
-ghost use Rattle.ets_script.specs.inside.Output.{Prints, Fails, HasWriterOf};
 
-use crate::output::{Output, WriteFault};
+use ets_packets::{Output, WriteFault};
 use ets_term::Term;
 use itoa::Buffer;
 use node_core::Reply;
@@ -45,7 +45,7 @@ impl Answer {
     #[inline(always)]
     pub fn print<W: Write>(&self, output: &mut Output<'_, W>) -> Result<(), WriteFault>
         ensures same_writer { HasWriterOf output.old output.new }
-        ensures ok { OnOk result (Prints W.contents output.old output.new (printed self.now)) }
+        ensures ok { OnOk result (Adds W.contents output.old output.new (printed self.now)) }
         ensures err { OnErr result (Fails W.contents output.old output.new (printed self.now)) }
     {
         match self {
@@ -62,7 +62,7 @@ impl Answer {
 #[inline(always)]
 pub fn print_reply<W: Write>(reply: &Reply, output: &mut Output<'_, W>) -> Result<(), WriteFault>
     ensures same_writer { HasWriterOf output.old output.new }
-    ensures ok { OnOk result (Prints W.contents output.old output.new
+    ensures ok { OnOk result (Adds W.contents output.old output.new
         (reply_text reply.now ++ codes "\n")) }
     ensures err { OnErr result (Fails W.contents output.old output.new
         (reply_text reply.now ++ codes "\n")) }
@@ -93,7 +93,7 @@ fn is_true(term: &Term) -> bool
 #[inline(never)]
 fn print_syntax<W: Write>(at: usize, output: &mut Output<'_, W>) -> Result<(), WriteFault>
     ensures same_writer { HasWriterOf output.old output.new }
-    ensures ok { OnOk result (Prints W.contents output.old output.new
+    ensures ok { OnOk result (Adds W.contents output.old output.new
         (printed (Answer.Syntax at))) }
     ensures err { OnErr result (Fails W.contents output.old output.new
         (printed (Answer.Syntax at))) }

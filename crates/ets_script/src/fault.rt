@@ -1,6 +1,6 @@
 //! Why a script stops.
 use crate::line_buffer::ReadFault;
-use crate::output::WriteFault;
+use ets_packets::WriteFault;
 use std::alloc::AllocError;
 use thiserror::Error;
 

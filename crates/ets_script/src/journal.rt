@@ -1,16 +1,16 @@
 //! How a script is printed whose processes ran in threads of their own.
 ghost use Rattle.std.specs.Prelude.{◌≡◌, ◌≤◌, ◌++◌, flat_map, codes, length, [], OnOk, OnErr};
 ghost use Rattle.std.specs.Io.KnownBytes.{Appends};
+ghost use Rattle.ets_packets.specs.Output.{Breaks, Adds, Fails, HasWriterOf, buffered_bytes, writer_flow};
 ghost use Rattle.ets_script.specs.Replies.{printed};
 ghost use Rattle.ets_script.specs.Threads.{entry_text, stopped_text};
-ghost use Rattle.ets_script.specs.inside.Output.{Breaks, Prints, Fails, HasWriterOf, buffered_text, writer_flow};
 ghost use Rattle.ets_script.specs.inside.Journal.{stop_text, run_text, out_text};
 
 use crate::answer::{Answer, print_reply};
 use crate::names::Names;
-use crate::output::{Output, WriteFault};
 use crate::plan::PlannedAnswers;
 use crate::processes::RunResult;
+use ets_packets::{Output, WriteFault};
 use node_shared::Entry;
 use std::io::Write;
 
@@ -20,7 +20,7 @@ pub fn print_out<W: Write>(
     run: &RunResult,
     output: &mut Output<'_, W>,
 ) -> Result<(), WriteFault>
-    requires waiting { buffered_text output.old ≡ [] }
+    requires waiting { buffered_bytes output.old ≡ [] }
     requires named { length run.now.left.items ≤ length planned.now.names }
     ensures same_writer { HasWriterOf output.old output.new }
     ensures ok { OnOk result (Appends (W.contents output.old.writer.now)
@@ -40,7 +40,7 @@ fn print_all<W: Write>(
 ) -> Result<(), WriteFault>
     requires { length run.now.left.items ≤ length planned.now.names }
     ensures same_writer { HasWriterOf output.old output.new }
-    ensures ok { OnOk result (Prints W.contents output.old output.new
+    ensures ok { OnOk result (Adds W.contents output.old output.new
         (out_text planned.now run.now)) }
     ensures err { OnErr result (Fails W.contents output.old output.new
         (out_text planned.now run.now)) }
@@ -57,7 +57,7 @@ fn print_run<W: Write>(
 ) -> Result<(), WriteFault>
     requires { length run.now.left.items ≤ length names.now }
     ensures same_writer { HasWriterOf output.old output.new }
-    ensures ok { OnOk result (Prints W.contents output.old output.new
+    ensures ok { OnOk result (Adds W.contents output.old output.new
         (run_text names.now run.now)) }
     ensures err { OnErr result (Fails W.contents output.old output.new
         (run_text names.now run.now)) }
@@ -69,7 +69,7 @@ fn print_run<W: Write>(
 /// Prints answers, one after another.
 fn print_answers<W: Write>(answers: &[Answer], output: &mut Output<'_, W>) -> Result<(), WriteFault>
     ensures same_writer { HasWriterOf output.old output.new }
-    ensures ok { OnOk result (Prints W.contents output.old output.new
+    ensures ok { OnOk result (Adds W.contents output.old output.new
         (flat_map printed answers.now)) }
     ensures err { OnErr result (Fails W.contents output.old output.new
         (flat_map printed answers.now)) }
@@ -87,7 +87,7 @@ fn print_entries<W: Write>(
     output: &mut Output<'_, W>,
 ) -> Result<(), WriteFault>
     ensures same_writer { HasWriterOf output.old output.new }
-    ensures ok { OnOk result (Prints W.contents output.old output.new
+    ensures ok { OnOk result (Adds W.contents output.old output.new
         (flat_map (entry_text names.now) entries.now)) }
     ensures err { OnErr result (Fails W.contents output.old output.new
         (flat_map (entry_text names.now) entries.now)) }
@@ -105,7 +105,7 @@ fn print_entry<W: Write>(
     output: &mut Output<'_, W>,
 ) -> Result<(), WriteFault>
     ensures same_writer { HasWriterOf output.old output.new }
-    ensures ok { OnOk result (Prints W.contents output.old output.new
+    ensures ok { OnOk result (Adds W.contents output.old output.new
         (entry_text names.now entry.now)) }
     ensures err { OnErr result (Fails W.contents output.old output.new
         (entry_text names.now entry.now)) }
@@ -122,7 +122,7 @@ fn print_entry<W: Write>(
 /// Prints a name and a space.
 fn print_name<W: Write>(name: &[u8], output: &mut Output<'_, W>) -> Result<(), WriteFault>
     ensures same_writer { HasWriterOf output.old output.new }
-    ensures ok { OnOk result (Prints W.contents output.old output.new (name.now ++ codes " ")) }
+    ensures ok { OnOk result (Adds W.contents output.old output.new (name.now ++ codes " ")) }
     ensures err { OnErr result (Fails W.contents output.old output.new (name.now ++ codes " ")) }
 {
     output.add(name)?;
@@ -137,7 +137,7 @@ fn print_stopped<W: Write>(
 ) -> Result<(), WriteFault>
     requires { length left.now ≤ length names.now }
     ensures same_writer { HasWriterOf output.old output.new }
-    ensures ok { OnOk result (Prints W.contents output.old output.new
+    ensures ok { OnOk result (Adds W.contents output.old output.new
         (stopped_text names.now left.now)) }
     ensures err { OnErr result (Fails W.contents output.old output.new
         (stopped_text names.now left.now)) }
@@ -155,7 +155,7 @@ fn print_stop<W: Write>(
     output: &mut Output<'_, W>,
 ) -> Result<(), WriteFault>
     ensures same_writer { HasWriterOf output.old output.new }
-    ensures ok { OnOk result (Prints W.contents output.old output.new (stop_text name.now left)) }
+    ensures ok { OnOk result (Adds W.contents output.old output.new (stop_text name.now left)) }
     ensures err { OnErr result (Fails W.contents output.old output.new (stop_text name.now left)) }
 {
     if left == 0 {

@@ -30,7 +30,6 @@ mod names;
 mod node_settings;
 mod observer;
 pub mod options;
-mod output;
 mod parse_stop;
 mod plan;
 mod planning;

@@ -1,8 +1,8 @@
 //! The bytes read of a script, in a buffer from which lines are taken.
 ghost use Rattle.std.specs.Prelude.{◌≡◌, ◌+◌, ◌-◌, ◌≤◌, ◌<◌, [], false, length, take, drop, slice_range, vec_len, IfOk, OnErr};
 ghost use Rattle.std.specs.Io.KnownBytes.{Consumes, Keeps, IsAtEnd};
+ghost use Rattle.ets_packets.specs.Traffic.{flow};
 ghost use Rattle.ets_script.specs.inside.LineBuffers.{Refills, Finds, Waits};
-ghost use Rattle.ets_script.specs.Flows.{flow};
 ghost use Rattle.ets_script.specs.Lines.{IsOneLine};
 
 use crate::lines::{MAX_LINE, NextLine, find_line};

@@ -1,6 +1,6 @@
 //! The plan of a whole script, which is read to its end.
 ghost use Rattle.std.specs.Prelude.{◌≡◌, [], false, IfOk, IfErr};
-ghost use Rattle.ets_script.specs.Flows.{flow};
+ghost use Rattle.ets_packets.specs.Traffic.{flow};
 ghost use Rattle.ets_script.specs.inside.Planning.{no_lines, with_line, last_line, PlansNext, PlansAll, IsUnplanned};
 
 use crate::fault::ScriptFault;

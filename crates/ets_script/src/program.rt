@@ -2,7 +2,7 @@
 ghost use Rattle.std.specs.Prelude.{◌≡◌, false, true, IfOk, OnOk, IfErr};
 ghost use Rattle.ets_packets.specs.Stops.{PacketsEnd};
 ghost use Rattle.ets_script.specs.CommandLine.{limits_of};
-ghost use Rattle.ets_script.specs.Flows.{flows, packet_traffic};
+ghost use Rattle.ets_script.specs.Flows.{flows};
 ghost use Rattle.ets_script.specs.Script.{ScriptState, at_start};
 ghost use Rattle.ets_script.specs.Stops.{Completes, EndsWithin, ProgramEnds, Stops};
 ghost use Rattle.ets_script.specs.Threads.{ThreadsEnd, ThreadsStop, ThreadsStatus, ProgramThreads};
@@ -88,7 +88,7 @@ pub fn answer_request<T: Threads + Wait + Sync, R: Read, W: Write, E: Write>(
         (flows R.remaining W.contents streams.old streams.new)) }
     ensures external { request.now.external ≡ true →
         IfOk result (PacketsEnd (limits_of request.now)
-        (packet_traffic (flows R.remaining W.contents streams.old streams.new))) }
+        (flows R.remaining W.contents streams.old streams.new)) }
 {
     if request.external {
         return answer_packets(alloc, request, streams, errors);
@@ -108,7 +108,7 @@ fn answer_packets<R: Read, W: Write, E: Write>(
     errors: &mut E,
 ) -> io::Result<u8>
     ensures { IfOk result (PacketsEnd (limits_of request.now)
-        (packet_traffic (flows R.remaining W.contents streams.old streams.new))) }
+        (flows R.remaining W.contents streams.old streams.new)) }
 {
     match run_packets(
         alloc,

@@ -1,11 +1,12 @@
 //! A script from its first line to its last.
 ghost use Rattle.std.specs.Prelude.{◌≡◌, [], false, IfOk, IfErr, OnOk, OnErr};
 ghost use Rattle.node_core.specs.Observable.{observable};
-ghost use Rattle.ets_script.specs.Flows.{both_flows, flow, flows};
+ghost use Rattle.ets_packets.specs.Traffic.{flow, traffic};
+ghost use Rattle.ets_packets.specs.Output.{HasWriterOf, buffered_bytes, writer_flow};
+ghost use Rattle.ets_script.specs.Flows.{flows};
 ghost use Rattle.ets_script.specs.Numbers.{AreTheNumbers};
 ghost use Rattle.ets_script.specs.Script.{at_start};
 ghost use Rattle.ets_script.specs.Stops.{Completes, LeavesNode, Stops};
-ghost use Rattle.ets_script.specs.inside.Output.{HasWriterOf, buffered_text, writer_flow};
 ghost use Rattle.ets_script.specs.inside.Answered.{AnswersNext, AnswersPart, EndsAll, BreaksAtEnd};
 
 use crate::answer::Answer;
@@ -14,10 +15,10 @@ use crate::line_buffer::LineBuffer;
 use crate::lines::NextLine;
 use crate::node_settings::NodeSettings;
 use crate::observer::{NoObserver, Observer};
-use crate::output::{Output, WriteFault, output_buffer};
 use crate::script::Script;
 use crate::streams::Streams;
 use crate::why_writer::WhyWriter;
+use ets_packets::{Output, WriteFault, output_buffer};
 use ets_term::KeyHash;
 use node_core::Node;
 use std::alloc::Global;
@@ -119,14 +120,14 @@ fn answer_all<R: Read, W: Write, H: KeyHash + Copy + Drop, L: Observer>(
     script: &mut Script<H>,
     observer: &mut L,
 ) -> Result<(), ScriptFault>
-    requires waiting { buffered_text output.old ≡ [] }
+    requires waiting { buffered_bytes output.old ≡ [] }
     requires held { (buffer.old.bytes ≡ []) × (buffer.old.is_skipping ≡ false) }
     ensures same_writer { HasWriterOf output.old output.new }
     ensures ok { OnOk result (Completes script.old script.new
-        (both_flows (flow R.remaining reader.old reader.new)
+        (traffic (flow R.remaining reader.old reader.new)
         (writer_flow W.contents output.old output.new))) }
     ensures err { IfErr result (Stops script.old
-        (both_flows (flow R.remaining reader.old reader.new)
+        (traffic (flow R.remaining reader.old reader.new)
         (writer_flow W.contents output.old output.new))) }
 {
     let mut answer = Answer::Silent;
@@ -180,10 +181,10 @@ fn answer_last<W: Write, H: KeyHash + Copy + Drop, L: Observer>(
     observer: &mut L,
 ) -> Result<(), WriteFault>
     ensures same_writer { HasWriterOf output.old output.new }
-    ensures ok { OnOk result (EndsAll buffer.now script.old script.new (buffered_text output.old)
+    ensures ok { OnOk result (EndsAll buffer.now script.old script.new (buffered_bytes output.old)
         (writer_flow W.contents output.old output.new)) }
     ensures err { OnErr result (BreaksAtEnd buffer.now script.old script.new
-        (buffered_text output.old) (writer_flow W.contents output.old output.new)) }
+        (buffered_bytes output.old) (writer_flow W.contents output.old output.new)) }
 {
     let last = answer_part(buffer, script);
     observer.line_answered(script, buffer.bytes(), &last);

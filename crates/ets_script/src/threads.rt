@@ -1,7 +1,8 @@
 //! A script whose processes run in threads of their own.
 ghost use Rattle.std.specs.Prelude.{◌≡◌, min, IfOk, IfErr, OnOk};
 ghost use Rattle.node_shared.specs.declared.pids.TheConstants.{MAX_PIDS};
-ghost use Rattle.ets_script.specs.Flows.{flow, flows};
+ghost use Rattle.ets_packets.specs.Traffic.{flow};
+ghost use Rattle.ets_script.specs.Flows.{flows};
 ghost use Rattle.ets_script.specs.Numbers.{AreTheNumbers};
 ghost use Rattle.ets_script.specs.Threads.{ThreadsEnd, ThreadsStop};
 ghost use Rattle.ets_script.specs.inside.Processes.{RunsInput, Stops};
@@ -9,11 +10,11 @@ ghost use Rattle.ets_script.specs.inside.Processes.{RunsInput, Stops};
 use crate::fault::ScriptFault;
 use crate::journal::print_out;
 use crate::node_settings::NodeSettings;
-use crate::output::{Output, output_buffer};
 use crate::plan::PlannedAnswers;
 use crate::planning::plan_input;
 use crate::processes::{RunResult, run_jobs};
 use crate::streams::Streams;
+use ets_packets::{Output, output_buffer};
 use ets_term::KeyHash;
 use node_core::Limits;
 use node_shared::MAX_PIDS;

@@ -1,15 +1,15 @@
 //! Reasons of refused lines, for a second writer.
 ghost use Rattle.std.specs.Prelude.{◌≡◌, ◌+◌, ◌-◌, ◌<◌, ◌^◌, ◌⊎◌, false, OnOk, OnErr};
 ghost use Rattle.script_reasons.specs.Diagnostics.{diagnostic_text};
+ghost use Rattle.ets_packets.specs.Output.{HasWriterOf};
 ghost use Rattle.ets_script.specs.inside.Explanations.{Explains};
-ghost use Rattle.ets_script.specs.inside.Output.{HasWriterOf};
 ghost use Rattle.ets_script.specs.inside.Reasons.{KeepsOutput, WritesAll, WritesText, WritesWhy, reason_line};
 
 use crate::answer::Answer;
 use crate::explain::explain;
 use crate::observer::Observer;
-use crate::output::Output;
 use crate::script::Script;
+use ets_packets::Output;
 use ets_term::KeyHash;
 use script_reasons::Diagnostic;
 use std::alloc::{AllocError, Global};

@@ -5,7 +5,7 @@ use Rattle.ets_packets.specs.Packets.{IsPart, IsTooLong, packet}
 use Rattle.ets_packets.specs.Replies.{PacketReply, reply_body, Answers}
 use Rattle.ets_packets.specs.Exchanges.{Exchange, Run, requests, replies}
 use Rattle.ets_packets.specs.Traffic.{Flow}
-use Rattle.ets_packets.specs.inside.Output.{Sends, Breaks}
+use Rattle.ets_packets.specs.Output.{Sends, Breaks}
 use Rattle.ets_packets.specs.declared.fault.PacketFault.{PacketFault}
 use Rattle.ets_packets.specs.declared.fault.PacketFault.TheVariants.{Truncated}
 

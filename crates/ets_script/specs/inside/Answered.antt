@@ -1,12 +1,12 @@
 -- What private contracts say of one line of a script and its answer.
 use Rattle.std.specs.Prelude.{◌≡◌, ℕ, ◌≤◌, ◌<◌, Bool, true, false, List, ◌++◌, length, Option, Some, None}
 use Rattle.std.specs.Io.KnownBytes.{Appends}
-use Rattle.ets_script.specs.Flows.{Flow}
+use Rattle.ets_packets.specs.Traffic.{Flow}
+use Rattle.ets_packets.specs.Output.{Breaks}
 use Rattle.ets_script.specs.Lines.{Line, text, too_long, IsOneLine}
 use Rattle.ets_script.specs.Replies.{printed}
 use Rattle.ets_script.specs.Script.{ScriptState, AnswersLine}
 use Rattle.ets_script.specs.inside.LineBuffers.{LineBufferState, EndsLine}
-use Rattle.ets_script.specs.inside.Output.{Breaks}
 use Rattle.ets_script.specs.declared.answer.Answer.{Answer}
 
 -- the bytes held begin with a line, and this is its answer

@@ -1,7 +1,7 @@
 -- What private contracts say of the bytes that were read and not yet taken.
 use Rattle.std.specs.Prelude.{◌≡◌, ℕ, ◌+◌, ◌≤◌, ◌<◌, ◌⊎◌, Bool, true, false, List, [], ◌++◌, length, take, Option, slice_index}
 use Rattle.std.specs.Io.KnownBytes.{prepend_known, Consumes, IsAtEnd}
-use Rattle.ets_script.specs.Flows.{Flow}
+use Rattle.ets_packets.specs.Traffic.{Flow}
 use Rattle.ets_script.specs.Lines.{Line, text, too_long, IsOneLine, IsLine}
 use Rattle.ets_script.specs.declared.line_buffer.TheConstants.{CAPACITY}
 use Rattle.ets_script.specs.declared.lines.TheConstants.{MAX_LINE}

@@ -2,8 +2,8 @@
 use Rattle.std.specs.Prelude.{◌≡◌, ℕ, ◌≤◌, ◌<◌, Bool, true, false, List, [], ◌∷◌, ◌++◌, length, Option, Some, None, ⊤}
 use Rattle.std.specs.Io.KnownBytes.{Consumes, IsAtEnd}
 use Rattle.node_shared.specs.declared.job.Job.{Job}
+use Rattle.ets_packets.specs.Traffic.{Flow}
 use Rattle.ets_script.specs.Commands.{Command}
-use Rattle.ets_script.specs.Flows.{Flow}
 use Rattle.ets_script.specs.Lines.{Line, text, too_long, IsOneLine, IsLine, IsCutInto}
 use Rattle.ets_script.specs.Plan.{PlanState, empty_plan, number_of, add_answer, add_job_for, add_spawn, add_command, line_plan, lines_plan}
 use Rattle.ets_script.specs.declared.answer.Answer.{Answer}

@@ -13,7 +13,7 @@ use Rattle.node_shared.specs.declared.pids.TheConstants.{MAX_PIDS}
 use Rattle.node_shared.specs.declared.transcript.CloseFault.TheVariants as close
 use Rattle.node_shared.specs.Journal.{entry}
 use Rattle.node_shared.specs.Records.{RecordState}
-use Rattle.ets_script.specs.Flows.{Flow}
+use Rattle.ets_packets.specs.Traffic.{Flow}
 use Rattle.ets_script.specs.Lines.{Line, IsCutInto}
 use Rattle.ets_script.specs.Plan.{PlanState, empty_plan, lines_plan}
 use Rattle.ets_script.specs.Threads.{IsUnclosed, RunsJobs, steps_done}

@@ -2,9 +2,9 @@
 use Rattle.std.specs.Prelude.{◌≡◌, ℕ, Bool, true, false, List, [], ◌++◌, Option, Some, None, codes, decimal}
 use Rattle.script_reasons.specs.Diagnostics.{diagnostic_text}
 use Rattle.script_reasons.specs.declared.diagnostic.Diagnostic.{Diagnostic}
-use Rattle.ets_script.specs.declared.output.Output.{Output}
+use Rattle.ets_packets.specs.declared.output.Output.{Output}
+use Rattle.ets_packets.specs.Output.{Breaks, Fails, Adds, Sends, buffered_bytes, writer_flow}
 use Rattle.ets_script.specs.declared.why_writer.WhyWriter.{WhyWriter}
-use Rattle.ets_script.specs.inside.Output.{Breaks, Fails, Prints, Sends, buffered_text, writer_flow}
 
 -- the number of a line, its reason, and an LF
 abbrev pub reason_line : ℕ → List ℕ → List ℕ
@@ -13,15 +13,15 @@ reason_line number reason = codes "line " ++ (decimal number ++ (codes ": " ++ (
 -- A text is printed, or the writer fails at it. Once the writer has failed, nothing changes.
 abbrev pub PrintsTillFault : {E : Type 0} → (E → Option (List ℕ)) → Bool → Bool → Output E → Output E → List ℕ → Type 0
 PrintsTillFault contents true has_failed old new text = (has_failed ≡ true) × (new ≡ old)
-PrintsTillFault contents false false old new text = Prints contents old new text
+PrintsTillFault contents false false old new text = Adds contents old new text
 PrintsTillFault contents false true old new text = Fails contents old new text
 
 -- The buffered text is written, or the writer fails at it. Once the writer has failed, nothing changes.
 abbrev pub SendsTillFault : {E : Type 0} → (E → Option (List ℕ)) → Bool → Bool → Output E → Output E → Type 0
 SendsTillFault contents true has_failed old new = (has_failed ≡ true) × (new ≡ old)
 SendsTillFault contents false false old new =
-    Sends (writer_flow contents old new) (buffered_text old) (buffered_text new) × (buffered_text new ≡ [])
-SendsTillFault contents false true old new = Breaks (writer_flow contents old new) (buffered_text old)
+    Sends (writer_flow contents old new) (buffered_bytes old) (buffered_bytes new) × (buffered_bytes new ≡ [])
+SendsTillFault contents false true old new = Breaks (writer_flow contents old new) (buffered_bytes old)
 
 abbrev pub WritesText : {E : Type 0} → (E → Option (List ℕ)) → WhyWriter E → WhyWriter E → List ℕ → Type 0
 WritesText contents old new text = PrintsTillFault contents old.has_failed new.has_failed old.output new.output text

@@ -1,7 +1,7 @@
 use Rattle.std.proofs.Common.{◌∙◌, List, ℕ, Bool, refl, subst}
 use Rattle.std.proofs.lemmas.Result.{err_from_is_err_and}
 use Rattle.ets_packets.specs.inside.Answering.{EndsAfter, IsRest}
-use Rattle.ets_packets.specs.inside.Output.{waiting}
+use Rattle.ets_packets.specs.Output.{buffered_bytes}
 use Rattle.ets_packets.proofs.Progress.{end-ok, end-err, progress-start, refilled, refill-stops, write-stops, flush-stops, all-answered}
 use Rattle.ets_packets.proofs.run.answer_all.Goals as goal
 
@@ -39,7 +39,7 @@ returns-in_err-is_long-clause-err g c =
     let old = g.W.Write.contents c.args.output.now.writer.now in
     let w1 = g.W.Write.contents l.output.writer.now in
     let a = refilled start l.server.store before (g.R.Read.remaining l.reader) left old w1 l.buffer c.refill.new.self c.in_ok-refill.field-0 l.invariant.0 c.in_ok-refill.ensures.ok in
-    rw (p.1, p.2) (write-stops start l.server.store before left old w1 (g.W.Write.contents c.answer_held.new.output.writer.now) c.refill.new.self (waiting l.output) a.0 a.1 l.invariant.1 c.in_err-is_long.ensures.err)
+    rw (p.1, p.2) (write-stops start l.server.store before left old w1 (g.W.Write.contents c.answer_held.new.output.writer.now) c.refill.new.self (buffered_bytes l.output) a.0 a.1 l.invariant.1 c.in_err-is_long.ensures.err)
 
 pub returns-in_err-flush-clause-err : goal.returns-in_err-flush-clause-err
 returns-in_err-flush-clause-err g c =
@@ -51,7 +51,7 @@ returns-in_err-flush-clause-err g c =
     let old = g.W.Write.contents c.args.output.now.writer.now in
     let w1 = g.W.Write.contents l.output.writer.now in
     let a = refilled start l.server.store before (g.R.Read.remaining l.reader) left old w1 l.buffer c.refill.new.self c.in_ok-refill.field-0 l.invariant.0 c.in_ok-refill.ensures.ok in
-    rw (p.1, p.2) (flush-stops start l.server.store c.answer_held.new.server.store before left old w1 (g.W.Write.contents c.answer_held.new.output.writer.now) (g.W.Write.contents c.flush.new.self.writer.now) c.refill.new.self c.answer_held.new.buffer (waiting l.output) (waiting c.answer_held.new.output) c.in_ok-is_long.is_long
+    rw (p.1, p.2) (flush-stops start l.server.store c.answer_held.new.server.store before left old w1 (g.W.Write.contents c.answer_held.new.output.writer.now) (g.W.Write.contents c.flush.new.self.writer.now) c.refill.new.self c.answer_held.new.buffer (buffered_bytes l.output) (buffered_bytes c.answer_held.new.output) c.in_ok-is_long.is_long
     a.0 a.1 l.invariant.1 c.in_ok-is_long.ensures.ok c.in_err-flush.ensures.err)
 
 pub returns-then-is_long-clause-err : goal.returns-then-is_long-clause-err
@@ -63,7 +63,7 @@ returns-then-is_long-clause-err g c =
     let old = g.W.Write.contents c.args.output.now.writer.now in
     let w1 = g.W.Write.contents l.output.writer.now in
     let a = refilled start l.server.store before (g.R.Read.remaining l.reader) left old w1 l.buffer c.refill.new.self c.in_ok-refill.field-0 l.invariant.0 c.in_ok-refill.ensures.ok in
-    let all = all-answered start l.server.store c.answer_held.new.server.store before left old w1 (g.W.Write.contents c.answer_held.new.output.writer.now) (g.W.Write.contents c.flush.new.self.writer.now) c.refill.new.self c.answer_held.new.buffer (waiting l.output) (waiting c.answer_held.new.output) (waiting c.flush.new.self) c.in_ok-is_long.is_long
+    let all = all-answered start l.server.store c.answer_held.new.server.store before left old w1 (g.W.Write.contents c.answer_held.new.output.writer.now) (g.W.Write.contents c.flush.new.self.writer.now) c.refill.new.self c.answer_held.new.buffer (buffered_bytes l.output) (buffered_bytes c.answer_held.new.output) (buffered_bytes c.flush.new.self) c.in_ok-is_long.is_long
     a.0 a.1 l.invariant.1 c.in_ok-is_long.ensures.ok c.in_ok-flush.ensures.ok c.in_ok-flush.ensures.empty in
     (c.answer_held.new.buffer, all.0, subst (λ (b : Bool). IsRest b c.answer_held.new.buffer) c.if-is_long.true c.in_ok-is_long.ensures.ok.follows)
 
@@ -76,7 +76,7 @@ loop-read-preserved g c =
     let old = g.W.Write.contents c.args.output.now.writer.now in
     let w1 = g.W.Write.contents l.output.writer.now in
     let a = refilled start l.server.store before (g.R.Read.remaining l.reader) left old w1 l.buffer c.refill.new.self c.in_ok-refill.field-0 l.invariant.0 c.in_ok-refill.ensures.ok in
-    let all = all-answered start l.server.store c.answer_held.new.server.store before left old w1 (g.W.Write.contents c.answer_held.new.output.writer.now) (g.W.Write.contents c.flush.new.self.writer.now) c.refill.new.self c.answer_held.new.buffer (waiting l.output) (waiting c.answer_held.new.output) (waiting c.flush.new.self) c.in_ok-is_long.is_long
+    let all = all-answered start l.server.store c.answer_held.new.server.store before left old w1 (g.W.Write.contents c.answer_held.new.output.writer.now) (g.W.Write.contents c.flush.new.self.writer.now) c.refill.new.self c.answer_held.new.buffer (buffered_bytes l.output) (buffered_bytes c.answer_held.new.output) (buffered_bytes c.flush.new.self) c.in_ok-is_long.is_long
     a.0 a.1 l.invariant.1 c.in_ok-is_long.ensures.ok c.in_ok-flush.ensures.ok c.in_ok-flush.ensures.empty in (
       record { answered = all.0; end = all.1; part = subst (λ (b : Bool). IsRest b c.answer_held.new.buffer) c.if-is_long.false c.in_ok-is_long.ensures.ok.follows },
       c.in_ok-flush.ensures.empty,

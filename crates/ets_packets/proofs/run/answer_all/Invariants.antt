@@ -1,5 +1,5 @@
 use Rattle.std.proofs.Common.{◌≡◌, []}
-use Rattle.ets_packets.specs.inside.Output.{HasWriterOf, waiting}
+use Rattle.ets_packets.specs.Output.{HasWriterOf, buffered_bytes}
 use Rattle.ets_packets.proofs.Progress.{Progress, passed}
 use Rattle.ets_packets.proofs.run.answer_all.Given as goal
 
@@ -8,4 +8,4 @@ invariant-loop-read g l =
     Progress l.initial.server.store
     (passed (g.R.Read.remaining l.initial.reader) (g.R.Read.remaining l.reader) (g.W.Write.contents l.initial.output.writer.now) (g.W.Write.contents l.output.writer.now))
     l.buffer l.server.store
-    × (waiting l.output ≡ []) × HasWriterOf l.initial.output l.output
+    × (buffered_bytes l.output ≡ []) × HasWriterOf l.initial.output l.output

@@ -1,8 +1,8 @@
 use Rattle.std.proofs.lemmas.Result.{err_from_is_err_and}
 use Rattle.std.proofs.Common.{flat_map}
+use Rattle.ets_packets.proofs.KnownBytes.{on-ok, on-err, sends-two, breaks-first, breaks-two}
 use Rattle.ets_script.specs.Replies.{printed}
 use Rattle.ets_script.specs.inside.Journal.{run_text}
-use Rattle.ets_script.proofs.KnownBytes.{on-ok, on-err, sends-two, breaks-first, breaks-two}
 use Rattle.ets_script.proofs.journal.print_all.Goals as goal
 
 pub returns-in_err-print_answers-clause-err : goal.returns-in_err-print_answers-clause-err

@@ -1,6 +1,6 @@
 use Rattle.std.proofs.Common.{drop, flat_map}
+use Rattle.ets_packets.specs.Output.{HasWriterOf}
 use Rattle.ets_script.specs.Threads.{entry_text}
-use Rattle.ets_script.specs.inside.Output.{HasWriterOf}
 use Rattle.ets_script.proofs.Printing.{Printed}
 use Rattle.ets_script.proofs.journal.print_entries.Given as goal
 

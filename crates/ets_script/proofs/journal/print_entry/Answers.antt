@@ -1,8 +1,8 @@
 use Rattle.std.proofs.Common.{◌++◌, sym, ◌∙◌}
 use Rattle.std.specs.Prelude.{codes}
 use Rattle.std.proofs.lemmas.Result.{err_from_is_err_and}
+use Rattle.ets_packets.proofs.KnownBytes.{on-ok, on-err}
 use Rattle.ets_script.specs.Replies.{reply_text}
-use Rattle.ets_script.proofs.KnownBytes.{on-ok, on-err}
 use Rattle.ets_script.proofs.Printing.{line-sent, line-first, line-broken, entry-text-own}
 use Rattle.ets_script.proofs.journal.print_entry.Goals as goal
 

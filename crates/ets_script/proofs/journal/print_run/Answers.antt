@@ -1,7 +1,7 @@
 use Rattle.std.proofs.lemmas.Result.{err_from_is_err_and}
 use Rattle.std.proofs.Common.{◌≡◌, rules, flat_map}
+use Rattle.ets_packets.proofs.KnownBytes.{on-ok, on-err, sends-two, breaks-first, breaks-two}
 use Rattle.ets_script.specs.Threads.{entry_text, stopped_text}
-use Rattle.ets_script.proofs.KnownBytes.{on-ok, on-err, sends-two, breaks-first, breaks-two}
 use Rattle.ets_script.proofs.journal.print_run.Goals as goal
 
 pub returns-in_err-print_entries-clause-err : goal.returns-in_err-print_entries-clause-err

@@ -1,5 +1,5 @@
 use Rattle.std.proofs.Common.{◌+◌, ◌*◌, length}
-use Rattle.ets_script.specs.inside.Output.{HasWriterOf}
+use Rattle.ets_packets.specs.Output.{HasWriterOf}
 use Rattle.ets_script.proofs.Progress.{Progress}
 use Rattle.ets_script.proofs.run.answer_all.Given as goal
 

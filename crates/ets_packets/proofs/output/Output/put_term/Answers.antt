@@ -2,9 +2,9 @@ use Rattle.std.proofs.Common.{◌≡◌, List, ℕ, [], subst, rules}
 use Rattle.std.proofs.lemmas.Result.{err_from_is_err_and}
 use Rattle.std.specs.Io.KnownBytes.{Appends}
 use Rattle.term_text.specs.Printed.{printed}
-use Rattle.ets_script.specs.inside.Output.{Breaks}
-use Rattle.ets_script.proofs.KnownBytes.{between, breaks-longer, sends-behind, breaks-behind}
-use Rattle.ets_script.proofs.output.Output.put_term.Goals as goal
+use Rattle.ets_packets.specs.Output.{Breaks}
+use Rattle.ets_packets.proofs.KnownBytes.{between, breaks-longer, sends-behind, breaks-behind}
+use Rattle.ets_packets.proofs.output.Output.put_term.Goals as goal
 
 pub returns-in_err-send-clause-err : goal.returns-in_err-send-clause-err
 returns-in_err-send-clause-err g c =

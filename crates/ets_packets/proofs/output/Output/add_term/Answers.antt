@@ -1,8 +1,8 @@
 use Rattle.std.proofs.Common.{[], ◌∷◌}
 use Rattle.std.proofs.lemmas.Result.{err_from_is_err_and}
 use Rattle.term_text.specs.Printed.{printed}
-use Rattle.ets_script.proofs.KnownBytes.{on-ok, on-err, sends-two, breaks-first, breaks-two}
-use Rattle.ets_script.proofs.output.Output.add_term.Goals as goal
+use Rattle.ets_packets.proofs.KnownBytes.{on-ok, on-err, sends-two, breaks-first, breaks-two}
+use Rattle.ets_packets.proofs.output.Output.add_term.Goals as goal
 
 pub returns-in_err-put_term-clause-err : goal.returns-in_err-put_term-clause-err
 returns-in_err-put_term-clause-err g c = rw (err_from_is_err_and c.from_residual.result c.from_residual.ensures.1).1 (breaks-first (g.W.Write.contents c.args.self.now.writer.now) (g.W.Write.contents c.put_term.new.self.writer.now) c.args.self.now.bytes.now.items (printed c.args.term.now) (10 ∷ []) c.in_err-put_term.ensures.err)
