@@ -25,4 +25,5 @@ mod PlannedLines
 mod Printing
 mod Clients
 mod ThreadsEnds
+mod Statuses
 mod Sent

@@ -1,5 +1,5 @@
 //! The program, from its options to its status.
-ghost use Rattle.std.specs.Prelude.{◌≡◌, false, true, IfOk, OnOk, IfErr};
+ghost use Rattle.std.specs.Prelude.{◌≡◌, false, true, IfOk, OnOk, OnErr, IfErr};
 ghost use Rattle.ets_packets.specs.Stops.{PacketsEnd};
 ghost use Rattle.ets_script.specs.CommandLine.{limits_of};
 ghost use Rattle.ets_script.specs.Flows.{flows};
@@ -140,27 +140,11 @@ fn answer_lines<R: Read, W: Write, E: Write>(
         (flows R.remaining W.contents streams.old streams.new)) }
 {
     if request.settings.same {
-        answer_by(alloc, request, AllSame, streams, errors)
-    } else {
-        answer_by(alloc, request, Fnv, streams, errors)
+        let end = run_lines(alloc, request, AllSame, streams, errors);
+        return report(end, errors);
     }
-}
-
-/// Answers a script with this hasher, and returns the status.
-fn answer_by<H: KeyHash + Copy + Drop, R: Read, W: Write, E: Write>(
-    alloc: Global,
-    request: &Request,
-    hasher: H,
-    streams: &mut Streams<R, W>,
-    errors: &mut E,
-) -> io::Result<u8>
-    ensures { IfOk result (EndsWithin (limits_of request.now)
-        (flows R.remaining W.contents streams.old streams.new)) }
-{
-    match run_lines(alloc, request, hasher, streams, errors) {
-        Ok(_) => Ok(0),
-        Err(fault) => report(&fault, errors),
-    }
+    let end = run_lines(alloc, request, Fnv, streams, errors);
+    report(end, errors)
 }
 
 /// Runs a script line by line, and reports why lines were refused if an option asks for it.
@@ -187,14 +171,6 @@ fn run_lines<H: KeyHash + Copy + Drop, R: Read, W: Write, E: Write>(
     }
 }
 
-/// Prints a fault on a line of standard error, and returns the status.
-fn report<E: Write>(fault: &ScriptFault, errors: &mut E) -> io::Result<u8>
-    ensures { IfOk result (λ status. status ≡ 1) }
-{
-    writeln!(errors, "{fault}")?;
-    Ok(FAILED)
-}
-
 /// Answers a script whose processes run in threads of their own, and returns the program's status.
 fn answer_in_threads<T: Threads + Wait + Sync, R: Read, W: Write, E: Write>(
     rt: &T,
@@ -206,31 +182,28 @@ fn answer_in_threads<T: Threads + Wait + Sync, R: Read, W: Write, E: Write>(
     ensures { IfOk result (ThreadsStatus (limits_of request.now)
         (flows R.remaining W.contents streams.old streams.new)) }
 {
-    match run_by(rt, alloc, request, streams) {
-        Ok(()) => Ok(0),
-        Err(fault) => report(&fault, errors),
-    }
-}
-
-/// Runs a script in threads with the hasher and the limits of the options.
-fn run_by<T: Threads + Wait + Sync, R: Read, W: Write>(
-    rt: &T,
-    alloc: Global,
-    request: &Request,
-    streams: &mut Streams<R, W>,
-) -> Result<(), ScriptFault>
-    ensures ok { OnOk result (ThreadsEnd (limits_of request.now)
-        (flows R.remaining W.contents streams.old streams.new)) }
-    ensures err { IfErr result (ThreadsStop (limits_of request.now)
-        (flows R.remaining W.contents streams.old streams.new)) }
-{
     let limits = limits_of(request);
     if request.settings.same {
         let hasher = AllSame;
-        run_threads(rt, alloc, streams, NodeSettings { limits, hasher })
-    } else {
-        let hasher = Fnv;
-        run_threads(rt, alloc, streams, NodeSettings { limits, hasher })
+        let end = run_threads(rt, alloc, streams, NodeSettings { limits, hasher });
+        return report(end, errors);
+    }
+    let hasher = Fnv;
+    let end = run_threads(rt, alloc, streams, NodeSettings { limits, hasher });
+    report(end, errors)
+}
+
+/// Returns the status of a run that ends so. Prints its fault, if it has one, on a line of standard error.
+fn report<T: Drop, E: Write>(end: Result<T, ScriptFault>, errors: &mut E) -> io::Result<u8>
+    ensures ok { OnOk end (IfOk result (λ status. status ≡ 0)) }
+    ensures err { OnErr end (IfOk result (λ status. status ≡ 1)) }
+{
+    match end {
+        Ok(_) => Ok(0),
+        Err(fault) => {
+            writeln!(errors, "{fault}")?;
+            Ok(FAILED)
+        }
     }
 }
 
