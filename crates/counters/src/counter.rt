@@ -15,6 +15,7 @@ use ets_term::{Integer, Items, Position, Term};
 use std::alloc::Global;
 
 /// Returns the integer at a position, from 1; None if there is none.
+#[inline(always)]
 pub fn integer_at(elements: &[Term], position: Position) -> Option<Integer>
     ensures value { result ≡ integer_at position elements.now }
     ensures element { IfSome result (λ n. slice_get elements.now (position - 1) ≡ Some (Int n)) }
@@ -28,6 +29,7 @@ pub fn integer_at(elements: &[Term], position: Position) -> Option<Integer>
 
 /// Returns the new value of the counter of one operation. Badarg if there is no integer at the position; SystemLimit if
 /// the new value is out of range.
+#[inline(always)]
 fn next_value(elements: &[Term], op: Op) -> Result<Integer, CounterFault>
     ensures done { IfOk result (λ n. apply_to_elements (One op) elements.now
         ≡ Ok (Tuple (slice_set elements.now (op.position - 1) (Int n)), Int n)) }
@@ -47,6 +49,7 @@ fn next_value(elements: &[Term], op: Op) -> Result<Integer, CounterFault>
 
 /// Returns the new value of the counter of one operation, and changes nothing. The refusals are those of
 /// `update_counter`. If there is a value, the position is that of an element, so its index fits a `usize`.
+#[inline(always)]
 pub fn counter_value(object: &Term, op: Op) -> Result<Integer, CounterFault>
     ensures done { IfOk result (λ n.
         apply_ops (One op) object.now ≡ Ok (with_value_at op.position (Int n) object.now, Int n)) }

@@ -1,5 +1,6 @@
 //! Values for elements of an object, and how they are read from a term.
-ghost use Rattle.std.specs.Prelude.{◌≡◌, ◌↔◌, false, Some, None, IfOk, IsErrOf};
+ghost use Rattle.std.specs.Prelude.{◌≡◌, ◌↔◌, false, Some, None, IfOk, IfSome, IsErrOf};
+ghost use Rattle.counters.specs.declared.elements.ElementSpecs.TheVariants.{One};
 ghost use Rattle.counters.specs.Elements.{spec_of_parts, all_specs, specs_of};
 ghost use Rattle.counters.specs.Ops.{is_list};
 ghost use Rattle.ets_term.specs.Depth.{elements};
@@ -48,6 +49,31 @@ pub fn read_element_specs(
         )?)),
         Term::List(terms) => Ok(ElementSpecs::Many(all_specs(alloc, keypos, terms.as_slice())?)),
         _ => Err(CounterFault::Badarg),
+    }
+}
+
+/// Reads the position and the value of a pair that is not in a list, and copies nothing. Returns `None` for any other
+/// term, which `read_element_specs` reads.
+#[inline(always)]
+pub fn read_pair(term: &Term, keypos: u32) -> Option<(Position, &Term)>
+    ensures { IfSome result (λ pair.
+        specs_of keypos term.now ≡ Some (One (record { position = pair.0; value = pair.1.now }))) }
+{
+    match term {
+        Term::Tuple(parts) => pair_of_parts(keypos, parts.as_slice()),
+        _ => None,
+    }
+}
+
+/// Reads a position and a value from the elements of a tuple.
+#[inline(always)]
+fn pair_of_parts(keypos: u32, parts: &[Term]) -> Option<(Position, &Term)>
+    ensures { IfSome result (λ pair.
+        spec_of_parts keypos parts.now ≡ Some (record { position = pair.0; value = pair.1.now })) }
+{
+    match parts {
+        [position, value] => Some((updatable_position(keypos, position)?, value)),
+        _ => None,
     }
 }
 

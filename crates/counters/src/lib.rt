@@ -2,7 +2,8 @@
 //!
 //! An update is read once from a term (`read_ops`, `read_element_specs`) and then done on an object: in place
 //! (`update_counter`, `write_elements`) or on a copy (`apply_ops`, `apply_elements`). `counter_value` and `element_value`
-//! return the new element of a single update and change nothing. If a key has no object, a Default makes one
+//! return the new element of a single update and change nothing; `read_increment` and `read_pair` read such an update
+//! without memory. If a key has no object, a Default makes one
 //! (`start_counter`, `start_with_elements`). Each call is equal to its definition in `specs/Counters.antt`,
 //! `specs/Elements.antt` and `specs/Defaults.antt`.
 //!
@@ -34,7 +35,7 @@ mod write;
 
 pub use counter::{apply_ops, counter_value, update_counter};
 pub use defaults::{is_default, start_counter, start_with_elements, with_key};
-pub use elements::{ElementSpec, ElementSpecs, read_element_specs};
+pub use elements::{ElementSpec, ElementSpecs, read_element_specs, read_pair};
 pub use fault::CounterFault;
-pub use ops::{Op, Ops, Threshold, read_ops};
+pub use ops::{Op, Ops, Threshold, read_increment, read_ops};
 pub use write::{apply_elements, element_value, write_elements};

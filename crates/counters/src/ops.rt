@@ -1,5 +1,6 @@
 //! Operations on counters, and how they are read from a term.
-ghost use Rattle.std.specs.Prelude.{◌≡◌, false, Some, None, IfOk, IsErrOf};
+ghost use Rattle.std.specs.Prelude.{◌≡◌, ◌+◌, false, Some, None, IfOk, IfSome, IsErrOf};
+ghost use Rattle.counters.specs.declared.ops.Ops.TheVariants.{One};
 ghost use Rattle.counters.specs.Ops.{threshold_of, op_from, op_of_parts, op_of, all_ops, ops_of, is_list};
 
 use crate::fault::CounterFault;
@@ -47,6 +48,7 @@ fn threshold_of(threshold: &Term, set_value: &Term) -> Option<Threshold>
 }
 
 /// Reads a position and an increment.
+#[inline(always)]
 fn op_from(
     keypos: u32,
     position: &Term,
@@ -112,16 +114,48 @@ pub fn read_ops(alloc: Global, term: &Term, keypos: u32) -> Result<Ops, CounterF
     ensures room { is_list term.now ≡ false → ¬ IsErrOf result CounterFault.Memory }
 {
     match term {
-        Term::Int(n) => Ok(Ops::One(Op {
-            position: keypos as Position + 1,
-            increment: *n,
-            threshold: None,
-        })),
+        Term::Int(n) => Ok(Ops::One(increment_by(keypos, *n))),
         Term::Tuple(parts) => match op_of_parts(keypos, parts.as_slice()) {
             Some(op) => Ok(Ops::One(op)),
             None => Err(CounterFault::Badarg),
         },
         Term::List(terms) => Ok(Ops::Many(all_ops(alloc, keypos, terms.as_slice())?)),
         _ => Err(CounterFault::Badarg),
+    }
+}
+
+/// Reads an operation that is not in a list and has no threshold: `Incr` or `{Pos,Incr}`. Returns `None` for any other
+/// term, which `read_ops` reads. Most operations are of this kind, and they need no place in memory.
+#[inline(always)]
+pub fn read_increment(term: &Term, keypos: u32) -> Option<Op>
+    ensures { IfSome result (λ op. ops_of keypos term.now ≡ Some (One op)) }
+{
+    match term {
+        Term::Int(n) => Some(increment_by(keypos, *n)),
+        Term::Tuple(parts) => increment_of_parts(keypos, parts.as_slice()),
+        _ => None,
+    }
+}
+
+/// Reads an operation without a threshold from the elements of a tuple.
+#[inline(always)]
+fn increment_of_parts(keypos: u32, parts: &[Term]) -> Option<Op>
+    ensures { IfSome result (λ op. op_of_parts keypos parts.now ≡ Some op) }
+{
+    match parts {
+        [position, increment] => op_from(keypos, position, increment, None),
+        _ => None,
+    }
+}
+
+/// Returns the operation that an integer alone is. It is for the position after the key's.
+#[inline(always)]
+fn increment_by(keypos: u32, n: Integer) -> Op
+    ensures { result ≡ record { position = keypos + 1; increment = n; threshold = None } }
+{
+    Op {
+        position: keypos as Position + 1,
+        increment: n,
+        threshold: None,
     }
 }

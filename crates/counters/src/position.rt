@@ -6,6 +6,7 @@ ghost use Rattle.counters.specs.Positions.{integer_of, position_at, updatable_po
 use ets_term::{Integer, Position, Term};
 
 /// Returns the integer that a term is; None for any other term.
+#[inline(always)]
 pub fn integer_of(term: &Term) -> Option<Integer>
     ensures value { result ≡ integer_of term.now }
     ensures is { IfSome result (λ n. term.now ≡ Int n) }
@@ -17,6 +18,7 @@ pub fn integer_of(term: &Term) -> Option<Integer>
 }
 
 /// Returns the position that a term names if an update may name it: at least 1 and not keypos.
+#[inline(always)]
 pub fn updatable_position(keypos: u32, term: &Term) -> Option<Position>
     ensures { result ≡ updatable_position keypos term.now }
 {
@@ -24,6 +26,7 @@ pub fn updatable_position(keypos: u32, term: &Term) -> Option<Position>
 }
 
 /// Returns an integer as a position, with the test of `updatable_position`.
+#[inline(always)]
 fn position_at(keypos: u32, n: Integer) -> Option<Position>
     ensures { result ≡ position_at keypos n }
 {

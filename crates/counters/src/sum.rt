@@ -18,6 +18,7 @@ fn is_past(increment: Integer, threshold: Integer, sum: Integer) -> bool
 }
 
 /// Returns the new value of an element; None if it is out of range. A sum that is out of range is past every threshold.
+#[inline(always)]
 pub fn new_value(op: Op, value: Integer) -> Option<Integer>
     ensures { result ≡ in_range (new_value op value) }
 {

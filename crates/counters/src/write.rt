@@ -50,29 +50,58 @@ pub fn write_elements(
 
 /// Returns a copy of the value of one update, and changes nothing. The refusals are those of `write_elements`. If there
 /// is a copy, the position is that of an element, so its index fits a `usize`.
-pub fn element_value(alloc: Global, object: &Term, spec: &ElementSpec) -> Result<Term, CounterFault>
-    ensures done { IfOk result (λ value.
-        apply_elements (One spec.now) object.now ≡ Ok (with_value_at spec.now.position value object.now)) }
-    ensures badarg { FailsJustAs result CounterFault.Badarg (apply_elements (One spec.now) object.now) }
-    ensures limit { FailsJustAs result CounterFault.SystemLimit (apply_elements (One spec.now) object.now) }
-    ensures index { OnOk result (spec.now.position - 1 < 2 ^ 64) }
+#[inline(always)]
+pub fn element_value(
+    alloc: Global,
+    object: &Term,
+    position: Position,
+    value: &Term,
+) -> Result<Term, CounterFault>
+    ensures done { IfOk result (λ copy.
+        apply_elements (One (record { position = position; value = value.now })) object.now
+        ≡ Ok (with_value_at position copy object.now)) }
+    ensures badarg { FailsJustAs result CounterFault.Badarg
+        (apply_elements (One (record { position = position; value = value.now })) object.now) }
+    ensures limit { FailsJustAs result CounterFault.SystemLimit
+        (apply_elements (One (record { position = position; value = value.now })) object.now) }
+    ensures index { OnOk result (position - 1 < 2 ^ 64) }
 {
     let Term::Tuple(elements) = object else {
         return Err(CounterFault::Badarg);
     };
-    copied_value(alloc, elements.as_slice(), spec)
+    copied_value(alloc, elements.as_slice(), position, value)
 }
 
 /// Returns a copy of one value, if it may be written.
-fn copied_value(alloc: Global, elements: &[Term], spec: &ElementSpec) -> Result<Term, CounterFault>
-    ensures done { IfOk result (λ value. write_values (spec.now ∷ []) elements.now
-        ≡ Ok (slice_set elements.now (spec.now.position - 1) value)) }
-    ensures badarg { FailsJustAs result CounterFault.Badarg (write_values (spec.now ∷ []) elements.now) }
-    ensures limit { FailsJustAs result CounterFault.SystemLimit (write_values (spec.now ∷ []) elements.now) }
-    ensures index { OnOk result (spec.now.position - 1 < 2 ^ 64) }
+#[inline(always)]
+fn copied_value(
+    alloc: Global,
+    elements: &[Term],
+    position: Position,
+    value: &Term,
+) -> Result<Term, CounterFault>
+    ensures done { IfOk result (λ copy.
+        write_values (record { position = position; value = value.now } ∷ []) elements.now
+        ≡ Ok (slice_set elements.now (position - 1) copy)) }
+    ensures badarg { FailsJustAs result CounterFault.Badarg
+        (write_values (record { position = position; value = value.now } ∷ []) elements.now) }
+    ensures limit { FailsJustAs result CounterFault.SystemLimit
+        (write_values (record { position = position; value = value.now } ∷ []) elements.now) }
+    ensures index { OnOk result (position - 1 < 2 ^ 64) }
 {
-    check_one(elements, spec)?;
-    Ok(spec.value.try_clone(alloc)?)
+    check_one(elements, position, value)?;
+    Ok(copy_value(alloc, value)?)
+}
+
+/// Returns a copy of a value. An integer takes no call.
+#[inline(always)]
+fn copy_value(alloc: Global, value: &Term) -> Result<Term, AllocError>
+    ensures { IfOk result (λ copy. copy ≡ value.now) }
+{
+    match value {
+        Term::Int(n) => Ok(Term::Int(*n)),
+        _ => value.try_clone(alloc),
+    }
 }
 
 /// Writes a copy of one value, without a list.
@@ -86,7 +115,7 @@ fn copy_one(
     ensures limit { FailsJustAs result CounterFault.SystemLimit (write_values (spec.now ∷ []) elements.old) }
     ensures kept { OnErr result (elements.new ≡ elements.old) }
 {
-    let value = copied_value(alloc, elements.as_slice(), spec)?;
+    let value = copied_value(alloc, elements.as_slice(), spec.position, &spec.value)?;
     write(elements, spec.position, value);
     Ok(())
 }
@@ -123,16 +152,19 @@ fn copy_specs(alloc: Global, specs: &[ElementSpec]) -> Result<Vec<ElementSpec>, 
 
 /// Tests whether one value may be written: Badarg if the tuple does not have the position, then SystemLimit if the
 /// value is too deep.
-fn check_one(elements: &[Term], spec: &ElementSpec) -> Result<(), CounterFault>
-    ensures ok { OnOk result (write_values (spec.now ∷ []) elements.now
-        ≡ Ok (slice_set elements.now (spec.now.position - 1) spec.now.value)) }
-    ensures err { IfErr result (λ fault. write_values (spec.now ∷ []) elements.now ≡ Err fault) }
-    ensures index { OnOk result (spec.now.position - 1 < 2 ^ 64) }
+#[inline(always)]
+fn check_one(elements: &[Term], position: Position, value: &Term) -> Result<(), CounterFault>
+    ensures ok { OnOk result
+        (write_values (record { position = position; value = value.now } ∷ []) elements.now
+        ≡ Ok (slice_set elements.now (position - 1) value.now)) }
+    ensures err { IfErr result (λ fault.
+        write_values (record { position = position; value = value.now } ∷ []) elements.now ≡ Err fault) }
+    ensures index { OnOk result (position - 1 < 2 ^ 64) }
 {
-    if spec.position == 0 || spec.position > elements.len() as Position {
+    if position == 0 || position > elements.len() as Position {
         return Err(CounterFault::Badarg);
     }
-    if spec.value.depth() >= MAX_DEPTH {
+    if value.depth() >= MAX_DEPTH {
         return Err(CounterFault::SystemLimit);
     }
     Ok(())

@@ -283,3 +283,20 @@ module _ (objects : List Term) (old : Content) where
   new-stores are free (Err Badarg) new h = full_at (list_all (is_object old.keypos) objects) _ _ are (room_at (list_any (is_taken old.keypos old.slots) objects) _ _ free h)
   new-stores are free (Err SystemLimit) new h = full_at (list_all (is_object old.keypos) objects) _ _ are (room_at (list_any (is_taken old.keypos old.slots) objects) _ _ free h)
   new-stores are free (Err Memory) new h = h
+
+-- a single object is inserted, or it is refused
+module _ (object key : Term) (old : Content) (its : key_of old.keypos object ≡ Some key) (shallow : is_too_deep object ≡ false) where
+  only-object : list_all (is_object old.keypos) (object ∷ []) ≡ true
+  only-object = ap (λ (k : Option Term). is_some k && true) its
+
+  none-deep : list_any is_too_deep (object ∷ []) ≡ false
+  none-deep = ap (λ (b : Bool). b || false) shallow
+
+  pub one-inserted : (count : ℕ) (slots : List Slot) → PutsEach old.limit old.kind old.keypos (object ∷ []) old.slots (Ok count) slots → Inserts (object ∷ []) old (Ok tt) (record old { slots = slots })
+  one-inserted count slots p =
+      inserts (object ∷ []) old only-object (Ok tt) (record old { slots = slots })
+      (stores-done tt (object ∷ []) old none-deep slots p.0 (subst (λ n. n ≤ old.limit) p.1 p.2))
+
+  pub one-not-inserted : (e : Refusal) (slots : List Slot) → PutsEach old.limit old.kind old.keypos (object ∷ []) old.slots (Err e) slots → Refines (Inserts (object ∷ []) old) old (Err e) (record old { slots = slots })
+  one-not-inserted e slots p =
+      inserts (object ∷ []) old only-object (Err e) (record old { slots = slots }) (stores-refused tt (object ∷ []) old none-deep e slots p)

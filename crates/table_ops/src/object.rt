@@ -1,10 +1,11 @@
-ghost use Rattle.std.specs.Prelude.{◌≡◌, option_copied};
+ghost use Rattle.std.specs.Prelude.{◌≡◌, IfOk, option_copied};
 ghost use Rattle.std.specs.List.{list_any, list_all};
 ghost use Rattle.ets_term.specs.Depth.{is_too_deep};
 ghost use Rattle.ets_term.specs.Order.{same};
 ghost use Rattle.table_ops.specs.Content.{key_of, is_object};
 
 use ets_term::{Position, Term};
+use std::alloc::{AllocError, Global};
 
 /// Returns the key of an object: the element of the tuple at `keypos`, counted from 1. Returns `None` if the term is no
 /// object, that is, if it has no such element or the element is the atom `'$end_of_table'`.
@@ -16,6 +17,17 @@ pub fn key_of(keypos: u32, object: &Term) -> Option<&Term>
         None
     } else {
         Some(key)
+    }
+}
+
+/// Returns a copy of a key. Most keys are integers, which take no call.
+#[inline(always)]
+pub fn copy_key(alloc: Global, key: &Term) -> Result<Term, AllocError>
+    ensures { IfOk result (λ copy. copy ≡ key.now) }
+{
+    match key {
+        Term::Int(n) => Ok(Term::Int(*n)),
+        _ => key.try_clone(alloc),
     }
 }
 

@@ -1,4 +1,6 @@
-ghost use Rattle.std.specs.Prelude.{◌≡◌, option_copied, OnOk, OnErr};
+ghost use Rattle.std.specs.Prelude.{◌≡◌, None, option_copied, OnOk, OnErr};
+ghost use Rattle.counters.specs.declared.ops.Ops.TheVariants.{One};
+ghost use Rattle.counters.specs.declared.elements.ElementSpecs.TheVariants as elements;
 ghost use Rattle.table_ops.specs.Content.{objects_under, is_present};
 ghost use Rattle.table_ops.specs.Drop.{has_key, every_object, DeletesObject};
 ghost use Rattle.table_ops.specs.Outcomes.{Returns};
@@ -11,7 +13,7 @@ ghost use Rattle.fixed_walk.specs.TableState.{on_content, after_delete};
 
 use super::Walked;
 use bucket_table::Rows;
-use counters::{ElementSpecs, Ops};
+use counters::{ElementSpecs, Op, Ops};
 use ets_term::{Items, Position, Term};
 use std::alloc::AllocError;
 use table_ops::Refusal;
@@ -109,6 +111,17 @@ impl<R: Rows> Walked<R> {
         self.table.update_counter(key, ops, default)
     }
 
+    /// Does one operation on a counter of a key's object, as `update_counter` does without a Default. It takes no
+    /// memory.
+    #[tactic(auto, using(crate::proofs::HeldLaws::held))]
+    #[inline(always)]
+    pub fn update_one_counter(&mut self, key: &Term, op: Op) -> Result<Term, Refusal>
+        ensures { Refines (on_content (UpdatesCounter key.now (One op) None) self.old)
+            self.old result self.new }
+    {
+        self.table.update_one_counter(key, op)
+    }
+
     /// Writes elements of a key's object in place and returns `true` (stdlib manual, ets:update_element/3 and /4). If
     /// the key has no object, it writes them into the Default with that key and inserts it, also for no values; a key
     /// that was deleted while the table is fixed comes back at its place. Without a Default it returns `false`.
@@ -132,6 +145,23 @@ impl<R: Rows> Walked<R> {
             self.old result self.new }
     {
         self.table.update_element(key, specs, default)
+    }
+
+    /// Sets one element of a key's object to a copy of a value, as `update_element` does without a Default.
+    #[tactic(auto, using(crate::proofs::HeldLaws::held))]
+    #[inline(always)]
+    pub fn update_one_element(
+        &mut self,
+        key: &Term,
+        position: Position,
+        value: &Term,
+    ) -> Result<bool, Refusal>
+        ensures { Refines
+            (on_content (UpdatesElement key.now
+            (elements.One (record { position = position; value = value.now })) None) self.old)
+            self.old result self.new }
+    {
+        self.table.update_one_element(key, position, value)
     }
 
     /// Deletes the objects of a key (stdlib manual, ets:delete/2).

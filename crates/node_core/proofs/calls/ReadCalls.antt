@@ -1,8 +1,9 @@
 -- A call that nothing refuses early is answered by its name; one that changes nothing, from the state to itself.
-use Rattle.std.proofs.Common.{◌≡◌, ℕ, Bool, true, false, not, cond, Option, None, Some, refl, subst, Result, Ok, Err, IfOk}
+use Rattle.std.proofs.Common.{◌≡◌, ℕ, Bool, true, false, not, cond, List, Option, None, Some, refl, sym, subst, true≢false, Result, Ok, Err, IfOk}
 use Rattle.std.specs.List.{list_any}
 use Rattle.std.specs.declared.alloc.AllocError.{AllocError}
 use Rattle.std.specs.Option.{option_map_or}
+use Rattle.ets_term.specs.declared.term.Term.{Term}
 use Rattle.ets_term.specs.Depth.{is_too_deep}
 use Rattle.table_ops.specs.Outcomes.{Outcome, refuse, refuse_none}
 use Rattle.ownership.specs.World.{lives}
@@ -17,7 +18,7 @@ use Rattle.node_core.specs.CallName.{call_name}
 use Rattle.node_core.specs.Calls.{call, call_by_text}
 use Rattle.node_core.specs.Machine.{step}
 use Rattle.node_core.specs.Reads.{reads_only, is_read, Reads}
-use Rattle.node_core.specs.inside.Refusals.{early_refusal}
+use Rattle.node_core.specs.inside.Refusals.{early_refusal, RefusesEarly}
 use Rattle.node_core.proofs.buckets.Steps.{done-observable}
 
 abbrev Early : Bool → Bool → Option Reply
@@ -32,6 +33,16 @@ early-passes : (s new : State) (r : Reply) (outcome : Outcome Reply State) (aliv
 early-passes s new r outcome false deep e h = absurd (cc)
 early-passes s new r outcome true true e h = absurd (cc)
 early-passes s new r outcome true false e h = h
+
+-- the refusal that was written, or none
+module _ (s : State) (p : ℕ) (args : List Term) (old new : Reply) where
+  pub not-refused : (b : Bool) → RefusesEarly s p args b old new → b ≡ false → None ≡ early_refusal s p args
+  not-refused true h e = absurd (true≢false e)
+  not-refused false h e = sym h.0
+
+  pub refused : (b : Bool) → RefusesEarly s p args b old new → b ≡ true → Some new ≡ early_refusal s p args
+  refused true h e = sym h
+  refused false h e = absurd (true≢false (sym e))
 
 -- a call that nothing refuses early is answered by its name
 module _ (old new : State) (p : ℕ) (asked : Call) (name : CallName) (named : Some name ≡ call_name asked.name) (passes : None ≡ early_refusal old p asked.args) where

@@ -7,7 +7,7 @@ ghost use Rattle.node_core.specs.Observable.{observable};
 ghost use Rattle.node_core.specs.Reads.{reads_only, Reads};
 ghost use Rattle.node_core.specs.declared.step.Reply.TheVariants.{NoProcess};
 ghost use Rattle.node_core.specs.declared.step.Step.TheVariants.{Ask};
-ghost use Rattle.node_core.specs.inside.Refusals.{early_refusal, to_reply, ToReply};
+ghost use Rattle.node_core.specs.inside.Refusals.{RefusesEarly, to_reply, ToReply};
 
 use super::Node;
 use crate::call_name::CallName;
@@ -51,8 +51,7 @@ impl<H: KeyHash + Copy + Drop> Node<H> {
         if !reads_only(name, args) {
             return Ok(false);
         }
-        if let Some(refusal) = self.early_refusal(pid, args) {
-            *reply = refusal;
+        if self.refuse_early(pid, args, reply) {
             return Ok(true);
         }
         let Some(result) = self.read_call(pid, name, args, reply) else {
@@ -74,35 +73,31 @@ impl<H: KeyHash + Copy + Drop> Node<H> {
         ensures err { OnErr result (self.new ≡ self.old) }
     {
         let args = call.args.as_slice();
-        if let Some(refusal) = self.early_refusal(pid, args) {
-            *reply = refusal;
+        if self.refuse_early(pid, args, reply) {
             return Ok(());
         }
         let Some(name) = CallName::read(call.name.text()) else {
             *reply = Reply::Badarg;
             return Ok(());
         };
-        match self.read_call(pid, name, args, reply) {
-            Some(result) => write_refusal(result, reply),
-            None => {
-                let result = self.change_call(pid, name, args, reply);
-                write_refusal(result, reply)
-            }
-        }
+        let result = self.make_call(pid, name, args, reply);
+        write_refusal(result, reply)
     }
 
-    /// Returns the refusal that does not depend on the call's name, if one applies.
+    /// Writes the refusal that does not depend on the call's name, if one applies, and returns whether it did.
     #[inline(always)]
-    fn early_refusal(&self, pid: u32, args: &[Term]) -> Option<Reply>
-        ensures { result ≡ early_refusal self.now pid args.now }
+    fn refuse_early(&self, pid: u32, args: &[Term], reply: &mut Reply) -> bool
+        ensures { RefusesEarly self.now pid args.now result reply.old reply.new }
     {
         if !self.world.lives(pid) {
-            return Some(Reply::NoProcess);
+            *reply = Reply::NoProcess;
+            return true;
         }
         if any_too_deep(args) {
-            return Some(Reply::SystemLimit);
+            *reply = Reply::SystemLimit;
+            return true;
         }
-        None
+        false
     }
 }
 
@@ -144,8 +139,7 @@ fn is_too_deep(term: &Term) -> bool
     ensures { result ≡ is_too_deep term.now }
 {
     match term {
-        Term::Tuple(_) => term.is_too_deep(),
-        Term::List(_) => term.is_too_deep(),
+        Term::Tuple(_) | Term::List(_) => term.is_too_deep(),
         _ => false,
     }
 }

@@ -1,6 +1,7 @@
 // The calls: each name, by the number of its arguments, with its method. Those that change nothing come first.
 ghost use Rattle.std.specs.Prelude.{◌≡◌, [], ◌∷◌, false};
 ghost use Rattle.node_core.specs.Calls.{call};
+ghost use Rattle.node_core.specs.declared.call_name.CallName.TheVariants.{UpdateCounter};
 ghost use Rattle.node_core.specs.Reads.{reads_only};
 ghost use Rattle.node_core.specs.inside.Refusals.{RefinesInto, RefinesRead};
 
@@ -12,6 +13,72 @@ use ets_term::{KeyHash, Term};
 use table_ops::Refusal;
 
 impl<H: KeyHash + Copy + Drop> Node<H> {
+    /// Makes a call, and writes its reply. The most frequent calls come first. The others are out of their way, in
+    /// functions of their own.
+    #[inline(always)]
+    pub(crate) fn make_call(
+        &mut self,
+        pid: u32,
+        name: CallName,
+        args: &[Term],
+        reply: &mut Reply,
+    ) -> Result<(), Refusal>
+        ensures { RefinesInto (call self.old pid name args.now) self.old result reply.new self.new }
+    {
+        match args {
+            [x, y] => match name {
+                CallName::Lookup => self.lookup(pid, x, y, reply),
+                CallName::Member => write_truth(self.alloc, self.member(pid, x, y), reply),
+                CallName::Insert => write_true(self.alloc, self.insert(pid, x, y), reply),
+                CallName::Delete => write_true(self.alloc, self.delete(pid, x, y), reply),
+                _ => self.make_rare_call(pid, name, args, reply),
+            },
+            [x, y, z] => match name {
+                CallName::UpdateCounter => self.count(pid, x, y, z, reply),
+                CallName::UpdateElement => {
+                    let is_written = self.update_element(pid, x, y, z, None);
+                    write_truth(self.alloc, is_written, reply)
+                }
+                _ => self.make_rare_call(pid, name, args, reply),
+            },
+            _ => self.make_rare_call(pid, name, args, reply),
+        }
+    }
+
+    /// Makes any call.
+    #[inline(never)]
+    fn make_rare_call(
+        &mut self,
+        pid: u32,
+        name: CallName,
+        args: &[Term],
+        reply: &mut Reply,
+    ) -> Result<(), Refusal>
+        ensures { RefinesInto (call self.old pid name args.now) self.old result reply.new self.new }
+    {
+        match self.read_call(pid, name, args, reply) {
+            Some(result) => result,
+            None => self.change_call(pid, name, args, reply),
+        }
+    }
+
+    /// Makes `update_counter` without a Default.
+    #[inline(never)]
+    fn count(
+        &mut self,
+        pid: u32,
+        table: &Term,
+        key: &Term,
+        updates: &Term,
+        reply: &mut Reply,
+    ) -> Result<(), Refusal>
+        ensures { RefinesInto
+            (call self.old pid UpdateCounter (table.now ∷ key.now ∷ updates.now ∷ []))
+            self.old result reply.new self.new }
+    {
+        write_value(self.update_counter(pid, table, key, updates, None), reply)
+    }
+
     /// Makes a call that changes nothing, and writes its reply; returns `None` for any other call.
     pub(crate) fn read_call(
         &self,
@@ -24,7 +91,6 @@ impl<H: KeyHash + Copy + Drop> Node<H> {
     {
         match args {
             [x] => self.read_call_of_one(pid, name, x, reply),
-            // The most frequent ones come first. The others are out of their way, in a function of their own.
             [x, y] => match name {
                 CallName::Lookup => Some(self.lookup(pid, x, y, reply)),
                 CallName::Member => Some(write_truth(self.alloc, self.member(pid, x, y), reply)),
@@ -92,7 +158,7 @@ impl<H: KeyHash + Copy + Drop> Node<H> {
     }
 
     /// Makes any other call, and writes its reply.
-    pub(crate) fn change_call(
+    fn change_call(
         &mut self,
         pid: u32,
         name: CallName,
@@ -108,11 +174,7 @@ impl<H: KeyHash + Copy + Drop> Node<H> {
                 _ => Err(Refusal::Badarg),
             },
             [x] => self.change_call_of_one(pid, name, x, reply),
-            [x, y] => match name {
-                CallName::Insert => write_true(self.alloc, self.insert(pid, x, y), reply),
-                CallName::Delete => write_true(self.alloc, self.delete(pid, x, y), reply),
-                _ => self.change_call_of_two(pid, name, x, y, reply),
-            },
+            [x, y] => self.change_call_of_two(pid, name, x, y, reply),
             [x, y, z] => match name {
                 CallName::GiveAway => write_reply(self.give_away(pid, x, y, z), reply),
                 CallName::UpdateCounter => {

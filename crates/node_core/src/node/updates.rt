@@ -10,7 +10,7 @@ ghost use Rattle.node_core.specs.inside.Refusals.{Refines, to_reply};
 use super::Node;
 use super::access::Access;
 use bucket_table::Rows;
-use counters::{read_element_specs, read_ops};
+use counters::{read_element_specs, read_increment, read_ops, read_pair};
 use ets_term::{KeyHash, Term};
 use fixed_walk::Walked;
 use std::alloc::Global;
@@ -60,8 +60,31 @@ impl<H: KeyHash + Copy + Drop> Node<H> {
     }
 }
 
-/// Applies the operations of a term to the counters of a key's object.
+/// Applies the operations of a term to the counters of a key's object. A single increment, without a Default, is the
+/// most frequent update.
+#[inline(always)]
 fn count<R: Rows>(
+    alloc: Global,
+    table: &mut Walked<R>,
+    key: &Term,
+    updates: &Term,
+    default: Option<&Term>,
+) -> Result<Term, Refusal>
+    ensures { table_refusals.Refines
+        (Counts key.now updates.now (option_copied default.entry) table.old)
+        table.old result table.new }
+{
+    if default.is_none() {
+        if let Some(op) = read_increment(updates, table.keypos()) {
+            return table.update_one_counter(key, op);
+        }
+    }
+    count_any(alloc, table, key, updates, default)
+}
+
+/// Applies any operations of a term to the counters of a key's object.
+#[inline(never)]
+fn count_any<R: Rows>(
     alloc: Global,
     table: &mut Walked<R>,
     key: &Term,
@@ -79,8 +102,30 @@ fn count<R: Rows>(
 }
 
 /// Writes the element values of a term into a key's object, or into the default if the key is missing. Returns whether
-/// it wrote.
+/// it wrote. A single value, without a Default, is the most frequent update.
+#[inline(always)]
 fn write<R: Rows>(
+    alloc: Global,
+    table: &mut Walked<R>,
+    key: &Term,
+    updates: &Term,
+    default: Option<&Term>,
+) -> Result<bool, Refusal>
+    ensures { table_refusals.Refines
+        (WritesElements key.now updates.now (option_copied default.entry) table.old)
+        table.old result table.new }
+{
+    if default.is_none() {
+        if let Some((position, value)) = read_pair(updates, table.keypos()) {
+            return table.update_one_element(key, position, value);
+        }
+    }
+    write_any(alloc, table, key, updates, default)
+}
+
+/// Writes any element values of a term.
+#[inline(never)]
+fn write_any<R: Rows>(
     alloc: Global,
     table: &mut Walked<R>,
     key: &Term,

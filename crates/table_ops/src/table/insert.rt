@@ -18,6 +18,36 @@ impl<R: Rows> Table<R> {
             self.old.content result self.new.content }
         ensures buckets { self.new.buckets ≡ self.old.buckets }
     {
+        match objects {
+            [object] => self.insert_one(object),
+            _ => self.insert_list(objects),
+        }
+    }
+
+    /// Inserts one object, which is what most calls insert.
+    fn insert_one(&mut self, object: &Term) -> Result<(), Refusal>
+        ensures content { Refines (Inserts (object.now ∷ []) self.old.content)
+            self.old.content result self.new.content }
+        ensures buckets { self.new.buckets ≡ self.old.buckets }
+    {
+        let Some(key) = key_of(self.inner.keypos, object) else {
+            return Err(Refusal::Badarg);
+        };
+        if object.is_too_deep() {
+            return Err(Refusal::SystemLimit);
+        }
+        let count = self.inner.put_one(self.count, key, object)?;
+        self.count = count;
+        Ok(())
+    }
+
+    /// Inserts a list of objects.
+    #[inline(never)]
+    fn insert_list(&mut self, objects: &[Term]) -> Result<(), Refusal>
+        ensures content { Refines (Inserts objects.now self.old.content)
+            self.old.content result self.new.content }
+        ensures buckets { self.new.buckets ≡ self.old.buckets }
+    {
         if !are_objects(self.inner.keypos, objects) {
             return Err(Refusal::Badarg);
         }
@@ -102,7 +132,7 @@ impl<R: Rows> Table<R> {
         if any_too_deep(objects) {
             return Err(Refusal::SystemLimit);
         }
-        let count = self.inner.put_list(self.count, objects)?;
+        let count = self.inner.put_all(self.count, objects)?;
         self.count = count;
         Ok(done)
     }

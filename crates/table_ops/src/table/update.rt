@@ -1,12 +1,14 @@
-ghost use Rattle.std.specs.Prelude.{◌≡◌, ◌&&◌, option_copied};
+ghost use Rattle.std.specs.Prelude.{◌≡◌, ◌&&◌, None, option_copied};
+ghost use Rattle.counters.specs.declared.ops.Ops.TheVariants.{One};
+ghost use Rattle.counters.specs.declared.elements.ElementSpecs.TheVariants as elements;
 ghost use Rattle.table_ops.specs.Refusals.{Refines};
-ghost use Rattle.table_ops.specs.Update.{is_set, ops_avoid_key, specs_avoid_key, default_is_object, counter_is_valid, element_is_valid, UpdatesCounter, UpdatesElement};
+ghost use Rattle.table_ops.specs.Update.{is_set, may_update, ops_avoid_key, specs_avoid_key, default_is_object, counter_is_valid, element_is_valid, UpdatesCounter, UpdatesElement};
 
 use super::Table;
 use crate::refusal::Refusal;
 use bucket_table::Rows;
-use counters::{ElementSpecs, Ops, start_counter, start_with_elements};
-use ets_term::Term;
+use counters::{ElementSpecs, Op, Ops, start_counter, start_with_elements};
+use ets_term::{Position, Term};
 
 impl<R: Rows> Table<R> {
     /// Updates the counters of a key's object in place and returns the new value, or the list of new values for a list
@@ -54,6 +56,24 @@ impl<R: Rows> Table<R> {
         Ok(answer)
     }
 
+    /// Does one operation on a counter of a key's object, as `update_counter` does without a Default. It takes no
+    /// memory.
+    #[inline(always)]
+    pub fn update_one_counter(&mut self, key: &Term, op: Op) -> Result<Term, Refusal>
+        ensures content { Refines (UpdatesCounter key.now (One op) None self.old.content)
+            self.old.content result self.new.content }
+        ensures buckets { self.new.buckets ≡ self.old.buckets }
+    {
+        if !self.may_update_one(op.position) {
+            return Err(Refusal::Badarg);
+        }
+        let entry = self.inner.rows.entry(key);
+        let Some(place) = self.inner.occupied_place(key, entry) else {
+            return Err(Refusal::Badarg);
+        };
+        Ok(self.inner.update_one_counter_at(place, op)?)
+    }
+
     /// Sets elements of a key's object in place and returns `true` (stdlib manual, ets:update_element/3 and /4). If the
     /// key has no object, it sets them in the Default with that key and inserts it, also for no values. Without a
     /// Default it returns `false`.
@@ -94,6 +114,40 @@ impl<R: Rows> Table<R> {
         Ok(true)
     }
 
+    /// Sets one element of a key's object to a copy of a value, as `update_element` does without a Default.
+    #[inline(always)]
+    pub fn update_one_element(
+        &mut self,
+        key: &Term,
+        position: Position,
+        value: &Term,
+    ) -> Result<bool, Refusal>
+        ensures content { Refines (UpdatesElement key.now
+            (elements.One (record { position = position; value = value.now })) None self.old.content)
+            self.old.content result self.new.content }
+        ensures buckets { self.new.buckets ≡ self.old.buckets }
+    {
+        if !self.may_update_one(position) {
+            return Err(Refusal::Badarg);
+        }
+        let entry = self.inner.rows.entry(key);
+        match self.inner.occupied_place(key, entry) {
+            Some(place) => {
+                self.inner.update_one_element_at(place, position, value)?;
+                Ok(true)
+            }
+            None => Ok(false),
+        }
+    }
+
+    /// Returns whether an update may name this position: the table is a set, and the position is not that of the key.
+    #[inline(always)]
+    fn may_update_one(&self, position: Position) -> bool
+        ensures { result ≡ (is_set self.now.content.kind && may_update self.now.content.keypos position) }
+    {
+        self.is_set() && self.inner.may_update(position)
+    }
+
     /// Returns whether `update_counter` may take these arguments.
     fn counter_is_valid(&self, key: &Term, ops: &Ops, default: Option<&Term>) -> bool
         ensures { result
@@ -129,6 +183,7 @@ impl<R: Rows> Table<R> {
     }
 
     /// Returns whether the table is a set.
+    #[inline(always)]
     fn is_set(&self) -> bool
         ensures { result ≡ is_set self.now.content.kind }
     {

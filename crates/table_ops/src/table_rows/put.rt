@@ -9,7 +9,7 @@ ghost use Rattle.table_ops.specs.inside.Undo.{ForKey, PutsOne, PutsAt};
 
 use super::TableRows;
 use crate::kind::Kind;
-use crate::object::contains;
+use crate::object::{contains, copy_key};
 use crate::refusal::Refusal;
 use crate::undo::Undo;
 use bucket_table::{Place, Rows, SlotEntry};
@@ -78,7 +78,7 @@ impl<R: Rows> TableRows<R> {
         ensures err { OnErr result (R.content self.new.rows ≡ R.content self.old.rows) }
         ensures keeps { ChangesSlotsOnly R.readiness self.old self.new }
     {
-        let own_key = key.try_clone(self.alloc)?;
+        let own_key = copy_key(self.alloc, key)?;
         let copy = object.try_clone(self.alloc)?;
         self.rows
             .put_at(hash, own_key, Chain::one(self.alloc, copy))

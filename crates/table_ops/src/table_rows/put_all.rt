@@ -15,33 +15,20 @@ use ets_term::Term;
 use node_list::Chain;
 
 impl<R: Rows> TableRows<R> {
-    /// Inserts all objects of a list or none. Returns how many objects the table has then. `before` is how many it has.
-    pub(crate) fn put_list(&mut self, before: usize, objects: &[Term]) -> Result<usize, Refusal>
-        requires objects { list_all (is_object self.old.keypos) objects.now ≡ true }
-        requires holds { TableRowsInvariant R.content self.old before }
-        requires shallow { list_any is_too_deep objects.now ≡ false }
-        ensures slots { PutsEach self.old.limit self.old.kind self.old.keypos objects.now
-            (R.content self.old.rows) result (R.content self.new.rows) }
-        ensures keeps { ChangesSlotsOnly R.readiness self.old self.new }
-    {
-        match objects {
-            [object] => self.put_one(before, object),
-            _ => self.put_all(before, objects),
-        }
-    }
-
-    /// Inserts a single object, without an undo log. If its key has no slot, it goes straight to the rows. Returns how
-    /// many objects the table has then.
-    fn put_one(&mut self, before: usize, object: &Term) -> Result<usize, Refusal>
-        requires object { is_object self.old.keypos object.now ≡ true }
+    /// Inserts a single object, without an undo log. `before` is how many objects the table has; returns how many it has
+    /// then. If the key has no slot, the object goes straight to the rows.
+    pub(crate) fn put_one(
+        &mut self,
+        before: usize,
+        key: &Term,
+        object: &Term,
+    ) -> Result<usize, Refusal>
+        requires object { key_of self.old.keypos object.now ≡ Some key.now }
         requires holds { TableRowsInvariant R.content self.old before }
         ensures slots { PutsEach self.old.limit self.old.kind self.old.keypos (object.now ∷ [])
             (R.content self.old.rows) result (R.content self.new.rows) }
         ensures keeps { ChangesSlotsOnly R.readiness self.old self.new }
     {
-        let Some(key) = key_of(self.keypos, object) else {
-            unreachable!()
-        };
         match self.rows.entry(key) {
             SlotEntry::Vacant(hash) => {
                 if before >= self.limit as usize {
@@ -81,7 +68,7 @@ impl<R: Rows> TableRows<R> {
     }
 
     /// Inserts objects one after another, and rolls back if one is refused. Returns how many the table has then.
-    fn put_all(&mut self, before: usize, objects: &[Term]) -> Result<usize, Refusal>
+    pub(crate) fn put_all(&mut self, before: usize, objects: &[Term]) -> Result<usize, Refusal>
         requires objects { list_all (is_object self.old.keypos) objects.now ≡ true }
         requires holds { TableRowsInvariant R.content self.old before }
         requires shallow { list_any is_too_deep objects.now ≡ false }

@@ -12,8 +12,8 @@ use super::TableRows;
 use crate::refusal::Refusal;
 use bucket_table::{Place, Rows, SlotEntry};
 use counters::{
-    CounterFault, ElementSpec, ElementSpecs, Op, Ops, counter_value, element_value, is_default,
-    update_counter, write_elements,
+    CounterFault, ElementSpecs, Op, Ops, counter_value, element_value, is_default, update_counter,
+    write_elements,
 };
 use ets_term::{Position, Term};
 use node_list::Chain;
@@ -21,7 +21,8 @@ use std::alloc::AllocError;
 
 impl<R: Rows> TableRows<R> {
     /// Returns whether an update may name a position: any from 1 on, except keypos.
-    fn may_update(&self, position: Position) -> bool
+    #[inline(always)]
+    pub(crate) fn may_update(&self, position: Position) -> bool
         ensures { result ≡ may_update self.now.keypos position }
     {
         0 < position && position != self.keypos as Position
@@ -100,8 +101,12 @@ impl<R: Rows> TableRows<R> {
     }
 
     /// Updates one counter of the only object at a place, where it is.
-    #[inline]
-    fn update_one_counter_at(&mut self, place: Place, op: Op) -> Result<Term, CounterFault>
+    #[inline(always)]
+    pub(crate) fn update_one_counter_at(
+        &mut self,
+        place: Place,
+        op: Op,
+    ) -> Result<Term, CounterFault>
         requires { HasOne (R.content self.old.rows) (R.key_at self.old.rows place) }
         ensures slots { UpdatesCounterAt (One op) (R.key_at self.old.rows place)
             (R.content self.old.rows) result (R.content self.new.rows) }
@@ -139,27 +144,32 @@ impl<R: Rows> TableRows<R> {
         ensures keeps { ChangesSlotsOnly R.readiness self.old self.new }
     {
         match specs {
-            ElementSpecs::One(spec) => self.update_one_element_at(place, spec),
+            ElementSpecs::One(spec) => {
+                self.update_one_element_at(place, spec.position, &spec.value)
+            }
             ElementSpecs::Many(_) => self.update_elements_at(place, specs),
         }
     }
 
     /// Sets one element of the only object at a place, where it is.
-    #[inline]
-    fn update_one_element_at(
+    #[inline(always)]
+    pub(crate) fn update_one_element_at(
         &mut self,
         place: Place,
-        spec: &ElementSpec,
+        position: Position,
+        value: &Term,
     ) -> Result<(), CounterFault>
         requires { HasOne (R.content self.old.rows) (R.key_at self.old.rows place) }
-        ensures slots { UpdatesElementAt (elements.One spec.now) (R.key_at self.old.rows place)
+        ensures slots { UpdatesElementAt
+            (elements.One (record { position = position; value = value.now }))
+            (R.key_at self.old.rows place)
             (R.content self.old.rows) result (R.content self.new.rows) }
         ensures keeps { ChangesSlotsOnly R.readiness self.old self.new }
     {
         let object = &self.rows.objects_at(place)[0];
-        let value = element_value(self.alloc, object, spec)?;
-        let index = spec.position.saturating_sub(1) as usize;
-        self.rows.set_element_at(place, index, value);
+        let copy = element_value(self.alloc, object, position, value)?;
+        let index = position.saturating_sub(1) as usize;
+        self.rows.set_element_at(place, index, copy);
         Ok(())
     }
 

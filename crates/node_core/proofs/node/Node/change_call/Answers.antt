@@ -1,21 +1,9 @@
 use Rattle.std.proofs.Common.{◌≡◌, [], ◌∷◌, sym, subst}
-use Rattle.node_core.specs.declared.call_name.CallName.TheVariants.{Delete, Insert, UpdateCounter, UpdateElement}
+use Rattle.node_core.specs.declared.call_name.CallName.TheVariants.{UpdateCounter, UpdateElement}
 use Rattle.node_core.specs.Calls.{call}
 use Rattle.node_core.specs.inside.Refusals.{Refines}
-use Rattle.node_core.proofs.calls.Arguments.{two, three, four}
+use Rattle.node_core.proofs.calls.Arguments.{three, four}
 use Rattle.node_core.proofs.node.Node.change_call.Goals as goal
-
-pub returns-in-Insert : goal.returns-in-Insert
-returns-in-Insert g c =
-    let old = c.args.self.now in
-    let items : c.args.args.now ≡ c.x-item-then-args-lt3.result ∷ c.y-item.result ∷ [] = two c.args.args.now c.x-item-then-args-lt3.result c.y-item.result c.in-len2.len_at_least c.in-len2.len_below c.x-item-then-args-lt3.is c.y-item.is in
-    rw (items, c.in-Insert.is) (subst (λ r. Refines (call old c.args.pid Insert (c.x-item-then-args-lt3.result ∷ c.y-item.result ∷ [])) old r c.insert.new.self) (sym c.write_true.ensures) c.insert.ensures)
-
-pub returns-in-Delete : goal.returns-in-Delete
-returns-in-Delete g c =
-    let old = c.args.self.now in
-    let items : c.args.args.now ≡ c.x-item-then-args-lt3.result ∷ c.y-item.result ∷ [] = two c.args.args.now c.x-item-then-args-lt3.result c.y-item.result c.in-len2.len_at_least c.in-len2.len_below c.x-item-then-args-lt3.is c.y-item.is in
-    rw (items, c.in-Delete.is) (subst (λ r. Refines (call old c.args.pid Delete (c.x-item-then-args-lt3.result ∷ c.y-item.result ∷ [])) old r c.delete.new.self) (sym c.write_true-in-Delete.ensures) c.delete.ensures)
 
 pub returns-in-UpdateCounter : goal.returns-in-UpdateCounter
 returns-in-UpdateCounter g c =

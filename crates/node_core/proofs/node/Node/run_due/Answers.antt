@@ -1,6 +1,6 @@
 use Rattle.std.proofs.Common.{sym, ◌∙◌}
 use Rattle.node_core.proofs.pending.Tending.{pending-unobserved}
-use Rattle.node_core.proofs.node.Node.run_pending.Goals as goal
+use Rattle.node_core.proofs.node.Node.run_due.Goals as goal
 
 pub returns-clause-unobserved : goal.returns-clause-unobserved
 returns-clause-unobserved g c =
