@@ -1,5 +1,5 @@
 // The index by name.
-ghost use Rattle.std.specs.Prelude.{◌≡◌, ◌++◌, ◌∷◌, ℕ, [], true, List, Option, Some, None, OnOk, OnErr, length, slice_set};
+ghost use Rattle.std.specs.Prelude.{◌≡◌, ◌++◌, ◌∷◌, ℕ, [], true, List, Option, Some, None, IfSome, OnOk, OnErr, length, slice_set};
 ghost use Rattle.indexmap.specs.IndexMap.{get_by_text};
 ghost use Rattle.ownership.specs.declared.metadata.Metadata as model;
 ghost use Rattle.ownership.specs.World.{Tables, metadata_of, table_at, whereis};
@@ -12,11 +12,25 @@ use ets_term::Atom;
 use std::alloc::{AllocError, Global};
 
 impl Indices {
-    /// Returns the identifier of the table with this name, or `None`.
+    /// Returns the identifier of the table with this name, or `None`. The table that was named last needs no hash.
     pub fn find(&self, name: &Atom) -> Option<u32>
         ensures { (tables : Tables) → IndicesInvariant self.now tables → result ≡ whereis tables name.now }
     {
-        self.names.get(name.text()).copied()
+        match self.last_named(name) {
+            Some(id) => Some(id),
+            None => self.names.get(name.text()).copied(),
+        }
+    }
+
+    /// Returns the identifier of the table that was named last, if this is its name.
+    #[inline(always)]
+    fn last_named(&self, name: &Atom) -> Option<u32>
+        ensures { IfSome result (λ id. get_by_text self.now.names name.now ≡ Some id) }
+    {
+        match self.names.get_index(self.names.len().saturating_sub(1)) {
+            Some((known, id)) if known.as_str() == name.text() => Some(*id),
+            _ => None,
+        }
     }
 
     /// Adds the next identifier under the name of a table, if the table is named.
