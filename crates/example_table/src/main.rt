@@ -12,20 +12,12 @@ use table_ops::{Kind, Refusal, Table};
 const OBJECTS: u32 = 1_000;
 
 fn main(rt: HostRuntime) -> io::Result<ExitCode> {
-    match count_of_milk(rt.alloc()) {
-        Ok((Some(count), buckets)) => {
-            println!(rt; "milk: {count}, in {buckets} buckets")?;
-            Ok(ExitCode::SUCCESS)
-        }
-        Ok((None, _)) => {
-            eprintln!(rt; "no milk")?;
-            Ok(ExitCode::FAILURE)
-        }
-        Err(_) => {
-            eprintln!(rt; "refused")?;
-            Ok(ExitCode::FAILURE)
-        }
-    }
+    let Ok((Some(count), buckets)) = count_of_milk(rt.alloc()) else {
+        eprintln!(rt; "no milk, or out of memory")?;
+        return Ok(ExitCode::FAILURE);
+    };
+    println!(rt; "milk: {count}, in {buckets} buckets")?;
+    Ok(ExitCode::SUCCESS)
 }
 
 /// What a table says of milk after it has doubled its buckets, and how many these are.
