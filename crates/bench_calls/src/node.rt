@@ -24,7 +24,7 @@ fn begin(alloc: Global, node: &mut Node<Fnv>) -> Result<(), AllocError> {
     run_step(node, asks(new_table(alloc)?))
 }
 
-/// Does a step, and lets the reply go.
+/// Does a step, and drops the reply.
 fn run_step(node: &mut Node<Fnv>, step: Step) -> Result<(), AllocError> {
     match node.step(&step) {
         Ok(_) => Ok(()),

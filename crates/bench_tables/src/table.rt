@@ -72,7 +72,7 @@ impl Store for Table<SplitRows<Fnv>> {
 /// Makes the first unready bucket ready, or doubles the buckets if they are full. Returns whether a growth step was
 /// pending.
 fn grow_if_pending(table: &mut Table<SplitRows<Fnv>>) -> Result<bool, AllocError> {
-    if let Some(bucket) = table.least() {
+    if let Some(bucket) = table.first_unready() {
         table.ready(bucket)?;
         return Ok(true);
     }

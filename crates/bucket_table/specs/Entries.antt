@@ -22,8 +22,8 @@ with_objects_in slots None objects = slots
 with_objects_in slots (Some key) objects = with_objects slots key objects
 
 -- The slot at a place has one object, given its key.
-abbrev pub HasOne : List Slot → Option Term → Type 0
-HasOne slots key = (object : Term) × (objects_in slots key ≡ Some (object ∷ []))
+abbrev pub HasOneObject : List Slot → Option Term → Type 0
+HasOneObject slots key = (object : Term) × (objects_in slots key ≡ Some (object ∷ []))
 
 -- The slots after an element is set in the first object of the slot at a place, given its key. The element is counted
 -- from 0.

@@ -2,7 +2,7 @@ ghost use Rattle.std.specs.Prelude.{◌≡◌, ◌≤◌, ◌+◌, ℕ, Bool, fa
 ghost use Rattle.std.specs.Map.Iter.{deref_pair};
 ghost use Rattle.ets_term.specs.declared.term.Term.{Term};
 ghost use Rattle.bucket_table.specs.Slots.{Slot, HasDistinctKeys, objects_of, with_objects, without, Enters, EnterAll, AreNew, purged, cleared, slots_behind};
-ghost use Rattle.bucket_table.specs.Entries.{IsEntry, HasOne, objects_in, with_objects_in, with_element_in};
+ghost use Rattle.bucket_table.specs.Entries.{IsEntry, HasOneObject, objects_in, with_objects_in, with_element_in};
 ghost use Rattle.bucket_table.specs.Walks.{IsFirstPlace, IsNextPlace, ComesBefore};
 ghost use Rattle.bucket_table.specs.Buckets.{IsGrown, IsReadied};
 
@@ -49,14 +49,14 @@ pub trait Rows: Drop {
 
     /// Replaces the objects of the key's slot and returns the old ones. Returns `None` if the key has no slot.
     fn replace(&mut self, key: &Term, objects: Chain) -> Option<Chain>
-        ensures was { result ≡ objects_of (content self.old) key.now }
+        ensures objects { result ≡ objects_of (content self.old) key.now }
         ensures now { content self.new ≡ with_objects (content self.old) key.now objects }
         ensures hash { hash_of self.new ≡ hash_of self.old }
         ensures buckets { readiness self.new ≡ readiness self.old };
 
     /// Removes the key's slot and returns its objects. Returns `None` if the key has no slot.
     fn remove(&mut self, key: &Term) -> Option<Chain>
-        ensures was { result ≡ objects_of (content self.old) key.now }
+        ensures objects { result ≡ objects_of (content self.old) key.now }
         ensures now { content self.new ≡ without (content self.old) key.now }
         ensures hash { hash_of self.new ≡ hash_of self.old }
         ensures buckets { readiness self.new ≡ readiness self.old };
@@ -79,7 +79,7 @@ pub trait Rows: Drop {
     fn len(&self) -> usize
         ensures { result ≡ length (content self.now) };
 
-    /// Tells a proof that the keys are distinct. It does nothing at run time.
+    /// Reveals to a proof that the keys are distinct. It does nothing at run time.
     fn reveal_invariant(&self)
         ensures { HasDistinctKeys (content self.now) };
 
@@ -124,7 +124,7 @@ pub trait Rows: Drop {
     /// Replaces the objects of the slot at a place and returns the old ones.
     fn replace_at(&mut self, place: Place, objects: Chain) -> Chain
         requires { IsSome (key_at self.old place) }
-        ensures was { objects_in (content self.old) (key_at self.old place) ≡ Some result }
+        ensures objects { objects_in (content self.old) (key_at self.old place) ≡ Some result }
         ensures now { content self.new ≡ with_objects_in (content self.old) (key_at self.old place) objects }
         ensures place { key_at self.new place ≡ key_at self.old place }
         ensures places { (other : ℕ) → key_at self.new other ≡ key_at self.old other }
@@ -134,8 +134,8 @@ pub trait Rows: Drop {
 
     /// Replaces the only object of the slot at a place and returns the old one.
     fn replace_one_at(&mut self, place: Place, object: Term) -> Term
-        requires { HasOne (content self.old) (key_at self.old place) }
-        ensures was { objects_in (content self.old) (key_at self.old place) ≡ Some (result ∷ []) }
+        requires { HasOneObject (content self.old) (key_at self.old place) }
+        ensures objects { objects_in (content self.old) (key_at self.old place) ≡ Some (result ∷ []) }
         ensures now { content self.new ≡ with_objects_in (content self.old) (key_at self.old place) (object ∷ []) }
         ensures places { (other : ℕ) → key_at self.new other ≡ key_at self.old other }
         ensures room { room self.old ≤ room self.new }
@@ -145,7 +145,7 @@ pub trait Rows: Drop {
     /// Sets an element of the only object of the slot at a place, counted from 0. Changes nothing if the object is no
     /// tuple or has no such element.
     fn set_element_at(&mut self, place: Place, index: usize, value: Term)
-        requires { HasOne (content self.old) (key_at self.old place) }
+        requires { HasOneObject (content self.old) (key_at self.old place) }
         ensures now { content self.new ≡ with_element_in (content self.old) (key_at self.old place) index value }
         ensures places { (other : ℕ) → key_at self.new other ≡ key_at self.old other }
         ensures room { room self.old ≤ room self.new }
@@ -156,7 +156,7 @@ pub trait Rows: Drop {
     fn remove_at(&mut self, place: Place) -> (Term, Chain)
         requires { IsSome (key_at self.old place) }
         ensures key { key_at self.old place ≡ Some result.0 }
-        ensures was { objects_of (content self.old) result.0 ≡ Some result.1 }
+        ensures objects { objects_of (content self.old) result.0 ≡ Some result.1 }
         ensures now { content self.new ≡ without (content self.old) result.0 }
         ensures before { (other : ℕ) (key : Term) → key_at self.old other ≡ Some key
             → ComesBefore (content self.old) key result.0
@@ -170,9 +170,9 @@ pub trait Rows: Drop {
         requires { IsSome (key_at self.old place) }
         ensures count { option_map length (objects_in (content self.old) (key_at self.old place)) ≡ Some result }
         ensures now { (key : Term) → key_at self.old place ≡ Some key → content self.new ≡ without (content self.old) key }
-        ensures before { (gone : Term) → key_at self.old place ≡ Some gone
+        ensures before { (removed : Term) → key_at self.old place ≡ Some removed
             → (other : ℕ) (key : Term) → key_at self.old other ≡ Some key
-            → ComesBefore (content self.old) key gone
+            → ComesBefore (content self.old) key removed
             → key_at self.new other ≡ Some key }
         ensures hash { hash_of self.new ≡ hash_of self.old }
         ensures buckets { readiness self.new ≡ readiness self.old };

@@ -60,7 +60,7 @@ impl<H: KeyHash + Copy + Drop> SplitRows<H> {
     /// Returns the objects of the key's slot, if it has one. Adds the number of visited nodes to `steps`.
     pub fn get_counted(&self, key: &Term, steps: &mut Steps) -> Option<&[Term]>
         ensures value { option_copied result ≡ objects_of self.now.slots key.now }
-        ensures looked { HasLooked (H.hash self.now.hasher) self.now.slots self.now.ready
+        ensures visits { HasLooked (H.hash self.now.hasher) self.now.slots self.now.ready
             key.now steps.old steps.new }
     {
         self.index.list.reveal_invariant();

@@ -28,7 +28,7 @@ impl Handle {
 
     /// Takes the store out, which leaves the handle closed.
     pub(crate) fn take(&mut self, alloc: Global) -> Option<Box<Store>>
-        ensures taken { MatchOption result (self.old.pointer.store ≡ None) (λ b. self.old.pointer.store ≡ Some b.value) }
+        ensures store { MatchOption result (self.old.pointer.store ≡ None) (λ b. self.old.pointer.store ≡ Some b.value) }
         ensures closed { self.new.pointer.store ≡ None }
     {
         let Handle { pointer, is_open } = mem::replace(self, Handle::make_closed(alloc));

@@ -7,7 +7,7 @@ use Rattle.node_text.specs.StoreState.{StoreState}
 use Rattle.ets_packets.specs.Packets.{packet}
 use Rattle.ets_packets.specs.Replies.{PacketReply, reply_body}
 use Rattle.ets_packets.specs.Exchanges.{Exchange, Run, requests, replies}
-use Rattle.ets_packets.specs.inside.Answering.{AnswersHeld, AnswersPacket, BreaksHeld, BreaksPacket, IsRest}
+use Rattle.ets_packets.specs.inside.Answering.{AnswersBuffered, AnswersPacket, BreaksBuffered, BreaksPacket, IsRest}
 use Rattle.ets_packets.specs.inside.Buffer.{BeginsWith}
 use Rattle.ets_packets.specs.Output.{Sends, Breaks}
 use Rattle.ets_packets.proofs.Exchanges.{one, run-join, run-one, requests-one, replies-one}
@@ -65,7 +65,7 @@ going-packet old w1 w2 before p1 p2 held rest start s1 s2 len g f a =
     }
 
 pub going-broken : (old w1 w2 : Option (List ℕ)) (before p1 held rest : List ℕ) (start s1 s2 : StoreState) (len : ℕ) → Going old w1 before p1 held rest start s1 → BeginsWith rest len
-    → BreaksPacket (between w1 w2) p1 (slice_range rest 4 (len + 4)) s1 s2 → BreaksHeld (between old w2) before held start
+    → BreaksPacket (between w1 w2) p1 (slice_range rest 4 (len + 4)) s1 s2 → BreaksBuffered (between old w2) before held start
 going-broken old w1 w2 before p1 held rest start s1 s2 len g f a =
     let body = slice_range rest 4 (len + 4) in
     record {
@@ -79,7 +79,7 @@ going-broken old w1 w2 before p1 held rest start s1 s2 len g f a =
     }
 
 pub going-end : (old new : Option (List ℕ)) (before after held rest : List ℕ) (start now : StoreState) (is_long : Bool) → Going old new before after held rest start now → IsRest is_long rest
-    → AnswersHeld (between old new) before after held rest start now is_long
+    → AnswersBuffered (between old new) before after held rest start now is_long
 going-end old new before after held rest start now is_long g is = record {
   exchanges = g.exchanges;
   run = g.run;

@@ -29,8 +29,8 @@ abbrev pub reply_body : PacketReply → List ℕ
 reply_body r = r.status ∷ r.rest
 
 -- this status and this text, or no text if there is no memory for it
-abbrev pub Tells : ℕ → List ℕ → PacketReply → Type 0
-Tells status text r = (r.status ≡ status) × ((r.rest ≡ text) ⊎ (r.rest ≡ []))
+abbrev pub IsTextReply : ℕ → List ℕ → PacketReply → Type 0
+IsTextReply status text r = (r.status ≡ status) × ((r.rest ≡ text) ⊎ (r.rest ≡ []))
 
 abbrev pub reason_text : Option LastRefusal → List ℕ
 reason_text None = []
@@ -38,23 +38,23 @@ reason_text (Some refusal) = refusal_text refusal
 
 -- The reply of a step and why it was refused: the term in the external format, or 7 if it has no memory or too many
 -- bytes; or the reason.
-abbrev pub TellsReply : Reply → Option LastRefusal → PacketReply → Type 0
-TellsReply (Value t) why r = (r ≡ packet_reply 0 (written t)) ⊎ (r ≡ packet_reply 7 [])
-TellsReply Badarg why r = Tells 1 (reason_text why) r
-TellsReply SystemLimit why r = Tells 2 (reason_text why) r
-TellsReply NoProcess why r = Tells 3 (reason_text why) r
+abbrev pub IsReplyOf : Reply → Option LastRefusal → PacketReply → Type 0
+IsReplyOf (Value t) why r = (r ≡ packet_reply 0 (written t)) ⊎ (r ≡ packet_reply 7 [])
+IsReplyOf Badarg why r = IsTextReply 1 (reason_text why) r
+IsReplyOf SystemLimit why r = IsTextReply 2 (reason_text why) r
+IsReplyOf NoProcess why r = IsTextReply 3 (reason_text why) r
 
 -- memory ran out, and nothing else changes
 abbrev pub RunsOut : StoreState → PacketReply → StoreState → Type 0
-RunsOut old r new = (new ≡ with_refusal NoMemory old) × Tells 4 (codes "out of memory") r
+RunsOut old r new = (new ≡ with_refusal NoMemory old) × IsTextReply 4 (codes "out of memory") r
 
 -- a step is done, and its reply is returned
 abbrev pub Steps : Step → StoreState → PacketReply → StoreState → Type 0
-Steps event old r new = (RunsStep old event new × TellsReply new.reply new.refusal r) ⊎ RunsOut old r new
+Steps event old r new = (RunsStep old event new × IsReplyOf new.reply new.refusal r) ⊎ RunsOut old r new
 
 -- what is no call is refused in this way and changes nothing else
 abbrev pub RefusesCall : LastRefusal → StoreState → PacketReply → StoreState → Type 0
-RefusesCall why old r new = ((new ≡ with_refusal why old) × Tells 5 (refusal_text why) r) ⊎ RunsOut old r new
+RefusesCall why old r new = ((new ≡ with_refusal why old) × IsTextReply 5 (refusal_text why) r) ⊎ RunsOut old r new
 
 -- a call is done, or refused
 abbrev pub Calls : ParsedCall → ℕ → StoreState → PacketReply → StoreState → Type 0
@@ -63,7 +63,7 @@ Calls (parsed.Faulty problem at) pid = RefusesCall (External problem)
 
 -- what is no request changes nothing
 abbrev pub RefusesRequest : StoreState → PacketReply → StoreState → Type 0
-RefusesRequest old r new = (new ≡ old) × Tells 5 (codes "not a request") r
+RefusesRequest old r new = (new ≡ old) × IsTextReply 5 (codes "not a request") r
 
 -- the answer to a request with these bytes of a call
 abbrev pub AnswersRequest : Request → List ℕ → StoreState → PacketReply → StoreState → Type 0

@@ -25,8 +25,8 @@ pub(crate) enum RefillFault {
 pub(crate) struct Buffer {
     /// Where a read puts its bytes.
     chunk: Vec<u8>,
-    held: Vec<u8>,
-    /// The number of bytes at the front of `held` that were answered.
+    input: Vec<u8>,
+    /// The number of bytes at the front of `input` that were answered.
     start: usize,
 }
 
@@ -36,9 +36,9 @@ impl Model for Buffer {
 
     ghost Value = { List ℕ };
 
-    ghost view = { λ f. slice_range f.held.items f.start (vec_len f.held) };
+    ghost view = { λ f. slice_range f.input.items f.start (vec_len f.input) };
 
-    ghost invariant = { λ f. (f.start ≤ vec_len f.held) × (vec_len f.chunk ≡ CHUNK) };
+    ghost invariant = { λ f. (f.start ≤ vec_len f.input) × (vec_len f.chunk ≡ CHUNK) };
 }
 
 impl Buffer {
@@ -48,7 +48,7 @@ impl Buffer {
     {
         Ok(Buffer {
             chunk: vec![in alloc; 0; CHUNK]?,
-            held: Vec::new(alloc),
+            input: Vec::new(alloc),
             start: 0,
         })
     }
@@ -57,7 +57,7 @@ impl Buffer {
     pub(crate) fn bytes(&self) -> &[u8]
         ensures { result.now ≡ self.now }
     {
-        &self.held[self.start..self.held.len()]
+        &self.input[self.start..self.input.len()]
     }
 
     /// Takes the first `count` bytes, which were answered.
@@ -73,12 +73,12 @@ impl Buffer {
         ensures ok { IfOk result (Refills self.old self.new (flow R.remaining reader.old reader.new)) }
         ensures err { IfErr result (RefillStops (flow R.remaining reader.old reader.new)) }
     {
-        discard_front(&mut self.held, self.start);
+        discard_front(&mut self.input, self.start);
         self.start = 0;
         let Ok(count) = reader.read(&mut self.chunk) else {
             return Err(RefillFault::Read);
         };
-        if self.held.extend_from_slice(&self.chunk[..count]).is_err() {
+        if self.input.extend_from_slice(&self.chunk[..count]).is_err() {
             return Err(RefillFault::Memory);
         }
         Ok(count)
@@ -86,14 +86,14 @@ impl Buffer {
 }
 
 /// Removes the first `count` elements.
-fn discard_front(held: &mut Vec<u8>, count: usize)
-    requires { count ≤ vec_len held.old }
-    ensures { held.new.items ≡ slice_range held.old.items count (vec_len held.old) }
+fn discard_front(input: &mut Vec<u8>, count: usize)
+    requires { count ≤ vec_len input.old }
+    ensures { input.new.items ≡ slice_range input.old.items count (vec_len input.old) }
 {
     if count == 0 {
         return;
     }
-    let len = held.len();
-    held.copy_within(count..len, 0);
-    held.truncate(len - count);
+    let len = input.len();
+    input.copy_within(count..len, 0);
+    input.truncate(len - count);
 }

@@ -1,7 +1,7 @@
 //! The reply to a request.
 ghost use Rattle.std.specs.Prelude.{◌≡◌, ◌⊎◌, [], ◌<◌, ◌-◌, ◌^◌, length, codes};
 ghost use Rattle.external_term.specs.Encoding.{written};
-ghost use Rattle.ets_packets.specs.Replies.{Answers, Calls, Steps, Tells, TellsReply, packet_reply, reason_text};
+ghost use Rattle.ets_packets.specs.Replies.{Answers, Calls, Steps, IsTextReply, IsReplyOf, packet_reply, reason_text};
 ghost use Rattle.node_external.specs.Calls.{parse_call};
 
 use crate::request::{CALL_START, Request, parse_request};
@@ -81,7 +81,7 @@ fn call(alloc: Global, store: &mut Store, pid: u32, bytes: &[u8], rest: &mut Vec
 /// Puts what the last reply says into `rest`, and returns its status.
 fn put_reply(alloc: Global, store: &Store, rest: &mut Vec<u8>) -> u8
     requires { rest.old.items ≡ [] }
-    ensures tells { TellsReply store.now.reply store.now.refusal (packet_reply result rest.new.items) }
+    ensures bytes { IsReplyOf store.now.reply store.now.refusal (packet_reply result rest.new.items) }
     ensures few { length rest.new.items < 2 ^ 32 - 1 }
 {
     let status = match store.reply() {
@@ -97,7 +97,7 @@ fn put_reply(alloc: Global, store: &Store, rest: &mut Vec<u8>) -> u8
 /// Puts a term in the external format into `rest`, and returns the status.
 fn put_term(term: &Term, rest: &mut Vec<u8>) -> u8
     requires { rest.old.items ≡ [] }
-    ensures tells { (packet_reply result rest.new.items ≡ packet_reply 0 (written term.now))
+    ensures bytes { (packet_reply result rest.new.items ≡ packet_reply 0 (written term.now))
         ⊎ (packet_reply result rest.new.items ≡ packet_reply 7 []) }
     ensures few { length rest.new.items < 2 ^ 32 - 1 }
 {
@@ -111,7 +111,7 @@ fn put_term(term: &Term, rest: &mut Vec<u8>) -> u8
 /// Puts the text of a reason into `rest`, if there is memory for it.
 fn put_reason(alloc: Global, reason: Option<LastRefusal>, rest: &mut Vec<u8>)
     requires { rest.old.items ≡ [] }
-    ensures tells { (rest.new.items ≡ reason_text reason) ⊎ (rest.new.items ≡ []) }
+    ensures bytes { (rest.new.items ≡ reason_text reason) ⊎ (rest.new.items ≡ []) }
     ensures few { length rest.new.items < 2 ^ 32 - 1 }
 {
     let Some(refusal) = reason else {
@@ -125,7 +125,7 @@ fn put_reason(alloc: Global, reason: Option<LastRefusal>, rest: &mut Vec<u8>)
 /// Puts a text into `rest`, if there is memory for it.
 fn put_text(text: &[u8], rest: &mut Vec<u8>)
     requires { rest.old.items ≡ [] }
-    ensures tells { (rest.new.items ≡ text.now) ⊎ (rest.new.items ≡ []) }
+    ensures bytes { (rest.new.items ≡ text.now) ⊎ (rest.new.items ≡ []) }
     ensures few { length rest.new.items < 2 ^ 32 - 1 }
 {
     if text.len() <= MAX_REST {

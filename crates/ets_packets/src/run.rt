@@ -4,7 +4,7 @@ ghost use Rattle.node_text.specs.Calls.{new_store};
 ghost use Rattle.ets_packets.specs.Packets.{big4, max_packet, packet};
 ghost use Rattle.ets_packets.specs.Stops.{Completes, Stops};
 ghost use Rattle.ets_packets.specs.Traffic.{flow, traffic};
-ghost use Rattle.ets_packets.specs.inside.Answering.{AnswersHeld, AnswersPacket, BreaksHeld, BreaksPacket, EndsAfter};
+ghost use Rattle.ets_packets.specs.inside.Answering.{AnswersBuffered, AnswersPacket, BreaksBuffered, BreaksPacket, EndsAfter};
 ghost use Rattle.ets_packets.specs.Output.{Adds, Fails, HasWriterOf, buffered_bytes, writer_flow};
 
 use crate::buffer::Buffer;
@@ -64,7 +64,7 @@ fn answer_all<R: Read, W: Write>(
     server: &mut Server,
 ) -> Result<(), PacketFault>
     requires waiting { buffered_bytes output.old ≡ [] }
-    requires held { buffer.old ≡ [] }
+    requires buffer { buffer.old ≡ [] }
     ensures same_writer { HasWriterOf output.old output.new }
     ensures ok { OnOk result (Completes server.old.store
         (traffic (flow R.remaining reader.old reader.new) (writer_flow W.contents output.old output.new))) }
@@ -75,7 +75,7 @@ fn answer_all<R: Read, W: Write>(
         if buffer.refill(reader)? == 0 {
             return end_after(buffer.bytes());
         }
-        let is_long = answer_held(output, buffer, server)?;
+        let is_long = answer_buffered(output, buffer, server)?;
         output.flush()?;
         if is_long {
             return Err(PacketFault::TooLong);
@@ -96,15 +96,15 @@ fn end_after(part: &[u8]) -> Result<(), PacketFault>
 }
 
 /// Answers the whole packets that are buffered. Returns whether a packet that is too long follows them.
-fn answer_held<W: Write>(
+fn answer_buffered<W: Write>(
     output: &mut Output<'_, W>,
     buffer: &mut Buffer,
     server: &mut Server,
 ) -> Result<bool, WriteFault>
     ensures same_writer { HasWriterOf output.old output.new }
-    ensures ok { IfOk result (AnswersHeld (writer_flow W.contents output.old output.new)
+    ensures ok { IfOk result (AnswersBuffered (writer_flow W.contents output.old output.new)
         (buffered_bytes output.old) (buffered_bytes output.new) buffer.old buffer.new server.old.store server.new.store) }
-    ensures err { OnErr result (BreaksHeld (writer_flow W.contents output.old output.new)
+    ensures err { OnErr result (BreaksBuffered (writer_flow W.contents output.old output.new)
         (buffered_bytes output.old) buffer.old server.old.store) }
 {
     loop {
@@ -156,12 +156,12 @@ fn add_reply<W: Write>(
     ensures ok { OnOk result (Adds W.contents output.old output.new (packet (status ∷ rest.now))) }
     ensures err { OnErr result (Fails W.contents output.old output.new (packet (status ∷ rest.now))) }
 {
-    output.add(&reply_head(status, rest))?;
+    output.add(&reply_prefix(status, rest))?;
     output.add(rest)
 }
 
 /// Returns the length of a reply's body, and its status.
-fn reply_head(status: u8, rest: &[u8]) -> [u8; 5]
+fn reply_prefix(status: u8, rest: &[u8]) -> [u8; 5]
     requires { length rest.now < 2 ^ 32 - 1 }
     ensures { result ≡ big4 (length (status ∷ rest.now)) ++ status ∷ [] }
 {

@@ -26,7 +26,7 @@ use Rattle.ets_script.specs.declared.fault.ScriptFault.TheVariants.{Read, Write,
 
 -- a line of the output: the name, a space, and what follows
 abbrev pub line_of : List ℕ → List ℕ → List ℕ
-line_of name said = name ++ (codes " " ++ (said ++ codes "\n"))
+line_of name text = name ++ (codes " " ++ (text ++ codes "\n"))
 
 -- the line of a process's reply; a step of no process has none
 abbrev pub own_text : List (List ℕ) → Option ℕ → Reply → List ℕ

@@ -114,9 +114,9 @@ impl LineBuffer {
         if self.reads == 0 {
             return Err(ReadFault);
         }
-        let held = self.end - self.start;
+        let len = self.end - self.start;
         self.start = shift(&mut self.buffer, self.start, self.end);
-        self.end = self.start + held;
+        self.end = self.start + len;
         self.reads -= 1;
         let count = read_into(reader, &mut self.buffer, self.end)?;
         self.end += count;
@@ -132,7 +132,7 @@ fn shift(buffer: &mut Vec<u8>, start: usize, end: usize) -> usize
     requires room { vec_len buffer.old ≡ CAPACITY }
     requires short { end ≤ start + MAX_LINE }
     ensures len { vec_len buffer.new ≡ vec_len buffer.old }
-    ensures held { slice_range buffer.new.items result (result + (end - start))
+    ensures bytes { slice_range buffer.new.items result (result + (end - start))
         ≡ slice_range buffer.old.items start end }
     ensures room { result + (end - start) ≤ MAX_LINE }
 {

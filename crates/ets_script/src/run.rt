@@ -121,7 +121,7 @@ fn answer_all<R: Read, W: Write, H: KeyHash + Copy + Drop, L: Observer>(
     observer: &mut L,
 ) -> Result<(), ScriptFault>
     requires waiting { buffered_bytes output.old ≡ [] }
-    requires held { (buffer.old.bytes ≡ []) × (buffer.old.is_skipping ≡ false) }
+    requires buffer { (buffer.old.bytes ≡ []) × (buffer.old.is_skipping ≡ false) }
     ensures same_writer { HasWriterOf output.old output.new }
     ensures ok { OnOk result (Completes script.old script.new
         (traffic (flow R.remaining reader.old reader.new)

@@ -221,7 +221,7 @@ impl<H: KeyHash + Copy + Drop> Script<H> {
         ensures { result ≡ pid_of self.now name.now }
     {
         match self.names.get_index_of(name) {
-            Some(place) => Some(place as u32),
+            Some(number) => Some(number as u32),
             None => None,
         }
     }

@@ -21,7 +21,7 @@ use Rattle.table_ops.specs.declared.refusal.Refusal.{Refusal}
 use Rattle.table_ops.specs.declared.refusal.Refusal.TheVariants.{Badarg, SystemLimit, Memory}
 use Rattle.table_ops.specs.Content.{Content, is_object, objects_under}
 use Rattle.table_ops.specs.Put.{add, SetsObjects, PutsAll, InsertsWithinLimit, Inserts, InsertsNew, is_taken}
-use Rattle.table_ops.specs.Refusals.{Refines}
+use Rattle.table_ops.specs.Refusals.{RefinesChange}
 use Rattle.table_ops.specs.Update.{is_set, ops_avoid_key, specs_avoid_key, default_is_object, with_object, UpdatesCounterOf, InsertsDefault, UpdatesOrInsertsCounter, UpdatesCounter, UpdatesElementOf, with_true, UpdatesOrInsertsElement, UpdatesElement}
 use Rattle.table_ops.specs.Outcomes.{gives}
 
@@ -182,7 +182,7 @@ module _ (Q : List Slot → List Slot → Type 0) (keeping : Keeping Q) where
 
   -- out of memory, nothing changes
   pub comes-keep : {X : Type 0} (change : Content → Result X Refusal → Content → Type 0) → ((old new : Content) (r : Result X Refusal) → change old r new → Q old.slots new.slots)
-      → (old new : Content) (r : Result X Refusal) → Refines (change old) old r new → Q old.slots new.slots
+      → (old new : Content) (r : Result X Refusal) → RefinesChange (change old) old r new → Q old.slots new.slots
   comes-keep change keeps old new (Ok x) c = keeps old new (Ok x) c
   comes-keep change keeps old new (Err Badarg) c = keeps old new (Err Badarg) c
   comes-keep change keeps old new (Err SystemLimit) c = keeps old new (Err SystemLimit) c

@@ -10,7 +10,7 @@ use Rattle.table_ops.specs.declared.refusal.Refusal.TheVariants.{Badarg}
 use Rattle.table_ops.specs.Content.{Content, key_of}
 use Rattle.table_ops.specs.Put.{Inserts, InsertsNew}
 use Rattle.table_ops.specs.Drop.{Which, remaining, after_drop, without_those, equal_to, DeletesObject}
-use Rattle.table_ops.specs.Refusals.{Refines}
+use Rattle.table_ops.specs.Refusals.{RefinesChange}
 use Rattle.table_ops.specs.Update.{UpdatesCounter, UpdatesElement}
 use Rattle.counters.specs.declared.elements.ElementSpecs.{ElementSpecs}
 use Rattle.counters.specs.declared.ops.Ops.{Ops}
@@ -53,16 +53,16 @@ keeping : Keeping (λ old new. HasNoTombstones old → HasNoTombstones new)
 keeping = record { staying = λ slots n. n; further = λ slots next last p q n. q (p n); enters = enters-none; filled = λ old key os h n. set-none (same key) old os h n }
 
 -- an insertion makes no tombstone
-pub inserts-none : (objects : List Term) (old new : Content) (r : Result (Unit {0}) Refusal) → Refines (Inserts objects old) old r new → HasNoTombstones old.slots → HasNoTombstones new.slots
+pub inserts-none : (objects : List Term) (old new : Content) (r : Result (Unit {0}) Refusal) → RefinesChange (Inserts objects old) old r new → HasNoTombstones old.slots → HasNoTombstones new.slots
 inserts-none objects old new r c n = comes-keep _ keeping (Inserts objects) (inserts-keep _ keeping objects) old new r c n
 
-pub news-none : (objects : List Term) (old new : Content) (r : Result Bool Refusal) → Refines (InsertsNew objects old) old r new → HasNoTombstones old.slots → HasNoTombstones new.slots
+pub news-none : (objects : List Term) (old new : Content) (r : Result Bool Refusal) → RefinesChange (InsertsNew objects old) old r new → HasNoTombstones old.slots → HasNoTombstones new.slots
 news-none objects old new r c n = comes-keep _ keeping (InsertsNew objects) (news-keep _ keeping objects) old new r c n
 
-pub counter-none : (key : Term) (ops : Ops) (default : Option Term) (old new : Content) (r : Result Term Refusal) → Refines (UpdatesCounter key ops default old) old r new → HasNoTombstones old.slots → HasNoTombstones new.slots
+pub counter-none : (key : Term) (ops : Ops) (default : Option Term) (old new : Content) (r : Result Term Refusal) → RefinesChange (UpdatesCounter key ops default old) old r new → HasNoTombstones old.slots → HasNoTombstones new.slots
 counter-none key ops default old new r c n = comes-keep _ keeping (UpdatesCounter key ops default) (counter-keeps _ keeping key ops default) old new r c n
 
-pub element-none : (key : Term) (specs : ElementSpecs) (default : Option Term) (old new : Content) (r : Result Bool Refusal) → Refines (UpdatesElement key specs default old) old r new → HasNoTombstones old.slots → HasNoTombstones new.slots
+pub element-none : (key : Term) (specs : ElementSpecs) (default : Option Term) (old new : Content) (r : Result Bool Refusal) → RefinesChange (UpdatesElement key specs default old) old r new → HasNoTombstones old.slots → HasNoTombstones new.slots
 element-none key specs default old new r c n = comes-keep _ keeping (UpdatesElement key specs default) (element-keeps _ keeping key specs default) old new r c n
 
 dropped_at : (which : Which) (s : Slot) (ss : List Slot) (b : Bool) → has_objects (remaining which s) ≡ b → has_objects s.1 ≡ true → HasNoTombstones (after_drop false which ss)

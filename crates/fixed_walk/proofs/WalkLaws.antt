@@ -11,7 +11,7 @@ use Rattle.table_ops.specs.Content.{is_present}
 use Rattle.table_ops.proofs.InvariantLaws.{turned}
 use Rattle.fixed_walk.specs.Walk.{first_key, next_key}
 use Rattle.fixed_walk.specs.laws.Kept.{IsSubsequence}
-use Rattle.fixed_walk.specs.laws.Walks.{MomentsKeepKeys, walk_answer, IsWalk, WalksAreWhole}
+use Rattle.fixed_walk.specs.laws.Walks.{MomentsKeepKeys, walk_answer, IsWalk, SlotWalksAreWhole}
 use Rattle.fixed_walk.proofs.Subsequences.{sub-on, sub-same, sub-tail, sub-further, sub-distinct, behind-apart, sub-join}
 
 -- ---- one moment
@@ -206,7 +206,7 @@ all-at now (next ∷ later) (key ∷ keys) kept w x p =
     by first (inl e) is on = here key x keys (sym is ∙ e)
     by first (inr q) is on = further key x keys (on (subst (λ (t : Term). IsSubsequence (t ∷ x ∷ []) (keys_of next)) is (sub-further (first ∷ x ∷ []) (keys_of now) (keys_of next) q kept.1)))
 
-pub whole : WalksAreWhole
+pub whole : SlotWalksAreWhole
 unfolding IsDistinct
 whole [] keys kept w = absurd w
 whole (now ∷ later) [] kept w = record { once = tt; all = all-at now later [] kept w }

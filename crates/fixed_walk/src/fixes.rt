@@ -6,7 +6,7 @@ use indexmap::IndexMap;
 use std::alloc::{AllocError, Global};
 use std::marker::Model;
 
-/// The number of fixes of each process. A process without fixes has no entry.
+/// The number of fixes of each process. A process without fixes is not in it.
 #[derive(Drop)]
 pub struct Fixes {
     counts: IndexMap<u32, u32>,

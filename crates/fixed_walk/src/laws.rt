@@ -12,7 +12,7 @@ ghost use Rattle.fixed_walk.specs.declared.fault.FixFault.{FixFault};
 ghost use Rattle.fixed_walk.specs.Fixes.{is_fixed};
 ghost use Rattle.fixed_walk.specs.TableState.{TableState, on_content, IncrementsFix, after_release, after_release_all, after_delete};
 ghost use Rattle.fixed_walk.specs.laws.Kept.{KeepsKeys, AlwaysKeepsKeys};
-ghost use Rattle.fixed_walk.specs.laws.Walks.{WalksAreWhole};
+ghost use Rattle.fixed_walk.specs.laws.Walks.{SlotWalksAreWhole};
 
 /// No call gives a key two slots. If the table is fixed before and after a call, the keys of its slots before are among
 /// those after, in the same order.
@@ -36,5 +36,5 @@ pub fn calls_keep_keys()
 /// If each moment of a traversal keeps the keys of the moment before, the traversal returns no key twice, and each key
 /// that has objects at all moments.
 pub fn walks_are_whole()
-    ensures { WalksAreWhole }
+    ensures { SlotWalksAreWhole }
 {}

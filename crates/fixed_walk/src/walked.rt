@@ -101,10 +101,10 @@ impl<R: Rows> Walked<R> {
     }
 
     /// Returns the lowest bucket that is not ready; None if all are ready.
-    pub fn least(&self) -> Option<u32>
+    pub fn first_unready(&self) -> Option<u32>
         ensures { result ≡ position not self.now.buckets }
     {
-        self.table.least()
+        self.table.first_unready()
     }
 
     /// Doubles the number of buckets of the rows. It changes no traversal.
@@ -131,7 +131,7 @@ impl<R: Rows> Walked<R> {
     pub fn reveal_invariant(&self)
         ensures content { IsContent self.now.content }
         ensures fixed { IsFixedBySome self.now.fixes }
-        ensures held { TombstonesOnlyWhileFixed self.now }
+        ensures tombstones { TombstonesOnlyWhileFixed self.now }
     {
         self.table.reveal_invariant();
         self.fixes.reveal_invariant();

@@ -23,7 +23,7 @@ use Rattle.node_core.specs.Buckets.{run_on_buckets, observable_states}
 use Rattle.node_core.specs.rules.Replies.{true_reply}
 use Rattle.node_core.specs.rules.Walking.{key_reply}
 use Rattle.node_core.specs.laws.Kept.{StaysFixed}
-use Rattle.node_core.specs.laws.Walk.{IsWhole}
+use Rattle.node_core.specs.laws.Walk.{IsWholeOverStates}
 
 -- whether the step is one of this process
 abbrev pub is_step_of : ℕ → Step → Bool
@@ -134,7 +134,7 @@ module _ (p t : ℕ) where
       pub end : run.unseen ≡ key_reply None ∷ []
       pub readable : can_read (observable last) ≡ true
       pub stays_fixed : StaysFixed t (stretch run)
-      pub whole : IsWhole t (stretch run) keys
+      pub whole : IsWholeOverStates t (stretch run) keys
       pub others : AllByRecursion (λ g. is_step_of p g.1 ≡ false) given
       pub few : length keys ≤ limit
 

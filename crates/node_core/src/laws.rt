@@ -3,7 +3,7 @@
 ghost use Rattle.node_core.specs.laws.Kept.{StepsKeepKeys};
 ghost use Rattle.node_core.specs.laws.Reached.{RunsStaySound, ReachedAreSound};
 ghost use Rattle.node_core.specs.laws.Runs.{RunsAreObservable, TranscriptsAreRuns};
-ghost use Rattle.node_core.specs.laws.Walk.{WalksAreWhole, SoundStatesHaveSoundKeys};
+ghost use Rattle.node_core.specs.laws.Walk.{TableWalksAreWhole, SoundStatesHaveSoundKeys};
 
 /// In each state that a run reaches from the empty one, no two slots of a table have the same key, none has the key
 /// `'$end_of_table'`, and no two named tables have the same name. A run from any such state ends in one.
@@ -29,6 +29,6 @@ pub fn steps_keep_keys()
 /// and gives each key that has objects in every state of the traversal. It does so whatever processes do between its
 /// calls, and however the table grows. The premise is on that table alone, and holds in each state that a run reaches.
 pub fn walks_are_whole()
-    ensures whole { WalksAreWhole }
+    ensures whole { TableWalksAreWhole }
     ensures sound { SoundStatesHaveSoundKeys }
 {}

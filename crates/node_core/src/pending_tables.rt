@@ -64,10 +64,10 @@ impl PendingTables {
     }
 
     /// Returns the identifier at an index of the queue.
-    pub fn get(&self, place: usize) -> Option<u32>
-        ensures { result ≡ slice_get self.now.ordered place }
+    pub fn get(&self, index: usize) -> Option<u32>
+        ensures { result ≡ slice_get self.now.ordered index }
     {
-        self.ordered.get(place).copied()
+        self.ordered.get(index).copied()
     }
 
     /// Returns the dirty table.
@@ -113,8 +113,8 @@ impl PendingTables {
         ensures dirty { self.new.dirty ≡ self.old.dirty }
         ensures room { self.old.room ≤ self.new.room }
     {
-        if let Err(place) = self.ordered.binary_search(&id) {
-            if self.ordered.insert(place, id).is_err() {
+        if let Err(index) = self.ordered.binary_search(&id) {
+            if self.ordered.insert(index, id).is_err() {
                 unreachable!()
             }
         }

@@ -116,7 +116,7 @@ fn walk_fixed<H: KeyHash + Copy + Drop, O: Others>(
 ) -> Result<Walk, WalkFault>
     requires keys { O.keys others.old ≡ [] }
     requires steps { O.steps others.old ≡ [] }
-    requires held { (old : State) × FixIsDone pid id old node.old }
+    requires fix { (old : State) × FixIsDone pid id old node.old }
     ensures { WalkResult pid id limit node.old (O.keys others.new) (O.steps others.new)
         result node.new }
 {

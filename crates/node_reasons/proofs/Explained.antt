@@ -16,7 +16,7 @@ use Rattle.node_core.specs.declared.node.access.Access.TheVariants.{Read, Write}
 use Rattle.node_core.specs.declared.step.Reply.{Reply}
 use Rattle.node_core.specs.declared.step.Reply.TheVariants.{Badarg, SystemLimit}
 use Rattle.node_core.specs.State.{State}
-use Rattle.node_core.specs.Access.{may, allowed, usable, with_table, CallRule, ResultToReply, WorldResultToReply, reads, changes}
+use Rattle.node_core.specs.Access.{may, allowed, usable, with_table, CallRule, ChangeResultToReply, WorldResultToReply, reads, changes}
 use Rattle.node_core.specs.rules.Replies.{truth_reply, is_value}
 use Rattle.node_reasons.specs.declared.reason.Reason.{Reason}
 use Rattle.node_reasons.specs.Reasons.{refusal_of, argument, table_of_term, on_table, rule_of_access}
@@ -73,17 +73,17 @@ module _ (old : State) (p : ℕ) (term : Term) where
   changes-explained access rest rule explains = used-explained old p access rest (λ found reply new. (fixed : TableState) × rule found.1.fixed reply fixed × (new ≡ with_table old found.0 fixed)) (λ found reply new h. explains found.1.fixed h.0 reply h.1) term
 
 -- ---- replies to changes
-pub value-of : {X : Type 0} (answer : X → Reply) (result : Result X Refusal) (x : X) (reply : Reply) → is_value (answer x) ≡ true → result ≡ Ok x → ResultToReply answer result reply → is_value reply ≡ true
-value-of answer result x reply v e h = let r : reply ≡ answer x = subst (λ r. ResultToReply answer r reply) e h in ap is_value r ∙ v
+pub value-of : {X : Type 0} (answer : X → Reply) (result : Result X Refusal) (x : X) (reply : Reply) → is_value (answer x) ≡ true → result ≡ Ok x → ChangeResultToReply answer result reply → is_value reply ≡ true
+value-of answer result x reply v e h = let r : reply ≡ answer x = subst (λ r. ChangeResultToReply answer r reply) e h in ap is_value r ∙ v
 
-pub badarg-of : {X : Type 0} (answer : X → Reply) (result : Result X Refusal) (reply : Reply) → result ≡ Err refusal.Badarg → ResultToReply answer result reply → reply ≡ Badarg
-badarg-of answer result reply e h = subst (λ r. ResultToReply answer r reply) e h
+pub badarg-of : {X : Type 0} (answer : X → Reply) (result : Result X Refusal) (reply : Reply) → result ≡ Err refusal.Badarg → ChangeResultToReply answer result reply → reply ≡ Badarg
+badarg-of answer result reply e h = subst (λ r. ChangeResultToReply answer r reply) e h
 
-pub limit-of : {X : Type 0} (answer : X → Reply) (result : Result X Refusal) (reply : Reply) → result ≡ Err refusal.SystemLimit → ResultToReply answer result reply → reply ≡ SystemLimit
-limit-of answer result reply e h = subst (λ r. ResultToReply answer r reply) e h
+pub limit-of : {X : Type 0} (answer : X → Reply) (result : Result X Refusal) (reply : Reply) → result ≡ Err refusal.SystemLimit → ChangeResultToReply answer result reply → reply ≡ SystemLimit
+limit-of answer result reply e h = subst (λ r. ChangeResultToReply answer r reply) e h
 
-pub memory-of : {X : Type 0} (answer : X → Reply) (result : Result X Refusal) (reply : Reply) → result ≡ Err refusal.Memory → ResultToReply answer result reply → ⊥
-memory-of answer result reply e h = subst (λ r. ResultToReply answer r reply) e h
+pub memory-of : {X : Type 0} (answer : X → Reply) (result : Result X Refusal) (reply : Reply) → result ≡ Err refusal.Memory → ChangeResultToReply answer result reply → ⊥
+memory-of answer result reply e h = subst (λ r. ChangeResultToReply answer r reply) e h
 
 pub truth-value : (b : Bool) → is_value (truth_reply b) ≡ true
 truth-value true = refl

@@ -14,7 +14,7 @@ use Rattle.ownership.specs.declared.metadata.Heir.{Heir}
 use Rattle.ownership.specs.declared.info.InfoItem.{InfoItem}
 use Rattle.ownership.specs.declared.options.NewOptions.{NewOptions}
 use Rattle.ownership.specs.World.{Table, World, table_at, resolve, whereis, lives}
-use Rattle.ownership.specs.Access.{owned_by}
+use Rattle.ownership.specs.Access.{is_owner}
 use Rattle.ownership.specs.Options.{options_of, pid_form, heir_after}
 use Rattle.ownership.specs.Info.{item_of}
 use Rattle.ownership.specs.Messages.{name_or_identifier, post, transfer_message}
@@ -29,14 +29,14 @@ use Rattle.node_core.specs.Calls.{call}
 use Rattle.node_core.specs.declared.call_name.CallName.{CallName}
 use Rattle.node_core.specs.declared.call_name.CallName.TheVariants as name
 use Rattle.node_core.specs.rules.Insertion.{Insert, InsertNew}
-use Rattle.node_core.specs.rules.Reading.{Lookup, Member, LookupElement, LookupElementOr, Tab2list}
+use Rattle.node_core.specs.rules.Reading.{lookup_reply, member_reply, lookup_element_reply, lookup_element_or_reply, tab2list_reply}
 use Rattle.node_core.specs.rules.Removal.{Take, Delete, DeleteObject, DeleteAllObjects}
-use Rattle.node_core.specs.rules.Searching.{Match, MatchObject, MatchDelete, Select, SelectCount, SelectDelete}
+use Rattle.node_core.specs.rules.Searching.{match_reply, match_object_reply, MatchDelete, select_reply, select_count_reply, SelectDelete}
 use Rattle.node_core.specs.rules.Updates.{UpdateCounter, UpdateElement}
 use Rattle.node_core.specs.rules.Owning.{GiveAway, SetOptions, value_or_undefined, Whereis, names_form, info_at, Info}
 use Rattle.node_core.specs.rules.Replies.{true_reply, is_value}
 use Rattle.node_core.specs.rules.Tables.{new_table_of, New, DeleteTable}
-use Rattle.node_core.specs.rules.Walking.{Fixes, Releases, SafeFixtable, First, Next, FirstLookup, NextLookup}
+use Rattle.node_core.specs.rules.Walking.{Fixes, Releases, SafeFixtable, first_reply, next_reply, first_lookup_reply, next_lookup_reply}
 use Rattle.node_reasons.specs.declared.reason.Rule.TheVariants as rule
 use Rattle.node_reasons.specs.declared.reason.Reason.{Reason}
 use Rattle.node_reasons.specs.Reasons.{argument, table_of_term, on_table}
@@ -141,11 +141,11 @@ module _ (old : State) where
 
   -- ---- a table of one's own
   abbrev Owns : {X : Type 0} → ℕ → (Table → Outcome (Result X WorldFault) World) → Option Table → Outcome (Result X WorldFault) World
-  Owns p otherwise o r new = MatchOption o (gives (Err fault.Badarg) old.world r new) (λ table. refuse old.world (not (owned_by table.metadata p)) (Err fault.Badarg) (otherwise table) r new)
+  Owns p otherwise o r new = MatchOption o (gives (Err fault.Badarg) old.world r new) (λ table. refuse old.world (not (is_owner table.metadata p)) (Err fault.Badarg) (otherwise table) r new)
 
   owns-explained : {X : Type 0} (p : ℕ) (v : Table → Option Reason) (answer : X → Reply) (otherwise : Table → Outcome (Result X WorldFault) World) (o : Option Table) → ((table : Table) → ReasonExplainsWorld (v table) answer (otherwise table)) → ReasonExplainsWorld (on_owned_table p o v) answer (Owns p otherwise o)
   owns-explained p v answer otherwise None explains = λ r new reply h e. (world-badarg answer r reply h.0 e, refl)
-  owns-explained p v answer otherwise (Some table) explains = unless-explained (v table) (Some (argument 1 rule.NotOwner)) answer (owned_by table.metadata p) (otherwise table) (λ reply e. (e, refl)) (explains table)
+  owns-explained p v answer otherwise (Some table) explains = unless-explained (v table) (Some (argument 1 rule.NotOwner)) answer (is_owner table.metadata p) (otherwise table) (λ reply e. (e, refl)) (explains table)
 
   abbrev Heirs : ℕ → Term → Table → Outcome (Result (Unit {0}) WorldFault) World
   Heirs t options table r new = MatchOption (heir_after table.metadata.heir options) (gives (Err fault.Badarg) old.world r new) (λ heir.
@@ -205,36 +205,36 @@ module _ (old : State) where
   module _ (p : ℕ) where
     pub call-explained : (name : CallName) (args : List Term) → ReasonExplainsAll (why_call old.world p name args) (call old p name args)
     call-explained name.Receive [] = λ reply new h. inl (ap is_value h.0)
-    call-explained name.Tab2list (x ∷ []) = reads-explained old p x no_further_rule Tab2list (λ f. inl refl)
+    call-explained name.Tab2list (x ∷ []) = reads-explained old p x no_further_rule tab2list_reply (λ f. inl refl)
     call-explained name.DeleteAllObjects (x ∷ []) = changes-explained old p x Write no_further_rule DeleteAllObjects (λ f g reply h. inl (ap is_value h.0))
     call-explained name.Delete (x ∷ []) = delete_table-explained p x
-    call-explained name.First (x ∷ []) = reads-explained old p x no_further_rule First (λ f. inl (key-value (first_key f.content.slots)))
-    call-explained name.FirstLookup (x ∷ []) = reads-explained old p x no_further_rule FirstLookup (λ f. inl (slot-value (first_slot f.content.slots)))
+    call-explained name.First (x ∷ []) = reads-explained old p x no_further_rule first_reply (λ f. inl (key-value (first_key f.content.slots)))
+    call-explained name.FirstLookup (x ∷ []) = reads-explained old p x no_further_rule first_lookup_reply (λ f. inl (slot-value (first_slot f.content.slots)))
     call-explained name.Whereis (x ∷ []) = naming-explained x
     call-explained name.Insert (x ∷ y ∷ []) = changes-explained old p x Write (why_insert y) (Insert y) (insert-explained y)
     call-explained name.InsertNew (x ∷ y ∷ []) = changes-explained old p x Write (why_insert y) (InsertNew y) (insert_new-explained y)
-    call-explained name.Lookup (x ∷ y ∷ []) = reads-explained old p x no_further_rule (Lookup y) (λ f. inl refl)
-    call-explained name.Member (x ∷ y ∷ []) = reads-explained old p x no_further_rule (Member y) (λ f. inl (truth-value (is_present f.content.slots y)))
+    call-explained name.Lookup (x ∷ y ∷ []) = reads-explained old p x no_further_rule (lookup_reply y) (λ f. inl refl)
+    call-explained name.Member (x ∷ y ∷ []) = reads-explained old p x no_further_rule (member_reply y) (λ f. inl (truth-value (is_present f.content.slots y)))
     call-explained name.Take (x ∷ y ∷ []) = changes-explained old p x Write no_further_rule (Take y) (λ f g reply h. inl (ap is_value h.0))
     call-explained name.Delete (x ∷ y ∷ []) = changes-explained old p x Write no_further_rule (Delete y) (λ f g reply h. inl (ap is_value h.0))
     call-explained name.DeleteObject (x ∷ y ∷ []) = changes-explained old p x Write (why_delete_object y) (DeleteObject y) (deletion-explained y)
-    call-explained name.Match (x ∷ y ∷ []) = reads-explained old p x (why_match y) (Match y) (match-explained y)
-    call-explained name.MatchObject (x ∷ y ∷ []) = reads-explained old p x (why_match y) (MatchObject y) (match_object-explained y)
+    call-explained name.Match (x ∷ y ∷ []) = reads-explained old p x (why_match y) (match_reply y) (match-explained y)
+    call-explained name.MatchObject (x ∷ y ∷ []) = reads-explained old p x (why_match y) (match_object_reply y) (match_object-explained y)
     call-explained name.MatchDelete (x ∷ y ∷ []) = changes-explained old p x Write (why_match y) (MatchDelete y) (match_delete-explained y)
-    call-explained name.Select (x ∷ y ∷ []) = reads-explained old p x (why_select y) (Select y) (select-explained y)
-    call-explained name.SelectCount (x ∷ y ∷ []) = reads-explained old p x (why_select y) (SelectCount y) (select_count-explained y)
+    call-explained name.Select (x ∷ y ∷ []) = reads-explained old p x (why_select y) (select_reply y) (select-explained y)
+    call-explained name.SelectCount (x ∷ y ∷ []) = reads-explained old p x (why_select y) (select_count_reply y) (select_count-explained y)
     call-explained name.SelectDelete (x ∷ y ∷ []) = changes-explained old p x Write (why_select y) (SelectDelete y) (select_delete-explained y)
     call-explained name.New (x ∷ y ∷ []) = making-explained p x y
-    call-explained name.Next (x ∷ y ∷ []) = reads-explained old p x (why_next y) (Next y) (next-explained y)
-    call-explained name.NextLookup (x ∷ y ∷ []) = reads-explained old p x (why_next y) (NextLookup y) (next_lookup-explained y)
+    call-explained name.Next (x ∷ y ∷ []) = reads-explained old p x (why_next y) (next_reply y) (next-explained y)
+    call-explained name.NextLookup (x ∷ y ∷ []) = reads-explained old p x (why_next y) (next_lookup_reply y) (next_lookup-explained y)
     call-explained name.SafeFixtable (x ∷ y ∷ []) = fixing-explained p x y
     call-explained name.SetOptions (x ∷ y ∷ []) = setting-explained p x y
     call-explained name.Info (x ∷ y ∷ []) = informing-explained x y
-    call-explained name.LookupElement (x ∷ y ∷ z ∷ []) = reads-explained old p x (why_lookup_element y z) (LookupElement y z) (element-explained y z)
+    call-explained name.LookupElement (x ∷ y ∷ z ∷ []) = reads-explained old p x (why_lookup_element y z) (lookup_element_reply y z) (element-explained y z)
     call-explained name.UpdateCounter (x ∷ y ∷ z ∷ []) = changes-explained old p x Write (why_update_counter y z None) (UpdateCounter y z None) (counter-explained y z None)
     call-explained name.UpdateElement (x ∷ y ∷ z ∷ []) = changes-explained old p x Write (why_update_element y z None) (UpdateElement y z None) (update-explained y z None)
     call-explained name.GiveAway (x ∷ y ∷ z ∷ []) = giving-explained p x y z
-    call-explained name.LookupElement (x ∷ y ∷ z ∷ default ∷ []) = reads-explained old p x (why_lookup_element_or y z) (LookupElementOr y z default) (element-or-explained y z default)
+    call-explained name.LookupElement (x ∷ y ∷ z ∷ default ∷ []) = reads-explained old p x (why_lookup_element_or y z) (lookup_element_or_reply y z default) (element-or-explained y z default)
     call-explained name.UpdateCounter (x ∷ y ∷ z ∷ default ∷ []) = changes-explained old p x Write (why_update_counter y z (Some default)) (UpdateCounter y z (Some default)) (counter-explained y z (Some default))
     call-explained name.UpdateElement (x ∷ y ∷ z ∷ default ∷ []) = changes-explained old p x Write (why_update_element y z (Some default)) (UpdateElement y z (Some default)) (update-explained y z (Some default))
     call-explained _ _ = λ reply new h. (h.0, refl)

@@ -25,14 +25,14 @@ use Rattle.fixed_walk.specs.TableState.{TableState}
 use Rattle.fixed_walk.specs.Walk.{first_key, first_slot}
 use Rattle.node_core.specs.declared.step.Reply.{Reply}
 use Rattle.node_core.specs.declared.step.Reply.TheVariants.{Badarg}
-use Rattle.node_core.specs.Access.{ResultToReply}
+use Rattle.node_core.specs.Access.{ChangeResultToReply}
 use Rattle.node_core.specs.Positions.{position_of}
 use Rattle.node_core.specs.rules.Replies.{true_reply, truth_reply, list_reply, term_reply, is_value}
 use Rattle.node_core.specs.rules.Insertion.{objects_in, Insert, InsertNew}
-use Rattle.node_core.specs.rules.Reading.{LookupElement, LookupElementOr}
+use Rattle.node_core.specs.rules.Reading.{lookup_element_reply, lookup_element_or_reply}
 use Rattle.node_core.specs.rules.Removal.{DeleteObject}
-use Rattle.node_core.specs.rules.Searching.{Deletes, Match, MatchObject, MatchDelete, Select, SelectCount, SelectDelete, answers_reply, count_reply}
-use Rattle.node_core.specs.rules.Walking.{FixResultToReply, Fixes, key_reply, slot_reply, Next, NextLookup}
+use Rattle.node_core.specs.rules.Searching.{Deletes, match_reply, match_object_reply, MatchDelete, select_reply, select_count_reply, SelectDelete, answers_reply, count_reply}
+use Rattle.node_core.specs.rules.Walking.{FixResultToReply, Fixes, key_reply, slot_reply, next_reply, next_lookup_reply}
 use Rattle.node_reasons.specs.declared.reason.Rule.TheVariants as rule
 use Rattle.node_reasons.specs.declared.reason.Reason.{Reason}
 use Rattle.node_reasons.specs.Reasons.{argument}
@@ -53,7 +53,7 @@ stored {X = X} done objects old new r = by (list_any is_too_deep objects)
     by true h = inr h.0
     by false h = within h.0 (nat_lt old.limit (object_count h.0)) h.2
 
-limited-of : {X : Type 0} (answer : X → Reply) (result : Result X Refusal) (done : X) (reply : Reply) → is_value (answer done) ≡ true → (result ≡ Ok done) ⊎ (result ≡ Err refusal.SystemLimit) → ResultToReply answer result reply → ReasonExplains None reply
+limited-of : {X : Type 0} (answer : X → Reply) (result : Result X Refusal) (done : X) (reply : Reply) → is_value (answer done) ≡ true → (result ≡ Ok done) ⊎ (result ≡ Err refusal.SystemLimit) → ChangeResultToReply answer result reply → ReasonExplains None reply
 limited-of answer result done reply v (inl e) h = inl (value-of answer result done reply v e h)
 limited-of answer result done reply v (inr e) h = inr (limit-of answer result reply e h)
 
@@ -93,14 +93,14 @@ pub slot-value : (o : Option Slot) → is_value (slot_reply o) ≡ true
 slot-value None = refl
 slot-value (Some slot) = refl
 
-pub next-explained : (key : Term) (f : TableState) → ReasonExplains (why_next key f.content) (Next key f)
+pub next-explained : (key : Term) (f : TableState) → ReasonExplains (why_next key f.content) (next_reply key f)
 next-explained key f = by (slots_behind f.content.slots key)
   where
     by : (o : Option (List Slot)) → ReasonExplains (if is_some (option_map first_key o) then None else Some (argument 2 rule.NoKey)) (option_map_or key_reply (option_map first_key o) Badarg)
     by None = (refl, refl)
     by (Some slots) = inl (key-value (first_key slots))
 
-pub next_lookup-explained : (key : Term) (f : TableState) → ReasonExplains (why_next key f.content) (NextLookup key f)
+pub next_lookup-explained : (key : Term) (f : TableState) → ReasonExplains (why_next key f.content) (next_lookup_reply key f)
 next_lookup-explained key f = by (slots_behind f.content.slots key)
   where
     by : (o : Option (List Slot)) → ReasonExplains (if is_some (option_map first_key o) then None else Some (argument 2 rule.NoKey)) (option_map_or slot_reply (option_map first_slot o) Badarg)
@@ -116,14 +116,14 @@ fixes-explained p f g reply h = by h.0 h.2
     by (Err fix.Memory) e = absurd e
 
 -- ---- searches
-pub match-explained : (pattern : Term) (f : TableState) → ReasonExplains (why_match pattern f.content) (Match pattern f)
+pub match-explained : (pattern : Term) (f : TableState) → ReasonExplains (why_match pattern f.content) (match_reply pattern f)
 match-explained pattern f = by (is_pattern (data_of pattern)) (answers (bound_in pattern) (all_objects f.content.slots))
   where
     by : (b : Bool) (found : List Data) → ReasonExplains (if b then None else Some (argument 2 rule.NotAPattern)) (if b then answers_reply found else Badarg)
     by true found = inl refl
     by false found = (refl, refl)
 
-pub match_object-explained : (pattern : Term) (f : TableState) → ReasonExplains (why_match pattern f.content) (MatchObject pattern f)
+pub match_object-explained : (pattern : Term) (f : TableState) → ReasonExplains (why_match pattern f.content) (match_object_reply pattern f)
 match_object-explained pattern f = by (is_pattern (data_of pattern)) (filter (matches pattern) (all_objects f.content.slots))
   where
     by : (b : Bool) (found : List Term) → ReasonExplains (if b then None else Some (argument 2 rule.NotAPattern)) (if b then list_reply found else Badarg)
@@ -142,10 +142,10 @@ selected : (b : Bool) (value : Reply) → is_value value ≡ true → ReasonExpl
 selected true value v = inl v
 selected false value v = (refl, refl)
 
-pub select-explained : (spec : Term) (f : TableState) → ReasonExplains (why_select spec f.content) (Select spec f)
+pub select-explained : (spec : Term) (f : TableState) → ReasonExplains (why_select spec f.content) (select_reply spec f)
 select-explained spec f = selected (is_spec (data_of spec)) (answers_reply (answers (spec_result spec) (all_objects f.content.slots))) refl
 
-pub select_count-explained : (spec : Term) (f : TableState) → ReasonExplains (why_select spec f.content) (SelectCount spec f)
+pub select_count-explained : (spec : Term) (f : TableState) → ReasonExplains (why_select spec f.content) (select_count_reply spec f)
 select_count-explained spec f = selected (is_spec (data_of spec)) (count_reply (chosen_count (is_chosen spec) (all_objects f.content.slots))) refl
 
 pub select_delete-explained : (spec : Term) (f g : TableState) (reply : Reply) → SelectDelete spec f reply g → ReasonExplains (why_select spec f.content) reply
@@ -189,14 +189,14 @@ module _ (kind : Kind) (n : ℕ) where
   or-at default [] = default-under default (n == 0)
   or-at default (object ∷ objects) = under object objects None (n == 0) refl
 
-pub element-explained : (key position : Term) (f : TableState) → ReasonExplains (why_lookup_element key position f.content) (LookupElement key position f)
+pub element-explained : (key position : Term) (f : TableState) → ReasonExplains (why_lookup_element key position f.content) (lookup_element_reply key position f)
 element-explained key position f = by (position_of position)
   where
     by : (o : Option ℕ) → ReasonExplains (why_element_at (Some (argument 2 rule.NoKey)) (objects_under f.content.slots key) f.content.kind o) (term_reply (option_and_then (λ n. lookup_element f.content.kind n (objects_under f.content.slots key)) o))
     by None = (refl, refl)
     by (Some n) = told-at f.content.kind n (objects_under f.content.slots key)
 
-pub element-or-explained : (key position default : Term) (f : TableState) → ReasonExplains (why_lookup_element_or key position f.content) (LookupElementOr key position default f)
+pub element-or-explained : (key position default : Term) (f : TableState) → ReasonExplains (why_lookup_element_or key position f.content) (lookup_element_or_reply key position default f)
 element-or-explained key position default f = by (position_of position)
   where
     by : (o : Option ℕ) → ReasonExplains (why_element_at None (objects_under f.content.slots key) f.content.kind o) (term_reply (option_and_then (λ n. lookup_element_or f.content.kind n default (objects_under f.content.slots key)) o))

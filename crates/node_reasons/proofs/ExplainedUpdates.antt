@@ -31,7 +31,7 @@ use Rattle.table_ops.specs.Outcomes.{gives}
 use Rattle.fixed_walk.specs.TableState.{TableState, on_content}
 use Rattle.node_core.specs.declared.step.Reply.{Reply}
 use Rattle.node_core.specs.declared.step.Reply.TheVariants.{Value, Badarg}
-use Rattle.node_core.specs.Access.{ResultToReply}
+use Rattle.node_core.specs.Access.{ChangeResultToReply}
 use Rattle.node_core.specs.rules.Replies.{truth_reply, is_value}
 use Rattle.node_core.specs.rules.Updates.{UpdateCounter, UpdateElement}
 use Rattle.node_reasons.specs.declared.reason.Rule.{Rule}
@@ -154,7 +154,7 @@ module _ (keypos : ℕ) where
   open-specs _ specs e = absurd (cc)
 
 -- ---- a set, with a Default that is an object
-module _ {X : Type 0} (answer : X → Reply) (r : Result X Refusal) (reply : Reply) (is : ResultToReply answer r reply) (old new : Content) where
+module _ {X : Type 0} (answer : X → Reply) (r : Result X Refusal) (reply : Reply) (is : ChangeResultToReply answer r reply) (old new : Content) where
   abbrev Bad : Type 0
   Bad = gives (Err refusal.Badarg) old r new
 
@@ -181,7 +181,7 @@ module _ {X : Type 0} (answer : X → Reply) (r : Result X Refusal) (reply : Rep
   starts-explained key broken e v (Err fault.Memory) h = absurd (memory-of answer r reply h.0 is)
 
 -- ---- counters
-module _ (key given : Term) (default : Option Term) (f g : TableState) (reply : Reply) (r : Result Term Refusal) (is : ResultToReply Value r reply) where
+module _ (key given : Term) (default : Option Term) (f g : TableState) (reply : Reply) (r : Result Term Refusal) (is : ChangeResultToReply Value r reply) where
   counted : (ops : Ops) (result : Result (Term × Term) CounterFault) → UpdatesCounterOf key f.content result r g.content → ReasonExplains (if_badarg rule.NotACounter result) reply
   counted ops (Ok done) h = inl (value-of Value r done.1 reply refl h.0 is)
   counted ops (Err fault.Badarg) h = (badarg-of Value r reply h.0 is, refl)
@@ -209,7 +209,7 @@ pub counter-explained : (key given : Term) (default : Option Term) (f g : TableS
 counter-explained key given default f g reply h = counts-explained key given default f g reply h.0 h.2 (ops_of f.content.keypos given) refl h.1
 
 -- ---- elements
-module _ (key given : Term) (default : Option Term) (f g : TableState) (reply : Reply) (r : Result Bool Refusal) (is : ResultToReply truth_reply r reply) where
+module _ (key given : Term) (default : Option Term) (f g : TableState) (reply : Reply) (r : Result Bool Refusal) (is : ChangeResultToReply truth_reply r reply) where
   wrote : (result : Result Term CounterFault) → UpdatesElementOf key f.content result r g.content → ReasonExplains (if_badarg rule.NoElement result) reply
   wrote (Ok done) h = inl (value-of truth_reply r true reply refl h.0 is)
   wrote (Err fault.Badarg) h = (badarg-of truth_reply r reply h.0 is, refl)

@@ -18,7 +18,7 @@ use Rattle.table_ops.specs.Read.{lookup_element}
 use Rattle.table_ops.specs.Update.{is_set, default_is_object}
 use Rattle.ownership.specs.declared.options.NewOptions.{NewOptions}
 use Rattle.ownership.specs.World.{Table, Tables, Processes, metadata_of, lives, whereis}
-use Rattle.ownership.specs.Access.{owned_by}
+use Rattle.ownership.specs.Access.{is_owner}
 use Rattle.ownership.specs.Options.{options_of, pid_form, heir_after}
 use Rattle.ownership.specs.Info.{item_of}
 use Rattle.node_core.specs.Access.{may}
@@ -100,7 +100,7 @@ making-named ts name options = by (text_of name)
 
 own-named : (p : ℕ) (o : Option Table) (rest : Table → Option Reason) (r : Reason) → ((table : Table) → NamesReason (rest table) r) → NamesReason (on_owned_table p o rest) (needs_owner p (metadata_of o) r)
 own-named p None rest r named = refl
-own-named p (Some table) rest r named = by (owned_by table.metadata p)
+own-named p (Some table) rest r named = by (is_owner table.metadata p)
   where
     by : (b : Bool) → NamesReason (if b then rest table else Some (argument 1 rule.NotOwner)) (if b then r else argument 1 rule.NotOwner)
     by true = named table

@@ -6,7 +6,7 @@ use Rattle.ets_term.specs.declared.term.Term.{Term, out-Term}
 use Rattle.ets_term.specs.Atoms.{text_of, is_atom}
 use Rattle.ownership.specs.declared.options.NewOptions.{NewOptions}
 use Rattle.ownership.specs.World.{Table, Tables, Processes, lives, whereis}
-use Rattle.ownership.specs.Access.{owned_by}
+use Rattle.ownership.specs.Access.{is_owner}
 use Rattle.ownership.specs.Options.{options_of, pid_form, heir_after}
 use Rattle.ownership.specs.Info.{item_of}
 use Rattle.node_core.specs.declared.node.access.Access.TheVariants.{Read}
@@ -48,7 +48,7 @@ why_safe_fixtable p table flag =
 -- the table is the process's own
 abbrev pub on_owned_table : ℕ → Option Table → (Table → Option Reason) → Option Reason
 on_owned_table p None rest = Some (argument 1 rule.NoTable)
-on_owned_table p (Some table) rest = if owned_by table.metadata p then rest table else Some (argument 1 rule.NotOwner)
+on_owned_table p (Some table) rest = if is_owner table.metadata p then rest table else Some (argument 1 rule.NotOwner)
 
 -- setopts: the table is the caller's, then each option is about an heir
 abbrev pub why_heir : Term → Table → Option Reason

@@ -19,7 +19,7 @@ use Rattle.node_core.proofs.calls.EachCall.{step-remembers}
 use Rattle.node_core.proofs.calls.Enrolling.{enrolled}
 use Rattle.node_core.proofs.pending.Tending.{due-tends}
 use Rattle.node_shared.specs.declared.entry.Entry.{Entry}
-use Rattle.node_shared.specs.Journal.{entry, Does, IsRun, process_of, process_entries}
+use Rattle.node_shared.specs.Journal.{entry, TakesStep, IsRun, process_of, process_entries}
 use Rattle.node_shared.specs.BookInvariant.{BookInvariant}
 use Rattle.node_shared.specs.History.{IsSubsequence}
 use Rattle.node_shared.specs.Running.{EndsRun}
@@ -34,17 +34,17 @@ reply_of e = e.reply
 abbrev is_of_process : Entry → Bool
 is_of_process e = is_some (process_of e.step)
 
-pub run-on : (limits : Limits) (old new : State) (es : List Entry) (s : Step) (r : Reply) → IsRun limits es old → Does old s r new → IsRun limits (es ++ entry s r ∷ []) new
+pub run-on : (limits : Limits) (old new : State) (es : List Entry) (s : Step) (r : Reply) → IsRun limits es old → TakesStep old s r new → IsRun limits (es ++ entry s r ∷ []) new
 run-on limits old new es s r run does =
     let pushed = run-on-buckets-push (empty limits) old new (map step_of es) (map reply_of es) s r run does.0 does.1 in
     rw (map-append step_of es (entry s r ∷ []), map-append reply_of es (entry s r ∷ [])) pushed
 
 -- a step that is done after a run, with entries that are in it
-pub continues : (limits : Limits) (old new : State) (es own : List Entry) (s : Step) (r : Reply) → IsSubsequence own es → IsRun limits es old → Does old s r new → Continues limits own s r
+pub continues : (limits : Limits) (old new : State) (es own : List Entry) (s : Step) (r : Reply) → IsSubsequence own es → IsRun limits es old → TakesStep old s r new → Continues limits own s r
 continues limits old new es own s r stand run does = (es, new, stand, run-on limits old new es s r run does)
 
 -- and that run has as many entries as it has
-pub continues-to : (limits : Limits) (old new : State) (es own : List Entry) (s : Step) (r : Reply) → IsSubsequence own es → IsRun limits es old → Does old s r new
+pub continues-to : (limits : Limits) (old new : State) (es own : List Entry) (s : Step) (r : Reply) → IsSubsequence own es → IsRun limits es old → TakesStep old s r new
     → ContinuesTo limits own s (entry_count (es ++ entry s r ∷ [])) r
 continues-to limits old new es own s r stand run does = (es, new, stand, run-on limits old new es s r run does, refl)
 
@@ -54,7 +54,7 @@ counts-on es e n is = rw (length-append es (e ∷ [])) (grind (arith, common_ste
 
 -- a step that is done after a run ends one
 pub ends-run : (limits : Limits) (parts : ℕ) (old new : State) (es : List Entry) (s : Step) (r : Reply) → limits.processes + 1 ≡ parts → IsRun limits es old
-    → Does old s r new → EndsRun parts s r
+    → TakesStep old s r new → EndsRun parts s r
 ends-run limits parts old new es s r most run does = (limits, es, new, most, run-on limits old new es s r run does)
 
 -- how many entries of processes an entry of this step is
@@ -86,7 +86,7 @@ due-weighs old s is = due-tends (λ s. weight s ≡ 0) (λ t. refl) (λ t bucket
 
 module _ (limits : Limits) (all : ℕ) (es : List Entry) (old new : State) (total parts : ℕ) where
   -- after a step that goes last all holds
-  pub invariant-step : (s : Step) (r : Reply) (more : ℕ) → BookInvariant limits all old es total parts → Does old s r new → weight s ≡ more → BookInvariant limits all new (es ++ entry s r ∷ []) (total + more) parts
+  pub invariant-step : (s : Step) (r : Reply) (more : ℕ) → BookInvariant limits all old es total parts → TakesStep old s r new → weight s ≡ more → BookInvariant limits all new (es ++ entry s r ∷ []) (total + more) parts
   invariant-step s r more was does adds =
       let m = step-remembers (observable old) (observable new) s r does.0 in
       let most : new.world.most_processes ≡ old.world.most_processes = m.most in
@@ -102,7 +102,7 @@ module _ (limits : Limits) (all : ℕ) (es : List Entry) (old new : State) (tota
         enough = omega arith;
       }
 
-  module _ (p : ℕ) (r : Reply) (granted : is_value r ≡ true) (was : BookInvariant limits all old es total parts) (does : Does old (Enrol p) r new) where
+  module _ (p : ℕ) (r : Reply) (granted : is_value r ≡ true) (was : BookInvariant limits all old es total parts) (does : TakesStep old (Enrol p) r new) where
     -- there is a part to give
     pub part-left : 1 < parts
     part-left =

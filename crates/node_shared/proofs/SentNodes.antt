@@ -24,8 +24,8 @@ use Rattle.ownership.proofs.indices.Indices.TheSendSync as indices
 use Rattle.ownership.specs.contracts.metadata.Metadata as Metadata
 use Rattle.ownership.specs.contracts.process.Process as Process
 use Rattle.ownership.specs.contracts.table.Parts as Parts
-use Rattle.ownership.specs.contracts.table.Table as Table
-use Rattle.ownership.specs.contracts.table.Table.TheInside as table
+use Rattle.ownership.specs.contracts.table.OwnedTable as Table
+use Rattle.ownership.specs.contracts.table.OwnedTable.TheInside as table
 use Rattle.ownership.specs.contracts.world.World as World
 use Rattle.ownership.specs.contracts.world.World.TheInside as world
 use Rattle.node_core.proofs.pending_tables.PendingTables.TheSendSync as identifiers

@@ -17,8 +17,8 @@ abbrev pub entry : Step → Reply → Entry
 entry s r = record { step = s; reply = r }
 
 -- the node may do the step with this reply
-abbrev pub Does : State → Step → Reply → State → Type 0
-Does old s r new = step (observable old) s r (observable new) × step_on_buckets old s r new
+abbrev pub TakesStep : State → Step → Reply → State → Type 0
+TakesStep old s r new = step (observable old) s r (observable new) × step_on_buckets old s r new
 
 -- from the empty state the node may do these steps with these replies, and end in this state
 abbrev pub IsRun : Limits → List Entry → State → Type 0

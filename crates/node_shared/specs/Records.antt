@@ -9,7 +9,7 @@ use Rattle.node_core.specs.State.{State}
 use Rattle.node_core.specs.rules.Growth.{due}
 use Rattle.node_core.specs.rules.Replies.{is_value}
 use Rattle.node_shared.specs.declared.entry.Entry.{Entry}
-use Rattle.node_shared.specs.Journal.{entry, Does}
+use Rattle.node_shared.specs.Journal.{entry, TakesStep}
 
 -- the node's state, the journal, and the ledger's total
 pub record BookState : Type 0 where
@@ -19,7 +19,7 @@ pub record BookState : Type 0 where
 
 -- the step is done with this reply, and its entry is the last
 abbrev pub Enters : BookState → Step → Reply → BookState → Type 0
-Enters old s r new = Does old.state s r new.state × (new.journal ≡ old.journal ++ entry s r ∷ [])
+Enters old s r new = TakesStep old.state s r new.state × (new.journal ≡ old.journal ++ entry s r ∷ [])
 
 -- the pending growth step is run, and has its entry; or none is pending
 abbrev pub Tends : BookState → BookState → Bool → Type 0

@@ -13,7 +13,7 @@ use Rattle.node_core.specs.Reads.{Reads}
 use Rattle.node_core.specs.rules.Growth.{due}
 use Rattle.node_core.specs.rules.Replies.{is_value}
 use Rattle.node_shared.specs.declared.entry.Entry.{Entry}
-use Rattle.node_shared.specs.Journal.{entry, Does, IsRun}
+use Rattle.node_shared.specs.Journal.{entry, TakesStep, IsRun}
 use Rattle.node_shared.specs.Records.{RecordState, enrolled_record}
 use Rattle.node_shared.specs.History.{IsSubsequence}
 use Rattle.node_shared.specs.Running.{IsEnrolRefusal}
@@ -25,7 +25,7 @@ pub record ServedState : Type 0 where
 
 -- the step is done with this reply, and is the last of the history
 abbrev pub ServesStep : ServedState → Step → Reply → ServedState → Type 0
-ServesStep old s r new = Does old.state s r new.state × (new.history ≡ old.history ++ entry s r ∷ [])
+ServesStep old s r new = TakesStep old.state s r new.state × (new.history ≡ old.history ++ entry s r ∷ [])
 
 -- the pending growth step is run in this way; or none is pending
 abbrev pub ServesGrowth : ServedState → ServedState → Bool → Type 0

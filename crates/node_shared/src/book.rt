@@ -80,9 +80,9 @@ impl<L: Ledger, H: KeyHash + Copy + Drop> Book<L, H> {
     /// Runs a step of the share's own process, and adds its entry. Running out of memory changes nothing.
     pub fn step(&mut self, share: &mut Share<L>, event: &Step) -> Result<Reply, AllocError>
         requires { is_step_of share.old.pid event.now ≡ true }
-        ensures entered { IfOk result (λ r. Enters self.old event.now r self.new) }
+        ensures entry { IfOk result (λ r. Enters self.old event.now r self.new) }
         ensures run { IfOk result (EndsRun L.parts event.now) }
-        ensures counted { IfOk result (λ _. self.new.total ≡ self.old.total + 1) }
+        ensures total { IfOk result (λ _. self.new.total ≡ self.old.total + 1) }
         ensures share { IfOk result (λ _. share.new ≡ record share.old { amount = share.old.amount + 1 }) }
         ensures err { OnErr result ((self.new ≡ self.old) × (share.new ≡ share.old)) }
     {
@@ -93,9 +93,9 @@ impl<L: Ledger, H: KeyHash + Copy + Drop> Book<L, H> {
     /// Does the same for a step that is moved into its entry.
     pub(crate) fn enter(&mut self, share: &mut Share<L>, step: Step) -> Result<Reply, AllocError>
         requires { is_step_of share.old.pid step ≡ true }
-        ensures entered { IfOk result (λ r. Enters self.old step r self.new) }
+        ensures entry { IfOk result (λ r. Enters self.old step r self.new) }
         ensures run { IfOk result (EndsRun L.parts step) }
-        ensures counted { IfOk result (λ _. self.new.total ≡ self.old.total + 1) }
+        ensures total { IfOk result (λ _. self.new.total ≡ self.old.total + 1) }
         ensures share { IfOk result (λ _. share.new ≡ record share.old { amount = share.old.amount + 1 }) }
         ensures err { OnErr result ((self.new ≡ self.old) × (share.new ≡ share.old)) }
     {
@@ -108,11 +108,11 @@ impl<L: Ledger, H: KeyHash + Copy + Drop> Book<L, H> {
 
     /// Enrols a process, adds the entry of that, and gives the process its share. A fault changes nothing.
     pub fn join(&mut self, pid: u32) -> Result<(Share<L>, Reply), BookFault>
-        ensures entered { IfOk result (λ joined. Enters self.old (Enrol pid) joined.1 self.new) }
-        ensures granted { IfOk result (λ joined. is_value joined.1 ≡ true) }
+        ensures entry { IfOk result (λ joined. Enters self.old (Enrol pid) joined.1 self.new) }
+        ensures value { IfOk result (λ joined. is_value joined.1 ≡ true) }
         ensures pid { IfOk result (λ joined. joined.1 ≡ Value (Pid pid)) }
         ensures run { IfOk result (λ joined. EndsRun L.parts (Enrol pid) joined.1) }
-        ensures counted { IfOk result (λ _. self.new.total ≡ self.old.total + 1) }
+        ensures total { IfOk result (λ _. self.new.total ≡ self.old.total + 1) }
         ensures share { IfOk result (λ joined. joined.0 ≡ record { pid = pid; amount = 1 }) }
         ensures err { OnErr result (self.new ≡ self.old) }
         ensures refused { IfErr result (Refuses self.old.state pid) }
@@ -137,8 +137,8 @@ impl<L: Ledger, H: KeyHash + Copy + Drop> Book<L, H> {
     /// Runs the pending growth step, if any, and adds its entry. Returns whether it did. Running out of memory changes
     /// nothing.
     pub fn tend(&mut self) -> Result<bool, AllocError>
-        ensures tended { IfOk result (Tends self.old self.new) }
-        ensures counted { self.new.total ≡ self.old.total }
+        ensures growth { IfOk result (Tends self.old self.new) }
+        ensures total { self.new.total ≡ self.old.total }
         ensures err { OnErr result (self.new ≡ self.old) }
     {
         let Some(event) = self.node.due() else {
@@ -152,8 +152,8 @@ impl<L: Ledger, H: KeyHash + Copy + Drop> Book<L, H> {
 
     /// Runs the pending growth step as `tend` does. Returns false if none is pending or memory runs out.
     pub(crate) fn try_tend(&mut self) -> bool
-        ensures tried { TriesGrowth self.old self.new result }
-        ensures counted { self.new.total ≡ self.old.total }
+        ensures growth { TriesGrowth self.old self.new result }
+        ensures total { self.new.total ≡ self.old.total }
     {
         matches!(self.tend(), Ok(true))
     }
@@ -163,7 +163,7 @@ impl<L: Ledger, H: KeyHash + Copy + Drop> Book<L, H> {
     pub fn journal(&self) -> &[Entry]
         ensures entries { result.now ≡ self.now.journal }
         ensures run { IsRun self.now.state.limits self.now.journal self.now.state }
-        ensures counted { self.now.total ≡ process_entries self.now.journal }
+        ensures total { self.now.total ≡ process_entries self.now.journal }
     {
         self.journal.as_slice()
     }

@@ -67,7 +67,7 @@ impl<B: HistoryId> Caller<B> {
     }
 
     /// Makes these calls in order, with no step of another process between them, and returns their replies. `ask` says
-    /// what holds of each. Then runs at most `growth` pending growth steps, which no call observes, before it lets go of
+    /// what holds of each. Then runs at most `growth` pending growth steps, which no call observes, before it releases
     /// the lock. If memory runs out, it stops and returns the replies to the calls before. It may wait for the lock.
     pub fn ask_all<H: KeyHash + Copy + Drop, R: Wait>(
         &mut self,
@@ -197,7 +197,7 @@ impl<B: HistoryId> Caller<B> {
     ) -> Result<bool, AllocError>
         ensures ok { IfOk result (λ replied. AnswersRead B.limits self.now.own.pid self.now.seen call.now
             (if replied then Some reply.new else None)) }
-        ensures kept { IfOk result (λ replied. replied ≡ false → reply.new ≡ reply.old) }
+        ensures reply { IfOk result (λ replied. replied ≡ false → reply.new ≡ reply.old) }
         ensures err { OnErr result (reply.new ≡ NoProcess) }
     {
         match &server.lock.kind {
@@ -216,7 +216,7 @@ impl<B: HistoryId> Caller<B> {
     ) -> Result<bool, AllocError>
         ensures ok { IfOk result (λ replied. AnswersRead B.limits self.now.own.pid self.now.seen call.now
             (if replied then Some reply.new else None)) }
-        ensures kept { IfOk result (λ replied. replied ≡ false → reply.new ≡ reply.old) }
+        ensures reply { IfOk result (λ replied. replied ≡ false → reply.new ≡ reply.old) }
         ensures err { OnErr result (reply.new ≡ NoProcess) }
     {
         if let Err(error) = self.check_seen(served.count()) {

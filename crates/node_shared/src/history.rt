@@ -152,8 +152,8 @@ impl<B: HistoryId> HistoryOwner<B> {
         ensures reply { result ≡ reply }
     {
         let added = Entry { step, reply };
-        let spare = word.shared.split_seat::<OwnEntries>(&mut self.seat);
-        let own = mem::replace(&mut writer.seat, spare);
+        let new_seat = word.shared.split_seat::<OwnEntries>(&mut self.seat);
+        let own = mem::replace(&mut writer.seat, new_seat);
         word.shared.join_seat::<OwnEntries>(&mut self.seat, own);
         let _zero = word
             .shared

@@ -76,7 +76,7 @@ impl<B: HistoryId, H: KeyHash + Copy + Drop> ServedNode<B, H> {
         ensures answer { IfOk result (λ replied. Reads (observable self.now.state) pid call.now
             (if replied then Some reply.new else None)) }
         ensures run { IsRun B.limits self.now.history self.now.state }
-        ensures kept { IfOk result (λ replied. replied ≡ false → reply.new ≡ reply.old) }
+        ensures reply { IfOk result (λ replied. replied ≡ false → reply.new ≡ reply.old) }
         ensures err { OnErr result (reply.new ≡ NoProcess) }
     {
         self.node.read_into(pid, call, reply)
@@ -110,7 +110,7 @@ impl<B: HistoryId, H: KeyHash + Copy + Drop> ServedNode<B, H> {
     ) -> Result<Reply, AllocError>
         requires table { word.now.shared.table_id ≡ B.table }
         requires one { word.now.shared.table_id.words ≡ 1 }
-        ensures done { IfOk result (λ r. ServesStep self.old event r self.new) }
+        ensures step { IfOk result (λ r. ServesStep self.old event r self.new) }
         ensures own { IfOk result (λ r. writer.new ≡ writer.old ++ entry event r ∷ []) }
         ensures order { IfOk result (ContinuesTo B.limits writer.old event (entry_count self.new.history)) }
         ensures err { OnErr result ((self.new ≡ self.old) × (writer.new ≡ writer.old)) }
@@ -130,8 +130,8 @@ impl<B: HistoryId, H: KeyHash + Copy + Drop> ServedNode<B, H> {
     ) -> Result<(HistoryWriter<B>, Reply), BookFault>
         requires table { word.now.shared.table_id ≡ B.table }
         requires one { word.now.shared.table_id.words ≡ 1 }
-        ensures done { IfOk result (λ joined. ServesStep self.old (Enrol pid) joined.1 self.new) }
-        ensures granted { IfOk result (λ joined. is_value joined.1 ≡ true) }
+        ensures step { IfOk result (λ joined. ServesStep self.old (Enrol pid) joined.1 self.new) }
+        ensures value { IfOk result (λ joined. is_value joined.1 ≡ true) }
         ensures pid { IfOk result (λ joined. joined.1 ≡ Value (Pid pid)) }
         ensures own { IfOk result (λ joined. joined.0 ≡ entry (Enrol pid) joined.1 ∷ []) }
         ensures order { IfOk result (λ joined. ContinuesTo B.limits [] (Enrol pid) (entry_count self.new.history) joined.1) }
@@ -157,7 +157,7 @@ impl<B: HistoryId, H: KeyHash + Copy + Drop> ServedNode<B, H> {
     pub fn tend(&mut self, word: &HistoryWord) -> Result<bool, AllocError>
         requires table { word.now.shared.table_id ≡ B.table }
         requires one { word.now.shared.table_id.words ≡ 1 }
-        ensures tended { IfOk result (ServesGrowth self.old self.new) }
+        ensures growth { IfOk result (ServesGrowth self.old self.new) }
         ensures err { OnErr result (self.new ≡ self.old) }
     {
         let Some(due) = self.node.due() else {

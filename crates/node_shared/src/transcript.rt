@@ -47,8 +47,8 @@ impl<L: Ledger, H: KeyHash + Copy + Drop> Book<L, H> {
     /// Compares the journal with the records of clients, and returns it. `Differs` is the answer only if a record is
     /// not its part of this journal, and `Missing` only if a process in it has no client. It takes no memory.
     pub fn close(self, clients: &[Client<L>]) -> Result<Transcript, CloseFault>
-        ensures compared { Compares self.journal clients.now result }
-        ensures decided { IsDecided result }
+        ensures comparison { Compares self.journal clients.now result }
+        ensures decision { IsDecided result }
         ensures run { IsRun self.state.limits self.journal self.state }
     {
         compare(self.into_journal(), clients)
@@ -56,8 +56,8 @@ impl<L: Ledger, H: KeyHash + Copy + Drop> Book<L, H> {
 }
 
 fn compare<L: Ledger>(journal: Vec<Entry>, clients: &[Client<L>]) -> Result<Transcript, CloseFault>
-    ensures compared { Compares journal.items clients.now result }
-    ensures decided { IsDecided result }
+    ensures comparison { Compares journal.items clients.now result }
+    ensures decision { IsDecided result }
 {
     if let Some(pid) = first_mismatch(journal.as_slice(), clients) {
         return Err(CloseFault::Differs(pid));

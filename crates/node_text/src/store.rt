@@ -31,7 +31,7 @@ pub struct Store {
     reply: Reply,
     refusal: Option<LastRefusal>,
     /// The reply before the last, which the next step writes over.
-    spare: Reply,
+    previous: Reply,
     /// Memory for a reply's bytes.
     bytes: Vec<u8>,
 }
@@ -57,14 +57,14 @@ impl Store {
             node: Node::new(alloc, limits, Fnv),
             reply: Reply::NoProcess,
             refusal: None,
-            spare: Reply::NoProcess,
+            previous: Reply::NoProcess,
             bytes: Vec::new(alloc),
         }
     }
 
     /// Does one step, and returns the status of its reply. Changes nothing if memory runs out.
     pub fn run_step(&mut self, event: &Step) -> i32
-        ensures done { StepReturns event.now result self.old self.new }
+        ensures state { StepReturns event.now result self.old self.new }
         ensures statuses { AreTheStatuses }
     {
         match self.step(event) {
@@ -167,12 +167,12 @@ impl Store {
         ensures ok { OnOk result (RunsStep self.old event.now self.new) }
         ensures err { OnErr result (self.new ≡ with_refusal refusal.NoMemory self.old) }
     {
-        if self.node.step_into(event, &mut self.spare).is_err() {
+        if self.node.step_into(event, &mut self.previous).is_err() {
             self.refusal = Some(LastRefusal::NoMemory);
             return Err(AllocError);
         }
-        self.refusal = LastRefusal::of(&self.node, event, &self.spare);
-        mem::swap(&mut self.reply, &mut self.spare);
+        self.refusal = LastRefusal::of(&self.node, event, &self.previous);
+        mem::swap(&mut self.reply, &mut self.previous);
         Ok(())
     }
 

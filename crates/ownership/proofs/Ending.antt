@@ -9,7 +9,7 @@ use Rattle.ownership.specs.declared.metadata.Metadata.{Metadata}
 use Rattle.ownership.specs.declared.metadata.Heir.{Heir}
 use Rattle.ownership.specs.declared.process.Process.{Process}
 use Rattle.ownership.specs.World.{Table, Tables, Processes, process_at, lives, table_at}
-use Rattle.ownership.specs.Access.{owned_by}
+use Rattle.ownership.specs.Access.{is_owner}
 use Rattle.ownership.specs.Messages.{with_message, transfer_message, post, post_all}
 use Rattle.ownership.specs.Tables.{with_owner}
 use Rattle.ownership.specs.End.{living_heir, receiver_of, without_fixes, table_after_exit, message_of, messages_from, with_ended}
@@ -32,11 +32,11 @@ heir-same ps qs metadata same = by metadata.heir
 
 pub message-same : (ps qs : Processes) (p t : ℕ) (o : Option Table) → SameLives ps qs → message_of ps p t o ≡ message_of qs p t o
 message-same ps qs p t None same = refl
-message-same ps qs p t (Some table) same = ap (λ h. option_map (λ heir. (heir.pid, transfer_message table.metadata t p heir.gift)) (if owned_by table.metadata p then h else None)) (heir-same ps qs table.metadata same)
+message-same ps qs p t (Some table) same = ap (λ h. option_map (λ heir. (heir.pid, transfer_message table.metadata t p heir.gift)) (if is_owner table.metadata p then h else None)) (heir-same ps qs table.metadata same)
 
 pub after-same : (ps qs : Processes) (p : ℕ) (o : Option Table) → SameLives ps qs → table_after_exit ps p o ≡ table_after_exit qs p o
 after-same ps qs p None same = refl
-after-same ps qs p (Some table) same = ap (λ h. if owned_by table.metadata p then option_map (λ heir. with_owner heir.pid (without_fixes p table)) h else Some (without_fixes p table)) (heir-same ps qs table.metadata same)
+after-same ps qs p (Some table) same = ap (λ h. if is_owner table.metadata p then option_map (λ heir. with_owner heir.pid (without_fixes p table)) h else Some (without_fixes p table)) (heir-same ps qs table.metadata same)
 
 pub all-after-same : (ps qs : Processes) (p : ℕ) (tables : Tables) → SameLives ps qs → map (table_after_exit ps p) tables ≡ map (table_after_exit qs p) tables
 all-after-same ps qs p [] same = refl
@@ -137,7 +137,7 @@ take-last ids i h =
     ap (λ n. take n ids) more ∙ take_more ids k 0 within ∙ ap (λ n. take k ids ++ get_or ids n 0 ∷ []) (sym place)
 
 -- ---- the tables of a process are among the identifiers, so all messages are those of the identifiers
-no-message : (ps : Processes) (p t : ℕ) (table : Table) → owned_by table.metadata p ≡ false → message_of ps p t (Some table) ≡ None
+no-message : (ps : Processes) (p t : ℕ) (table : Table) → is_owner table.metadata p ≡ false → message_of ps p t (Some table) ≡ None
 no-message ps p t table other = ap (λ (b : Bool). option_map (λ (heir : Heir). (heir.pid, transfer_message table.metadata t p heir.gift)) (if b then living_heir ps table.metadata else None)) other
 
 module _ (ps : Processes) (p : ℕ) where
@@ -152,11 +152,11 @@ module _ (ps : Processes) (p : ℕ) where
       distance : (n t : ℕ) → n ≤ t → t ≡ n + (t - n)
       distance n t h = omega (arith, h)
 
-  no-owner : (t : ℕ) (o : Option Table) → ((table : Table) → o ≡ Some table → owned_by table.metadata p ≡ true → ⊥) → message_of ps p t o ≡ None
+  no-owner : (t : ℕ) (o : Option Table) → ((table : Table) → o ≡ Some table → is_owner table.metadata p ≡ true → ⊥) → message_of ps p t o ≡ None
   no-owner t None other = refl
-  no-owner t (Some table) other = no-message ps p t table (by (owned_by table.metadata p) refl)
+  no-owner t (Some table) other = no-message ps p t table (by (is_owner table.metadata p) refl)
     where
-      by : (b : Bool) → owned_by table.metadata p ≡ b → b ≡ false
+      by : (b : Bool) → is_owner table.metadata p ≡ b → b ≡ false
       by true e = absurd (other table refl e)
       by false e = refl
 
@@ -166,7 +166,7 @@ module _ (ps : Processes) (p : ℕ) where
   module _ (at : ℕ → Option Table) (high : ℕ) where
     -- the tables from this identifier on; the owner's are all among these
     abbrev AreFound : ℕ → Tables → List ℕ → Type 0
-    AreFound n tables ids = ((k : ℕ) → at (n + k) ≡ table_at tables k) × ((k : ℕ) (table : Table) → table_at tables k ≡ Some table → owned_by table.metadata p ≡ true → IsAmong (n + k) ids)
+    AreFound n tables ids = ((k : ℕ) → at (n + k) ≡ table_at tables k) × ((k : ℕ) (table : Table) → table_at tables k ≡ Some table → is_owner table.metadata p ≡ true → IsAmong (n + k) ids)
 
     move : (n k : ℕ) → suc n + k ≡ n + suc k
     move n k = omega arith

@@ -15,7 +15,7 @@ use Rattle.ownership.specs.declared.metadata.Heir.{Heir}
 use Rattle.ownership.specs.declared.indices.Indices.{Indices}
 use Rattle.ownership.specs.World.{Table, Tables, Processes, lives, table_at, all_metadata, metadata_of, is_named}
 use Rattle.ownership.specs.Tables.{with_owner, with_heir, with_changed}
-use Rattle.ownership.specs.Access.{owned_by}
+use Rattle.ownership.specs.Access.{is_owner}
 use Rattle.ownership.specs.End.{living_heir, table_after_exit}
 use Rattle.ownership.specs.inside.Names.{NameIndexIsExact}
 use Rattle.ownership.specs.inside.Indices.{IsAmong, AscendsBetween, OwnerIndexCovers, CoversTablesOf, HeirsOfOwnerAreIndexed, FixedAreListed, IsUnfixed, IndicesInvariant, AddsUnderOwners, RemovesOwner, ids_under}
@@ -202,12 +202,12 @@ kept-left ps p indices tables kept heirs t new is = by (left-over ps p (table_at
     by : Left ps p (table_at tables t) new → IndicesInvariant indices (set tables t (Some new))
     by left = kept-released indices tables kept p t left.table new left.was left.fixed (name left.metadata) (owner left.metadata)
       where
-        name : (new.metadata ≡ left.table.metadata × (owned_by left.table.metadata p ≡ false)) ⊎ ((heir : Heir) × (living_heir ps left.table.metadata ≡ Some heir) × (owned_by left.table.metadata p ≡ true) × (new.metadata ≡ record left.table.metadata { owner = heir.pid }))
+        name : (new.metadata ≡ left.table.metadata × (is_owner left.table.metadata p ≡ false)) ⊎ ((heir : Heir) × (living_heir ps left.table.metadata ≡ Some heir) × (is_owner left.table.metadata p ≡ true) × (new.metadata ≡ record left.table.metadata { owner = heir.pid }))
             → (name : List ℕ) → is_named name (Some new.metadata) ≡ is_named name (Some left.table.metadata)
         name (inl same) n = ap (λ (h : Metadata). is_named n (Some h)) same.0
         name (inr to_heir) n = ap (λ (h : Metadata). is_named n (Some h)) to_heir.3
 
-        owner : (new.metadata ≡ left.table.metadata × (owned_by left.table.metadata p ≡ false)) ⊎ ((heir : Heir) × (living_heir ps left.table.metadata ≡ Some heir) × (owned_by left.table.metadata p ≡ true) × (new.metadata ≡ record left.table.metadata { owner = heir.pid }))
+        owner : (new.metadata ≡ left.table.metadata × (is_owner left.table.metadata p ≡ false)) ⊎ ((heir : Heir) × (living_heir ps left.table.metadata ≡ Some heir) × (is_owner left.table.metadata p ≡ true) × (new.metadata ≡ record left.table.metadata { owner = heir.pid }))
             → IsAmong t (ids_under indices new.metadata.owner)
         owner (inl same) = subst (λ (h : Metadata). IsAmong t (ids_under indices h.owner)) (sym same.0) (owner-at (ids_under indices) tables kept.by_owner t left.table left.was)
         owner (inr to_heir) = subst (λ (h : Metadata). IsAmong t (ids_under indices h.owner)) (sym to_heir.3) (heirs t left.table to_heir.0 left.was to_heir.2 to_heir.1)

@@ -16,7 +16,7 @@ use Rattle.fixed_walk.proofs.HeldLaws.{free-release_all, purged-none}
 use Rattle.ownership.specs.declared.metadata.Metadata.{Metadata}
 use Rattle.ownership.specs.declared.metadata.Heir.{Heir}
 use Rattle.ownership.specs.World.{Table, Tables, Processes, table_at, lives}
-use Rattle.ownership.specs.Access.{owned_by}
+use Rattle.ownership.specs.Access.{is_owner}
 use Rattle.ownership.specs.End.{living_heir, without_fixes, table_after_exit}
 use Rattle.ownership.specs.Tables.{with_owner}
 use Rattle.ownership.specs.inside.Ending.{IsReassigned, ReassignsTables}
@@ -67,7 +67,7 @@ module _ (ps : Processes) (p : ℕ) (dead : lives ps p ≡ false) where
       by true e = let same : q ≡ p = same-number q p e in absurd (true≢false (sym l ∙ ap (lives ps) same ∙ dead))
       by false e = refl
 
-  twice-at : (b : Bool) (table : Table) (h : Option Heir) → owned_by table.metadata p ≡ b → living_heir ps table.metadata ≡ h → table_after_exit ps p (table_after_exit ps p (Some table)) ≡ table_after_exit ps p (Some table)
+  twice-at : (b : Bool) (table : Table) (h : Option Heir) → is_owner table.metadata p ≡ b → living_heir ps table.metadata ≡ h → table_after_exit ps p (table_after_exit ps p (Some table)) ≡ table_after_exit ps p (Some table)
   twice-at true table None own e =
       let once : table_after_exit ps p (Some table) ≡ None = rw (own, e) refl in
       rw once refl
@@ -81,10 +81,10 @@ module _ (ps : Processes) (p : ℕ) (dead : lives ps p ≡ false) where
 
   pub settled-twice : (o : Option Table) → table_after_exit ps p (table_after_exit ps p o) ≡ table_after_exit ps p o
   settled-twice None = refl
-  settled-twice (Some table) = twice-at (owned_by table.metadata p) table (living_heir ps table.metadata) refl refl
+  settled-twice (Some table) = twice-at (is_owner table.metadata p) table (living_heir ps table.metadata) refl refl
 
   -- an idle table of another process needs no visit
-  pub settled-idle : (table : Table) → owned_by table.metadata p ≡ false → IsUnfixed table.fixed → table_after_exit ps p (Some table) ≡ Some table
+  pub settled-idle : (table : Table) → is_owner table.metadata p ≡ false → IsUnfixed table.fixed → table_after_exit ps p (Some table) ≡ Some table
   settled-idle table other idle = rw other (ap (λ f. Some (record table { fixed = f })) (idle-stays p table.fixed idle))
 
 -- ---- lists of tables that are reassigned at places
@@ -140,10 +140,10 @@ pub record Left (ps : Processes) (p : ℕ) (o : Option Table) (new : Table) : Ty
   pub table : Table
   pub was : o ≡ Some table
   pub fixed : new.fixed ≡ after_release_all p table.fixed
-  pub metadata : (new.metadata ≡ table.metadata × (owned_by table.metadata p ≡ false)) ⊎ ((heir : Heir) × (living_heir ps table.metadata ≡ Some heir) × (owned_by table.metadata p ≡ true) × (new.metadata ≡ record table.metadata { owner = heir.pid }))
+  pub metadata : (new.metadata ≡ table.metadata × (is_owner table.metadata p ≡ false)) ⊎ ((heir : Heir) × (living_heir ps table.metadata ≡ Some heir) × (is_owner table.metadata p ≡ true) × (new.metadata ≡ record table.metadata { owner = heir.pid }))
 
 module _ (ps : Processes) (p : ℕ) where
-  left-at : (b : Bool) (h : Option Heir) (table new : Table) → owned_by table.metadata p ≡ b → living_heir ps table.metadata ≡ h
+  left-at : (b : Bool) (h : Option Heir) (table new : Table) → is_owner table.metadata p ≡ b → living_heir ps table.metadata ≡ h
       → (if b then option_map (λ (heir : Heir). with_owner heir.pid (without_fixes p table)) h else Some (without_fixes p table)) ≡ Some new → Left ps p (Some table) new
   left-at true None table new own l e = absurd (cc)
   left-at true (Some heir) table new own l e =
@@ -156,15 +156,15 @@ module _ (ps : Processes) (p : ℕ) where
   pub left-over : (o : Option Table) (new : Table) → table_after_exit ps p o ≡ Some new → Left ps p o new
   left-over None new e = absurd (cc)
   left-over (Some table) new e =
-      left-at (owned_by table.metadata p) (living_heir ps table.metadata) table new refl refl e
+      left-at (is_owner table.metadata p) (living_heir ps table.metadata) table new refl refl e
 
 -- the process owns no table
-pub left-others : (ps : Processes) (p : ℕ) → lives ps p ≡ false → (o : Option Table) (new : Table) → Left ps p o new → owned_by new.metadata p ≡ false
+pub left-others : (ps : Processes) (p : ℕ) → lives ps p ≡ false → (o : Option Table) (new : Table) → Left ps p o new → is_owner new.metadata p ≡ false
 left-others ps p dead o new left = by left.metadata
   where
-    by : (new.metadata ≡ left.table.metadata × (owned_by left.table.metadata p ≡ false)) ⊎ ((heir : Heir) × (living_heir ps left.table.metadata ≡ Some heir) × (owned_by left.table.metadata p ≡ true) × (new.metadata ≡ record left.table.metadata { owner = heir.pid })) → owned_by new.metadata p ≡ false
-    by (inl same) = ap (λ (h : Metadata). owned_by h p) same.0 ∙ same.1
-    by (inr to_heir) = ap (λ (h : Metadata). owned_by h p) to_heir.3 ∙ other-pid ps p dead to_heir.0.pid (heir-lives ps p dead left.table.metadata to_heir.0 to_heir.1)
+    by : (new.metadata ≡ left.table.metadata × (is_owner left.table.metadata p ≡ false)) ⊎ ((heir : Heir) × (living_heir ps left.table.metadata ≡ Some heir) × (is_owner left.table.metadata p ≡ true) × (new.metadata ≡ record left.table.metadata { owner = heir.pid })) → is_owner new.metadata p ≡ false
+    by (inl same) = ap (λ (h : Metadata). is_owner h p) same.0 ∙ same.1
+    by (inr to_heir) = ap (λ (h : Metadata). is_owner h p) to_heir.3 ∙ other-pid ps p dead to_heir.0.pid (heir-lives ps p dead left.table.metadata to_heir.0 to_heir.1)
 
 released-idle-at : (b : Bool) (p : ℕ) (f : TableState) → is_fixed (remove f.fixes p) ≡ b → is_fixed (after_release_all p f).fixes ≡ false → IsUnfixed (after_release_all p f)
 released-idle-at true p f e free =
@@ -181,9 +181,9 @@ released-idle p f free = released-idle-at (is_fixed (remove f.fixes p)) p f refl
 module _ (ps : Processes) (p : ℕ) (dead : lives ps p ≡ false) (old : Tables) (own fixed : List ℕ) (noted : FixedAreListed fixed None old) (owned : CoversTablesOf own p old) where
   settled-first : (t : ℕ) (o : Option Table) → table_at old t ≡ o → IsAmong t own ⊎ IsAmong t fixed ⊎ (table_after_exit ps p o ≡ o)
   settled-first t None e = inr (inr refl)
-  settled-first t (Some table) e = by (owned_by table.metadata p) refl (noted.each t table e)
+  settled-first t (Some table) e = by (is_owner table.metadata p) refl (noted.each t table e)
     where
-      by : (b : Bool) → owned_by table.metadata p ≡ b → (None ≡ Some t) ⊎ IsAmong t fixed ⊎ IsUnfixed table.fixed → IsAmong t own ⊎ IsAmong t fixed ⊎ (table_after_exit ps p (Some table) ≡ Some table)
+      by : (b : Bool) → is_owner table.metadata p ≡ b → (None ≡ Some t) ⊎ IsAmong t fixed ⊎ IsUnfixed table.fixed → IsAmong t own ⊎ IsAmong t fixed ⊎ (table_after_exit ps p (Some table) ≡ Some table)
       by true is n = inl (owned t table e is)
       by false is (inl dirty) = absurd (cc)
       by false is (inr (inl among)) = inr (inl among)

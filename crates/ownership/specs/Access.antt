@@ -16,16 +16,16 @@ others_write Public = true
 others_write Protected = false
 others_write Private = false
 
-abbrev pub owned_by : Metadata → ℕ → Bool
-owned_by metadata p = metadata.owner == p
+abbrev pub is_owner : Metadata → ℕ → Bool
+is_owner metadata p = metadata.owner == p
 
 -- a process may read the table
 abbrev pub may_read : Metadata → ℕ → Bool
-may_read metadata p = owned_by metadata p || others_read metadata.protection
+may_read metadata p = is_owner metadata p || others_read metadata.protection
 
 -- a process may write to the table
 abbrev pub may_write : Metadata → ℕ → Bool
-may_write metadata p = owned_by metadata p || others_write metadata.protection
+may_write metadata p = is_owner metadata p || others_write metadata.protection
 
 -- the table exists, and a process has this access
 abbrev pub may : (Metadata → ℕ → Bool) → Tables → ℕ → ℕ → Bool

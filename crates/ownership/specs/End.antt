@@ -10,7 +10,7 @@ use Rattle.ownership.specs.declared.fault.WorldFault.TheVariants.{NoProcess}
 use Rattle.ownership.specs.declared.metadata.Metadata.{Metadata}
 use Rattle.ownership.specs.declared.metadata.Heir.{Heir}
 use Rattle.ownership.specs.World.{Table, Tables, Processes, World, lives}
-use Rattle.ownership.specs.Access.{owned_by}
+use Rattle.ownership.specs.Access.{is_owner}
 use Rattle.ownership.specs.Messages.{transfer_message, post_all}
 use Rattle.ownership.specs.Tables.{with_owner}
 
@@ -31,14 +31,14 @@ without_fixes p table = record table { fixed = after_release_all p table.fixed }
 abbrev pub table_after_exit : Processes → ℕ → Option Table → Option Table
 table_after_exit processes p None = None
 table_after_exit processes p (Some table) =
-    if owned_by table.metadata p
+    if is_owner table.metadata p
     then option_map (λ heir. with_owner heir.pid (without_fixes p table)) (living_heir processes table.metadata)
     else Some (without_fixes p table)
 
 -- the heir that gets a table of the process
 abbrev pub receiver_of : Processes → ℕ → Table → Option Heir
 receiver_of processes p table =
-    if owned_by table.metadata p then living_heir processes table.metadata else None
+    if is_owner table.metadata p then living_heir processes table.metadata else None
 
 -- the transfer message of a table, with its receiver
 abbrev pub message_of : Processes → ℕ → ℕ → Option Table → Option (ℕ × Term)

@@ -6,13 +6,13 @@ use Rattle.ownership.specs.declared.fault.WorldFault.TheVariants.{Badarg, System
 use Rattle.ownership.specs.World.{World}
 
 -- an answer or a refusal of the outcome, or out of memory with the world unchanged
-abbrev pub Refines : {X : Type 0} → Outcome (Result X WorldFault) World → World
+abbrev pub RefinesWorld : {X : Type 0} → Outcome (Result X WorldFault) World → World
     → Outcome (Result X WorldFault) World
-Refines outcome old (Ok x) new = outcome (Ok x) new
-Refines outcome old (Err Badarg) new = outcome (Err Badarg) new
-Refines outcome old (Err SystemLimit) new = outcome (Err SystemLimit) new
-Refines outcome old (Err NoProcess) new = outcome (Err NoProcess) new
-Refines outcome old (Err Memory) new = new ≡ old
+RefinesWorld outcome old (Ok x) new = outcome (Ok x) new
+RefinesWorld outcome old (Err Badarg) new = outcome (Err Badarg) new
+RefinesWorld outcome old (Err SystemLimit) new = outcome (Err SystemLimit) new
+RefinesWorld outcome old (Err NoProcess) new = outcome (Err NoProcess) new
+RefinesWorld outcome old (Err Memory) new = new ≡ old
 
 -- the result of reading a term: this value, badarg if it is None, or out of memory
 abbrev pub Reads : {X : Type 0} → Option X → Result X WorldFault → Type 0

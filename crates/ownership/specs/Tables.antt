@@ -10,7 +10,7 @@ use Rattle.ownership.specs.declared.metadata.Metadata.{Metadata}
 use Rattle.ownership.specs.declared.metadata.Heir.{Heir}
 use Rattle.ownership.specs.declared.options.NewOptions.{NewOptions}
 use Rattle.ownership.specs.World.{Table, Tables, World, process_at, lives, table_at, whereis}
-use Rattle.ownership.specs.Access.{owned_by}
+use Rattle.ownership.specs.Access.{is_owner}
 use Rattle.ownership.specs.Messages.{name_or_identifier, transfer_message, post}
 use Rattle.ownership.specs.Options.{heir_after}
 
@@ -75,7 +75,7 @@ after_transfer w t q message =
 abbrev pub GiveAway : World → ℕ → ℕ → ℕ → Term → Outcome (Result (Unit {0}) WorldFault) World
 GiveAway old p t q gift =
     refuse_none old (table_at old.tables t) (Err Badarg) (λ table.
-    refuse old (not (owned_by table.metadata p)) (Err Badarg) (
+    refuse old (not (is_owner table.metadata p)) (Err Badarg) (
     refuse old (q == p) (Err Badarg) (
     refuse old (not (lives old.processes q)) (Err Badarg) (
     gives (Ok tt) (after_transfer old t q (transfer_message table.metadata t p gift))))))
@@ -88,13 +88,13 @@ after_set_heir w t heir = record w { tables = with_changed (with_heir heir) w.ta
 abbrev pub SetHeir : World → ℕ → ℕ → Option Heir → Outcome (Result (Unit {0}) WorldFault) World
 SetHeir old p t heir =
     refuse_none old (table_at old.tables t) (Err Badarg) (λ table.
-    refuse old (not (owned_by table.metadata p)) (Err Badarg) (
+    refuse old (not (is_owner table.metadata p)) (Err Badarg) (
     gives (Ok tt) (after_set_heir old t heir)))
 
 -- the owner sets the heir by options
 abbrev pub SetOptions : World → ℕ → ℕ → Term → Outcome (Result (Unit {0}) WorldFault) World
 SetOptions old p t options =
     refuse_none old (table_at old.tables t) (Err Badarg) (λ table.
-    refuse old (not (owned_by table.metadata p)) (Err Badarg) (
+    refuse old (not (is_owner table.metadata p)) (Err Badarg) (
     refuse_none old (heir_after table.metadata.heir options) (Err Badarg) (λ heir.
     gives (Ok tt) (after_set_heir old t heir))))

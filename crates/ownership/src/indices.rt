@@ -9,7 +9,7 @@ mod names;
 mod owners;
 mod reassign;
 
-use crate::table::Table;
+use crate::table::OwnedTable;
 use bucket_table::Rows;
 use indexmap::IndexMap;
 use std::alloc::{AllocError, Global};
@@ -43,10 +43,10 @@ impl Indices {
     pub fn insert<R: Rows>(
         &mut self,
         alloc: Global,
-        tables: &[Option<Table<R>>],
-        table: &Table<R>,
+        tables: &[Option<OwnedTable<R>>],
+        table: &OwnedTable<R>,
     ) -> Result<(), AllocError>
-        requires kept { IndicesInvariant self.old tables.now }
+        requires indices { IndicesInvariant self.old tables.now }
         requires few { length tables.now + 1 < 2 ^ 32 }
         requires free { IsNameFree tables.now table.now.metadata }
         ensures ok { OnOk result (IndicesInvariant self.new (tables.now ++ Some table.now ∷ [])) }

@@ -1,5 +1,5 @@
 ghost use Rattle.std.specs.Prelude.{◌≡◌};
-ghost use Rattle.ownership.specs.Access.{owned_by, may_read, may_write};
+ghost use Rattle.ownership.specs.Access.{is_owner, may_read, may_write};
 
 use ets_term::{Atom, Term};
 
@@ -35,7 +35,7 @@ pub struct Metadata {
 impl Metadata {
     /// Checks whether the process owns the table.
     pub fn is_owned_by(&self, pid: u32) -> bool
-        ensures { result ≡ owned_by self.now pid }
+        ensures { result ≡ is_owner self.now pid }
     {
         pid == self.owner
     }

@@ -11,7 +11,7 @@ use std::marker::Model;
 
 /// A table with its metadata, in a box. So an empty place for a table is small.
 #[derive(Drop)]
-pub struct Table<R: Rows> {
+pub struct OwnedTable<R: Rows> {
     parts: Box<Parts<R>>,
 }
 
@@ -21,7 +21,7 @@ struct Parts<R: Rows> {
     walked: Walked<R>,
 }
 
-impl<R: Rows> Model for Table<R> {
+impl<R: Rows> Model for OwnedTable<R> {
     ghost use Rattle.ownership.specs.World.{Table};
     ghost use Rattle.ownership.specs.inside.Codes.{table_code};
 
@@ -32,7 +32,7 @@ impl<R: Rows> Model for Table<R> {
     ghost view = { λ t. record { metadata = t.parts.value.metadata; fixed = t.parts.value.walked } };
 }
 
-impl<R: Rows> Table<R> {
+impl<R: Rows> OwnedTable<R> {
     ghost use Rattle.ownership.specs.inside.Lending.{LendsFixed};
 
     /// Puts a table and its metadata into a box. If memory is refused, both are dropped.
@@ -40,7 +40,7 @@ impl<R: Rows> Table<R> {
         ensures { IfOk result (λ table. table ≡ record { metadata = metadata; fixed = walked }) }
     {
         let parts = Box::new(alloc, Parts { metadata, walked })?;
-        Ok(Table { parts })
+        Ok(OwnedTable { parts })
     }
 
     pub fn metadata(&self) -> &Metadata

@@ -11,7 +11,7 @@ mod tables;
 
 use crate::indices::Indices;
 use crate::process::Process;
-use crate::table::Table;
+use crate::table::OwnedTable;
 use bucket_table::Rows;
 use indexmap::IndexMap;
 use std::alloc::Global;
@@ -26,7 +26,7 @@ pub struct World<R: Rows> {
     most_tables: u32,
     processes: IndexMap<u32, Process>,
     // By identifier. A deleted table leaves an empty place of 16 bytes.
-    tables: Vec<Option<Table<R>>>,
+    tables: Vec<Option<OwnedTable<R>>>,
     indices: Indices,
 }
 

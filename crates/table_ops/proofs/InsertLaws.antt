@@ -16,7 +16,7 @@ use Rattle.table_ops.specs.declared.kind.Kind.TheVariants.{Set, Bag, DuplicateBa
 use Rattle.table_ops.specs.Update.{is_set}
 use Rattle.table_ops.specs.Content.{Content, key_of, is_object, objects_under, AreSlots}
 use Rattle.table_ops.specs.Put.{add, Puts, PutsAll, InsertsWithinLimit, Inserts, InsertsNew, is_taken}
-use Rattle.table_ops.specs.Refusals.{Refines}
+use Rattle.table_ops.specs.Refusals.{RefinesChange}
 use Rattle.table_ops.specs.inside.Undo.{ForKey, after_undo, after_roll_back, added_objects, added_to, PutsOne, PutsObject, PutsEach}
 use Rattle.table_ops.proofs.CountLaws.{count-writes, written}
 use Rattle.table_ops.proofs.PutLaws.{new-put, new-full, set-put}
@@ -255,7 +255,7 @@ module _ {X : Type 0} (done : X) (objects : List Term) (old : Content) where
       room_at (list_any is_too_deep objects) _ _ shallow (slots, p, full_at (nat_lt old.limit (object_count slots)) _ _ (above old.limit (object_count slots) many) (refl, refl))
 
   -- or none is inserted
-  pub stores-refused : list_any is_too_deep objects ≡ false → (e : Refusal) (slots : List Slot) → PutsEach old.limit old.kind old.keypos objects old.slots (Err e) slots → Refines (InsertsWithinLimit done objects old) old (Err e) (record old { slots = slots })
+  pub stores-refused : list_any is_too_deep objects ≡ false → (e : Refusal) (slots : List Slot) → PutsEach old.limit old.kind old.keypos objects old.slots (Err e) slots → RefinesChange (InsertsWithinLimit done objects old) old (Err e) (record old { slots = slots })
   stores-refused shallow Badarg slots p = absurd p
   stores-refused shallow SystemLimit slots p =
       subst (λ (l : List Slot). InsertsWithinLimit done objects old (Err SystemLimit) (record old { slots = l })) (sym p.0) (stores-full shallow p.1.0 p.1.1 p.1.2)
@@ -263,7 +263,7 @@ module _ {X : Type 0} (done : X) (objects : List Term) (old : Content) where
 
 module _ (objects : List Term) (old : Content) where
   -- insert of a list of objects inserts it within the limit
-  pub inserts : list_all (is_object old.keypos) objects ≡ true → (r : Result (Unit {0}) Refusal) (new : Content) → Refines (InsertsWithinLimit tt objects old) old r new → Refines (Inserts objects old) old r new
+  pub inserts : list_all (is_object old.keypos) objects ≡ true → (r : Result (Unit {0}) Refusal) (new : Content) → RefinesChange (InsertsWithinLimit tt objects old) old r new → RefinesChange (Inserts objects old) old r new
   inserts are (Ok x) new h = full_at (list_all (is_object old.keypos) objects) _ _ are h
   inserts are (Err Badarg) new h = full_at (list_all (is_object old.keypos) objects) _ _ are h
   inserts are (Err SystemLimit) new h = full_at (list_all (is_object old.keypos) objects) _ _ are h
@@ -278,7 +278,7 @@ module _ (objects : List Term) (old : Content) where
   pub new-taken : list_all (is_object old.keypos) objects ≡ true → list_any (is_taken old.keypos old.slots) objects ≡ true → InsertsNew objects old (Ok false) old
   new-taken are taken = full_at (list_all (is_object old.keypos) objects) _ _ are (full_at (list_any (is_taken old.keypos old.slots) objects) _ _ taken (refl, refl))
 
-  pub new-stores : list_all (is_object old.keypos) objects ≡ true → list_any (is_taken old.keypos old.slots) objects ≡ false → (r : Result Bool Refusal) (new : Content) → Refines (InsertsWithinLimit true objects old) old r new → Refines (InsertsNew objects old) old r new
+  pub new-stores : list_all (is_object old.keypos) objects ≡ true → list_any (is_taken old.keypos old.slots) objects ≡ false → (r : Result Bool Refusal) (new : Content) → RefinesChange (InsertsWithinLimit true objects old) old r new → RefinesChange (InsertsNew objects old) old r new
   new-stores are free (Ok x) new h = full_at (list_all (is_object old.keypos) objects) _ _ are (room_at (list_any (is_taken old.keypos old.slots) objects) _ _ free h)
   new-stores are free (Err Badarg) new h = full_at (list_all (is_object old.keypos) objects) _ _ are (room_at (list_any (is_taken old.keypos old.slots) objects) _ _ free h)
   new-stores are free (Err SystemLimit) new h = full_at (list_all (is_object old.keypos) objects) _ _ are (room_at (list_any (is_taken old.keypos old.slots) objects) _ _ free h)
@@ -297,6 +297,6 @@ module _ (object key : Term) (old : Content) (its : key_of old.keypos object ≡
       inserts (object ∷ []) old only-object (Ok tt) (record old { slots = slots })
       (stores-done tt (object ∷ []) old none-deep slots p.0 (subst (λ n. n ≤ old.limit) p.1 p.2))
 
-  pub one-not-inserted : (e : Refusal) (slots : List Slot) → PutsEach old.limit old.kind old.keypos (object ∷ []) old.slots (Err e) slots → Refines (Inserts (object ∷ []) old) old (Err e) (record old { slots = slots })
+  pub one-not-inserted : (e : Refusal) (slots : List Slot) → PutsEach old.limit old.kind old.keypos (object ∷ []) old.slots (Err e) slots → RefinesChange (Inserts (object ∷ []) old) old (Err e) (record old { slots = slots })
   one-not-inserted e slots p =
       inserts (object ∷ []) old only-object (Err e) (record old { slots = slots }) (stores-refused tt (object ∷ []) old none-deep e slots p)

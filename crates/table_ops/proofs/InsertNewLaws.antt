@@ -10,7 +10,7 @@ use Rattle.table_ops.specs.declared.refusal.Refusal.{Refusal}
 use Rattle.table_ops.specs.declared.undo.Undo.{Undo}
 use Rattle.table_ops.specs.Content.{Content, key_of, is_object, objects_under, is_present}
 use Rattle.table_ops.specs.Put.{InsertsNew, is_taken}
-use Rattle.table_ops.specs.Refusals.{Refines}
+use Rattle.table_ops.specs.Refusals.{RefinesChange}
 use Rattle.table_ops.specs.inside.Counted.{IsCounted}
 use Rattle.table_ops.specs.inside.Undo.{added_objects, PutsOne}
 use Rattle.table_ops.proofs.InvariantLaws.{slots-puts}
@@ -37,7 +37,7 @@ module _ (object key : Term) (old : Content) (its : key_of old.keypos object ≡
           new-stores (object ∷ []) old one-is one-free (Ok true) (record old { slots = new })
           (stores-done true (object ∷ []) old (ap (λ (b : Bool). b || false) shallow) new one.0 (subst (λ n. n ≤ old.limit) one.1 one.2))
 
-      pub one-kept : (e : Refusal) (new : List Slot) → PutsOne (nat_lt count old.limit) old.kind key object old.slots (Err e) new → Refines (InsertsNew (object ∷ []) old) old (Err e) (record old { slots = new })
+      pub one-kept : (e : Refusal) (new : List Slot) → PutsOne (nat_lt count old.limit) old.kind key object old.slots (Err e) new → RefinesChange (InsertsNew (object ∷ []) old) old (Err e) (record old { slots = new })
       one-kept e new p =
           new-stores (object ∷ []) old one-is one-free (Err e) (record old { slots = new })
           (stores-refused true (object ∷ []) old (ap (λ (b : Bool). b || false) shallow) e new

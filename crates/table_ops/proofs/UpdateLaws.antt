@@ -4,7 +4,7 @@ use Rattle.std.specs.Prelude.{IfOk, OnOk, OnErr, IsErrOf, is_ok, nat_lt, ◌==�
 use Rattle.ets_term.specs.declared.term.Term.{Term}
 use Rattle.ets_term.specs.Order.{same}
 use Rattle.bucket_table.specs.Slots.{Slot, objects_of, with_objects, has_objects, object_count}
-use Rattle.bucket_table.specs.Entries.{HasOne, objects_in, with_objects_in}
+use Rattle.bucket_table.specs.Entries.{HasOneObject, objects_in, with_objects_in}
 use Rattle.counters.specs.Counters.{apply_ops}
 use Rattle.counters.specs.Defaults.{with_key, start_counter, start_elements}
 use Rattle.counters.specs.Elements.{apply_elements}
@@ -19,7 +19,7 @@ use Rattle.table_ops.specs.Content.{Content, key_of, objects_under, AreSlots, Is
 use Rattle.table_ops.specs.Put.{add, SetsObjects, Puts}
 use Rattle.table_ops.specs.declared.refusal.Refusal.{Refusal}
 use Rattle.table_ops.specs.declared.refusal.Refusal.TheVariants.{Badarg, SystemLimit, Memory}
-use Rattle.table_ops.specs.Refusals.{Change, Refines}
+use Rattle.table_ops.specs.Refusals.{Change, RefinesChange}
 use Rattle.table_ops.specs.Update.{refusal_of, is_set, ops_avoid_key, specs_avoid_key, default_is_object, InsertsDefault, UpdatesOrInsertsCounter, UpdatesCounter, with_true, UpdatesOrInsertsElement, UpdatesElement}
 use Rattle.table_ops.specs.inside.Counted.{IsCounted}
 use Rattle.table_ops.specs.inside.Updated.{UpdatesCounterAt, UpdatesElementAt, InsertsDefaultAt}
@@ -39,7 +39,7 @@ written-in slots None v w h = cc
 written-in slots (Some key) v w h = lookup-set_value (same key) slots v w h
 
 -- a slot with one object has the object that replaced it
-pub one-again : (old mid : List Slot) (at own : Option Term) (object : Term) → HasOne old at → mid ≡ with_objects_in old at (object ∷ []) → own ≡ at → HasOne mid own
+pub one-again : (old mid : List Slot) (at own : Option Term) (object : Term) → HasOneObject old at → mid ≡ with_objects_in old at (object ∷ []) → own ≡ at → HasOneObject mid own
 one-again old mid at own object h first same_place =
     (object, ap (objects_in mid) same_place ∙ (ap (λ l. objects_in l at) first ∙ written-in old at (h.0 ∷ []) (object ∷ []) h.1))
 
@@ -74,7 +74,7 @@ module _ (specs : ElementSpecs) (at : Option Term) (old new : List Slot) (was ob
 
 -- the only object of a key in a set
 module _ (kind : Kind) (keypos limit count : ℕ) (old new : List Slot) (key : Term) (at : Option Term) (is : at ≡ Some key) (set : is_set kind ≡ true) (i : IsCounted kind keypos limit count old) where
-  pub one-there : has_objects (objects_under old key) ≡ true → HasOne old at
+  pub one-there : has_objects (objects_under old key) ≡ true → HasOneObject old at
   one-there h = by (objects_of old key) refl h
     where
       of-one : (c : List Term) → length c ≤ 1 → has_objects c ≡ true → (object : Term) × (c ≡ object ∷ [])
@@ -87,14 +87,14 @@ module _ (kind : Kind) (keypos limit count : ℕ) (old new : List Slot) (key : T
       few-of Bag c e s = absurd (true≢false (sym e))
       few-of DuplicateBag c e s = absurd (true≢false (sym e))
 
-      by : (o : Option (List Term)) → objects_of old key ≡ o → has_objects (unwrap_or o []) ≡ true → HasOne old at
+      by : (o : Option (List Term)) → objects_of old key ≡ o → has_objects (unwrap_or o []) ≡ true → HasOneObject old at
       by None e g = absurd (true≢false (sym g))
       by (Some c) e g =
           let one = of-one c (few-of kind c set (slot-of kind keypos old key c i.slots_are e)) g in
           (one.0, ap (objects_in old) is ∙ e ∙ ap Some one.1)
 
   -- the objects read at its place are not empty
-  pub one-read : (objects : List Term) → objects_in old at ≡ Some objects → (length objects == 0) ≡ false → HasOne old at
+  pub one-read : (objects : List Term) → objects_in old at ≡ Some objects → (length objects == 0) ≡ false → HasOneObject old at
   one-read objects read some = one-there (ap has_objects (under-some old key objects (own-in old at key objects is read)) ∙ not-empty objects some)
     where
       not-empty : (c : List Term) → (length c == 0) ≡ false → has_objects c ≡ true
@@ -173,7 +173,7 @@ module _ {X : Type 0} (below_limit : Bool) (key : Term) (made : Result (Term × 
     refusal-starts Memory s = s
 
 -- a result that refines a change refines each weaker one
-lifts : {X : Type 0} (own change : Change X Content) (old : Content) → ((r : Result X Refusal) (new : Content) → own r new → change r new) → (r : Result X Refusal) (new : Content) → Refines own old r new → Refines change old r new
+lifts : {X : Type 0} (own change : Change X Content) (old : Content) → ((r : Result X Refusal) (new : Content) → own r new → change r new) → (r : Result X Refusal) (new : Content) → RefinesChange own old r new → RefinesChange change old r new
 lifts own change old lift (Ok x) new h = lift (Ok x) new h
 lifts own change old lift (Err Badarg) new h = lift (Err Badarg) new h
 lifts own change old lift (Err SystemLimit) new h = lift (Err SystemLimit) new h
@@ -192,7 +192,7 @@ module _ {X : Type 0} (key : Term) (old : Content) (count : ℕ) (none : objects
       let over = is-not-below count old.limit no_room in
       (w.0, w.1, full_at (nat_lt old.limit (object_count w.0)) _ _ (above old.limit (object_count w.0) (omega (arith, more, over, counted, ap length none))) (refl, refl))
 
-  stored-comes : (made : Result (Term × X) CounterFault) (r : Result X Refusal) (slots : List Slot) → InsertsDefaultAt (nat_lt count old.limit) key made old.slots r slots → Refines (InsertsDefault key old made) old r (record old { slots = slots })
+  stored-comes : (made : Result (Term × X) CounterFault) (r : Result X Refusal) (slots : List Slot) → InsertsDefaultAt (nat_lt count old.limit) key made old.slots r slots → RefinesChange (InsertsDefault key old made) old r (record old { slots = slots })
   stored-comes made (Ok answer) slots s =
       let more = count-writes old.slots slots key (s.0 ∷ []) s.3 in
       let below = is-below count old.limit s.2 in
@@ -218,7 +218,7 @@ module _ (key : Term) (ops : Ops) (d : Term) (old : Content) (count : ℕ) (none
         (subst (λ (o : Option Term). UpdatesOrInsertsCounter key ops o old (objects_under old.slots key) r new) (sym is) (counts-none r new (objects_under old.slots key) none h))
 
     -- the counters of a key that has no object, from a Default
-    pub started-comes : (r : Result Term Refusal) (slots : List Slot) → InsertsDefaultAt (nat_lt count old.limit) key (start_counter ops (with_key old.keypos key d)) old.slots r slots → Refines (UpdatesCounter key ops given old) old r (record old { slots = slots })
+    pub started-comes : (r : Result Term Refusal) (slots : List Slot) → InsertsDefaultAt (nat_lt count old.limit) key (start_counter ops (with_key old.keypos key d)) old.slots r slots → RefinesChange (UpdatesCounter key ops given old) old r (record old { slots = slots })
     started-comes r slots s =
         lifts (InsertsDefault key old (start_counter ops (with_key old.keypos key d))) (UpdatesCounter key ops given old) old counts-lifted r (record old { slots = slots })
         (stored-comes key old count none counted (start_counter ops (with_key old.keypos key d)) r slots s)
@@ -235,7 +235,7 @@ module _ (key : Term) (specs : ElementSpecs) (d : Term) (old : Content) (count :
 
     -- the elements of a key that has no object, from a Default
     pub written-comes : (r : Result Bool Refusal) (slots : List Slot) → InsertsDefaultAt (nat_lt count old.limit) key (with_true (start_elements specs (with_key old.keypos key d))) old.slots r slots
-        → Refines (UpdatesElement key specs given old) old r (record old { slots = slots })
+        → RefinesChange (UpdatesElement key specs given old) old r (record old { slots = slots })
     written-comes r slots s =
         lifts (InsertsDefault key old (with_true (start_elements specs (with_key old.keypos key d)))) (UpdatesElement key specs given old) old writes-lifted r (record old { slots = slots })
         (stored-comes key old count none counted (with_true (start_elements specs (with_key old.keypos key d))) r slots s)

@@ -11,11 +11,11 @@ abbrev pub Change : Type 0 → Type 0 → Type 1
 Change X A = Outcome (Result X Refusal) A
 
 -- result and new state are an outcome of the change, or memory was refused and nothing changed
-abbrev pub Refines : {X A : Type 0} → Change X A → A → Result X Refusal → A → Type 0
-Refines change old (Ok x) new = change (Ok x) new
-Refines change old (Err Badarg) new = change (Err Badarg) new
-Refines change old (Err SystemLimit) new = change (Err SystemLimit) new
-Refines change old (Err Memory) new = new ≡ old
+abbrev pub RefinesChange : {X A : Type 0} → Change X A → A → Result X Refusal → A → Type 0
+RefinesChange change old (Ok x) new = change (Ok x) new
+RefinesChange change old (Err Badarg) new = change (Err Badarg) new
+RefinesChange change old (Err SystemLimit) new = change (Err SystemLimit) new
+RefinesChange change old (Err Memory) new = new ≡ old
 
 -- the result of a call that changes nothing: this value; badarg if there is none; or memory was refused
 abbrev pub ReturnsOrBadarg : {X : Type 0} → Option X → Result X Refusal → Type 0

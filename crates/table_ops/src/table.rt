@@ -105,7 +105,7 @@ impl<R: Rows> Table<R> {
     }
 
     /// Returns the lowest bucket that is not ready.
-    pub fn least(&self) -> Option<u32>
+    pub fn first_unready(&self) -> Option<u32>
         ensures { result ≡ position not self.now.buckets }
     {
         self.inner.rows.first_unready()

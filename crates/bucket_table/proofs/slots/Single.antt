@@ -4,10 +4,10 @@ use Rattle.std.proofs.lemmas.Option.{same_Some}
 use Rattle.ets_term.specs.declared.term.Term.{Term}
 use Rattle.node_list.specs.Chains.{with_element, with_element_in_first}
 use Rattle.bucket_table.specs.Slots.{Slot, has_objects}
-use Rattle.bucket_table.specs.Entries.{HasOne, objects_in, with_objects_in, with_element_in}
+use Rattle.bucket_table.specs.Entries.{HasOneObject, objects_in, with_objects_in, with_element_in}
 
 -- The slot has a place.
-pub one-stands : (slots : List Slot) (at : Option Term) → HasOne slots at → IsSome at
+pub one-stands : (slots : List Slot) (at : Option Term) → HasOneObject slots at → IsSome at
 one-stands slots None h = absurd (cc)
 one-stands slots (Some key) h = refl
 
@@ -16,7 +16,7 @@ pub record IsSwapped (was : List Term) (result object : Term) (new : List Term) 
   pub read : was ≡ result ∷ []
   pub written : new ≡ object ∷ []
 
-pub swapped : (slots : List Slot) (at : Option Term) (was new : List Term) (result object : Term) → HasOne slots at → objects_in slots at ≡ Some was → slice_get was 0 ≡ Some result → new ≡ slice_set was 0 object → IsSwapped was result object new
+pub swapped : (slots : List Slot) (at : Option Term) (was new : List Term) (result object : Term) → HasOneObject slots at → objects_in slots at ≡ Some was → slice_get was 0 ≡ Some result → new ≡ slice_set was 0 object → IsSwapped was result object new
 swapped slots at was new result object h e r w =
     let is : was ≡ h.0 ∷ [] = same_Some _ _ (sym e ∙ h.1) in
     let own : Some h.0 ≡ Some result = sym (ap (λ (l : List Term). slice_get l 0) is) ∙ r in
@@ -29,13 +29,13 @@ pub no-held : (new : List Term) (object : Term) → new ≡ object ∷ [] → ha
 no-held new object e h = absurd (cc)
 
 -- There is one object to replace.
-pub one-long : (slots : List Slot) (at : Option Term) (was : List Term) → HasOne slots at → objects_in slots at ≡ Some was → 0 < length was
+pub one-long : (slots : List Slot) (at : Option Term) (was : List Term) → HasOneObject slots at → objects_in slots at ≡ Some was → 0 < length was
 one-long slots at was h e =
     let is : was ≡ h.0 ∷ [] = same_Some _ _ (sym e ∙ h.1) in
     subst (λ (l : List Term). 0 < length l) (sym is) (omega arith)
 
 -- The only object with another element is the only object.
-pub element-one : (slots : List Slot) (at : Option Term) (was new : List Term) (index : ℕ) (value : Term) → (h : HasOne slots at) → objects_in slots at ≡ Some was → new ≡ with_element_in_first index value was
+pub element-one : (slots : List Slot) (at : Option Term) (was new : List Term) (index : ℕ) (value : Term) → (h : HasOneObject slots at) → objects_in slots at ≡ Some was → new ≡ with_element_in_first index value was
     → new ≡ with_element index value h.0 ∷ []
 element-one slots at was new index value h e w = w ∙ ap (with_element_in_first index value) (same_Some _ _ (sym e ∙ h.1))
 

@@ -198,17 +198,17 @@ impl<H: KeyHash + Copy + Drop> Rows for SplitRows<H> {
     }
 
     fn ready(&mut self, bucket: u32) -> Result<Readying, AllocError> {
-        let entry = bucket as usize;
-        if entry >= self.index.directory.len() {
+        let index = bucket as usize;
+        if index >= self.index.directory.len() {
             return Ok(Readying::NotABucket);
         }
-        if self.index.directory.get(entry).is_some() {
+        if self.index.directory.get(index).is_some() {
             return Ok(Readying::AlreadyReady);
         }
         let start = self.index.dummy_start(bucket);
         self.index.list.reserve(1)?;
         let at = self.index.list.insert_dummy(start, dummy_key(bucket));
-        self.index.directory.set(entry, at);
+        self.index.directory.set(index, at);
         self.index.rebuild_with_parent(bucket);
         self.first_unready = self.index.first_unready(self.first_unready);
         Ok(Readying::Ready)

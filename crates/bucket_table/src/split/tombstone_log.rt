@@ -19,7 +19,7 @@ impl TombstoneLog {
     /// Creates an empty log.
     pub fn new(alloc: Global) -> TombstoneLog
         ensures hashes { result.hashes.items ≡ [] }
-        ensures lost { result.overflowed ≡ false }
+        ensures overflow { result.overflowed ≡ false }
     {
         TombstoneLog {
             hashes: Vec::new(alloc),
@@ -30,7 +30,7 @@ impl TombstoneLog {
     /// Reserves room for the hashes of a list of `nodes` nodes, if memory allows.
     pub fn reserve_for(&mut self, nodes: usize)
         ensures hashes { self.new.hashes.items ≡ self.old.hashes.items }
-        ensures lost { self.new.overflowed ≡ self.old.overflowed }
+        ensures overflow { self.new.overflowed ≡ self.old.overflowed }
     {
         let room = self.hashes.capacity();
         if room < nodes / NODES_PER_HASH {

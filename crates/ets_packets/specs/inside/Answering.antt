@@ -28,21 +28,21 @@ abbrev pub IsRest : Bool → List ℕ → Type 0
 IsRest false rest = IsPart rest
 IsRest true rest = IsTooLong rest
 
--- of the bytes held, whole packets are answered
-pub record AnswersHeld (writer : Flow) (before after held rest : List ℕ) (old new : StoreState) (is_long : Bool) : Type 0 where
+-- of the buffered bytes, whole packets are answered
+pub record AnswersBuffered (writer : Flow) (before after buffered rest : List ℕ) (old new : StoreState) (is_long : Bool) : Type 0 where
   pub exchanges : List Exchange
   pub run : Run old exchanges new
-  pub parts : held ≡ requests exchanges ++ rest
+  pub parts : buffered ≡ requests exchanges ++ rest
   pub adds : Sends writer (before ++ replies exchanges) after
   pub follows : IsRest is_long rest
 
 -- the same, and the writer failed
-pub record BreaksHeld (writer : Flow) (before held : List ℕ) (old : StoreState) : Type 0 where
+pub record BreaksBuffered (writer : Flow) (before buffered : List ℕ) (old : StoreState) : Type 0 where
   pub exchanges : List Exchange
   pub end : StoreState
   pub rest : List ℕ
   pub run : Run old exchanges end
-  pub parts : held ≡ requests exchanges ++ rest
+  pub parts : buffered ≡ requests exchanges ++ rest
   pub breaks : Breaks writer (before ++ replies exchanges)
 
 -- the end of the input after this part of a packet

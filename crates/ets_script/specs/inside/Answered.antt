@@ -9,20 +9,20 @@ use Rattle.ets_script.specs.Script.{ScriptState, AnswersLine}
 use Rattle.ets_script.specs.inside.LineBuffers.{LineBufferState, EndsLine}
 use Rattle.ets_script.specs.declared.answer.Answer.{Answer}
 
--- the bytes held begin with a line, and this is its answer
-pub record AnswersHeld (h : LineBufferState) (old new : ScriptState) (answer : Answer) (taken : ℕ) : Type 0 where
+-- the buffered bytes begin with a line, and this is its answer
+pub record AnswersFirstLine (h : LineBufferState) (old new : ScriptState) (answer : Answer) (taken : ℕ) : Type 0 where
   pub line : Line
   pub some : 0 < taken
   pub within : taken ≤ length h.bytes
   pub ends : EndsLine h.bytes h.is_skipping taken line
   pub answers : AnswersLine old line answer new
 
--- the next line and its answer, or the bytes held have no LF
+-- the next line and its answer, or the buffered bytes have no LF
 abbrev pub AnswersNext : LineBufferState → ScriptState → ScriptState → Answer → Option ℕ → Type 0
-AnswersNext h old new answer (Some taken) = AnswersHeld h old new answer taken
+AnswersNext h old new answer (Some taken) = AnswersFirstLine h old new answer taken
 AnswersNext h old new answer None = IsOneLine h.bytes × (new ≡ old)
 
--- what is held is answered as a line that ends with the input; an empty one prints nothing
+-- the rest of the buffer is answered as a line that ends with the input; an empty one prints nothing
 abbrev pub AnswersPart : Bool → ScriptState → List ℕ → Answer → ScriptState → Type 0
 AnswersPart true old bytes answer new = AnswersLine old too_long answer new
 AnswersPart false old bytes answer new = AnswersLine old (text bytes) answer new

@@ -65,7 +65,7 @@ abbrev pub IsPassed : LineBufferState → LineBufferState → Type 0
 IsPassed old new =
     (new.bytes ≡ []) × (new.is_skipping ≡ true) × ((old.is_skipping ≡ true) ⊎ (MAX_LINE < length old.bytes))
 
--- either of these, and what is held is short then
+-- either of these, and the buffered bytes are few then
 pub record Waits (old new : LineBufferState) : Type 0 where
   pub short : length new.bytes ≤ MAX_LINE
   pub reads : new.reads ≡ old.reads

@@ -41,17 +41,17 @@ with_line line l = record l { plan = line_plan l.max_names line l.plan }
 abbrev pub with_lines : List Line → LimitedPlanState → LimitedPlanState
 with_lines lines l = record l { plan = lines_plan l.max_names lines l.plan }
 
--- the bytes held begin with a line of this many bytes, which was added
-pub record PlansHeld (h : LineBufferState) (old new : LimitedPlanState) (taken : ℕ) : Type 0 where
+-- the buffered bytes begin with a line of this many bytes, which was added
+pub record PlansFirstLine (h : LineBufferState) (old new : LimitedPlanState) (taken : ℕ) : Type 0 where
   pub line : Line
   pub some : 0 < taken
   pub within : taken ≤ length h.bytes
   pub ends : EndsLine h.bytes h.is_skipping taken line
   pub plans : new ≡ with_line line old
 
--- the next line was added, or the bytes held have no LF
+-- the next line was added, or the buffered bytes have no LF
 abbrev pub PlansNext : LineBufferState → LimitedPlanState → LimitedPlanState → Option ℕ → Type 0
-PlansNext h old new (Some taken) = PlansHeld h old new taken
+PlansNext h old new (Some taken) = PlansFirstLine h old new taken
 PlansNext h old new None = IsOneLine h.bytes × (new ≡ old)
 
 -- the rest of the buffer when the input ends, as a line

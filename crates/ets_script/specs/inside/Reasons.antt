@@ -42,4 +42,4 @@ WritesReason contents old new number (Some diagnostic) =
 -- the reason that a line has by this rule is written
 abbrev pub WritesWhy : {E : Type 0} → (E → Option (List ℕ)) → WhyWriter E → WhyWriter E → ℕ → (Option Diagnostic → Type 0) → Type 0
 WritesWhy contents old new number Explains =
-    (said : Option Diagnostic) × Explains said × WritesReason contents old new number said
+    (reason : Option Diagnostic) × Explains reason × WritesReason contents old new number reason

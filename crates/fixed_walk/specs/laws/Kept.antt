@@ -5,7 +5,7 @@ use Rattle.ets_term.specs.declared.term.Term.{Term}
 use Rattle.bucket_table.specs.Slots.{HasDistinctKeys}
 use Rattle.table_ops.specs.declared.refusal.Refusal.{Refusal}
 use Rattle.table_ops.specs.Content.{Content}
-use Rattle.table_ops.specs.Refusals.{Change, Refines}
+use Rattle.table_ops.specs.Refusals.{Change, RefinesChange}
 use Rattle.fixed_walk.specs.Fixes.{is_fixed}
 use Rattle.fixed_walk.specs.TableState.{TableState, on_content}
 
@@ -27,4 +27,4 @@ pub record KeepsKeys (old new : TableState) : Type 0 where
 abbrev pub AlwaysKeepsKeys : {X : Type 0} → (Bool → Content → Change X Content) → Type 0
 AlwaysKeepsKeys {X} change =
     (old new : TableState) (r : Result X Refusal)
-    → Refines (on_content (change (is_fixed old.fixes)) old) old r new → KeepsKeys old new
+    → RefinesChange (on_content (change (is_fixed old.fixes)) old) old r new → KeepsKeys old new

@@ -31,12 +31,12 @@ IsWalk before (slots ∷ later) (key ∷ keys) =
     (walk_answer before slots ≡ Some (Some key)) × IsWalk (Some key) later keys
 
 -- an exact traversal: no key comes twice, and each key that has objects at every moment comes
-pub record IsWhole (moments : List (List Slot)) (keys : List Term) : Type 0 where
+pub record IsWholeOverSlots (moments : List (List Slot)) (keys : List Term) : Type 0 where
   pub once : IsDistinct same keys
   pub all : (key : Term) → AllByRecursion (λ slots. is_present slots key ≡ true) moments
       → Contains keys key
 
-abbrev pub WalksAreWhole : Type 0
-WalksAreWhole =
+abbrev pub SlotWalksAreWhole : Type 0
+SlotWalksAreWhole =
     (moments : List (List Slot)) (keys : List Term) → MomentsKeepKeys moments → IsWalk None moments keys
-    → IsWhole moments keys
+    → IsWholeOverSlots moments keys

@@ -6,7 +6,7 @@ ghost use Rattle.table_ops.specs.Drop.{has_key, every_object, DeletesObject};
 ghost use Rattle.table_ops.specs.Outcomes.{Returns};
 ghost use Rattle.table_ops.specs.Put.{Inserts, InsertsNew};
 ghost use Rattle.table_ops.specs.Read.{all_objects, lookup_element, lookup_element_or};
-ghost use Rattle.table_ops.specs.Refusals.{Refines, ReturnsOrBadarg};
+ghost use Rattle.table_ops.specs.Refusals.{RefinesChange, ReturnsOrBadarg};
 ghost use Rattle.table_ops.specs.Update.{UpdatesCounter, UpdatesElement};
 ghost use Rattle.fixed_walk.specs.Fixes.{is_fixed};
 ghost use Rattle.fixed_walk.specs.TableState.{on_content, after_delete};
@@ -71,7 +71,7 @@ impl<R: Rows> Walked<R> {
     /// that was deleted while the table is fixed comes back at its place.
     #[tactic(auto, using(crate::proofs::HeldLaws::held))]
     pub fn insert(&mut self, objects: &[Term]) -> Result<(), Refusal>
-        ensures { Refines (on_content (Inserts objects.now) self.old) self.old result self.new }
+        ensures { RefinesChange (on_content (Inserts objects.now) self.old) self.old result self.new }
     {
         self.table.insert(objects)
     }
@@ -80,7 +80,7 @@ impl<R: Rows> Walked<R> {
     /// ets:insert_new/2). Refuses what `insert` refuses, but `SystemLimit` only if no key has an object.
     #[tactic(auto, using(crate::proofs::HeldLaws::held))]
     pub fn insert_new(&mut self, objects: &[Term]) -> Result<bool, Refusal>
-        ensures { Refines (on_content (InsertsNew objects.now) self.old) self.old result self.new }
+        ensures { RefinesChange (on_content (InsertsNew objects.now) self.old) self.old result self.new }
     {
         self.table.insert_new(objects)
     }
@@ -104,7 +104,7 @@ impl<R: Rows> Walked<R> {
         ops: &Ops,
         default: Option<&Term>,
     ) -> Result<Term, Refusal>
-        ensures { Refines
+        ensures { RefinesChange
             (on_content (UpdatesCounter key.now ops.now (option_copied default.entry)) self.old)
             self.old result self.new }
     {
@@ -116,7 +116,7 @@ impl<R: Rows> Walked<R> {
     #[tactic(auto, using(crate::proofs::HeldLaws::held))]
     #[inline(always)]
     pub fn update_one_counter(&mut self, key: &Term, op: Op) -> Result<Term, Refusal>
-        ensures { Refines (on_content (UpdatesCounter key.now (One op) None) self.old)
+        ensures { RefinesChange (on_content (UpdatesCounter key.now (One op) None) self.old)
             self.old result self.new }
     {
         self.table.update_one_counter(key, op)
@@ -140,7 +140,7 @@ impl<R: Rows> Walked<R> {
         specs: &ElementSpecs,
         default: Option<&Term>,
     ) -> Result<bool, Refusal>
-        ensures { Refines
+        ensures { RefinesChange
             (on_content (UpdatesElement key.now specs.now (option_copied default.entry)) self.old)
             self.old result self.new }
     {
@@ -156,7 +156,7 @@ impl<R: Rows> Walked<R> {
         position: Position,
         value: &Term,
     ) -> Result<bool, Refusal>
-        ensures { Refines
+        ensures { RefinesChange
             (on_content (UpdatesElement key.now
             (elements.One (record { position = position; value = value.now })) None) self.old)
             self.old result self.new }
@@ -176,7 +176,7 @@ impl<R: Rows> Walked<R> {
     /// Removes and returns the objects of a key, oldest first (stdlib manual, ets:take/2).
     #[tactic(auto, using(crate::proofs::HeldLaws::held))]
     pub fn take(&mut self, key: &Term) -> Result<Items<Term>, AllocError>
-        ensures taken { Returns result (objects_under self.old.content.slots key.now) }
+        ensures objects { Returns result (objects_under self.old.content.slots key.now) }
         ensures ok { OnOk result (self.new ≡ after_delete (has_key key.now) self.old) }
         ensures err { OnErr result (self.new ≡ self.old) }
     {

@@ -5,7 +5,7 @@ use Rattle.std.specs.Option.{option_and_then, option_map_or}
 use Rattle.ets_term.specs.declared.term.Term.{Term}
 use Rattle.table_ops.specs.declared.refusal.Refusal.{Refusal}
 use Rattle.table_ops.specs.declared.refusal.Refusal.TheVariants.{Badarg, SystemLimit, Memory}
-use Rattle.table_ops.specs.Refusals.{Change, Refines}
+use Rattle.table_ops.specs.Refusals.{Change, RefinesChange}
 use Rattle.table_ops.specs.Outcomes.{Outcome, gives}
 use Rattle.fixed_walk.specs.TableState.{TableState}
 use Rattle.ownership.specs.World.{Table, Tables, table_at, resolve}
@@ -69,8 +69,8 @@ module _ (old : State) (p : ℕ) (access : Access) (term : Term) (was f : TableS
     changed-ok answer change x h = changed (replies answer change) (answer x) (Ok x, h, refl)
 
     -- the change is refused, and so is the call
-    pub changed-err : {X : Type 0} (answer : X → Reply) (change : TableState → Change X TableState) (refusal : Refusal) → Refines (change was) was (Err refusal) f
-        → called.Refines (changes old p access term (replies answer change)) old (Err refusal) (with_usable old access p term f)
+    pub changed-err : {X : Type 0} (answer : X → Reply) (change : TableState → Change X TableState) (refusal : Refusal) → RefinesChange (change was) was (Err refusal) f
+        → called.RefinesReply (changes old p access term (replies answer change)) old (Err refusal) (with_usable old access p term f)
     changed-err answer change Badarg h = changed (replies answer change) told.Badarg (Err Badarg, h, refl)
     changed-err answer change SystemLimit h = changed (replies answer change) told.SystemLimit (Err SystemLimit, h, refl)
     changed-err answer change Memory h = unchanged h

@@ -23,10 +23,10 @@ use Rattle.node_core.specs.CallName.{call_name}
 use Rattle.node_core.specs.Calls.{call, call_by_text}
 use Rattle.node_core.specs.Machine.{step}
 use Rattle.node_core.specs.rules.Growth.{ok_reply, growth_reply}
-use Rattle.node_core.specs.rules.Reading.{Lookup, Member, LookupElement, LookupElementOr, Tab2list}
+use Rattle.node_core.specs.rules.Reading.{lookup_reply, member_reply, lookup_element_reply, lookup_element_or_reply, tab2list_reply}
 use Rattle.node_core.specs.rules.Replies.{true_reply}
-use Rattle.node_core.specs.rules.Searching.{Match, MatchObject, Select, SelectCount}
-use Rattle.node_core.specs.rules.Walking.{First, Next, FirstLookup, NextLookup}
+use Rattle.node_core.specs.rules.Searching.{match_reply, match_object_reply, select_reply, select_count_reply}
+use Rattle.node_core.specs.rules.Walking.{first_reply, next_reply, first_lookup_reply, next_lookup_reply}
 use Rattle.node_core.specs.Woven.{is_step_of}
 use Rattle.node_core.proofs.calls.CallLaws.{IsLawfulReply, IsLawfulCall, tells-lawful, tells-as, either-lawful, reads-lawful, changes-lawful, asks-lawful, new_call-lawful, delete_table-lawful, give_away-lawful, set_options_call-lawful, receive-lawful, whereis-lawful, info-lawful, fixtable-lawful}
 use Rattle.node_core.proofs.moves.Moves.{Follows, Moves, moves-same}
@@ -63,36 +63,36 @@ module _ (p : ℕ) (needs : Bool) (old : State) where
   pub call-lawful : (name : CallName) (args : List Term) → (may_need_copy name ≡ true → needs ≡ true)
       → Laws (call old p name args) (call (observable old) p name args)
   call-lawful name.Receive [] copy = receive-lawful own needs old p (copy refl)
-  call-lawful name.Tab2list (x ∷ []) copy = reading x Tab2list (λ f. refl)
+  call-lawful name.Tab2list (x ∷ []) copy = reading x tab2list_reply (λ f. refl)
   call-lawful name.DeleteAllObjects (x ∷ []) copy = writing x (delete_all-lawful own needs)
   call-lawful name.Delete (x ∷ []) copy = delete_table-lawful own needs old p x
-  call-lawful name.First (x ∷ []) copy = reading x First (λ f. refl)
-  call-lawful name.FirstLookup (x ∷ []) copy = reading x FirstLookup (λ f. refl)
+  call-lawful name.First (x ∷ []) copy = reading x first_reply (λ f. refl)
+  call-lawful name.FirstLookup (x ∷ []) copy = reading x first_lookup_reply (λ f. refl)
   call-lawful name.Whereis (x ∷ []) copy = whereis-lawful own needs old x
   call-lawful name.Insert (x ∷ y ∷ []) copy = writing x (insert-lawful own needs y)
   call-lawful name.InsertNew (x ∷ y ∷ []) copy = writing x (insert_new-lawful own needs y)
-  call-lawful name.Lookup (x ∷ y ∷ []) copy = reading x (Lookup y) (λ f. refl)
-  call-lawful name.Member (x ∷ y ∷ []) copy = reading x (Member y) (λ f. refl)
+  call-lawful name.Lookup (x ∷ y ∷ []) copy = reading x (lookup_reply y) (λ f. refl)
+  call-lawful name.Member (x ∷ y ∷ []) copy = reading x (member_reply y) (λ f. refl)
   call-lawful name.Take (x ∷ y ∷ []) copy = writing x (take-lawful own needs (copy refl) y)
   call-lawful name.Delete (x ∷ y ∷ []) copy = writing x (delete-lawful own needs y)
   call-lawful name.DeleteObject (x ∷ y ∷ []) copy = writing x (delete_object-lawful own needs y)
-  call-lawful name.Match (x ∷ y ∷ []) copy = reading x (Match y) (λ f. refl)
-  call-lawful name.MatchObject (x ∷ y ∷ []) copy = reading x (MatchObject y) (λ f. refl)
+  call-lawful name.Match (x ∷ y ∷ []) copy = reading x (match_reply y) (λ f. refl)
+  call-lawful name.MatchObject (x ∷ y ∷ []) copy = reading x (match_object_reply y) (λ f. refl)
   call-lawful name.MatchDelete (x ∷ y ∷ []) copy = writing x (match_delete-lawful own needs y)
-  call-lawful name.Select (x ∷ y ∷ []) copy = reading x (Select y) (λ f. refl)
-  call-lawful name.SelectCount (x ∷ y ∷ []) copy = reading x (SelectCount y) (λ f. refl)
+  call-lawful name.Select (x ∷ y ∷ []) copy = reading x (select_reply y) (λ f. refl)
+  call-lawful name.SelectCount (x ∷ y ∷ []) copy = reading x (select_count_reply y) (λ f. refl)
   call-lawful name.SelectDelete (x ∷ y ∷ []) copy = writing x (select_delete-lawful own needs y)
   call-lawful name.New (x ∷ y ∷ []) copy = new_call-lawful own needs old p (copy refl) x y
-  call-lawful name.Next (x ∷ y ∷ []) copy = reading x (Next y) (λ f. refl)
-  call-lawful name.NextLookup (x ∷ y ∷ []) copy = reading x (NextLookup y) (λ f. refl)
+  call-lawful name.Next (x ∷ y ∷ []) copy = reading x (next_reply y) (λ f. refl)
+  call-lawful name.NextLookup (x ∷ y ∷ []) copy = reading x (next_lookup_reply y) (λ f. refl)
   call-lawful name.SafeFixtable (x ∷ y ∷ []) copy = fixtable-lawful p needs old x y
   call-lawful name.SetOptions (x ∷ y ∷ []) copy = set_options_call-lawful own needs old p x y
   call-lawful name.Info (x ∷ y ∷ []) copy = info-lawful own needs old x y
-  call-lawful name.LookupElement (x ∷ y ∷ z ∷ []) copy = reading x (LookupElement y z) (λ f. refl)
+  call-lawful name.LookupElement (x ∷ y ∷ z ∷ []) copy = reading x (lookup_element_reply y z) (λ f. refl)
   call-lawful name.UpdateCounter (x ∷ y ∷ z ∷ []) copy = writing x (update_counter-lawful own needs (copy refl) y z None)
   call-lawful name.UpdateElement (x ∷ y ∷ z ∷ []) copy = writing x (update_element-lawful own needs y z None)
   call-lawful name.GiveAway (x ∷ y ∷ z ∷ []) copy = give_away-lawful own needs old p x y z
-  call-lawful name.LookupElement (x ∷ y ∷ z ∷ w ∷ []) copy = reading x (LookupElementOr y z w) (λ f. refl)
+  call-lawful name.LookupElement (x ∷ y ∷ z ∷ w ∷ []) copy = reading x (lookup_element_or_reply y z w) (λ f. refl)
   call-lawful name.UpdateCounter (x ∷ y ∷ z ∷ w ∷ []) copy = writing x (update_counter-lawful own needs (copy refl) y z (Some w))
   call-lawful name.UpdateElement (x ∷ y ∷ z ∷ w ∷ []) copy = writing x (update_element-lawful own needs y z (Some w))
   call-lawful _ _ copy = none

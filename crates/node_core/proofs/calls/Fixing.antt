@@ -13,7 +13,7 @@ use Rattle.node_core.specs.Access.{usable, changes}
 use Rattle.node_core.specs.rules.Replies.{true_reply}
 use Rattle.node_core.specs.rules.Walking.{Fixes}
 use Rattle.node_core.specs.inside.Lending.{with_usable}
-use Rattle.node_core.specs.inside.Refusals.{Refines}
+use Rattle.node_core.specs.inside.Refusals.{RefinesReply}
 use Rattle.node_core.proofs.calls.Changes.{changed, unchanged}
 
 module _ (old : State) (p : ℕ) (term : Term) (was f : TableState) (there : Some was ≡ option_map (λ found. found.1.fixed) (usable Read old.world.tables p term)) where
@@ -33,6 +33,6 @@ module _ (old : State) (p : ℕ) (term : Term) (was f : TableState) (there : Som
   not-fixed h = unchanged old p Read term was f there h.1
 
   -- the fix is refused for either reason
-  pub refused : (why : FixFault) → IncrementsFix p was (Err why) f → Refines (changes old p Read term (Fixes p)) old (Err (refusal_of_fix why)) after
+  pub refused : (why : FixFault) → IncrementsFix p was (Err why) f → RefinesReply (changes old p Read term (Fixes p)) old (Err (refusal_of_fix why)) after
   refused fault.SystemLimit h = most-fixes h
   refused fault.Memory h = not-fixed h

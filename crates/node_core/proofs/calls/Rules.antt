@@ -10,7 +10,7 @@ use Rattle.counters.specs.Elements.{specs_of}
 use Rattle.table_ops.specs.declared.refusal.Refusal.{Refusal}
 use Rattle.table_ops.specs.declared.refusal.Refusal.TheVariants.{Badarg, SystemLimit, Memory}
 use Rattle.table_ops.specs.Content.{Content, key_of}
-use Rattle.table_ops.specs.Refusals.{Change, Refines}
+use Rattle.table_ops.specs.Refusals.{Change, RefinesChange}
 use Rattle.table_ops.specs.Drop.{Which, has_key, every_object, equal_to, without_those, DeletesObject}
 use Rattle.table_ops.specs.Put.{Inserts, InsertsNew}
 use Rattle.table_ops.specs.Queries.{chosen_count, matches, is_chosen}
@@ -25,7 +25,7 @@ use Rattle.fixed_walk.specs.laws.Kept.{AlwaysKeepsKeys}
 use Rattle.fixed_walk.proofs.KeptLaws.{insert-keeps, insert_new-keeps, update_counter-keeps, update_element-keeps, delete_object-keeps}
 use Rattle.node_core.specs.declared.step.Reply.{Reply}
 use Rattle.node_core.specs.Observable.{observable_fixed}
-use Rattle.node_core.specs.Access.{CallRule, ResultToReply, replies}
+use Rattle.node_core.specs.Access.{CallRule, ChangeResultToReply, replies}
 use Rattle.node_core.specs.rules.Insertion.{objects_in, Insert, InsertNew}
 use Rattle.node_core.specs.rules.Removal.{Take, Delete, DeleteObject, DeleteAllObjects}
 use Rattle.node_core.specs.rules.Replies.{true_reply, truth_reply}
@@ -45,7 +45,7 @@ pub record IsLawful (own : ℕ → Bool) (needs : Bool) (rule : CallRule) : Type
 -- and of each change
 record IsLawfulChange (own : ℕ → Bool) (X : Type 0) (change : TableState → Change X TableState) : Type 0 where
   unobservable : (old new : TableState) (r : Result X Refusal) → change old r new → change (observable_fixed old) r (observable_fixed new)
-  preserves : (old new : TableState) (r : Result X Refusal) → Refines (change old) old r new → Preserves own old new
+  preserves : (old new : TableState) (r : Result X Refusal) → RefinesChange (change old) old r new → Preserves own old new
 
 -- a reply that needs memory is not one that takes none
 pub contrary : {X : Type 0} {needs : Bool} → needs ≡ true → needs ≡ false → X
@@ -66,7 +66,7 @@ unfolding out-Term denote.Hole.Carrier.out
 count-flat n = refl
 
 told-flat : {X : Type 0} (answer : X → Reply) → ((x : X) → is_flat (answer x) ≡ true)
-    → (r : Result X Refusal) (reply : Reply) → ResultToReply answer r reply → is_flat reply ≡ true
+    → (r : Result X Refusal) (reply : Reply) → ChangeResultToReply answer r reply → is_flat reply ≡ true
 told-flat answer flat (Ok x) reply e = ap is_flat e ∙ flat x
 told-flat answer flat (Err Badarg) reply e = ap is_flat e
 told-flat answer flat (Err SystemLimit) reply e = ap is_flat e
@@ -89,7 +89,7 @@ module _ {X : Type 0} (change : Content → Change X Content) where
 
 module _ (own : ℕ → Bool) where
   content-preserves : {X : Type 0} (change : Content → Change X Content) → AlwaysKeepsKeys (λ hold. change) → NeverEnds change
-      → (old new : TableState) (r : Result X Refusal) → Refines (on_content change old) old r new → Preserves own old new
+      → (old new : TableState) (r : Result X Refusal) → RefinesChange (on_content change old) old r new → Preserves own old new
   content-preserves change keeps never old new (Ok x) h =
       preserves-content own old new h.1 (keeps old new (Ok x) h) (never old.content new.content (Ok x) h.0)
   content-preserves change keeps never old new (Err Badarg) h =
@@ -103,7 +103,7 @@ module _ (own : ℕ → Bool) where
   on-content change keeps never = record { unobservable = content-unobservable change; preserves = content-preserves change keeps never }
 
   gave-preserves : {X : Type 0} (answer : Result X Refusal) (after old new : TableState) (r : Result X Refusal)
-      → Preserves own old after → Refines (gives answer after) old r new → Preserves own old new
+      → Preserves own old after → RefinesChange (gives answer after) old r new → Preserves own old new
   gave-preserves answer after old new (Ok x) t h = subst (Preserves own old) (sym h.1) t
   gave-preserves answer after old new (Err Badarg) t h = subst (Preserves own old) (sym h.1) t
   gave-preserves answer after old new (Err SystemLimit) t h = subst (Preserves own old) (sym h.1) t
@@ -119,13 +119,13 @@ module _ (own : ℕ → Bool) where
     by-unobservable None old new r h = (h.0, ap observable_fixed h.1)
     by-unobservable (Some y) old new r h = (lawful y).unobservable old new r h
 
-    by-preserves : (o : Option Y) (old new : TableState) (r : Result X Refusal) → Refines (By o old) old r new → Preserves own old new
+    by-preserves : (o : Option Y) (old new : TableState) (r : Result X Refusal) → RefinesChange (By o old) old r new → Preserves own old new
     by-preserves None old new r h = gave-preserves (Err Badarg) old old new r (preserves-same own old old refl) h
     by-preserves (Some y) old new r h = (lawful y).preserves old new r h
 
   module _ (needs : Bool) where
     comes-of : {X : Type 0} (answer : X → Reply) (change : Change X TableState) (old new : TableState) (r : Result X Refusal) (reply : Reply)
-        → change r new → ResultToReply answer r reply → Refines change old r new
+        → change r new → ChangeResultToReply answer r reply → RefinesChange change old r new
     comes-of answer change old new (Ok x) reply h e = h
     comes-of answer change old new (Err Badarg) reply h e = h
     comes-of answer change old new (Err SystemLimit) reply h e = h
@@ -189,7 +189,7 @@ module _ (own : ℕ → Bool) where
         (object-at (is_fixed old.fixes) (key_of old.content.keypos object) object old.content new.content r h.0)
 
     object-preserves : (object : Term) (old new : TableState) (r : Result (Unit {0}) Refusal)
-        → Refines (deletes object old) old r new → Preserves own old new
+        → RefinesChange (deletes object old) old r new → Preserves own old new
     object-preserves object old new (Ok x) h = object-done object old new (Ok x) h
     object-preserves object old new (Err Badarg) h = object-done object old new (Err Badarg) h
     object-preserves object old new (Err SystemLimit) h = object-done object old new (Err SystemLimit) h
@@ -206,7 +206,7 @@ module _ (own : ℕ → Bool) where
     deletes-unobservable false answer which old new r h = (h.0, ap observable_fixed h.1)
 
     deletes-preserves : {X : Type 0} (good : Bool) (answer : X) (which : Which) (old new : TableState) (r : Result X Refusal)
-        → Refines (Deletes good answer which old) old r new → Preserves own old new
+        → RefinesChange (Deletes good answer which old) old r new → Preserves own old new
     deletes-preserves true answer which old new r h =
         gave-preserves (Ok answer) (after_delete which old) old new r (preserves-without own which old) h
     deletes-preserves false answer which old new r h = gave-preserves (Err Badarg) old old new r (preserves-same own old old refl) h

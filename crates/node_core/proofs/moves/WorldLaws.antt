@@ -12,14 +12,14 @@ use Rattle.ownership.specs.declared.metadata.Metadata.{Metadata}
 use Rattle.ownership.specs.declared.metadata.Heir.{Heir}
 use Rattle.ownership.specs.declared.options.NewOptions.{NewOptions}
 use Rattle.ownership.specs.World.{Table, Tables, Processes, World, process_at, lives, table_at, whereis}
-use Rattle.ownership.specs.Access.{owned_by}
+use Rattle.ownership.specs.Access.{is_owner}
 use Rattle.ownership.specs.Messages.{name_or_identifier, transfer_message, post, post_all}
 use Rattle.ownership.specs.Options.{heir_after}
 use Rattle.ownership.specs.Tables as tables
 use Rattle.ownership.specs.Tables.{after_enrol, new_metadata, with_table, with_owner, with_heir, with_changed, after_set_heir}
 use Rattle.ownership.specs.End as ends
 use Rattle.ownership.specs.End.{with_ended, living_heir, without_fixes, table_after_exit, message_of, messages_from, after_exit}
-use Rattle.ownership.specs.Outcomes.{Refines}
+use Rattle.ownership.specs.Outcomes.{RefinesWorld}
 use Rattle.node_core.specs.Observable.{observable_fixed, observable_table, observable_tables}
 use Rattle.node_core.proofs.buckets.ObservableTables.{observable_world, at-observable, length-observable, whereis-observable, push-observable, changed-observable}
 use Rattle.node_core.proofs.moves.Preserves.{all_released-observable}
@@ -110,7 +110,7 @@ module _ (P : World → Type 0) (old : World) (same : P old) where
     module _ (q : ℕ) (gift : Term) where
       abbrev Gives : World → Metadata → Outcome (Result (Unit {0}) WorldFault) World
       Gives w metadata =
-          refuse w (not (owned_by metadata p)) (Err Badarg) (
+          refuse w (not (is_owner metadata p)) (Err Badarg) (
           refuse w (q == p) (Err Badarg) (
           refuse w (not (lives w.processes q)) (Err Badarg) (
           gives (Ok tt) (given w p t q gift metadata))))
@@ -118,7 +118,7 @@ module _ (P : World → Type 0) (old : World) (same : P old) where
       gives-to : (metadata : Metadata) → P (given old p t q gift metadata)
           → Lawful (Unit {0}) (Gives old metadata) (Gives (observable_world old) metadata)
       gives-to metadata after =
-          refuse-lawful (not (owned_by metadata p)) Badarg (λ its.
+          refuse-lawful (not (is_owner metadata p)) Badarg (λ its.
           refuse-lawful (q == p) Badarg (λ another.
           refuse-lawful (not (lives old.processes q)) Badarg (λ living.
           gives-lawful tt (given old p t q gift metadata) (given (observable_world old) p t q gift metadata)
@@ -132,12 +132,12 @@ module _ (P : World → Type 0) (old : World) (same : P old) where
     module _ (options : Term) (after : (heir : Option Heir) → P (after_set_heir old t heir)) where
       abbrev Sets : World → Metadata → Outcome (Result (Unit {0}) WorldFault) World
       Sets w metadata =
-          refuse w (not (owned_by metadata p)) (Err Badarg) (
+          refuse w (not (is_owner metadata p)) (Err Badarg) (
           refuse_none w (heir_after metadata.heir options) (Err Badarg) (λ heir. gives (Ok tt) (after_set_heir w t heir)))
 
       sets : (metadata : Metadata) → Lawful (Unit {0}) (Sets old metadata) (Sets (observable_world old) metadata)
       sets metadata =
-          refuse-lawful (not (owned_by metadata p)) Badarg (λ its.
+          refuse-lawful (not (is_owner metadata p)) Badarg (λ its.
           where-lawful (heir_after metadata.heir options) (λ heir.
           gives-lawful tt (after_set_heir old t heir) (after_set_heir (observable_world old) t heir)
           (ap (λ ts. record old { tables = ts }) (sym (changed-observable (with_heir heir) (λ table. refl) old.tables t))) (after heir)))
@@ -148,7 +148,7 @@ module _ (P : World → Type 0) (old : World) (same : P old) where
 
   -- running out of memory changes nothing
   pub comes-keep : {X : Type 0} {unobservable : Outcome (Result X WorldFault) World} (outcome : Outcome (Result X WorldFault) World) → Lawful X outcome unobservable
-      → (r : Result X WorldFault) (new : World) → Refines outcome old r new → P new
+      → (r : Result X WorldFault) (new : World) → RefinesWorld outcome old r new → P new
   comes-keep outcome lawful (Ok x) new h = lawful.keeps (Ok x) new h
   comes-keep outcome lawful (Err Badarg) new h = lawful.keeps (Err Badarg) new h
   comes-keep outcome lawful (Err SystemLimit) new h = lawful.keeps (Err SystemLimit) new h
@@ -174,7 +174,7 @@ module _ (processes : Processes) (p : ℕ) where
   after-observable : (o : Option Table)
       → table_after_exit processes p (option_map observable_table o) ≡ option_map observable_table (table_after_exit processes p o)
   after-observable None = refl
-  after-observable (Some table) = either-observable (owned_by table.metadata p) (living_heir processes table.metadata) table
+  after-observable (Some table) = either-observable (is_owner table.metadata p) (living_heir processes table.metadata) table
 
   all-observable : (ts : Tables)
       → map (table_after_exit processes p) (observable_tables ts) ≡ observable_tables (map (table_after_exit processes p) ts)

@@ -10,7 +10,7 @@ use Rattle.ownership.specs.declared.metadata.Metadata.{Metadata}
 use Rattle.ownership.specs.declared.metadata.Heir.{Heir}
 use Rattle.ownership.specs.declared.options.NewOptions.{NewOptions}
 use Rattle.ownership.specs.World.{Table, Processes, World, process_at, whereis}
-use Rattle.ownership.specs.Access.{owned_by}
+use Rattle.ownership.specs.Access.{is_owner}
 use Rattle.ownership.specs.Messages.{transfer_message, post, post_all, after_receive}
 use Rattle.ownership.specs.Tables.{after_enrol, new_metadata, with_table, without_table, with_owner, with_heir, after_set_heir}
 use Rattle.ownership.specs.End.{with_ended, living_heir, without_fixes, table_after_exit, messages_from, after_exit}
@@ -109,7 +109,7 @@ module _ (processes : Processes) (p : ℕ) where
       let is : without_fixes p was ≡ table = cc in subst (StaysGiven was) is (without_fixes-stays was)
 
   stays-after : (was table : Table) → table_after_exit processes p (Some was) ≡ Some table → StaysGiven was table
-  stays-after was table e = either-after (owned_by was.metadata p) (living_heir processes was.metadata) was table e
+  stays-after was table e = either-after (is_owner was.metadata p) (living_heir processes was.metadata) was table e
 
 pub end-moves : (old : World) (p : ℕ) → Moves (λ w. p == w) old (after_exit old (with_ended old.processes p) p)
 end-moves old p = record {

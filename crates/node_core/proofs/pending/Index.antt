@@ -12,7 +12,7 @@ use Rattle.fixed_walk.specs.Fixes.{is_fixed, with_count}
 use Rattle.fixed_walk.specs.TableState.{TableState, without_tombstones_if_unfixed}
 use Rattle.ownership.specs.declared.metadata.Heir.{Heir}
 use Rattle.ownership.specs.World.{Table, Tables, Processes, table_at}
-use Rattle.ownership.specs.Access.{owned_by}
+use Rattle.ownership.specs.Access.{is_owner}
 use Rattle.ownership.specs.Tables.{with_owner}
 use Rattle.ownership.specs.End.{table_after_exit, living_heir, without_fixes}
 use Rattle.node_core.specs.declared.step.Step.TheVariants.{Grow, Ready}
@@ -156,7 +156,7 @@ settled-due t table = by (is_fixed table.fixes)
 
 after-due : (processes : Processes) (p t : ℕ) (o : Option Table) → due_in t (table_after_exit processes p o) ≡ true → due_in t o ≡ true
 after-due processes p t None h = h
-after-due processes p t (Some table) h = by (owned_by table.metadata p) (living_heir processes table.metadata) h
+after-due processes p t (Some table) h = by (is_owner table.metadata p) (living_heir processes table.metadata) h
   where
     by : (own : Bool) (heir : Option Heir) → due_in t (if own then option_map (λ heir. with_owner heir.pid (without_fixes p table)) heir else Some (without_fixes p table)) ≡ true → is_some (pending_of t table.fixed) ≡ true
     by true None e = cc

@@ -9,7 +9,7 @@ use Rattle.ownership.specs.declared.fault.WorldFault.TheVariants.{Badarg, System
 use Rattle.ownership.specs.declared.options.NewOptions.{NewOptions}
 use Rattle.ownership.specs.World.{World, whereis}
 use Rattle.ownership.specs.Messages.{name_or_identifier}
-use Rattle.ownership.specs.Outcomes.{Refines}
+use Rattle.ownership.specs.Outcomes.{RefinesWorld}
 use Rattle.ownership.specs.Tables.{Enrol, New, GiveAway, SetOptions, new_metadata, with_table, with_owner, with_heir}
 use Rattle.ownership.specs.End.{End, with_ended}
 use Rattle.node_core.specs.inside.PendingTables.{PendingTablesState}
@@ -21,16 +21,16 @@ module _ (all : PendingTablesState) (old new : World) (is : TracksPending old.ta
   abbrev P : World → Type 0
   P w = TracksPending w.tables all
 
-  pub enrol-keeps : (p : ℕ) (r : Result (Unit {0}) WorldFault) → Refines (Enrol old p) old r new → P new
+  pub enrol-keeps : (p : ℕ) (r : Result (Unit {0}) WorldFault) → RefinesWorld (Enrol old p) old r new → P new
   enrol-keeps p r = comes-keep P old is (Enrol old p) (enrol-lawful P old is p is) r new
 
-  pub end-keeps : (p : ℕ) (r : Result (Unit {0}) WorldFault) → Refines (End old p) old r new → P new
+  pub end-keeps : (p : ℕ) (r : Result (Unit {0}) WorldFault) → RefinesWorld (End old p) old r new → P new
   end-keeps p r = comes-keep P old is (End old p) (end-lawful P old is p (index.ended old.tables all (with_ended old.processes p) p is)) r new
 
-  pub give-keeps : (p t q : ℕ) (gift : Term) (r : Result (Unit {0}) WorldFault) → Refines (GiveAway old p t q gift) old r new → P new
+  pub give-keeps : (p t q : ℕ) (gift : Term) (r : Result (Unit {0}) WorldFault) → RefinesWorld (GiveAway old p t q gift) old r new → P new
   give-keeps p t q gift r = comes-keep P old is (GiveAway old p t q gift) (give-lawful P old is p t q gift (λ metadata. index.rehead old.tables all t (with_owner q) (λ _. refl) is)) r new
 
-  pub set-keeps : (p t : ℕ) (options : Term) (r : Result (Unit {0}) WorldFault) → Refines (SetOptions old p t options) old r new → P new
+  pub set-keeps : (p t : ℕ) (options : Term) (r : Result (Unit {0}) WorldFault) → RefinesWorld (SetOptions old p t options) old r new → P new
   set-keeps p t options r = comes-keep P old is (SetOptions old p t options) (set_options-lawful P old is p t options (λ heir. index.rehead old.tables all t (with_heir heir) (λ _. refl) is)) r new
 
 module _ (old new : World) (p : ℕ) (name : List ℕ) (options : NewOptions) (fixed : TableState) where
@@ -46,14 +46,14 @@ module _ (old new : World) (p : ℕ) (name : List ℕ) (options : NewOptions) (f
   refused-same false false fault h = let e = h.0 in cc
 
   -- a table that is refused changes nothing
-  pub new-refused : (fault : WorldFault) → Refines (New old p name options fixed) old (Err fault) new → new ≡ old
+  pub new-refused : (fault : WorldFault) → RefinesWorld (New old p name options fixed) old (Err fault) new → new ≡ old
   new-refused Badarg h = refused-same (options.named && is_some (whereis old.tables name)) (nat_le old.most_tables (length old.tables)) Badarg h
   new-refused SystemLimit h = refused-same (options.named && is_some (whereis old.tables name)) (nat_le old.most_tables (length old.tables)) SystemLimit h
   new-refused NoProcess h = refused-same (options.named && is_some (whereis old.tables name)) (nat_le old.most_tables (length old.tables)) NoProcess h
   new-refused Memory h = h
 
   -- else there is one more
-  pub new-made : (x : Term) → Refines (New old p name options fixed) old (Ok x) new → new ≡ made
+  pub new-made : (x : Term) → RefinesWorld (New old p name options fixed) old (Ok x) new → new ≡ made
   new-made x h = by (options.named && is_some (whereis old.tables name)) (nat_le old.most_tables (length old.tables)) h
     where
       by : (taken full : Bool) → refuse old taken (Err Badarg) (refuse old full (Err SystemLimit) (gives (Ok answer) made)) (Ok x) new → new ≡ made

@@ -20,7 +20,7 @@ use Rattle.node_core.specs.declared.step.Step.TheVariants.{Ask}
 use Rattle.node_core.specs.declared.node.reply_reserve.ReplyReserve.{ReplyReserve}
 use Rattle.node_core.specs.declared.node.reply_reserve.ReplyReserve.TheVariants.{Nothing, Predicted, Capacity}
 use Rattle.node_core.specs.State.{State}
-use Rattle.node_core.specs.Access.{usable, with_table, ResultToReply, writes}
+use Rattle.node_core.specs.Access.{usable, with_table, ChangeResultToReply, writes}
 use Rattle.node_core.specs.CallName.{call_name}
 use Rattle.node_core.specs.Calls.{call, call_by_text}
 use Rattle.node_core.specs.rules.Updates.{UpdateCounter, Counts}
@@ -36,7 +36,7 @@ roomy updates x reply capacity room e (inr row) = let few = row.few in inr (reco
 pub counter-room : (old : State) (p : ℕ) (x key updates : Term) (default : Option Term) (capacity : ℕ) → length (list_terms updates) ≤ capacity → FitCapacity (writes old p x (UpdateCounter key updates default)) capacity
 counter-room old p x key updates default capacity room reply new h = by (usable Write old.world.tables p x) h
   where
-    answered : (f g : TableState) (r : Result Term Refusal) → Counts key updates default f r g → ResultToReply Value r reply → (is_flat reply ≡ true) ⊎ FitsCapacity capacity reply
+    answered : (f g : TableState) (r : Result Term Refusal) → Counts key updates default f r g → ChangeResultToReply Value r reply → (is_flat reply ≡ true) ⊎ FitsCapacity capacity reply
     answered f g (Ok y) c e = roomy updates y reply capacity room e (counts-as key updates default y f g c)
     answered f g (Err refusal.Badarg) c e = inl (ap is_flat e)
     answered f g (Err refusal.SystemLimit) c e = inl (ap is_flat e)

@@ -1,4 +1,4 @@
--- Terms and the trees that stand for them.
+-- Terms and their trees.
 use Rattle.std.proofs.Common.{◌≡◌, List, [], ◌∷◌, refl, map}
 use Rattle.ets_term.specs.declared.term.Term.{Term}
 use Rattle.ets_term.specs.Data.{data_of}

@@ -40,7 +40,7 @@ use Rattle.node_core.specs.Calls.{call_by_text}
 use Rattle.node_core.specs.Machine.{step}
 use Rattle.node_core.specs.rules.Growth.{step_on_buckets}
 use Rattle.node_core.specs.rules.Replies.{true_reply}
-use Rattle.node_core.specs.rules.Walking.{Fixes, Releases, key_reply, First, Next}
+use Rattle.node_core.specs.rules.Walking.{Fixes, Releases, key_reply, first_reply, next_reply}
 use Rattle.node_core.specs.laws.Kept.{slots_in}
 use Rattle.node_core.specs.laws.Reached.{HasNoEnd}
 use Rattle.node_core.specs.Woven.{fix, release, first, next, can_read, fixes_in}
@@ -205,12 +205,12 @@ module _ (p t : ℕ) where
     first-done found e =
         let is : first_key slots ≡ found = cc in
         asked-done (codes "first") (Tid t ∷ []) (key_reply found) s shallow-one
-        (subst (λ o. MatchOption o (gives Badarg s (key_reply found) s) (λ found2. gives (First found2.1.fixed) s (key_reply found) s)) (sym usable-own) (ap key_reply (sym is), refl))
+        (subst (λ o. MatchOption o (gives Badarg s (key_reply found) s) (λ found2. gives (first_reply found2.1.fixed) s (key_reply found) s)) (sym usable-own) (ap key_reply (sym is), refl))
 
     next-done : (key : Term) (found : Option Term) → is_too_deep key ≡ false → walk_answer (Some key) slots ≡ Some found → step s (next p t key) (key_reply found) s
     next-done key found shallow e =
         asked-done (codes "next") (Tid t ∷ key ∷ []) (key_reply found) s (shallow-two key shallow)
-        (subst (λ o. MatchOption o (gives Badarg s (key_reply found) s) (λ found2. gives (Next key found2.1.fixed) s (key_reply found) s)) (sym usable-own) (sym (ap (λ o. option_map_or key_reply o Badarg) e), refl))
+        (subst (λ o. MatchOption o (gives Badarg s (key_reply found) s) (λ found2. gives (next_reply key found2.1.fixed) s (key_reply found) s)) (sym usable-own) (sym (ap (λ o. option_map_or key_reply o Badarg) e), refl))
 
     call-done : (asked found : Option Term) → MatchOption asked (Unit {0}) (λ key. is_too_deep key ≡ false) → walk_answer asked slots ≡ Some found → step s (call_of p t asked) (key_reply found) s
     call-done None found shallow e = first-done found e

@@ -31,7 +31,7 @@ use Rattle.node_core.specs.State.{State}
 use Rattle.node_core.specs.Access.{may, allowed, usable, reads}
 use Rattle.node_core.specs.Calls.{call}
 use Rattle.node_core.specs.Machine.{step}
-use Rattle.node_core.specs.rules.Walking.{key_reply, slot_reply, key_and_objects, First, Next, FirstLookup, NextLookup}
+use Rattle.node_core.specs.rules.Walking.{key_reply, slot_reply, key_and_objects, first_reply, next_reply, first_lookup_reply, next_lookup_reply}
 use Rattle.node_core.specs.laws.Reached.{HasNoEnd}
 use Rattle.node_core.specs.laws.Walk.{is_table, walk_call, walk_step, IsKey}
 use Rattle.node_core.proofs.calls.Changes.{usable-there}
@@ -141,10 +141,10 @@ module _ (old new : State) (q t : ℕ) (r : Reply) (table : Table) (at : table_a
       on-table (is_table old t term) found asked e (reading-replies term answer found.1 found.0 own (is-here (is_table old t term) found asked e) h)
 
   call-replies : (name : CallName) (args : List Term) (asked : Option Term × Bool) → walk_call old t name args ≡ Some asked → call old q name args r new → Replies asked.1 asked.0 table.fixed.content.slots r
-  call-replies name.First (term ∷ []) asked e h = reads-walk term First (None, false) asked refl e h
-  call-replies name.FirstLookup (term ∷ []) asked e h = reads-walk term FirstLookup (None, true) asked refl e h
-  call-replies name.Next (term ∷ key ∷ []) asked e h = reads-walk term (Next key) (Some key, false) asked refl e h
-  call-replies name.NextLookup (term ∷ key ∷ []) asked e h = reads-walk term (NextLookup key) (Some key, true) asked refl e h
+  call-replies name.First (term ∷ []) asked e h = reads-walk term first_reply (None, false) asked refl e h
+  call-replies name.FirstLookup (term ∷ []) asked e h = reads-walk term first_lookup_reply (None, true) asked refl e h
+  call-replies name.Next (term ∷ key ∷ []) asked e h = reads-walk term (next_reply key) (Some key, false) asked refl e h
+  call-replies name.NextLookup (term ∷ key ∷ []) asked e h = reads-walk term (next_lookup_reply key) (Some key, true) asked refl e h
   call-replies _ _ asked e h = absurd (cc)
 
   -- refusals that go before the call

@@ -15,7 +15,7 @@ use Rattle.node_core.specs.Buckets.{run_on_buckets, observable_states}
 use Rattle.node_core.specs.rules.Replies.{true_reply}
 use Rattle.node_core.specs.rules.Walking.{key_reply}
 use Rattle.node_core.specs.laws.Kept.{StaysFixed}
-use Rattle.node_core.specs.laws.Walk.{states, Walks, IsWhole}
+use Rattle.node_core.specs.laws.Walk.{states, Walks, IsWholeOverStates}
 use Rattle.node_core.specs.Woven.{is_step_of, Given, release, walk, fixes_in, WovenRun, IsComplete, StopReason, RefusesFix, EndsWithRelease, IsNotBegun, WalksAmong}
 use Rattle.node_core.specs.inside.Walker.{FixesTable, UnfixesTable, FixOnBuckets, UnfixOnBuckets, FixIsDone, HasFix, WalkSoFar, WalkResult}
 use Rattle.node_core.proofs.buckets.Runs.{run-observable, states-observable}
@@ -56,9 +56,9 @@ module _ (p t : ℕ) where
     answers : Walks p t None keys (observable st.fixed) (walk p t keys given) replies (observable now) ran_observable
     answers = walks-told p t keys given st.others (observable st.fixed) (observable now) replies ran_observable st.replied held_observable
 
-    whole : IsWhole t (observable_states st.fixed (walk p t keys given) replies now ran) keys
+    whole : IsWholeOverStates t (observable_states st.fixed (walk p t keys given) replies now ran) keys
     whole =
-        subst (λ (xs : List State). IsWhole t xs keys) same-states
+        subst (λ (xs : List State). IsWholeOverStates t xs keys) same-states
         (walks-whole (observable st.fixed) (walk p t keys given) replies (observable now) ran_observable p t keys st.sound held_observable answers)
 
     abbrev to_the_end : WovenRun p t old keys given now

@@ -20,7 +20,7 @@ use Rattle.node_core.specs.Machine.{step, run}
 use Rattle.node_core.specs.rules.Walking.{key_reply}
 use Rattle.node_core.specs.laws.Kept.{slots_in, is_fixed_in, StepsKeepKeys}
 use Rattle.node_core.specs.laws.Reached.{HasNoEnd, IsSound}
-use Rattle.node_core.specs.laws.Walk.{states, walk_step, IsKey, Answers, Walks, HasSoundKeys, SoundStatesHaveSoundKeys, WalksAreWhole}
+use Rattle.node_core.specs.laws.Walk.{states, walk_step, IsKey, Answers, Walks, HasSoundKeys, SoundStatesHaveSoundKeys, TableWalksAreWhole}
 use Rattle.fixed_walk.proofs.ChangeLaws.{is_end}
 use Rattle.node_core.proofs.moves.Reached.{distinct-none}
 use Rattle.node_core.proofs.buckets.Observable.{stays-there}
@@ -161,7 +161,7 @@ later : (now : List Slot) (moments : List (List Slot)) (call : Option Term) (key
 later now [] call keys walk kept = absurd walk
 later now (m ∷ moments) call keys walk kept = kept.2
 
-pub walks-whole : WalksAreWhole
+pub walks-whole : TableWalksAreWhole
 walks-whole old steps replies new done p t keys sound fixed w =
     let walk = walked p t None keys old steps replies new done sound fixed w in
     let is = whole walk.moments keys (later (slots_in t old) walk.moments None keys walk.walk walk.kept) walk.walk in

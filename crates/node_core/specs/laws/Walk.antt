@@ -75,7 +75,7 @@ module _ (p t : ℕ) where
   Walks call keys old (s ∷ steps) [] new done = ⊥
 
 -- no key comes twice, and each key that has objects in every state comes
-pub record IsWhole (t : ℕ) (stretch : List State) (keys : List Term) : Type 0 where
+pub record IsWholeOverStates (t : ℕ) (stretch : List State) (keys : List Term) : Type 0 where
   pub once : IsDistinct same keys
   pub all : (key : Term) → AllByRecursion (λ s. is_present (slots_in t s) key ≡ true) stretch
       → Contains keys key
@@ -89,10 +89,10 @@ abbrev pub SoundStatesHaveSoundKeys : Type 0
 SoundStatesHaveSoundKeys = (s : State) (t : ℕ) → IsSound s → HasSoundKeys t s
 
 -- in every run, each traversal of a table that stays fixed, by any process, is exact, whatever others do
-abbrev pub WalksAreWhole : Type 0
-WalksAreWhole =
+abbrev pub TableWalksAreWhole : Type 0
+TableWalksAreWhole =
     (old : State) (steps : List Step) (replies : List Reply) (new : State)
     (done : run old steps replies new) (p t : ℕ) (keys : List Term)
     → HasSoundKeys t old → StaysFixed t (states old steps replies new done)
     → Walks p t None keys old steps replies new done
-    → IsWhole t (states old steps replies new done) keys
+    → IsWholeOverStates t (states old steps replies new done) keys

@@ -7,7 +7,7 @@ ghost use Rattle.node_core.specs.Observable.{observable};
 ghost use Rattle.node_core.specs.Reads.{reads_only, Reads};
 ghost use Rattle.node_core.specs.declared.step.Reply.TheVariants.{NoProcess};
 ghost use Rattle.node_core.specs.declared.step.Step.TheVariants.{Ask};
-ghost use Rattle.node_core.specs.inside.Refusals.{RefusesEarly, to_reply, ToReply};
+ghost use Rattle.node_core.specs.inside.Refusals.{RefusesEarly, to_reply, RefusalToReply};
 
 use super::Node;
 use crate::call_name::CallName;
@@ -41,7 +41,7 @@ impl<H: KeyHash + Copy + Drop> Node<H> {
     pub fn read_into(&self, pid: u32, call: &Call, reply: &mut Reply) -> Result<bool, AllocError>
         ensures ok { IfOk result (λ replied. Reads (observable self.now) pid call.now
             (if replied then Some reply.new else None)) }
-        ensures kept { IfOk result (λ replied. replied ≡ false → reply.new ≡ reply.old) }
+        ensures reply { IfOk result (λ replied. replied ≡ false → reply.new ≡ reply.old) }
         ensures err { OnErr result (reply.new ≡ NoProcess) }
     {
         let Some(name) = CallName::read(call.name.text()) else {
@@ -147,7 +147,7 @@ fn is_too_deep(term: &Term) -> bool
 /// Writes the refusal of a call that was refused; running out of memory is an error.
 #[inline(always)]
 fn write_refusal(call: Result<(), Refusal>, reply: &mut Reply) -> Result<(), AllocError>
-    ensures { ToReply (to_reply (λ _. reply.old) call) (to_reply (λ _. reply.new) result) }
+    ensures { RefusalToReply (to_reply (λ _. reply.old) call) (to_reply (λ _. reply.new) result) }
 {
     match call {
         Ok(()) => {}
@@ -160,7 +160,7 @@ fn write_refusal(call: Result<(), Refusal>, reply: &mut Reply) -> Result<(), All
 
 /// Returns the reply for the result of a call.
 pub fn into_reply(call: Result<Reply, Refusal>) -> Result<Reply, AllocError>
-    ensures { ToReply call result }
+    ensures { RefusalToReply call result }
 {
     match call {
         Ok(reply) => Ok(reply),

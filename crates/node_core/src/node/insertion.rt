@@ -3,7 +3,7 @@ ghost use Rattle.std.specs.Prelude.{◌≡◌};
 ghost use Rattle.node_core.specs.Access.{writes};
 ghost use Rattle.node_core.specs.rules.Insertion.{objects_in, Insert, InsertNew};
 ghost use Rattle.node_core.specs.rules.Replies.{true_reply, truth_reply};
-ghost use Rattle.node_core.specs.inside.Refusals.{Refines, to_reply};
+ghost use Rattle.node_core.specs.inside.Refusals.{RefinesReply, to_reply};
 
 use super::Node;
 use super::access::Access;
@@ -13,7 +13,7 @@ use table_ops::Refusal;
 
 impl<H: KeyHash + Copy + Drop> Node<H> {
     pub(crate) fn insert(&mut self, pid: u32, table: &Term, objects: &Term) -> Result<(), Refusal>
-        ensures { Refines (writes self.old pid table.now (Insert objects.now))
+        ensures { RefinesReply (writes self.old pid table.now (Insert objects.now))
             self.old (to_reply (λ _. true_reply) result) self.new }
     {
         let Some(table) = self.usable_mut(Access::Write, pid, table) else {
@@ -29,7 +29,7 @@ impl<H: KeyHash + Copy + Drop> Node<H> {
         table: &Term,
         objects: &Term,
     ) -> Result<bool, Refusal>
-        ensures { Refines (writes self.old pid table.now (InsertNew objects.now))
+        ensures { RefinesReply (writes self.old pid table.now (InsertNew objects.now))
             self.old (to_reply truth_reply result) self.new }
     {
         let Some(table) = self.usable_mut(Access::Write, pid, table) else {

@@ -2,7 +2,7 @@
 ghost use Rattle.std.specs.Prelude.{◌≡◌, IfOk};
 ghost use Rattle.ets_term.specs.declared.term.Term.{out-Term};
 ghost use Rattle.node_core.specs.rules.Owning.{GiveAway, SetOptions, Receive, Whereis, Info, value_or_undefined, names_form};
-ghost use Rattle.node_core.specs.inside.Refusals.{Refines};
+ghost use Rattle.node_core.specs.inside.Refusals.{RefinesReply};
 
 use super::Node;
 use super::replies::{atom_reply, refusal_of, true_reply};
@@ -20,7 +20,7 @@ impl<H: KeyHash + Copy + Drop> Node<H> {
         to: &Term,
         gift: &Term,
     ) -> Result<Reply, Refusal>
-        ensures { Refines (GiveAway self.old pid table.now to.now gift.now)
+        ensures { RefinesReply (GiveAway self.old pid table.now to.now gift.now)
             self.old result self.new }
     {
         let id = self.world.resolve(table).ok_or(Refusal::Badarg)?;
@@ -39,7 +39,7 @@ impl<H: KeyHash + Copy + Drop> Node<H> {
         table: &Term,
         options: &Term,
     ) -> Result<Reply, Refusal>
-        ensures { Refines (SetOptions self.old pid table.now options.now) self.old result self.new }
+        ensures { RefinesReply (SetOptions self.old pid table.now options.now) self.old result self.new }
     {
         let id = self.world.resolve(table).ok_or(Refusal::Badarg)?;
         match self.world.set_options(pid, id, options) {
@@ -49,13 +49,13 @@ impl<H: KeyHash + Copy + Drop> Node<H> {
     }
 
     pub(crate) fn receive(&mut self, pid: u32) -> Result<Reply, Refusal>
-        ensures { Refines (Receive self.old pid) self.old result self.new }
+        ensures { RefinesReply (Receive self.old pid) self.old result self.new }
     {
         Ok(Reply::Value(Term::List(self.world.receive(pid))))
     }
 
     pub(crate) fn whereis(&self, name: &Term) -> Result<Reply, Refusal>
-        ensures { Refines (Whereis self.now name.now) self.now result self.now }
+        ensures { RefinesReply (Whereis self.now name.now) self.now result self.now }
     {
         let Term::Atom(name) = name else {
             return Err(Refusal::Badarg);
@@ -67,7 +67,7 @@ impl<H: KeyHash + Copy + Drop> Node<H> {
     }
 
     pub(crate) fn info(&self, table: &Term, item: &Term) -> Result<Reply, Refusal>
-        ensures { Refines (Info self.now table.now item.now) self.now result self.now }
+        ensures { RefinesReply (Info self.now table.now item.now) self.now result self.now }
     {
         let item = InfoItem::read(item).ok_or(Refusal::Badarg)?;
         if !can_name(table) {

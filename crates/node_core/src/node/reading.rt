@@ -1,9 +1,9 @@
 // Calls that read a table.
 ghost use Rattle.node_core.specs.Access.{reads};
-ghost use Rattle.node_core.specs.rules.Reading.{Lookup, Member, LookupElement, LookupElementOr, Tab2list};
+ghost use Rattle.node_core.specs.rules.Reading.{lookup_reply, member_reply, lookup_element_reply, lookup_element_or_reply, tab2list_reply};
 ghost use Rattle.node_core.specs.rules.Replies.{truth_reply};
 ghost use Rattle.node_core.specs.declared.step.Reply.TheVariants.{Value};
-ghost use Rattle.node_core.specs.inside.Refusals.{Refines, RefinesInto, to_reply};
+ghost use Rattle.node_core.specs.inside.Refusals.{RefinesReply, RefinesInto, to_reply};
 
 use super::Node;
 use super::replies::write_list;
@@ -20,7 +20,7 @@ impl<H: KeyHash + Copy + Drop> Node<H> {
         key: &Term,
         reply: &mut Reply,
     ) -> Result<(), Refusal>
-        ensures { RefinesInto (reads self.now pid table.now (Lookup key.now))
+        ensures { RefinesInto (reads self.now pid table.now (lookup_reply key.now))
             self.now result reply.new self.now }
     {
         let table = self.readable(pid, table).ok_or(Refusal::Badarg)?;
@@ -29,7 +29,7 @@ impl<H: KeyHash + Copy + Drop> Node<H> {
     }
 
     pub(crate) fn member(&self, pid: u32, table: &Term, key: &Term) -> Result<bool, Refusal>
-        ensures { Refines (reads self.now pid table.now (Member key.now))
+        ensures { RefinesReply (reads self.now pid table.now (member_reply key.now))
             self.now (to_reply truth_reply result) self.now }
     {
         let table = self.readable(pid, table).ok_or(Refusal::Badarg)?;
@@ -43,7 +43,7 @@ impl<H: KeyHash + Copy + Drop> Node<H> {
         key: &Term,
         position: &Term,
     ) -> Result<Term, Refusal>
-        ensures { Refines (reads self.now pid table.now (LookupElement key.now position.now))
+        ensures { RefinesReply (reads self.now pid table.now (lookup_element_reply key.now position.now))
             self.now (to_reply Value result) self.now }
     {
         let table = self.readable(pid, table).ok_or(Refusal::Badarg)?;
@@ -60,8 +60,8 @@ impl<H: KeyHash + Copy + Drop> Node<H> {
         position: &Term,
         default: &Term,
     ) -> Result<Term, Refusal>
-        ensures { Refines
-            (reads self.now pid table.now (LookupElementOr key.now position.now default.now))
+        ensures { RefinesReply
+            (reads self.now pid table.now (lookup_element_or_reply key.now position.now default.now))
             self.now (to_reply Value result) self.now }
     {
         let table = self.readable(pid, table).ok_or(Refusal::Badarg)?;
@@ -71,7 +71,7 @@ impl<H: KeyHash + Copy + Drop> Node<H> {
     }
 
     pub(crate) fn tab2list(&self, pid: u32, table: &Term) -> Result<Reply, Refusal>
-        ensures { Refines (reads self.now pid table.now Tab2list) self.now result self.now }
+        ensures { RefinesReply (reads self.now pid table.now tab2list_reply) self.now result self.now }
     {
         let table = self.readable(pid, table).ok_or(Refusal::Badarg)?;
         Ok(Reply::Value(Term::List(table.objects()?)))

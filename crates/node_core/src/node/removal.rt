@@ -2,7 +2,7 @@
 ghost use Rattle.node_core.specs.Access.{writes};
 ghost use Rattle.node_core.specs.rules.Removal.{Take, Delete, DeleteObject, DeleteAllObjects};
 ghost use Rattle.node_core.specs.rules.Replies.{true_reply};
-ghost use Rattle.node_core.specs.inside.Refusals.{Refines, to_reply};
+ghost use Rattle.node_core.specs.inside.Refusals.{RefinesReply, to_reply};
 
 use super::Node;
 use super::access::Access;
@@ -12,7 +12,7 @@ use table_ops::Refusal;
 
 impl<H: KeyHash + Copy + Drop> Node<H> {
     pub(crate) fn take(&mut self, pid: u32, table: &Term, key: &Term) -> Result<Reply, Refusal>
-        ensures { Refines (writes self.old pid table.now (Take key.now)) self.old result self.new }
+        ensures { RefinesReply (writes self.old pid table.now (Take key.now)) self.old result self.new }
     {
         let Some(table) = self.usable_mut(Access::Write, pid, table) else {
             return Err(Refusal::Badarg);
@@ -22,7 +22,7 @@ impl<H: KeyHash + Copy + Drop> Node<H> {
     }
 
     pub(crate) fn delete(&mut self, pid: u32, table: &Term, key: &Term) -> Result<(), Refusal>
-        ensures { Refines (writes self.old pid table.now (Delete key.now))
+        ensures { RefinesReply (writes self.old pid table.now (Delete key.now))
             self.old (to_reply (λ _. true_reply) result) self.new }
     {
         let Some(table) = self.usable_mut(Access::Write, pid, table) else {
@@ -38,7 +38,7 @@ impl<H: KeyHash + Copy + Drop> Node<H> {
         table: &Term,
         object: &Term,
     ) -> Result<(), Refusal>
-        ensures { Refines (writes self.old pid table.now (DeleteObject object.now))
+        ensures { RefinesReply (writes self.old pid table.now (DeleteObject object.now))
             self.old (to_reply (λ _. true_reply) result) self.new }
     {
         let Some(table) = self.usable_mut(Access::Write, pid, table) else {
@@ -49,7 +49,7 @@ impl<H: KeyHash + Copy + Drop> Node<H> {
     }
 
     pub(crate) fn delete_all_objects(&mut self, pid: u32, table: &Term) -> Result<(), Refusal>
-        ensures { Refines (writes self.old pid table.now DeleteAllObjects)
+        ensures { RefinesReply (writes self.old pid table.now DeleteAllObjects)
             self.old (to_reply (λ _. true_reply) result) self.new }
     {
         let Some(table) = self.usable_mut(Access::Write, pid, table) else {

@@ -4,8 +4,8 @@ ghost use Rattle.ets_term.specs.Data.{data_of};
 ghost use Rattle.match_spec.specs.Specifications.{is_pattern, is_spec};
 ghost use Rattle.table_ops.specs.Refusals as table_refusals;
 ghost use Rattle.node_core.specs.Access.{reads, writes};
-ghost use Rattle.node_core.specs.rules.Searching.{answers_reply, count_reply, DeletesMatching, DeletesChosen, Match, MatchObject, MatchDelete, Select, SelectCount, SelectDelete};
-ghost use Rattle.node_core.specs.inside.Refusals.{Refines};
+ghost use Rattle.node_core.specs.rules.Searching.{answers_reply, count_reply, DeletesMatching, DeletesChosen, match_reply, match_object_reply, MatchDelete, select_reply, select_count_reply, SelectDelete};
+ghost use Rattle.node_core.specs.inside.Refusals.{RefinesReply};
 
 use super::Node;
 use super::access::Access;
@@ -25,7 +25,7 @@ impl<H: KeyHash + Copy + Drop> Node<H> {
         table: &Term,
         pattern: &Term,
     ) -> Result<Reply, Refusal>
-        ensures { Refines (reads self.now pid table.now (Match pattern.now))
+        ensures { RefinesReply (reads self.now pid table.now (match_reply pattern.now))
             self.now result self.now }
     {
         let table = self.readable(pid, table).ok_or(Refusal::Badarg)?;
@@ -41,7 +41,7 @@ impl<H: KeyHash + Copy + Drop> Node<H> {
         table: &Term,
         pattern: &Term,
     ) -> Result<Reply, Refusal>
-        ensures { Refines (reads self.now pid table.now (MatchObject pattern.now))
+        ensures { RefinesReply (reads self.now pid table.now (match_object_reply pattern.now))
             self.now result self.now }
     {
         let table = self.readable(pid, table).ok_or(Refusal::Badarg)?;
@@ -57,7 +57,7 @@ impl<H: KeyHash + Copy + Drop> Node<H> {
         table: &Term,
         pattern: &Term,
     ) -> Result<Reply, Refusal>
-        ensures { Refines (writes self.old pid table.now (MatchDelete pattern.now))
+        ensures { RefinesReply (writes self.old pid table.now (MatchDelete pattern.now))
             self.old result self.new }
     {
         let alloc = self.alloc;
@@ -69,7 +69,7 @@ impl<H: KeyHash + Copy + Drop> Node<H> {
     }
 
     pub(crate) fn select(&self, pid: u32, table: &Term, spec: &Term) -> Result<Reply, Refusal>
-        ensures { Refines (reads self.now pid table.now (Select spec.now))
+        ensures { RefinesReply (reads self.now pid table.now (select_reply spec.now))
             self.now result self.now }
     {
         let table = self.readable(pid, table).ok_or(Refusal::Badarg)?;
@@ -80,7 +80,7 @@ impl<H: KeyHash + Copy + Drop> Node<H> {
     }
 
     pub(crate) fn select_count(&self, pid: u32, table: &Term, spec: &Term) -> Result<Reply, Refusal>
-        ensures { Refines (reads self.now pid table.now (SelectCount spec.now))
+        ensures { RefinesReply (reads self.now pid table.now (select_count_reply spec.now))
             self.now result self.now }
     {
         let table = self.readable(pid, table).ok_or(Refusal::Badarg)?;
@@ -96,7 +96,7 @@ impl<H: KeyHash + Copy + Drop> Node<H> {
         table: &Term,
         spec: &Term,
     ) -> Result<Reply, Refusal>
-        ensures { Refines (writes self.old pid table.now (SelectDelete spec.now))
+        ensures { RefinesReply (writes self.old pid table.now (SelectDelete spec.now))
             self.old result self.new }
     {
         let alloc = self.alloc;
@@ -136,7 +136,7 @@ fn delete_matching<R: Rows>(
     table: &mut Walked<R>,
     pattern: &Term,
 ) -> Result<(), Refusal>
-    ensures { table_refusals.Refines (DeletesMatching pattern.now table.old)
+    ensures { table_refusals.RefinesChange (DeletesMatching pattern.now table.old)
         table.old result table.new }
 {
     let pattern = pattern_of(alloc, pattern)?;
@@ -151,7 +151,7 @@ fn delete_chosen<R: Rows>(
     table: &mut Walked<R>,
     spec: &Term,
 ) -> Result<usize, Refusal>
-    ensures content { table_refusals.Refines (DeletesChosen spec.now table.old)
+    ensures content { table_refusals.RefinesChange (DeletesChosen spec.now table.old)
         table.old result table.new }
     ensures few { IfOk result (λ count. count < 2 ^ 32) }
 {

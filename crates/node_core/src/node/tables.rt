@@ -4,7 +4,7 @@ ghost use Rattle.ownership.specs.Outcomes as outcomes;
 ghost use Rattle.ownership.specs.Tables as tables;
 ghost use Rattle.node_core.specs.rules.Tables.{New, DeleteTable, makes, new_table_of};
 ghost use Rattle.node_core.specs.inside.Due.{TracksPending};
-ghost use Rattle.node_core.specs.inside.Refusals.{Refines};
+ghost use Rattle.node_core.specs.inside.Refusals.{RefinesReply};
 
 use super::Node;
 use super::access::Access;
@@ -25,7 +25,7 @@ impl<H: KeyHash + Copy + Drop> Node<H> {
         name: &Term,
         options: &Term,
     ) -> Result<Reply, Refusal>
-        ensures { Refines (New self.old pid name.now options.now) self.old result self.new }
+        ensures { RefinesReply (New self.old pid name.now options.now) self.old result self.new }
     {
         let Term::Atom(name) = name else {
             return Err(Refusal::Badarg);
@@ -38,7 +38,7 @@ impl<H: KeyHash + Copy + Drop> Node<H> {
 
     fn new_table(&mut self, pid: u32, name: &Atom, options: NewOptions) -> Result<Reply, Refusal>
         requires { 1 ≤ options.keypos }
-        ensures { Refines (makes self.old pid name.now options) self.old result self.new }
+        ensures { RefinesReply (makes self.old pid name.now options) self.old result self.new }
     {
         let table = match self.empty_table(&options) {
             Ok(table) => table,
@@ -78,7 +78,7 @@ impl<H: KeyHash + Copy + Drop> Node<H> {
     }
 
     pub(crate) fn delete_table(&mut self, pid: u32, table: &Term) -> Result<Reply, Refusal>
-        ensures { Refines (DeleteTable self.old pid table.now) self.old result self.new }
+        ensures { RefinesReply (DeleteTable self.old pid table.now) self.old result self.new }
     {
         let id = self
             .usable_id(Access::Write, pid, table)
@@ -99,7 +99,7 @@ fn add_table<H: KeyHash + Copy + Drop>(
     table: Walked<SplitRows<H>>,
 ) -> Result<Term, WorldFault>
     requires { TracksPending world.old.tables pending.old }
-    ensures made { outcomes.Refines (tables.New world.old pid name.now options table)
+    ensures outcome { outcomes.RefinesWorld (tables.New world.old pid name.now options table)
         world.old result world.new }
     ensures index { TracksPending world.new.tables pending.new }
 {

@@ -5,7 +5,7 @@ ghost use Rattle.node_core.specs.Access.{writes};
 ghost use Rattle.node_core.specs.rules.Updates.{Counts, WritesElements, UpdateCounter, UpdateElement};
 ghost use Rattle.node_core.specs.rules.Replies.{truth_reply};
 ghost use Rattle.node_core.specs.declared.step.Reply.TheVariants.{Value};
-ghost use Rattle.node_core.specs.inside.Refusals.{Refines, to_reply};
+ghost use Rattle.node_core.specs.inside.Refusals.{RefinesReply, to_reply};
 
 use super::Node;
 use super::access::Access;
@@ -25,7 +25,7 @@ impl<H: KeyHash + Copy + Drop> Node<H> {
         updates: &Term,
         default: Option<&Term>,
     ) -> Result<Term, Refusal>
-        ensures { Refines
+        ensures { RefinesReply
             (writes self.old pid table.now
             (UpdateCounter key.now updates.now (option_copied default.entry)))
             self.old (to_reply Value result) self.new }
@@ -46,7 +46,7 @@ impl<H: KeyHash + Copy + Drop> Node<H> {
         updates: &Term,
         default: Option<&Term>,
     ) -> Result<bool, Refusal>
-        ensures { Refines
+        ensures { RefinesReply
             (writes self.old pid table.now
             (UpdateElement key.now updates.now (option_copied default.entry)))
             self.old (to_reply truth_reply result) self.new }
@@ -70,7 +70,7 @@ fn count<R: Rows>(
     updates: &Term,
     default: Option<&Term>,
 ) -> Result<Term, Refusal>
-    ensures { table_refusals.Refines
+    ensures { table_refusals.RefinesChange
         (Counts key.now updates.now (option_copied default.entry) table.old)
         table.old result table.new }
 {
@@ -91,7 +91,7 @@ fn count_any<R: Rows>(
     updates: &Term,
     default: Option<&Term>,
 ) -> Result<Term, Refusal>
-    ensures { table_refusals.Refines
+    ensures { table_refusals.RefinesChange
         (Counts key.now updates.now (option_copied default.entry) table.old)
         table.old result table.new }
 {
@@ -111,7 +111,7 @@ fn write<R: Rows>(
     updates: &Term,
     default: Option<&Term>,
 ) -> Result<bool, Refusal>
-    ensures { table_refusals.Refines
+    ensures { table_refusals.RefinesChange
         (WritesElements key.now updates.now (option_copied default.entry) table.old)
         table.old result table.new }
 {
@@ -132,7 +132,7 @@ fn write_any<R: Rows>(
     updates: &Term,
     default: Option<&Term>,
 ) -> Result<bool, Refusal>
-    ensures { table_refusals.Refines
+    ensures { table_refusals.RefinesChange
         (WritesElements key.now updates.now (option_copied default.entry) table.old)
         table.old result table.new }
 {

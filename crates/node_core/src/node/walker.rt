@@ -27,7 +27,7 @@ impl<H: KeyHash + Copy + Drop> Node<H> {
 
     /// Fixes the table once more.
     pub(crate) fn fix_table(&mut self, pid: u32, id: u32) -> Result<(), WalkFault>
-        ensures holds { FixesTable pid id (observable self.old) result (observable self.new) }
+        ensures fix { FixesTable pid id (observable self.old) result (observable self.new) }
         ensures buckets { FixOnBuckets pid id self.old result self.new }
     {
         if !self.can_read(pid, id) {
@@ -43,7 +43,7 @@ impl<H: KeyHash + Copy + Drop> Node<H> {
 
     /// Releases one fix if the process may read the table, and returns whether it may. It takes no memory.
     pub(crate) fn unfix_table(&mut self, pid: u32, id: u32) -> bool
-        ensures lets_go { UnfixesTable pid id (observable self.old) result (observable self.new) }
+        ensures release { UnfixesTable pid id (observable self.old) result (observable self.new) }
         ensures buckets { UnfixOnBuckets pid id self.old result self.new }
     {
         if !self.can_read(pid, id) {

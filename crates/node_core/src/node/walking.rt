@@ -3,8 +3,8 @@ ghost use Rattle.std.specs.Prelude.{◌≡◌, option_copied, option_map, IfOk};
 ghost use Rattle.std.specs.Map.Iter.{deref_pair};
 ghost use Rattle.node_core.specs.declared.node.access.Access.TheVariants.{Read};
 ghost use Rattle.node_core.specs.Access.{reads, changes};
-ghost use Rattle.node_core.specs.rules.Walking.{SafeFixtable, Fixes, Releases, First, Next, FirstLookup, NextLookup, key_reply, slot_reply};
-ghost use Rattle.node_core.specs.inside.Refusals.{Refines};
+ghost use Rattle.node_core.specs.rules.Walking.{SafeFixtable, Fixes, Releases, first_reply, next_reply, first_lookup_reply, next_lookup_reply, key_reply, slot_reply};
+ghost use Rattle.node_core.specs.inside.Refusals.{RefinesReply};
 
 use super::Node;
 use super::access::Access;
@@ -22,7 +22,7 @@ impl<H: KeyHash + Copy + Drop> Node<H> {
         table: &Term,
         flag: &Term,
     ) -> Result<Reply, Refusal>
-        ensures { Refines (SafeFixtable self.old pid table.now flag.now) self.old result self.new }
+        ensures { RefinesReply (SafeFixtable self.old pid table.now flag.now) self.old result self.new }
     {
         if flag.is_atom("true") {
             return self.fix(pid, table);
@@ -34,7 +34,7 @@ impl<H: KeyHash + Copy + Drop> Node<H> {
     }
 
     fn fix(&mut self, pid: u32, table: &Term) -> Result<Reply, Refusal>
-        ensures { Refines (changes self.old pid Read table.now (Fixes pid))
+        ensures { RefinesReply (changes self.old pid Read table.now (Fixes pid))
             self.old result self.new }
     {
         let alloc = self.alloc;
@@ -46,7 +46,7 @@ impl<H: KeyHash + Copy + Drop> Node<H> {
     }
 
     fn release(&mut self, pid: u32, table: &Term) -> Result<Reply, Refusal>
-        ensures { Refines (changes self.old pid Read table.now (Releases pid))
+        ensures { RefinesReply (changes self.old pid Read table.now (Releases pid))
             self.old result self.new }
     {
         let alloc = self.alloc;
@@ -58,14 +58,14 @@ impl<H: KeyHash + Copy + Drop> Node<H> {
     }
 
     pub(crate) fn first(&self, pid: u32, table: &Term) -> Result<Reply, Refusal>
-        ensures { Refines (reads self.now pid table.now First) self.now result self.now }
+        ensures { RefinesReply (reads self.now pid table.now first_reply) self.now result self.now }
     {
         let table = self.readable(pid, table).ok_or(Refusal::Badarg)?;
         Ok(key_reply(self.alloc, table.first())?)
     }
 
     pub(crate) fn next(&self, pid: u32, table: &Term, key: &Term) -> Result<Reply, Refusal>
-        ensures { Refines (reads self.now pid table.now (Next key.now)) self.now result self.now }
+        ensures { RefinesReply (reads self.now pid table.now (next_reply key.now)) self.now result self.now }
     {
         let table = self.readable(pid, table).ok_or(Refusal::Badarg)?;
         let found = table.next(key)?;
@@ -73,14 +73,14 @@ impl<H: KeyHash + Copy + Drop> Node<H> {
     }
 
     pub(crate) fn first_lookup(&self, pid: u32, table: &Term) -> Result<Reply, Refusal>
-        ensures { Refines (reads self.now pid table.now FirstLookup) self.now result self.now }
+        ensures { RefinesReply (reads self.now pid table.now first_lookup_reply) self.now result self.now }
     {
         let table = self.readable(pid, table).ok_or(Refusal::Badarg)?;
         Ok(slot_reply(self.alloc, table.first_lookup())?)
     }
 
     pub(crate) fn next_lookup(&self, pid: u32, table: &Term, key: &Term) -> Result<Reply, Refusal>
-        ensures { Refines (reads self.now pid table.now (NextLookup key.now))
+        ensures { RefinesReply (reads self.now pid table.now (next_lookup_reply key.now))
             self.now result self.now }
     {
         let table = self.readable(pid, table).ok_or(Refusal::Badarg)?;

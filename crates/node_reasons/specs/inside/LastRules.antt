@@ -8,7 +8,7 @@ use Rattle.counters.specs.Ops.{ops_of}
 use Rattle.table_ops.specs.Content.{Content, objects_under}
 use Rattle.table_ops.specs.Update.{is_set, default_is_object}
 use Rattle.ownership.specs.declared.metadata.Metadata.{Metadata}
-use Rattle.ownership.specs.Access.{owned_by}
+use Rattle.ownership.specs.Access.{is_owner}
 use Rattle.ownership.specs.Options.{pid_form}
 use Rattle.ownership.specs.Info.{item_of}
 use Rattle.node_core.specs.Access.{may}
@@ -42,7 +42,7 @@ last_rule_of_use access p metadata = needs_access access p metadata (argument 1 
 -- the table is the process's own, and then this
 abbrev pub needs_owner : ℕ → Option Metadata → Reason → Reason
 needs_owner p None rest = argument 1 rule.NoTable
-needs_owner p (Some metadata) rest = if owned_by metadata p then rest else argument 1 rule.NotOwner
+needs_owner p (Some metadata) rest = if is_owner metadata p then rest else argument 1 rule.NotOwner
 
 abbrev pub last_rule_of_give_away_to : ℕ → Metadata → Option ℕ → Reason
 last_rule_of_give_away_to p metadata None = argument 2 rule.NotAPid

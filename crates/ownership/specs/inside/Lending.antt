@@ -4,7 +4,7 @@ use Rattle.std.specs.Borrow.{Lends, LendsIf, MutBor, Fml, RattleType}
 use Rattle.bucket_table.specs.declared.rows.Rows.{Ghosts}
 use Rattle.fixed_walk.specs.TableState.{TableState}
 use Rattle.fixed_walk.specs.contracts.walked.Walked as walked
-use Rattle.ownership.specs.contracts.table.Table as table
+use Rattle.ownership.specs.contracts.table.OwnedTable as table
 use Rattle.ownership.specs.contracts.world.World as world
 use Rattle.ownership.specs.World.{Table, World, with_fixed}
 

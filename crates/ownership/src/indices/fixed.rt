@@ -4,7 +4,7 @@ ghost use Rattle.ownership.specs.inside.Indices.{IndicesInvariant, ids_under, is
 
 use super::Indices;
 use super::identifiers::insert_sorted;
-use crate::table::Table;
+use crate::table::OwnedTable;
 use bucket_table::Rows;
 use std::alloc::AllocError;
 
@@ -20,9 +20,9 @@ impl Indices {
     }
 
     /// Marks a table dirty. Lists the previous dirty table if it is fixed.
-    pub fn mark_dirty<R: Rows>(&mut self, tables: &[Option<Table<R>>], id: u32)
-        requires kept { IndicesInvariant self.old tables.now }
-        ensures kept { IndicesInvariant self.new tables.now }
+    pub fn mark_dirty<R: Rows>(&mut self, tables: &[Option<OwnedTable<R>>], id: u32)
+        requires indices { IndicesInvariant self.old tables.now }
+        ensures indices { IndicesInvariant self.new tables.now }
         ensures dirty { self.new.dirty ≡ Some id }
     {
         if let Some(last) = self.dirty {
@@ -35,9 +35,9 @@ impl Indices {
     }
 
     /// Clears the dirty mark. Lists the dirty table if it is fixed. This takes no memory.
-    pub(super) fn flush_dirty<R: Rows>(&mut self, tables: &[Option<Table<R>>])
-        requires kept { IndicesInvariant self.old tables.now }
-        ensures kept { IndicesInvariant self.new tables.now }
+    pub(super) fn flush_dirty<R: Rows>(&mut self, tables: &[Option<OwnedTable<R>>])
+        requires indices { IndicesInvariant self.old tables.now }
+        ensures indices { IndicesInvariant self.new tables.now }
         ensures dirty { self.new.dirty ≡ None }
         ensures owned { (p : ℕ) → ids_under self.new p ≡ ids_under self.old p }
     {
@@ -56,7 +56,7 @@ impl Indices {
     }
 
     /// Removes the tables that nobody fixes.
-    pub(super) fn retain_fixed<R: Rows>(&mut self, tables: &[Option<Table<R>>])
+    pub(super) fn retain_fixed<R: Rows>(&mut self, tables: &[Option<OwnedTable<R>>])
         ensures rest { self.new ≡ record self.old { fixed = self.new.fixed } }
         ensures items { self.new.fixed.items
             ≡ filter (is_fixed_at tables.now) self.old.fixed.items }
@@ -66,7 +66,7 @@ impl Indices {
     }
 }
 
-fn is_fixed_at<R: Rows>(tables: &[Option<Table<R>>], id: u32) -> bool
+fn is_fixed_at<R: Rows>(tables: &[Option<OwnedTable<R>>], id: u32) -> bool
     ensures { result ≡ is_fixed_at tables.now id }
 {
     match tables.get(id as usize) {

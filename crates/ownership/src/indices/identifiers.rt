@@ -14,8 +14,8 @@ pub fn insert_sorted(ids: &mut Vec<u32>, id: u32) -> Result<(), AllocError>
 {
     match ids.binary_search(&id) {
         Ok(_) => Ok(()),
-        Err(place) => {
-            ids.insert(place, id)?;
+        Err(index) => {
+            ids.insert(index, id)?;
             Ok(())
         }
     }

@@ -60,7 +60,7 @@ impl Indices {
     /// Removes the name of a table, which is then free again. This takes no memory.
     pub fn remove(&mut self, metadata: &Metadata)
         ensures rest { self.new ≡ record self.old { names = self.new.names } }
-        ensures kept { (tables : Tables) (t : ℕ) → metadata_of (table_at tables t) ≡ Some metadata.now
+        ensures indices { (tables : Tables) (t : ℕ) → metadata_of (table_at tables t) ≡ Some metadata.now
             → IndicesInvariant self.old tables → IndicesInvariant self.new (slice_set tables t None) }
     {
         if metadata.named {

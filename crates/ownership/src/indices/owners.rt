@@ -5,16 +5,16 @@ ghost use Rattle.ownership.specs.inside.Indices.{IsAmong, AddsUnderOwners, Remov
 use super::Indices;
 use super::identifiers::insert_sorted;
 use crate::process::Process;
-use crate::table::Table;
+use crate::table::OwnedTable;
 use crate::world::end::living_heir;
 use bucket_table::Rows;
 use indexmap::IndexMap;
 use std::alloc::{AllocError, Global};
 
 impl Indices {
-    /// Adds a table under an owner. Earlier entries stay, also if memory is refused.
+    /// Adds a table under an owner. Earlier identifiers stay, also if memory is refused.
     pub fn index_owner(&mut self, alloc: Global, owner: u32, id: u32) -> Result<(), AllocError>
-        ensures stays { AddsUnderOwners self.old self.new }
+        ensures owners { AddsUnderOwners self.old self.new }
         ensures ok { OnOk result (IsAmong id (ids_under self.new owner)) }
     {
         if let Some(ids) = self.owned.get_mut(&owner) {
@@ -27,7 +27,7 @@ impl Indices {
     }
 
     /// Returns the identifiers under an owner.
-    pub fn owned_by(&self, alloc: Global, owner: u32) -> Result<Vec<u32>, AllocError>
+    pub fn tables_of(&self, alloc: Global, owner: u32) -> Result<Vec<u32>, AllocError>
         ensures { IfOk result (λ ids. ids.items ≡ ids_under self.now owner) }
     {
         let mut ids = Vec::new(alloc);
@@ -37,7 +37,7 @@ impl Indices {
         Ok(ids)
     }
 
-    /// Removes the entry of an owner. This takes no memory.
+    /// Removes an owner from the index. This takes no memory.
     pub(super) fn remove_owner(&mut self, owner: u32)
         ensures { RemovesOwner owner self.old self.new }
     {
@@ -49,10 +49,10 @@ impl Indices {
         &mut self,
         alloc: Global,
         processes: &IndexMap<u32, Process>,
-        tables: &[Option<Table<R>>],
+        tables: &[Option<OwnedTable<R>>],
         ids: &[u32],
     ) -> Result<(), AllocError>
-        ensures stays { AddsUnderOwners self.old self.new }
+        ensures owners { AddsUnderOwners self.old self.new }
         ensures ok { OnOk result (HeirsAreIndexed self.new processes.now.entries tables.now ids.now) }
     {
         for id in ids {
@@ -66,10 +66,10 @@ impl Indices {
         &mut self,
         alloc: Global,
         processes: &IndexMap<u32, Process>,
-        tables: &[Option<Table<R>>],
+        tables: &[Option<OwnedTable<R>>],
         id: u32,
     ) -> Result<(), AllocError>
-        ensures stays { AddsUnderOwners self.old self.new }
+        ensures owners { AddsUnderOwners self.old self.new }
         ensures ok { OnOk result (HeirIsIndexed self.new processes.now.entries tables.now id) }
     {
         let Some(Some(table)) = tables.get(id as usize) else {

@@ -6,7 +6,7 @@ ghost use Rattle.ownership.specs.inside.Indices.{IndicesInvariant, CoversTablesO
 
 use super::Indices;
 use crate::process::Process;
-use crate::table::Table;
+use crate::table::OwnedTable;
 use crate::world::end::living_heir;
 use bucket_table::Rows;
 use indexmap::IndexMap;
@@ -18,16 +18,16 @@ impl Indices {
     /// tables are visited. This takes no memory.
     pub fn reassign_tables<R: Rows>(
         &mut self,
-        tables: &mut Vec<Option<Table<R>>>,
+        tables: &mut Vec<Option<OwnedTable<R>>>,
         processes: &IndexMap<u32, Process>,
         own: &[u32],
         pid: u32,
     )
-        requires kept { IndicesInvariant self.old tables.old.items }
+        requires indices { IndicesInvariant self.old tables.old.items }
         requires dead { lives processes.now.entries pid ≡ false }
         requires own { CoversTablesOf own.now pid tables.old.items }
         requires heirs { HeirsOfOwnerAreIndexed self.old processes.now.entries pid tables.old.items }
-        ensures kept { IndicesInvariant self.new tables.new.items }
+        ensures indices { IndicesInvariant self.new tables.new.items }
         ensures after { tables.new.items
             ≡ map (table_after_exit processes.now.entries pid) tables.old.items }
     {
@@ -47,25 +47,25 @@ impl Indices {
     /// Does the same for one table.
     fn reassign_table<R: Rows>(
         &mut self,
-        tables: &mut Vec<Option<Table<R>>>,
+        tables: &mut Vec<Option<OwnedTable<R>>>,
         processes: &IndexMap<u32, Process>,
         pid: u32,
         id: u32,
     )
-        requires kept { IndicesInvariant self.old tables.old.items }
+        requires indices { IndicesInvariant self.old tables.old.items }
         requires heirs { HeirsOfOwnerAreIndexed self.old processes.now.entries pid tables.old.items }
         ensures rest { self.new ≡ record self.old { names = self.new.names } }
-        ensures kept { IndicesInvariant self.new tables.new.items }
+        ensures indices { IndicesInvariant self.new tables.new.items }
         ensures after { tables.new.items
             ≡ slice_set tables.old.items id
             (table_after_exit processes.now.entries pid (table_at tables.old.items id)) }
     {
-        let place = id as usize;
-        if place >= tables.len() {
+        let index = id as usize;
+        if index >= tables.len() {
             return;
         }
-        let table = mem::replace(&mut tables[place], None);
-        tables[place] = self.table_after_exit(processes, pid, table);
+        let table = mem::replace(&mut tables[index], None);
+        tables[index] = self.table_after_exit(processes, pid, table);
     }
 
     /// Returns a table after its owner's end. The fixes of the process are released. A table that it owned passes to
@@ -74,11 +74,11 @@ impl Indices {
         &mut self,
         processes: &IndexMap<u32, Process>,
         pid: u32,
-        table: Option<Table<R>>,
-    ) -> Option<Table<R>>
+        table: Option<OwnedTable<R>>,
+    ) -> Option<OwnedTable<R>>
         ensures rest { self.new ≡ record self.old { names = self.new.names } }
         ensures after { result ≡ table_after_exit processes.now.entries pid table }
-        ensures kept { (tables : Tables) (t : ℕ) → table_at tables t ≡ table
+        ensures indices { (tables : Tables) (t : ℕ) → table_at tables t ≡ table
             → HeirsOfOwnerAreIndexed self.old processes.now.entries pid tables → IndicesInvariant self.old tables
             → IndicesInvariant self.new (slice_set tables t result) }
     {

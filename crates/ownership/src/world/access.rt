@@ -1,5 +1,5 @@
 ghost use Rattle.std.specs.Prelude.{◌≡◌};
-ghost use Rattle.ownership.specs.Access.{may, owned_by, may_read, may_write};
+ghost use Rattle.ownership.specs.Access.{may, is_owner, may_read, may_write};
 
 use super::World;
 use bucket_table::Rows;
@@ -29,7 +29,7 @@ impl<R: Rows> World<R> {
 
     /// Checks whether the process owns the table with this identifier.
     pub fn is_owner(&self, pid: u32, id: u32) -> bool
-        ensures { result ≡ may owned_by self.now.tables pid id }
+        ensures { result ≡ may is_owner self.now.tables pid id }
     {
         match self.metadata(id) {
             Some(metadata) => metadata.is_owned_by(pid),

@@ -3,7 +3,7 @@ ghost use Rattle.std.specs.Map.{set_value};
 ghost use Rattle.ownership.specs.World as model;
 ghost use Rattle.ownership.specs.World.{process_at, lives};
 ghost use Rattle.ownership.specs.End.{End, with_ended, after_exit, living_heir, receiver_of};
-ghost use Rattle.ownership.specs.Outcomes.{Refines};
+ghost use Rattle.ownership.specs.Outcomes.{RefinesWorld};
 ghost use Rattle.ownership.specs.inside.Ending.{after_transfers, after_transfer_of};
 
 use super::World;
@@ -11,7 +11,7 @@ use crate::fault::WorldFault;
 use crate::messages::{post, transfer_message, unpost};
 use crate::metadata::{Heir, Metadata};
 use crate::process::{Process, process_in};
-use crate::table::Table;
+use crate::table::OwnedTable;
 use bucket_table::Rows;
 use ets_term::Items;
 use indexmap::IndexMap;
@@ -23,7 +23,7 @@ impl<R: Rows> World<R> {
     /// tables, in order of creation, passes to its living heir with the transfer message, or is deleted. Returns
     /// `NoProcess` if the process does not live.
     pub fn end(&mut self, pid: u32) -> Result<(), WorldFault>
-        ensures { Refines (End self.old pid) self.old result self.new }
+        ensures { RefinesWorld (End self.old pid) self.old result self.new }
     {
         if !self.lives(pid) {
             return Err(WorldFault::NoProcess);
@@ -41,7 +41,7 @@ impl<R: Rows> World<R> {
             (self.new ≡ after_exit self.old (with_ended self.old.processes pid) pid) }
         ensures err { OnErr result (self.new ≡ self.old) }
     {
-        let own = self.indices.owned_by(self.alloc, pid)?;
+        let own = self.indices.tables_of(self.alloc, pid)?;
         self.indices.index_heirs(
             self.alloc,
             &self.processes,
@@ -66,7 +66,7 @@ impl<R: Rows> World<R> {
 fn post_transfers<R: Rows>(
     alloc: Global,
     processes: &mut IndexMap<u32, Process>,
-    tables: &[Option<Table<R>>],
+    tables: &[Option<OwnedTable<R>>],
     ids: &[u32],
     pid: u32,
 ) -> Result<(), AllocError>
@@ -104,7 +104,7 @@ fn replace_process(processes: &mut IndexMap<u32, Process>, pid: u32, process: Pr
 fn post_all<R: Rows>(
     alloc: Global,
     processes: &mut IndexMap<u32, Process>,
-    tables: &[Option<Table<R>>],
+    tables: &[Option<OwnedTable<R>>],
     ids: &[u32],
     pid: u32,
 ) -> Result<(), AllocError>
@@ -125,7 +125,7 @@ fn post_all<R: Rows>(
 fn post_transfer<R: Rows>(
     alloc: Global,
     processes: &mut IndexMap<u32, Process>,
-    tables: &[Option<Table<R>>],
+    tables: &[Option<OwnedTable<R>>],
     pid: u32,
     id: u32,
 ) -> Result<(), AllocError>
@@ -146,7 +146,7 @@ fn post_transfer<R: Rows>(
 /// Removes the transfer messages of these tables, the last first.
 fn unpost_all<R: Rows>(
     processes: &mut IndexMap<u32, Process>,
-    tables: &[Option<Table<R>>],
+    tables: &[Option<OwnedTable<R>>],
     ids: &[u32],
     pid: u32,
 )
@@ -163,7 +163,7 @@ fn unpost_all<R: Rows>(
 /// Removes the transfer message of one table, which was posted last.
 fn unpost_transfer<R: Rows>(
     processes: &mut IndexMap<u32, Process>,
-    tables: &[Option<Table<R>>],
+    tables: &[Option<OwnedTable<R>>],
     pid: u32,
     id: u32,
 )
@@ -183,7 +183,7 @@ fn unpost_transfer<R: Rows>(
 /// Returns the heir that gets a table of the process.
 fn receiver_of<'a, R: Rows>(
     processes: &IndexMap<u32, Process>,
-    table: &'a Table<R>,
+    table: &'a OwnedTable<R>,
     pid: u32,
 ) -> Option<&'a Heir>
     ensures { option_copied result ≡ receiver_of processes.now.entries pid table.now }

@@ -1,6 +1,6 @@
 ghost use Rattle.std.specs.Prelude.{◌≡◌, None, OnOk, OnErr, nat_le, is_some, length};
 ghost use Rattle.ownership.specs.World.{process_at, lives};
-ghost use Rattle.ownership.specs.Outcomes.{Refines};
+ghost use Rattle.ownership.specs.Outcomes.{RefinesWorld};
 ghost use Rattle.ownership.specs.Tables.{Enrol, after_enrol};
 
 use super::World;
@@ -31,7 +31,7 @@ impl<R: Rows> World<R> {
     /// Starts the process with this number. Returns `Badarg` if the number was enrolled before, and `SystemLimit` if
     /// the greatest number of processes was reached.
     pub fn enrol(&mut self, pid: u32) -> Result<(), WorldFault>
-        ensures { Refines (Enrol self.old pid) self.old result self.new }
+        ensures { RefinesWorld (Enrol self.old pid) self.old result self.new }
     {
         if self.was_enrolled(pid) {
             return Err(WorldFault::Badarg);

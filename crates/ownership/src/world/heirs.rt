@@ -1,13 +1,13 @@
 ghost use Rattle.std.specs.Prelude.{◌≡◌, OnOk, OnErr};
 ghost use Rattle.ownership.specs.Tables.{GiveAway, SetHeir, SetOptions, with_changed, after_set_heir, after_transfer, with_owner};
-ghost use Rattle.ownership.specs.Outcomes.{Refines};
+ghost use Rattle.ownership.specs.Outcomes.{RefinesWorld};
 
 use super::World;
 use crate::fault::WorldFault;
 use crate::messages::{post, transfer_message};
 use crate::metadata::Heir;
 use crate::options::heir_in_setopts;
-use crate::table::Table;
+use crate::table::OwnedTable;
 use bucket_table::Rows;
 use ets_term::Term;
 use std::alloc::AllocError;
@@ -18,7 +18,7 @@ impl<R: Rows> World<R> {
     /// the gift. The heir and the fixes stay. Returns `Badarg` if the table does not exist or `pid` does not own it.
     /// Returns `Badarg` too if `to` is `pid` or does not live.
     pub fn give_away(&mut self, pid: u32, id: u32, to: u32, gift: &Term) -> Result<(), WorldFault>
-        ensures { Refines (GiveAway self.old pid id to gift.now) self.old result self.new }
+        ensures { RefinesWorld (GiveAway self.old pid id to gift.now) self.old result self.new }
     {
         let Some(metadata) = self.metadata(id) else {
             return Err(WorldFault::Badarg);
@@ -35,7 +35,7 @@ impl<R: Rows> World<R> {
     /// `{heir,Pid,Data}`, or a list of these, of which the last counts. Returns `Badarg` if the table does not exist,
     /// `pid` does not own it, or an option does not name an heir.
     pub fn set_options(&mut self, pid: u32, id: u32, options: &Term) -> Result<(), WorldFault>
-        ensures { Refines (SetOptions self.old pid id options.now) self.old result self.new }
+        ensures { RefinesWorld (SetOptions self.old pid id options.now) self.old result self.new }
     {
         if !self.is_owner(pid, id) {
             return Err(WorldFault::Badarg);
@@ -78,12 +78,12 @@ impl<R: Rows> World<R> {
     fn set_heir_at(&mut self, id: u32, heir: Option<Heir>)
         ensures { self.new ≡ after_set_heir self.old id heir }
     {
-        let place = id as usize;
-        if place >= self.tables.len() {
+        let index = id as usize;
+        if index >= self.tables.len() {
             drop(heir);
             return;
         }
-        let Some(table) = &mut self.tables[place] else {
+        let Some(table) = &mut self.tables[index] else {
             drop(heir);
             return;
         };
@@ -92,14 +92,14 @@ impl<R: Rows> World<R> {
 }
 
 /// Sets the owner of a table, if the table exists.
-fn set_owner_at<R: Rows>(tables: &mut Vec<Option<Table<R>>>, id: u32, owner: u32)
+fn set_owner_at<R: Rows>(tables: &mut Vec<Option<OwnedTable<R>>>, id: u32, owner: u32)
     ensures { tables.new.items ≡ with_changed (with_owner owner) tables.old.items id }
 {
-    let place = id as usize;
-    if place >= tables.len() {
+    let index = id as usize;
+    if index >= tables.len() {
         return;
     }
-    let Some(table) = &mut tables[place] else {
+    let Some(table) = &mut tables[index] else {
         return;
     };
     table.set_owner(owner);

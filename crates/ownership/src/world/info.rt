@@ -4,7 +4,7 @@ ghost use Rattle.ownership.specs.Info.{info_of};
 
 use super::World;
 use crate::info::{InfoItem, heir_term, kind_term, protection_term, truth};
-use crate::table::Table;
+use crate::table::OwnedTable;
 use bucket_table::Rows;
 use ets_term::{Integer, Term};
 use std::alloc::{AllocError, Global};
@@ -24,7 +24,7 @@ impl<R: Rows> World<R> {
 
 fn info_value<R: Rows>(
     alloc: Global,
-    table: &Table<R>,
+    table: &OwnedTable<R>,
     id: u32,
     item: InfoItem,
 ) -> Result<Term, AllocError>

@@ -4,7 +4,7 @@ ghost use Rattle.std.specs.Borrow.{sem};
 ghost use Rattle.ownership.specs.World.{table_at, fixed_at, metadata_of, whereis, resolve};
 ghost use Rattle.ownership.specs.Messages.{name_or_identifier};
 ghost use Rattle.ownership.specs.Tables.{New, new_metadata, with_table, without_table};
-ghost use Rattle.ownership.specs.Outcomes.{Refines};
+ghost use Rattle.ownership.specs.Outcomes.{RefinesWorld};
 ghost use Rattle.ownership.specs.inside.Names.{IsNameFree};
 
 use super::World;
@@ -12,7 +12,7 @@ use crate::fault::WorldFault;
 use crate::messages::name_or_identifier;
 use crate::metadata::Metadata;
 use crate::options::NewOptions;
-use crate::table::Table;
+use crate::table::OwnedTable;
 use bucket_table::Rows;
 use ets_term::{Atom, Term};
 use fixed_walk::Walked;
@@ -77,8 +77,8 @@ impl<R: Rows> World<R> {
         ensures value { option_copied_mut result ≡ fixed_at self.old.tables id }
     {
         self.indices.mark_dirty(self.tables.as_slice(), id);
-        let place = self.tables.get_mut(id as usize)?;
-        let table = place.as_mut()?;
+        let found = self.tables.get_mut(id as usize)?;
+        let table = found.as_mut()?;
         Some(table.walked_mut())
     }
 
@@ -92,7 +92,7 @@ impl<R: Rows> World<R> {
         options: NewOptions,
         table: Walked<R>,
     ) -> Result<Term, WorldFault>
-        ensures { Refines (New self.old pid name.now options table) self.old result self.new }
+        ensures { RefinesWorld (New self.old pid name.now options table) self.old result self.new }
     {
         if self.name_is_taken(&options, name) {
             drop(options);
@@ -167,7 +167,7 @@ impl<R: Rows> World<R> {
         ensures ok { OnOk result (self.new ≡ with_table self.old metadata walked) }
         ensures err { OnErr result (self.new ≡ self.old) }
     {
-        let table = Table::new(self.alloc, metadata, walked)?;
+        let table = OwnedTable::new(self.alloc, metadata, walked)?;
         if let Err(error) = self.tables.reserve(1) {
             drop(table);
             return Err(error);
@@ -188,11 +188,11 @@ impl<R: Rows> World<R> {
     pub fn drop_table(&mut self, id: u32)
         ensures { self.new ≡ without_table self.old id }
     {
-        let place = id as usize;
-        if place >= self.tables.len() {
+        let index = id as usize;
+        if index >= self.tables.len() {
             return;
         }
-        let table = mem::replace(&mut self.tables[place], None);
+        let table = mem::replace(&mut self.tables[index], None);
         if let Some(table) = table {
             self.indices.remove(table.metadata());
             drop(table);

@@ -59,7 +59,7 @@ plan_of choose [] = []
 plan_of choose (slot ∷ slots) =
     planned_then (nat_lt 0 (chosen_count choose slot.1)) slot choose (plan_of choose slots)
 
--- the plan that these slot deletes stand for
+-- the plan of these slot deletes
 abbrev pub planned_at : (ℕ → Option Term) → List SlotDelete → List PlannedSlot
 planned_at key_at plan = map (λ delete. (key_at delete.place, delete.kept)) plan
 

@@ -2,7 +2,7 @@ ghost use Rattle.std.specs.Prelude.{◌≡◌, [], ◌∷◌, true};
 ghost use Rattle.std.specs.List.{list_all, list_any};
 ghost use Rattle.table_ops.specs.Content.{is_object};
 ghost use Rattle.table_ops.specs.Put.{is_taken, Inserts, InsertsNew, InsertsWithinLimit};
-ghost use Rattle.table_ops.specs.Refusals.{Refines};
+ghost use Rattle.table_ops.specs.Refusals.{RefinesChange};
 
 use super::Table;
 use crate::object::{any_too_deep, are_objects, key_of};
@@ -14,7 +14,7 @@ impl<R: Rows> Table<R> {
     /// Inserts objects one after another, or none of them if one is refused (stdlib manual, ets:insert/2). Refuses with
     /// `Badarg` if one is no object, and with `SystemLimit` if one is too deep or the table would pass its limit.
     pub fn insert(&mut self, objects: &[Term]) -> Result<(), Refusal>
-        ensures content { Refines (Inserts objects.now self.old.content)
+        ensures content { RefinesChange (Inserts objects.now self.old.content)
             self.old.content result self.new.content }
         ensures buckets { self.new.buckets ≡ self.old.buckets }
     {
@@ -26,7 +26,7 @@ impl<R: Rows> Table<R> {
 
     /// Inserts one object, which is what most calls insert.
     fn insert_one(&mut self, object: &Term) -> Result<(), Refusal>
-        ensures content { Refines (Inserts (object.now ∷ []) self.old.content)
+        ensures content { RefinesChange (Inserts (object.now ∷ []) self.old.content)
             self.old.content result self.new.content }
         ensures buckets { self.new.buckets ≡ self.old.buckets }
     {
@@ -44,7 +44,7 @@ impl<R: Rows> Table<R> {
     /// Inserts a list of objects.
     #[inline(never)]
     fn insert_list(&mut self, objects: &[Term]) -> Result<(), Refusal>
-        ensures content { Refines (Inserts objects.now self.old.content)
+        ensures content { RefinesChange (Inserts objects.now self.old.content)
             self.old.content result self.new.content }
         ensures buckets { self.new.buckets ≡ self.old.buckets }
     {
@@ -57,7 +57,7 @@ impl<R: Rows> Table<R> {
     /// Inserts objects if none of their keys has an object, and returns whether it did (stdlib manual,
     /// ets:insert_new/2). Refuses what `insert` refuses, but `SystemLimit` only if all keys are free.
     pub fn insert_new(&mut self, objects: &[Term]) -> Result<bool, Refusal>
-        ensures content { Refines (InsertsNew objects.now self.old.content)
+        ensures content { RefinesChange (InsertsNew objects.now self.old.content)
             self.old.content result self.new.content }
         ensures buckets { self.new.buckets ≡ self.old.buckets }
     {
@@ -69,7 +69,7 @@ impl<R: Rows> Table<R> {
 
     /// Does `insert_new` of one object with one search.
     fn insert_one_new(&mut self, object: &Term) -> Result<bool, Refusal>
-        ensures content { Refines (InsertsNew (object.now ∷ []) self.old.content)
+        ensures content { RefinesChange (InsertsNew (object.now ∷ []) self.old.content)
             self.old.content result self.new.content }
         ensures buckets { self.new.buckets ≡ self.old.buckets }
     {
@@ -91,7 +91,7 @@ impl<R: Rows> Table<R> {
 
     /// Does `insert_new` of a list.
     fn insert_all_new(&mut self, list: &[Term]) -> Result<bool, Refusal>
-        ensures content { Refines (InsertsNew list.now self.old.content)
+        ensures content { RefinesChange (InsertsNew list.now self.old.content)
             self.old.content result self.new.content }
         ensures buckets { self.new.buckets ≡ self.old.buckets }
     {
@@ -125,7 +125,7 @@ impl<R: Rows> Table<R> {
     /// Inserts all objects or none. Returns `done` if they are inserted.
     fn insert_all<X: Copy>(&mut self, objects: &[Term], done: X) -> Result<X, Refusal>
         requires { list_all (is_object self.old.content.keypos) objects.now ≡ true }
-        ensures content { Refines (InsertsWithinLimit done objects.now self.old.content)
+        ensures content { RefinesChange (InsertsWithinLimit done objects.now self.old.content)
             self.old.content result self.new.content }
         ensures buckets { self.new.buckets ≡ self.old.buckets }
     {

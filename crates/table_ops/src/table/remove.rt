@@ -25,7 +25,7 @@ impl<R: Rows> Table<R> {
 
     /// Removes and returns the objects of a key, oldest first (stdlib manual, ets:take/2).
     pub fn take(&mut self, key: &Term, hold: bool) -> Result<Items<Term>, AllocError>
-        ensures taken { Returns result (objects_under self.old.content.slots key.now) }
+        ensures objects { Returns result (objects_under self.old.content.slots key.now) }
         ensures content { OnOk result
             (self.new.content ≡ without_those hold (has_key key.now) self.old.content) }
         ensures err { OnErr result (self.new.content ≡ self.old.content) }

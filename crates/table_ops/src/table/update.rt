@@ -1,7 +1,7 @@
 ghost use Rattle.std.specs.Prelude.{◌≡◌, ◌&&◌, None, option_copied};
 ghost use Rattle.counters.specs.declared.ops.Ops.TheVariants.{One};
 ghost use Rattle.counters.specs.declared.elements.ElementSpecs.TheVariants as elements;
-ghost use Rattle.table_ops.specs.Refusals.{Refines};
+ghost use Rattle.table_ops.specs.Refusals.{RefinesChange};
 ghost use Rattle.table_ops.specs.Update.{is_set, may_update, ops_avoid_key, specs_avoid_key, default_is_object, counter_is_valid, element_is_valid, UpdatesCounter, UpdatesElement};
 
 use super::Table;
@@ -28,7 +28,7 @@ impl<R: Rows> Table<R> {
         ops: &Ops,
         default: Option<&Term>,
     ) -> Result<Term, Refusal>
-        ensures content { Refines
+        ensures content { RefinesChange
             (UpdatesCounter key.now ops.now (option_copied default.entry) self.old.content)
             self.old.content result self.new.content }
         ensures buckets { self.new.buckets ≡ self.old.buckets }
@@ -60,7 +60,7 @@ impl<R: Rows> Table<R> {
     /// memory.
     #[inline(always)]
     pub fn update_one_counter(&mut self, key: &Term, op: Op) -> Result<Term, Refusal>
-        ensures content { Refines (UpdatesCounter key.now (One op) None self.old.content)
+        ensures content { RefinesChange (UpdatesCounter key.now (One op) None self.old.content)
             self.old.content result self.new.content }
         ensures buckets { self.new.buckets ≡ self.old.buckets }
     {
@@ -91,7 +91,7 @@ impl<R: Rows> Table<R> {
         specs: &ElementSpecs,
         default: Option<&Term>,
     ) -> Result<bool, Refusal>
-        ensures content { Refines
+        ensures content { RefinesChange
             (UpdatesElement key.now specs.now (option_copied default.entry) self.old.content)
             self.old.content result self.new.content }
         ensures buckets { self.new.buckets ≡ self.old.buckets }
@@ -122,7 +122,7 @@ impl<R: Rows> Table<R> {
         position: Position,
         value: &Term,
     ) -> Result<bool, Refusal>
-        ensures content { Refines (UpdatesElement key.now
+        ensures content { RefinesChange (UpdatesElement key.now
             (elements.One (record { position = position; value = value.now })) None self.old.content)
             self.old.content result self.new.content }
         ensures buckets { self.new.buckets ≡ self.old.buckets }

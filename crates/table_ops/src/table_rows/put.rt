@@ -1,6 +1,6 @@
 ghost use Rattle.std.specs.Prelude.{◌≡◌, ◌||◌, ◌∷◌, [], None, IsSome, OnOk, OnErr};
 ghost use Rattle.bucket_table.specs.Slots.{objects_of, has_objects, Enters};
-ghost use Rattle.bucket_table.specs.Entries.{IsEntry, HasOne, with_objects_in};
+ghost use Rattle.bucket_table.specs.Entries.{IsEntry, HasOneObject, with_objects_in};
 ghost use Rattle.table_ops.specs.declared.kind.Kind.TheVariants.{Set, Bag, DuplicateBag};
 ghost use Rattle.table_ops.specs.Update.{is_set};
 ghost use Rattle.table_ops.specs.Content.{FitsKind, objects_under};
@@ -28,7 +28,7 @@ impl<R: Rows> TableRows<R> {
     ) -> Result<Undo, Refusal>
         requires entry { IsEntry (R.content self.old.rows) (R.hash_of self.old.rows)
             (R.key_at self.old.rows) key.now entry }
-        requires kept { FitsKind self.old.kind (objects_under (R.content self.old.rows) key.now) }
+        requires kind { FitsKind self.old.kind (objects_under (R.content self.old.rows) key.now) }
         ensures slots { PutsOne below_limit self.old.kind key.now object.now
             (R.content self.old.rows) result (R.content self.new.rows) }
         ensures keeps { ChangesSlotsOnly R.readiness self.old self.new }
@@ -114,7 +114,7 @@ impl<R: Rows> TableRows<R> {
 
     /// Replaces the only object of a slot by a copy of another.
     pub(crate) fn replace_only(&mut self, place: Place, object: &Term) -> Result<(), AllocError>
-        requires { HasOne (R.content self.old.rows) (R.key_at self.old.rows place) }
+        requires { HasOneObject (R.content self.old.rows) (R.key_at self.old.rows place) }
         ensures ok { OnOk result (R.content self.new.rows ≡ with_objects_in (R.content self.old.rows)
             (R.key_at self.old.rows place) (object.now ∷ [])) }
         ensures err { OnErr result (R.content self.new.rows ≡ R.content self.old.rows) }

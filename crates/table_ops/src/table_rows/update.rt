@@ -1,6 +1,6 @@
 ghost use Rattle.std.specs.Prelude.{◌≡◌, ◌&&◌, [], ◌∷◌, true, Some, Ok, OnOk, OnErr, option_copied};
 ghost use Rattle.std.specs.List.{list_all};
-ghost use Rattle.bucket_table.specs.Entries.{IsEntry, HasOne};
+ghost use Rattle.bucket_table.specs.Entries.{IsEntry, HasOneObject};
 ghost use Rattle.counters.specs.declared.ops.Ops.TheVariants.{One};
 ghost use Rattle.counters.specs.declared.elements.ElementSpecs.TheVariants as elements;
 ghost use Rattle.table_ops.specs.Put.{SetsObjects};
@@ -89,7 +89,7 @@ impl<R: Rows> TableRows<R> {
         place: Place,
         ops: &Ops,
     ) -> Result<Term, CounterFault>
-        requires { HasOne (R.content self.old.rows) (R.key_at self.old.rows place) }
+        requires { HasOneObject (R.content self.old.rows) (R.key_at self.old.rows place) }
         ensures slots { UpdatesCounterAt ops.now (R.key_at self.old.rows place)
             (R.content self.old.rows) result (R.content self.new.rows) }
         ensures keeps { ChangesSlotsOnly R.readiness self.old self.new }
@@ -107,7 +107,7 @@ impl<R: Rows> TableRows<R> {
         place: Place,
         op: Op,
     ) -> Result<Term, CounterFault>
-        requires { HasOne (R.content self.old.rows) (R.key_at self.old.rows place) }
+        requires { HasOneObject (R.content self.old.rows) (R.key_at self.old.rows place) }
         ensures slots { UpdatesCounterAt (One op) (R.key_at self.old.rows place)
             (R.content self.old.rows) result (R.content self.new.rows) }
         ensures keeps { ChangesSlotsOnly R.readiness self.old self.new }
@@ -121,7 +121,7 @@ impl<R: Rows> TableRows<R> {
 
     /// Updates counters of the only object at a place, which is moved out meanwhile.
     fn update_counters_at(&mut self, place: Place, ops: &Ops) -> Result<Term, CounterFault>
-        requires { HasOne (R.content self.old.rows) (R.key_at self.old.rows place) }
+        requires { HasOneObject (R.content self.old.rows) (R.key_at self.old.rows place) }
         ensures slots { UpdatesCounterAt ops.now (R.key_at self.old.rows place)
             (R.content self.old.rows) result (R.content self.new.rows) }
         ensures keeps { ChangesSlotsOnly R.readiness self.old self.new }
@@ -138,7 +138,7 @@ impl<R: Rows> TableRows<R> {
         place: Place,
         specs: &ElementSpecs,
     ) -> Result<(), CounterFault>
-        requires { HasOne (R.content self.old.rows) (R.key_at self.old.rows place) }
+        requires { HasOneObject (R.content self.old.rows) (R.key_at self.old.rows place) }
         ensures slots { UpdatesElementAt specs.now (R.key_at self.old.rows place)
             (R.content self.old.rows) result (R.content self.new.rows) }
         ensures keeps { ChangesSlotsOnly R.readiness self.old self.new }
@@ -159,7 +159,7 @@ impl<R: Rows> TableRows<R> {
         position: Position,
         value: &Term,
     ) -> Result<(), CounterFault>
-        requires { HasOne (R.content self.old.rows) (R.key_at self.old.rows place) }
+        requires { HasOneObject (R.content self.old.rows) (R.key_at self.old.rows place) }
         ensures slots { UpdatesElementAt
             (elements.One (record { position = position; value = value.now }))
             (R.key_at self.old.rows place)
@@ -175,7 +175,7 @@ impl<R: Rows> TableRows<R> {
 
     /// Sets elements of the only object at a place, which is moved out meanwhile.
     fn update_elements_at(&mut self, place: Place, specs: &ElementSpecs) -> Result<(), CounterFault>
-        requires { HasOne (R.content self.old.rows) (R.key_at self.old.rows place) }
+        requires { HasOneObject (R.content self.old.rows) (R.key_at self.old.rows place) }
         ensures slots { UpdatesElementAt specs.now (R.key_at self.old.rows place)
             (R.content self.old.rows) result (R.content self.new.rows) }
         ensures keeps { ChangesSlotsOnly R.readiness self.old self.new }

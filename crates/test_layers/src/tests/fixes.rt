@@ -105,7 +105,7 @@ fn is_key(found: Option<&Term>, wanted: Option<Integer>) -> bool {
 
 /// Makes the first unready bucket ready, or doubles the buckets.
 fn grow<R: Rows>(table: &mut Walked<R>) -> Option<()> {
-    if let Some(bucket) = table.least() {
+    if let Some(bucket) = table.first_unready() {
         let _ = table.ready(bucket).ok()?;
     } else if table.buckets() < 4096 {
         let _ = table.grow().ok()?;

@@ -63,8 +63,8 @@ fn body(alloc: Global) -> Option<Term> {
 
 /// Builds a clause that gives the second element of an object with this key.
 fn clause(alloc: Global, key: Integer) -> Option<Term> {
-    let head = pair(alloc, Term::Int(key), atom(alloc, "$1")?)?;
-    triple(alloc, head, Term::List(Items::new(alloc)), body(alloc)?)
+    let pattern = pair(alloc, Term::Int(key), atom(alloc, "$1")?)?;
+    triple(alloc, pattern, Term::List(Items::new(alloc)), body(alloc)?)
 }
 
 fn many_clauses(alloc: Global) -> Option<Term> {

@@ -251,10 +251,10 @@ impl Random {
     }
 
     fn clause(&mut self, alloc: Global, object: &Term) -> Option<Term> {
-        let head = self.pattern(alloc, object)?;
+        let pattern = self.pattern(alloc, object)?;
         let conditions = self.expressions(alloc, 1)?;
         let body = self.expressions(alloc, 2)?;
-        triple(alloc, head, conditions, body)
+        triple(alloc, pattern, conditions, body)
     }
 
     /// Builds a match specification of one or two clauses whose patterns are made from the object.

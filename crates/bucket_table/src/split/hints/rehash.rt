@@ -33,7 +33,7 @@ impl Hints {
         requires hints { HintsAreSound self.old list.now.cells }
         ensures hints { HintsAreSound self.new list.now.cells }
         ensures interval_bits { self.new.interval_bits ≡ self.old.interval_bits }
-        ensures gone { get_or self.new.previous pair None ≡ None }
+        ensures previous { get_or self.new.previous pair None ≡ None }
     {
         if pair < self.previous.len() && self.previous.get(pair).is_some() {
             let (lower, upper) = self.split_hint(list, pair);
@@ -48,7 +48,7 @@ impl Hints {
         requires hints { HintsAreSound self.old list.now.cells }
         ensures hints { HintsAreSound self.new list.now.cells }
         ensures interval_bits { self.new.interval_bits ≡ self.old.interval_bits }
-        ensures gone { get_or self.new.previous (split_key / 2 ^ self.new.interval_bits / 2) None ≡ None }
+        ensures previous { get_or self.new.previous (split_key / 2 ^ self.new.interval_bits / 2) None ≡ None }
     {
         self.rehash_pair(list, self.interval_of(split_key) / 2);
     }
@@ -78,7 +78,7 @@ impl Hints {
         requires hints { HintsAreSound self.old list.now.cells }
         ensures hints { HintsAreSound self.new list.now.cells }
         ensures interval_bits { self.new.interval_bits ≡ self.old.interval_bits }
-        ensures gone { get_or self.new.previous (split_key / 2 ^ self.new.interval_bits / 2) None ≡ None }
+        ensures previous { get_or self.new.previous (split_key / 2 ^ self.new.interval_bits / 2) None ≡ None }
     {
         if self.previous.len() > 0 || self.current.len() < self.intervals() {
             self.rehash_now(list, split_key);
@@ -91,7 +91,7 @@ impl Hints {
         requires hints { HintsAreSound self.old list.now.cells }
         ensures hints { HintsAreSound self.new list.now.cells }
         ensures interval_bits { self.new.interval_bits ≡ self.old.interval_bits }
-        ensures gone { get_or self.new.previous (split_key / 2 ^ self.new.interval_bits / 2) None ≡ None }
+        ensures previous { get_or self.new.previous (split_key / 2 ^ self.new.interval_bits / 2) None ≡ None }
     {
         self.rehash_step(list);
         self.rehash_interval(list, split_key);

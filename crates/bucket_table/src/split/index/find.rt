@@ -15,7 +15,7 @@ impl<H: KeyHash + Copy + Drop> SplitIndex<H> {
         requires rows { RowsInvariant H.hash self.now }
         requires hash { hash ≡ H.hash self.now.hasher key.now }
         ensures found { FindsItem self.now key.now result }
-        ensures looked { CountsVisits H.hash self.now key.now steps.old steps.new }
+        ensures visits { CountsVisits H.hash self.now key.now steps.old steps.new }
     {
         self.list.reveal_invariant();
         let _count = steps.count();
@@ -32,7 +32,7 @@ impl<H: KeyHash + Copy + Drop> SplitIndex<H> {
         requires rows { RowsInvariant H.hash self.now }
         requires hash { hash ≡ H.hash self.now.hasher key.now }
         ensures found { FindsItem self.now key.now result }
-        ensures looked { CountsVisits H.hash self.now key.now steps.old steps.new }
+        ensures visits { CountsVisits H.hash self.now key.now steps.old steps.new }
     {
         self.list.reveal_invariant();
         let _count = steps.count();
@@ -49,7 +49,7 @@ impl<H: KeyHash + Copy + Drop> SplitIndex<H> {
         requires rows { RowsInvariant H.hash self.now }
         requires hash { hash ≡ H.hash self.now.hasher key.now }
         ensures found { FindsItem self.now key.now result }
-        ensures looked { CountsVisits H.hash self.now key.now steps.old steps.new }
+        ensures visits { CountsVisits H.hash self.now key.now steps.old steps.new }
     {
         self.list.reveal_invariant();
         let (bucket, start) = self.bucket_start(hash);
@@ -67,7 +67,7 @@ impl<H: KeyHash + Copy + Drop> SplitIndex<H> {
         requires start { CanStartSearch (H.hash self.now.hasher) self.now.directory key.now start
             self.now.list.cells }
         ensures found { FindsItem self.now key.now result }
-        ensures looked { CountsVisits H.hash self.now key.now steps.old steps.new }
+        ensures visits { CountsVisits H.hash self.now key.now steps.old steps.new }
     {
         self.list.find(start, item_key(hash), key, steps)
     }

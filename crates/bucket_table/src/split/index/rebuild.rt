@@ -39,7 +39,7 @@ impl<H: KeyHash + Copy + Drop> SplitIndex<H> {
     /// Rebuilds the hints of a ready bucket by one scan. All are set to empty first, and then to the first items.
     fn rebuild_hints(&mut self, bucket: u32, start: At)
         requires rows { RowsInvariant H.hash self.old }
-        requires entry { get_or self.old.directory bucket None ≡ Some start }
+        requires start { get_or self.old.directory bucket None ≡ Some start }
         ensures rows { RowsInvariant H.hash self.new }
         ensures keeps { KeepsDirectory self.old self.new }
         ensures cells { self.new.list.cells ≡ self.old.list.cells }

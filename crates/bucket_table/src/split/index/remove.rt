@@ -41,7 +41,7 @@ impl<H: KeyHash + Copy + Drop> SplitIndex<H> {
     /// Removes an item and returns the number of its objects. `start` is a node before it.
     pub fn delete_after(&mut self, start: At, at: At) -> usize
         requires rows { RowsInvariant H.hash self.old }
-        requires stands { HasItem at (cells_after start self.old.list.cells) }
+        requires item { HasItem at (cells_after start self.old.list.cells) }
         ensures rows { RowsInvariant H.hash self.new }
         ensures keeps { KeepsDirectory self.old self.new }
         ensures count { option_map (λ item. length item.chain) (item_at at self.old.list.cells) ≡ Some result }
@@ -83,7 +83,7 @@ impl<H: KeyHash + Copy + Drop> SplitIndex<H> {
     /// Removes an item of a rehashed interval, and returns its key and objects. `start` is a node before it.
     fn remove_rehashed(&mut self, split_key: u64, start: At, at: At) -> (Term, Chain)
         requires rows { RowsInvariant H.hash self.old }
-        requires stands { HasItem at (cells_after start self.old.list.cells) }
+        requires item { HasItem at (cells_after start self.old.list.cells) }
         requires key { key_at at self.old.list.cells ≡ Some split_key }
         requires rehashed { get_or self.old.hints.previous (split_key / 2 ^ self.old.hints.interval_bits / 2) None
             ≡ None }
@@ -103,7 +103,7 @@ impl<H: KeyHash + Copy + Drop> SplitIndex<H> {
     /// Removes an item of a rehashed interval, and returns the number of its objects. `start` is a node before it.
     fn delete_rehashed(&mut self, split_key: u64, start: At, at: At) -> usize
         requires rows { RowsInvariant H.hash self.old }
-        requires stands { HasItem at (cells_after start self.old.list.cells) }
+        requires item { HasItem at (cells_after start self.old.list.cells) }
         requires key { key_at at self.old.list.cells ≡ Some split_key }
         requires rehashed { get_or self.old.hints.previous (split_key / 2 ^ self.old.hints.interval_bits / 2) None
             ≡ None }

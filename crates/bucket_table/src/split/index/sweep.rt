@@ -41,11 +41,11 @@ impl<H: KeyHash + Copy + Drop> SplitIndex<H> {
     /// Sweeps the node after a kept one. Returns the last node that is kept now.
     fn sweep_next(&mut self, mode: SweepMode, at: At, next: At) -> At
         requires rows { RowsInvariant H.hash self.old }
-        requires stands { IsPlaceOf at self.old.list.cells }
+        requires place { IsPlaceOf at self.old.list.cells }
         requires next { place_after at self.old.list.cells ≡ Some next }
         ensures rows { RowsInvariant H.hash self.new }
         ensures keeps { KeepsDirectory self.old self.new }
-        ensures swept { SweepsNext mode at self.old.list.cells result self.new.list.cells }
+        ensures cells { SweepsNext mode at self.old.list.cells result self.new.list.cells }
         ensures each { Sweeps mode self.old.list.cells self.new.list.cells }
     {
         self.list.reveal_invariant();
@@ -69,7 +69,7 @@ impl<H: KeyHash + Copy + Drop> SplitIndex<H> {
         ensures keeps { KeepsDirectory self.old self.new }
         ensures purged { purged (slots_of self.new.list.cells) ≡ purged (slots_of self.old.list.cells) }
         ensures each { Sweeps RemoveTombstones self.old.list.cells self.new.list.cells }
-        ensures gone { (others : List ℕ)
+        ensures tombstones { (others : List ℕ)
             → TombstonesAreAmong (H.hash self.old.hasher) (hash ∷ others) (slots_of self.old.list.cells)
             → TombstonesAreAmong (H.hash self.old.hasher) others (slots_of self.new.list.cells) }
     {

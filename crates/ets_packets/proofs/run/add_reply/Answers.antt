@@ -12,7 +12,7 @@ pub returns-in_err-add-clause-err : goal.returns-in_err-add-clause-err
 returns-in_err-add-clause-err g c =
     let old = g.W.Write.contents c.args.output.now.writer.now in
     let new = g.W.Write.contents c.add.new.self.writer.now in
-    let broken = subst (λ (k : List ℕ). Breaks (between old new) (buffered_bytes c.args.output.now ++ k)) c.reply_head.ensures c.in_err-add.ensures.err in
+    let broken = subst (λ (k : List ℕ). Breaks (between old new) (buffered_bytes c.args.output.now ++ k)) c.reply_prefix.ensures c.in_err-add.ensures.err in
     rw (err_from_is_err_and c.from_residual.result c.from_residual.ensures.1).1 (breaks-first old new (buffered_bytes c.args.output.now) (head c.args.status c.args.rest.now) c.args.rest.now broken)
 
 pub returns-clause-ok : goal.returns-clause-ok
@@ -20,7 +20,7 @@ returns-clause-ok g c =
     let old = g.W.Write.contents c.args.output.now.writer.now in
     let mid = g.W.Write.contents c.add.new.self.writer.now in
     let new = g.W.Write.contents c.add-2.new.self.writer.now in
-    let sent = subst (λ (k : List ℕ). Sends (between old mid) (buffered_bytes c.args.output.now ++ k) (buffered_bytes c.add.new.self)) c.reply_head.ensures c.in_ok-add.ensures.ok in
+    let sent = subst (λ (k : List ℕ). Sends (between old mid) (buffered_bytes c.args.output.now ++ k) (buffered_bytes c.add.new.self)) c.reply_prefix.ensures c.in_ok-add.ensures.ok in
     on-ok c.add-2.result
     (λ q. sends-two old mid new (buffered_bytes c.args.output.now) (head c.args.status c.args.rest.now) (buffered_bytes c.add.new.self) c.args.rest.now (buffered_bytes c.add-2.new.self) sent q) c.add-2.ensures.ok
 
@@ -29,6 +29,6 @@ returns-clause-err g c =
     let old = g.W.Write.contents c.args.output.now.writer.now in
     let mid = g.W.Write.contents c.add.new.self.writer.now in
     let new = g.W.Write.contents c.add-2.new.self.writer.now in
-    let sent = subst (λ (k : List ℕ). Sends (between old mid) (buffered_bytes c.args.output.now ++ k) (buffered_bytes c.add.new.self)) c.reply_head.ensures c.in_ok-add.ensures.ok in
+    let sent = subst (λ (k : List ℕ). Sends (between old mid) (buffered_bytes c.args.output.now ++ k) (buffered_bytes c.add.new.self)) c.reply_prefix.ensures c.in_ok-add.ensures.ok in
     on-err c.add-2.result
     (λ q. breaks-two old mid new (buffered_bytes c.args.output.now) (head c.args.status c.args.rest.now) (buffered_bytes c.add.new.self) c.args.rest.now sent q) c.add-2.ensures.err

@@ -7,7 +7,7 @@ use Rattle.ets_packets.proofs.run.answer_all.Goals as goal
 
 pub loop-read-init : goal.loop-read-init
 loop-read-init g c =
-    (progress-start c.args.server.now.store (g.R.Read.remaining c.args.reader.now) (g.W.Write.contents c.args.output.now.writer.now) c.args.buffer.now c.requires.held, c.requires.waiting, refl)
+    (progress-start c.args.server.now.store (g.R.Read.remaining c.args.reader.now) (g.W.Write.contents c.args.output.now.writer.now) c.args.buffer.now c.requires.buffer, c.requires.waiting, refl)
 
 pub returns-in_err-refill-clause-err : goal.returns-in_err-refill-clause-err
 returns-in_err-refill-clause-err g c =
@@ -39,7 +39,7 @@ returns-in_err-is_long-clause-err g c =
     let old = g.W.Write.contents c.args.output.now.writer.now in
     let w1 = g.W.Write.contents l.output.writer.now in
     let a = refilled start l.server.store before (g.R.Read.remaining l.reader) left old w1 l.buffer c.refill.new.self c.in_ok-refill.field-0 l.invariant.0 c.in_ok-refill.ensures.ok in
-    rw (p.1, p.2) (write-stops start l.server.store before left old w1 (g.W.Write.contents c.answer_held.new.output.writer.now) c.refill.new.self (buffered_bytes l.output) a.0 a.1 l.invariant.1 c.in_err-is_long.ensures.err)
+    rw (p.1, p.2) (write-stops start l.server.store before left old w1 (g.W.Write.contents c.answer_buffered.new.output.writer.now) c.refill.new.self (buffered_bytes l.output) a.0 a.1 l.invariant.1 c.in_err-is_long.ensures.err)
 
 pub returns-in_err-flush-clause-err : goal.returns-in_err-flush-clause-err
 returns-in_err-flush-clause-err g c =
@@ -51,7 +51,7 @@ returns-in_err-flush-clause-err g c =
     let old = g.W.Write.contents c.args.output.now.writer.now in
     let w1 = g.W.Write.contents l.output.writer.now in
     let a = refilled start l.server.store before (g.R.Read.remaining l.reader) left old w1 l.buffer c.refill.new.self c.in_ok-refill.field-0 l.invariant.0 c.in_ok-refill.ensures.ok in
-    rw (p.1, p.2) (flush-stops start l.server.store c.answer_held.new.server.store before left old w1 (g.W.Write.contents c.answer_held.new.output.writer.now) (g.W.Write.contents c.flush.new.self.writer.now) c.refill.new.self c.answer_held.new.buffer (buffered_bytes l.output) (buffered_bytes c.answer_held.new.output) c.in_ok-is_long.is_long
+    rw (p.1, p.2) (flush-stops start l.server.store c.answer_buffered.new.server.store before left old w1 (g.W.Write.contents c.answer_buffered.new.output.writer.now) (g.W.Write.contents c.flush.new.self.writer.now) c.refill.new.self c.answer_buffered.new.buffer (buffered_bytes l.output) (buffered_bytes c.answer_buffered.new.output) c.in_ok-is_long.is_long
     a.0 a.1 l.invariant.1 c.in_ok-is_long.ensures.ok c.in_err-flush.ensures.err)
 
 pub returns-then-is_long-clause-err : goal.returns-then-is_long-clause-err
@@ -63,9 +63,9 @@ returns-then-is_long-clause-err g c =
     let old = g.W.Write.contents c.args.output.now.writer.now in
     let w1 = g.W.Write.contents l.output.writer.now in
     let a = refilled start l.server.store before (g.R.Read.remaining l.reader) left old w1 l.buffer c.refill.new.self c.in_ok-refill.field-0 l.invariant.0 c.in_ok-refill.ensures.ok in
-    let all = all-answered start l.server.store c.answer_held.new.server.store before left old w1 (g.W.Write.contents c.answer_held.new.output.writer.now) (g.W.Write.contents c.flush.new.self.writer.now) c.refill.new.self c.answer_held.new.buffer (buffered_bytes l.output) (buffered_bytes c.answer_held.new.output) (buffered_bytes c.flush.new.self) c.in_ok-is_long.is_long
+    let all = all-answered start l.server.store c.answer_buffered.new.server.store before left old w1 (g.W.Write.contents c.answer_buffered.new.output.writer.now) (g.W.Write.contents c.flush.new.self.writer.now) c.refill.new.self c.answer_buffered.new.buffer (buffered_bytes l.output) (buffered_bytes c.answer_buffered.new.output) (buffered_bytes c.flush.new.self) c.in_ok-is_long.is_long
     a.0 a.1 l.invariant.1 c.in_ok-is_long.ensures.ok c.in_ok-flush.ensures.ok c.in_ok-flush.ensures.empty in
-    (c.answer_held.new.buffer, all.0, subst (λ (b : Bool). IsRest b c.answer_held.new.buffer) c.if-is_long.true c.in_ok-is_long.ensures.ok.follows)
+    (c.answer_buffered.new.buffer, all.0, subst (λ (b : Bool). IsRest b c.answer_buffered.new.buffer) c.if-is_long.true c.in_ok-is_long.ensures.ok.follows)
 
 pub loop-read-preserved : goal.loop-read-preserved
 loop-read-preserved g c =
@@ -76,9 +76,9 @@ loop-read-preserved g c =
     let old = g.W.Write.contents c.args.output.now.writer.now in
     let w1 = g.W.Write.contents l.output.writer.now in
     let a = refilled start l.server.store before (g.R.Read.remaining l.reader) left old w1 l.buffer c.refill.new.self c.in_ok-refill.field-0 l.invariant.0 c.in_ok-refill.ensures.ok in
-    let all = all-answered start l.server.store c.answer_held.new.server.store before left old w1 (g.W.Write.contents c.answer_held.new.output.writer.now) (g.W.Write.contents c.flush.new.self.writer.now) c.refill.new.self c.answer_held.new.buffer (buffered_bytes l.output) (buffered_bytes c.answer_held.new.output) (buffered_bytes c.flush.new.self) c.in_ok-is_long.is_long
+    let all = all-answered start l.server.store c.answer_buffered.new.server.store before left old w1 (g.W.Write.contents c.answer_buffered.new.output.writer.now) (g.W.Write.contents c.flush.new.self.writer.now) c.refill.new.self c.answer_buffered.new.buffer (buffered_bytes l.output) (buffered_bytes c.answer_buffered.new.output) (buffered_bytes c.flush.new.self) c.in_ok-is_long.is_long
     a.0 a.1 l.invariant.1 c.in_ok-is_long.ensures.ok c.in_ok-flush.ensures.ok c.in_ok-flush.ensures.empty in (
-      record { answered = all.0; end = all.1; part = subst (λ (b : Bool). IsRest b c.answer_held.new.buffer) c.if-is_long.false c.in_ok-is_long.ensures.ok.follows },
+      record { answered = all.0; end = all.1; part = subst (λ (b : Bool). IsRest b c.answer_buffered.new.buffer) c.if-is_long.false c.in_ok-is_long.ensures.ok.follows },
       c.in_ok-flush.ensures.empty,
-      c.flush.ensures.same_writer ∙ (c.answer_held.ensures.same_writer ∙ l.invariant.2),
+      c.flush.ensures.same_writer ∙ (c.answer_buffered.ensures.same_writer ∙ l.invariant.2),
     )

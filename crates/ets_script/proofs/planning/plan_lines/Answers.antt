@@ -1,5 +1,5 @@
 use Rattle.std.proofs.Common.{◌≡◌, ◌∙◌, ℕ, Option, Some, None, drop, subst}
-use Rattle.ets_script.specs.inside.Planning.{PlansNext, PlansHeld}
+use Rattle.ets_script.specs.inside.Planning.{PlansNext, PlansFirstLine}
 use Rattle.ets_script.proofs.BufferedLines.{refill-end}
 use Rattle.ets_script.specs.inside.Planning.{IsUnplanned}
 use Rattle.ets_script.proofs.Clients.{fault-told}
@@ -29,7 +29,7 @@ loop-taken-preserved-in_default g c =
 pub loop-taken-preserved : goal.loop-taken-preserved
 loop-taken-preserved g c =
     let l = c.loop-taken in
-    let n : PlansHeld l.buffer l.plan c.plan_next.new.plan c.in-Some.taken = subst (λ (o : Option ℕ). PlansNext l.buffer l.plan c.plan_next.new.plan o) c.in-Some.is c.in_ok-taken.ensures in
+    let n : PlansFirstLine l.buffer l.plan c.plan_next.new.plan c.in-Some.taken = subst (λ (o : Option ℕ). PlansNext l.buffer l.plan c.plan_next.new.plan o) c.in-Some.is c.in_ok-taken.ensures in
     planning-line c.args.plan.now l.plan c.count_line.new.self (g.R.Read.remaining c.args.reader.now) l.buffer c.consume.new.self (g.R.Read.remaining l.reader) c.in-Some.taken n.line l.invariant n.ends (c.count_line.ensures ∙ n.plans) c.consume.ensures.bytes c.consume.ensures.whole
 
 pub returns-in_err-taken-clause-err : goal.returns-in_err-taken-clause-err

@@ -8,7 +8,7 @@ use Rattle.ets_script.proofs.run.answer_all.Goals as goal
 
 pub loop-taken-init : goal.loop-taken-init
 loop-taken-init g c =
-    (progress-start c.args.script.now c.args.buffer.now (g.R.Read.remaining c.args.reader.now) c.args.output.now.bytes.now.items (g.W.Write.contents c.args.output.now.writer.now) c.requires.waiting c.requires.held.0 c.requires.held.1, refl)
+    (progress-start c.args.script.now c.args.buffer.now (g.R.Read.remaining c.args.reader.now) c.args.output.now.bytes.now.items (g.W.Write.contents c.args.output.now.writer.now) c.requires.waiting c.requires.buffer.0 c.requires.buffer.1, refl)
 
 pub returns-in_err-flush-clause-err : goal.returns-in_err-flush-clause-err
 returns-in_err-flush-clause-err g c =

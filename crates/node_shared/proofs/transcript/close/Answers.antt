@@ -14,4 +14,4 @@ returns g c =
     let book = c.in-Some.book in
     let run = subst (λ (limits : Limits). IsRun limits book.journal book.state) c.in-Some.ensures c.close.ensures.run in
     let own : c.as_slice.result.now ≡ c.args.clients.items = search rules in
-    (book.journal, book.state, run, subst (λ (clients : List RecordState). Compares book.journal clients c.close.result) own c.close.ensures.compared)
+    (book.journal, book.state, run, subst (λ (clients : List RecordState). Compares book.journal clients c.close.result) own c.close.ensures.comparison)

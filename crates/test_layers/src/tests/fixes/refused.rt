@@ -173,7 +173,7 @@ fn try_grow<R: Rows>(table: &mut Walked<R>) -> Integer {
 }
 
 fn try_ready<R: Rows>(table: &mut Walked<R>) -> Integer {
-    let bucket = table.least().unwrap_or(0);
+    let bucket = table.first_unready().unwrap_or(0);
     match table.ready(bucket) {
         Ok(readying) => Integer::from(readying == Readying::Ready),
         Err(_) => MEMORY,

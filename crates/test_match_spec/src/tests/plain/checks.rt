@@ -93,15 +93,16 @@ fn are_good(conditions: &Term, body: &Term, variables: &[Binding]) -> bool {
 }
 
 fn is_clause(alloc: Global, clause: &Term) -> bool {
-    let [head, conditions, body] = elements(clause) else {
+    let [pattern, conditions, body] = elements(clause) else {
         return false;
     };
     let mut found = Vec::new(alloc);
-    collect_variables(alloc, head, &mut found);
-    matches!(head, Term::Atom(_) | Term::Tuple(_)) && are_good(conditions, body, found.as_slice())
+    collect_variables(alloc, pattern, &mut found);
+    matches!(pattern, Term::Atom(_) | Term::Tuple(_))
+        && are_good(conditions, body, found.as_slice())
 }
 
-/// Returns whether a list of tuples, each with lists after the head, is a match specification.
+/// Returns whether a list of tuples, each with lists after the pattern, is a match specification.
 pub(crate) fn is_spec(alloc: Global, spec: &Term) -> bool {
     for clause in elements(spec) {
         if !is_clause(alloc, clause) {

@@ -37,11 +37,11 @@ fn last_value(alloc: Global, body: &[Term], object: &Term, bindings: &[Binding])
 }
 
 fn clause_result(alloc: Global, clause: &Term, object: &Term) -> Option<Term> {
-    let [head, conditions, body] = elements(clause) else {
+    let [pattern, conditions, body] = elements(clause) else {
         return None;
     };
     let mut bindings = Vec::new(alloc);
-    if !matches(alloc, head, object, &mut bindings)
+    if !matches(alloc, pattern, object, &mut bindings)
         || !all_true(alloc, elements(conditions), object, bindings.as_slice())
     {
         return None;

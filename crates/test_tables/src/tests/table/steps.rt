@@ -143,7 +143,7 @@ pub fn total_of_objects<R: Rows>(table: &Table<R>) -> Option<Integer> {
 /// Doubles the buckets and makes the first unready one ready.
 fn grow<R: Rows>(table: &mut Table<R>) -> Option<Integer> {
     let _growth = table.grow().ok()?;
-    if let Some(bucket) = table.least() {
+    if let Some(bucket) = table.first_unready() {
         let _readying = table.ready(bucket).ok()?;
     }
     Some(1)

@@ -165,18 +165,18 @@ fn conditions(alloc: Global, condition: Option<&[Part]>) -> Option<Term> {
 fn push_clause(
     alloc: Global,
     items: &mut Items<Term>,
-    head: &[Part],
+    pattern: &[Part],
     condition: Option<&[Part]>,
 ) -> Option<()> {
-    items.push(tuple_of(alloc, head)?).ok()?;
+    items.push(tuple_of(alloc, pattern)?).ok()?;
     items.push(conditions(alloc, condition)?).ok()?;
     items.push(list_of(alloc, atom(alloc, "true")?)?).ok()
 }
 
 /// Builds the clause `{Head,Conditions,[true]}`.
-fn clause(alloc: Global, head: &[Part], condition: Option<&[Part]>) -> Option<Term> {
+fn clause(alloc: Global, pattern: &[Part], condition: Option<&[Part]>) -> Option<Term> {
     let mut items = Items::new(alloc);
-    Some(Term::Tuple(keep_if_some(push_clause(alloc, &mut items, head, condition), items)?))
+    Some(Term::Tuple(keep_if_some(push_clause(alloc, &mut items, pattern, condition), items)?))
 }
 
 /// Compiles a match specification, and drops its term.
@@ -188,16 +188,16 @@ fn spec_of(alloc: Global, term: Term) -> Option<Spec> {
 
 /// Builds the match specification `[{{'_','$1'},[{'<','$1',Limit}],[true]}]`.
 pub fn spec_below(alloc: Global, limit: Integer) -> Option<Spec> {
-    let head = [Part::Atom("_"), Part::Atom("$1")];
+    let pattern = [Part::Atom("_"), Part::Atom("$1")];
     let condition = [Part::Atom("<"), Part::Atom("$1"), Part::Int(limit)];
-    let clause = clause(alloc, head.as_slice(), Some(condition.as_slice()))?;
+    let clause = clause(alloc, pattern.as_slice(), Some(condition.as_slice()))?;
     spec_of(alloc, list_of(alloc, clause)?)
 }
 
 fn push_clauses(alloc: Global, clauses: &mut Items<Term>, keys: &[Integer]) -> Option<()> {
     for key in keys {
-        let head = [Part::Int(*key), Part::Atom("_")];
-        clauses.push(clause(alloc, head.as_slice(), None)?).ok()?;
+        let pattern = [Part::Int(*key), Part::Atom("_")];
+        clauses.push(clause(alloc, pattern.as_slice(), None)?).ok()?;
     }
     Some(())
 }

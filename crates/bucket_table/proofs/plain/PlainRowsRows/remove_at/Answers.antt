@@ -3,8 +3,8 @@ use Rattle.bucket_table.proofs.slots.Step.{key_in, index-stays}
 use Rattle.bucket_table.proofs.slots.Index.{at-place}
 use Rattle.bucket_table.proofs.plain.PlainRowsRows.remove_at.Goals as goal
 
-pub returns-clause-was : goal.returns-clause-was
-returns-clause-was c = (at-place c.args.self.now.slots.entries c.args.place c.in-Some.slot.0 c.in-Some.slot.1 c.reveal_invariant.ensures (sym c.in-Some.ensures.entry)).found
+pub returns-clause-objects : goal.returns-clause-objects
+returns-clause-objects c = (at-place c.args.self.now.slots.entries c.args.place c.in-Some.slot.0 c.in-Some.slot.1 c.reveal_invariant.ensures (sym c.in-Some.ensures.entry)).found
 
 pub returns-clause-now : goal.returns-clause-now
 returns-clause-now c =

@@ -6,8 +6,8 @@ use Rattle.bucket_table.specs.Slots.{with_objects}
 use Rattle.bucket_table.proofs.slots.Index.{at-place, place-entry, values-get, key-kept}
 use Rattle.bucket_table.proofs.plain.PlainRowsRows.replace_at.Goals as goal
 
-pub returns-clause-was : goal.returns-clause-was
-returns-clause-was c =
+pub returns-clause-objects : goal.returns-clause-objects
+returns-clause-objects c =
     let slots = c.args.self.now.slots.entries in
     let s = place-entry slots c.args.place c.requires in
     let at = at-place slots c.args.place s.0.0 s.0.1 c.get_index_mut.ensures.unique s.1 in

@@ -21,8 +21,8 @@ unreachable-requires c =
     let s = place-entry slots c.args.place (one-stands _ _ c.requires) in
     none-some _ (c.in-None.ensures.value ∙ values-get slots c.args.place ∙ ap (option_map (λ e. e.1)) s.1)
 
-pub returns-clause-was : goal.returns-clause-was
-returns-clause-was c =
+pub returns-clause-objects : goal.returns-clause-objects
+returns-clause-objects c =
     let slots = c.args.self.now.slots.entries in
     let s = place-entry slots c.args.place (one-stands _ _ c.requires) in
     let at = at-place slots c.args.place s.0.0 s.0.1 c.get_index_mut.ensures.unique s.1 in

@@ -19,7 +19,7 @@ returns-clause-ok g c =
     record {
       more = take n (drop e new.items);
       counted = counted-part new.items e n fits;
-      added = part-grown c.shift-self-inside.new.buffer.items new.items c.shift-self-inside.result e n le fits-e s.front ∙ ap (λ k. k ++ take n (drop e new.items)) (c.shift-self-inside.ensures.held ∙ ap (λ (v : LineBufferState). v.bytes) c.self.view_is);
+      added = part-grown c.shift-self-inside.new.buffer.items new.items c.shift-self-inside.result e n le fits-e s.front ∙ ap (λ k. k ++ take n (drop e new.items)) (c.shift-self-inside.ensures.bytes ∙ ap (λ (v : LineBufferState). v.bytes) c.self.view_is);
       consumed = s.read;
       end = λ z. s.none z (search rules);
       skipping = ap (λ (v : LineBufferState). v.is_skipping) c.self.view_is;

@@ -4,8 +4,8 @@ use Rattle.node_core.specs.Woven.{can_read}
 use Rattle.node_core.proofs.walks.OwnCalls.{held, held-buckets, held-refused, held-refused-buckets}
 use Rattle.node_core.proofs.node.Node.fix_table.Goals as goal
 
-pub returns-in_err-fix-clause-holds : goal.returns-in_err-fix-clause-holds
-returns-in_err-fix-clause-holds g c =
+pub returns-in_err-fix-clause-fix : goal.returns-in_err-fix-clause-fix
+returns-in_err-fix-clause-fix g c =
     let can : can_read c.args.pid c.args.id c.args.self.now ≡ true = search rules in
     let p = err_from_is_err_and c.from_residual.result c.from_residual.ensures.1 in
     rw (p.1, p.2) (held-refused c.args.pid c.args.id c.args.self.now c.in-Some.table.now c.fix.new.self c.in-Some.ensures.value can c.in_err-fix.field-0.0 c.in_err-fix.ensures)
@@ -16,8 +16,8 @@ returns-in_err-fix-clause-buckets g c =
     let p = err_from_is_err_and c.from_residual.result c.from_residual.ensures.1 in
     rw p.1 (held-refused-buckets c.args.pid c.args.id c.args.self.now c.in-Some.table.now c.fix.new.self c.in-Some.ensures.value can c.in_err-fix.field-0.0 c.in_err-fix.ensures)
 
-pub returns-clause-holds : goal.returns-clause-holds
-returns-clause-holds g c =
+pub returns-clause-fix : goal.returns-clause-fix
+returns-clause-fix g c =
     let can : can_read c.args.pid c.args.id c.args.self.now ≡ true = search rules in
     held c.args.pid c.args.id c.args.self.now c.in-Some.table.now c.fix.new.self c.in-Some.ensures.value can c.in_ok-fix.ensures c.reveal_invariant.ensures.content
 

@@ -3,7 +3,7 @@ use Rattle.std.proofs.lemmas.Result.{err_from_is_err_and}
 use Rattle.node_core.specs.declared.node.access.Access.TheVariants.{Write}
 use Rattle.node_core.proofs.calls.Changes.{changed-ok, changed-err}
 use Rattle.table_ops.specs.Put.{Inserts}
-use Rattle.table_ops.specs.Refusals.{Refines}
+use Rattle.table_ops.specs.Refusals.{RefinesChange}
 use Rattle.fixed_walk.specs.TableState.{on_content}
 use Rattle.node_core.specs.rules.Insertion.{objects_in}
 use Rattle.node_core.specs.rules.Replies.{true_reply}
@@ -13,7 +13,7 @@ pub returns-in_err-insert : goal.returns-in_err-insert
 returns-in_err-insert g c =
     let p = err_from_is_err_and c.from_residual.result c.from_residual.ensures.1 in
     rw (p.1, p.2) (changed-err c.args.self.now c.args.pid Write c.args.table.now c.in-Some.table.now c.insert.new.self c.in-Some.ensures.value (λ _. true_reply) (on_content (Inserts (objects_in c.args.objects.now))) c.in_err-insert.field-0.0
-    (subst (λ objects. Refines (on_content (Inserts objects) c.in-Some.table.now) c.in-Some.table.now (Err c.in_err-insert.field-0.0) c.insert.new.self) c.objects_in.ensures c.in_err-insert.ensures))
+    (subst (λ objects. RefinesChange (on_content (Inserts objects) c.in-Some.table.now) c.in-Some.table.now (Err c.in_err-insert.field-0.0) c.insert.new.self) c.objects_in.ensures c.in_err-insert.ensures))
 
 pub returns : goal.returns
 returns g c =

@@ -13,4 +13,4 @@ returns-in_err-objects g c =
 
 pub returns : goal.returns
 returns g c =
-    changed c.args.self.now c.args.pid Write c.args.table.now c.in-Some.table.now c.take.new.self c.in-Some.ensures.value (Take c.args.key.now) (list_reply c.in_ok-objects.objects) (ap list_reply c.in_ok-objects.ensures.taken, c.in_ok-objects.ensures.ok)
+    changed c.args.self.now c.args.pid Write c.args.table.now c.in-Some.table.now c.take.new.self c.in-Some.ensures.value (Take c.args.key.now) (list_reply c.in_ok-objects.objects) (ap list_reply c.in_ok-objects.ensures.objects, c.in_ok-objects.ensures.ok)

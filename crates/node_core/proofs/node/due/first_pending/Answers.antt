@@ -5,33 +5,33 @@ use Rattle.node_core.specs.inside.Due.{pending_at}
 use Rattle.node_core.proofs.pending.Due.{due-dirty, due-here, due-behind}
 use Rattle.node_core.proofs.node.due.first_pending.Goals as goal
 
-pub loop-place-init : goal.loop-place-init
-loop-place-init g c = λ t some. elim (c.requires.due t some) [ inl among ↦ inl (record { among = among; behind = omega arith }) | inr last ↦ inr last ]
+pub loop-i-init : goal.loop-i-init
+loop-i-init g c = λ t some. elim (c.requires.due t some) [ inl among ↦ inl (record { among = among; behind = omega arith }) | inr last ↦ inr last ]
 
 pub returns-in-Some : goal.returns-in-Some
 returns-in-Some g c =
     let tables = c.args.world.now.tables in
     let index = c.args.index.now in
-    let here : get_or index.ordered c.loop-place.place 0 ≡ c.in_ok-id.id = get_or_from_slice_get index.ordered c.loop-place.place c.in_ok-id.id 0 (sym c.in_ok-id.ensures) in
-    let first = due-here tables index c.loop-place.place c.loop-place.invariant c.reveal_invariant.ensures c.in_ok-id.id here c.in-Some.step (sym c.in-Some.ensures) in
+    let here : get_or index.ordered c.loop-i.i 0 ≡ c.in_ok-id.id = get_or_from_slice_get index.ordered c.loop-i.i c.in_ok-id.id 0 (sym c.in_ok-id.ensures) in
+    let first = due-here tables index c.loop-i.i c.loop-i.invariant c.reveal_invariant.ensures c.in_ok-id.id here c.in-Some.step (sym c.in-Some.ensures) in
     cc
 
-pub loop-place-preserved : goal.loop-place-preserved
-loop-place-preserved g c =
+pub loop-i-preserved : goal.loop-i-preserved
+loop-i-preserved g c =
     let index = c.args.index.now in
-    let here : get_or index.ordered c.loop-place.place 0 ≡ c.in_ok-id.id = get_or_from_slice_get index.ordered c.loop-place.place c.in_ok-id.id 0 (sym c.in_ok-id.ensures) in
-    due-behind c.args.world.now.tables index c.loop-place.place c.loop-place.invariant c.reveal_invariant.ensures c.in_ok-id.id here (sym c.pending_at.ensures ∙ c.in_default.is)
+    let here : get_or index.ordered c.loop-i.i 0 ≡ c.in_ok-id.id = get_or_from_slice_get index.ordered c.loop-i.i c.in_ok-id.id 0 (sym c.in_ok-id.ensures) in
+    due-behind c.args.world.now.tables index c.loop-i.i c.loop-i.invariant c.reveal_invariant.ensures c.in_ok-id.id here (sym c.pending_at.ensures ∙ c.in_default.is)
 
 pub returns-in_err-dirty : goal.returns-in_err-dirty
 returns-in_err-dirty g c =
     let tables = c.args.world.now.tables in
-    let end = c.len-place-end.ensures in
-    let left = due-dirty tables c.args.index.now c.loop-place.place c.loop-place.invariant (omega (arith, c.loop-place-test.false, end)) in
+    let end = c.len-i-end.ensures in
+    let left = due-dirty tables c.args.index.now c.loop-i.i c.loop-i.invariant (omega (arith, c.loop-i-test.false, end)) in
     c.from_residual-in_err-dirty.ensures ∙ ap (option_and_then (pending_at tables)) c.in_err-dirty.ensures ∙ sym left
 
 pub returns : goal.returns
 returns g c =
     let tables = c.args.world.now.tables in
-    let end = c.len-place-end.ensures in
-    let left = due-dirty tables c.args.index.now c.loop-place.place c.loop-place.invariant (omega (arith, c.loop-place-test.false, end)) in
+    let end = c.len-i-end.ensures in
+    let left = due-dirty tables c.args.index.now c.loop-i.i c.loop-i.invariant (omega (arith, c.loop-i-test.false, end)) in
     c.pending_at-2.ensures ∙ ap (option_and_then (pending_at tables)) c.in_ok-dirty.ensures ∙ sym left

@@ -4,6 +4,6 @@ use Rattle.node_core.specs.inside.Due.{pending_at}
 use Rattle.node_core.proofs.pending.Due.{IsLeft}
 use Rattle.node_core.proofs.node.due.first_pending.Given as goal
 
--- the pending step is at this place or after it, or is the dirty one
-abbrev pub invariant-loop-place : goal.invariant-loop-place
-invariant-loop-place g l = (t : ℕ) → IsSome (pending_at l.world.tables t) → IsLeft l.index l.place t
+-- the pending step is at this index or after it, or is the dirty one
+abbrev pub invariant-loop-i : goal.invariant-loop-i
+invariant-loop-i g l = (t : ℕ) → IsSome (pending_at l.world.tables t) → IsLeft l.index l.i t

@@ -19,7 +19,7 @@ loop-id-preserved g c =
     let new = c.reassign_table.new.tables.items in
     let within : i < length own = omega (arith, c.loop-id-test.true) in
     subst (λ (ids : List ℕ). Settled c.reassign_table.new.self ps p ids start new) (sym (take_more own i 0 within))
-    (settled-more ps p c.requires.dead c.loop-id.self (take i own) (get_or own i 0) start now new c.loop-id.invariant c.reassign_table.new.self c.reassign_table.ensures.rest c.reassign_table.ensures.kept c.reassign_table.ensures.after)
+    (settled-more ps p c.requires.dead c.loop-id.self (take i own) (get_or own i 0) start now new c.loop-id.invariant c.reassign_table.new.self c.reassign_table.ensures.rest c.reassign_table.ensures.indices c.reassign_table.ensures.after)
 
 pub loop-i-preserved : goal.loop-i-preserved
 loop-i-preserved g c =
@@ -36,7 +36,7 @@ loop-i-preserved g c =
     let id = c.index-id.result.now in
     let read : id ≡ get_or fixed i 0 = get_or_read fixed i id within c.index-id.ensures 0 in
     let more : (own ++ take i fixed) ++ id ∷ [] ≡ own ++ take (i + 1) fixed = ap (λ (k : ℕ). (own ++ take i fixed) ++ k ∷ []) read ∙ append_assoc own (take i fixed) (get_or fixed i 0 ∷ []) ∙ ap (λ (ids : List ℕ). own ++ ids) (sym (take_more fixed i 0 within)) in
-    let settled = settled-more ps p c.requires.dead c.loop-i.self (own ++ take i fixed) id start now new c.loop-i.invariant.settled c.reassign_table-in-loop-i.new.self c.reassign_table-in-loop-i.ensures.rest c.reassign_table-in-loop-i.ensures.kept c.reassign_table-in-loop-i.ensures.after in
+    let settled = settled-more ps p c.requires.dead c.loop-i.self (own ++ take i fixed) id start now new c.loop-i.invariant.settled c.reassign_table-in-loop-i.new.self c.reassign_table-in-loop-i.ensures.rest c.reassign_table-in-loop-i.ensures.indices c.reassign_table-in-loop-i.ensures.after in
     record {
       count = ap (λ (v : Vec ℕ Global). length v.items) same ∙ c.loop-i.invariant.count;
       settled = subst (λ (v : Vec ℕ Global). Settled c.reassign_table-in-loop-i.new.self ps p (own ++ take (i + 1) v.items) start new) (sym same) (subst (λ (ids : List ℕ). Settled c.reassign_table-in-loop-i.new.self ps p ids start new) more settled);
@@ -69,8 +69,8 @@ returns-clause-after g c =
     let all = whole now ps p c.loop-i.i c.len-fixed.result own start tables c.loop-i.invariant.count (omega (arith, c.loop-i-test.false)) c.loop-i.invariant.settled in
     settled-all ps p c.requires.dead now own start tables c.requires.own all
 
-pub returns-clause-kept : goal.returns-clause-kept
-returns-clause-kept g c =
+pub returns-clause-indices : goal.returns-clause-indices
+returns-clause-indices g c =
     let now = c.loop-i.self in
     let ps = c.args.processes.now.entries in
     let p = c.args.pid in

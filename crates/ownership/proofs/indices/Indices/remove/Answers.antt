@@ -13,8 +13,8 @@ use Rattle.ownership.proofs.indices.Indices.remove.Goals as goal
 over : (tables : Tables) (t : ℕ) (metadata : Metadata) → metadata_of (table_at tables t) ≡ Some metadata → metadata_at (all_metadata tables) t ≡ Some metadata
 over tables t metadata at = metadata-there tables t ∙ at
 
-pub returns-then-metadata-clause-kept : goal.returns-then-metadata-clause-kept
-returns-then-metadata-clause-kept c = λ tables t at kept.
+pub returns-then-metadata-clause-indices : goal.returns-then-metadata-clause-indices
+returns-then-metadata-clause-indices c = λ tables t at kept.
     let metadata = c.args.metadata.now in
     let hs = all_metadata tables in
     let before = get_by_text c.args.self.now.names in
@@ -23,8 +23,8 @@ returns-then-metadata-clause-kept c = λ tables t at kept.
     (λ q. hash_map_updates_text c.text.result.now c.args.self.now.names c.swap_remove.new.self None c.swap_remove.ensures.updates q ∙ ap (λ n. cond (bytes_eq n q) None (before q)) c.text.ensures.text) in
     kept-set c.args.self.now tables kept (record c.args.self.now { names = c.swap_remove.new.self }) refl t None (subst (NameIndexIsExact (get_by_text c.swap_remove.new.self)) (sym (all_metadata-set tables t None)) index) (λ table is. absurd (cc))
 
-pub returns-else-metadata-clause-kept : goal.returns-else-metadata-clause-kept
-returns-else-metadata-clause-kept c = λ tables t at kept.
+pub returns-else-metadata-clause-indices : goal.returns-else-metadata-clause-indices
+returns-else-metadata-clause-indices c = λ tables t at kept.
     let metadata = c.args.metadata.now in
     let hs = all_metadata tables in
     let names = get_by_text c.args.self.now.names in

@@ -9,10 +9,10 @@ use Rattle.ownership.proofs.indices.identifiers.insert_sorted.Goals as goal
 pub returns-in_err-insert-in-Err-clause-room : goal.returns-in_err-insert-in-Err-clause-room
 returns-in_err-insert-in-Err-clause-room c = λ high order below room.
     let ids = c.args.ids.now.items in
-    let at : c.in-Err.place ≤ length ids = subst (λ xs. c.in-Err.place ≤ length xs) c.deref.ensures.value c.in-Err.ensures.bound in
-    let parted : IsBinarySearchResult (λ t. nat_cmp t c.args.id) ids (Err c.in-Err.place) = subst (λ xs. IsBinarySearchResult (λ t. nat_cmp t c.args.id) xs (Err c.in-Err.place)) c.deref.ensures.value c.in-Err.ensures.position in
-    let more = few-between 0 high _ ((put-in ids c.in-Err.place c.args.id at parted).order 0 high (omega arith) below order) in
-    absurd (omega (arith, length-insert ids c.in-Err.place c.args.id at, more, room, c.in_err-insert-in-Err.ensures.full, c.args.ids.now.ok.0))
+    let at : c.in-Err.index ≤ length ids = subst (λ xs. c.in-Err.index ≤ length xs) c.deref.ensures.value c.in-Err.ensures.bound in
+    let parted : IsBinarySearchResult (λ t. nat_cmp t c.args.id) ids (Err c.in-Err.index) = subst (λ xs. IsBinarySearchResult (λ t. nat_cmp t c.args.id) xs (Err c.in-Err.index)) c.deref.ensures.value c.in-Err.ensures.position in
+    let more = few-between 0 high _ ((put-in ids c.in-Err.index c.args.id at parted).order 0 high (omega arith) below order) in
+    absurd (omega (arith, length-insert ids c.in-Err.index c.args.id at, more, room, c.in_err-insert-in-Err.ensures.full, c.args.ids.now.ok.0))
 
 pub returns-in-Ok-clause-ok : goal.returns-in-Ok-clause-ok
 returns-in-Ok-clause-ok c =
@@ -23,6 +23,6 @@ returns-in-Ok-clause-ok c =
 pub returns-in_ok-insert-in-Err-clause-ok : goal.returns-in_ok-insert-in-Err-clause-ok
 returns-in_ok-insert-in-Err-clause-ok c =
     let ids = c.args.ids.now.items in
-    let at : c.in-Err.place ≤ length ids = subst (λ xs. c.in-Err.place ≤ length xs) c.deref.ensures.value c.in-Err.ensures.bound in
-    let parted : IsBinarySearchResult (λ t. nat_cmp t c.args.id) ids (Err c.in-Err.place) = subst (λ xs. IsBinarySearchResult (λ t. nat_cmp t c.args.id) xs (Err c.in-Err.place)) c.deref.ensures.value c.in-Err.ensures.position in
-    subst (InsertsSorted ids c.args.id) (sym c.in_ok-insert-in-Err.ensures.items) (put-in ids c.in-Err.place c.args.id at parted)
+    let at : c.in-Err.index ≤ length ids = subst (λ xs. c.in-Err.index ≤ length xs) c.deref.ensures.value c.in-Err.ensures.bound in
+    let parted : IsBinarySearchResult (λ t. nat_cmp t c.args.id) ids (Err c.in-Err.index) = subst (λ xs. IsBinarySearchResult (λ t. nat_cmp t c.args.id) xs (Err c.in-Err.index)) c.deref.ensures.value c.in-Err.ensures.position in
+    subst (InsertsSorted ids c.args.id) (sym c.in_ok-insert-in-Err.ensures.items) (put-in ids c.in-Err.index c.args.id at parted)

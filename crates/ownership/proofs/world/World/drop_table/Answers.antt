@@ -12,7 +12,7 @@ invariant_of-self g c =
     let within : c.args.id < length items = omega (arith, c.self.invariant.few, c.self.inside.tables.ok.0) in
     let was : table_at items c.args.id ≡ Some c.in-Some.table = sym (get_or_read items c.args.id c.index_mut.result.now within c.index_mut.ensures.value None) ∙ sym c.replace-table.ensures.value ∙ c.in-Some.is in
     let at : metadata_of (table_at items c.args.id) ≡ Some c.metadata.result.now = ap metadata_of was ∙ ap Some (sym c.metadata.ensures) in
-    subst (λ (o : Option Table). IndicesInvariant c.remove.new.self (slice_set items c.args.id o)) (sym c.replace-table.ensures.after) (c.remove.ensures.kept items c.args.id at c.self.invariant)
+    subst (λ (o : Option Table). IndicesInvariant c.remove.new.self (slice_set items c.args.id o)) (sym c.replace-table.ensures.after) (c.remove.ensures.indices items c.args.id at c.self.invariant)
 
 pub invariant_of-self-in_default : goal.invariant_of-self-in_default
 invariant_of-self-in_default g c =

@@ -7,8 +7,8 @@ use Rattle.ownership.proofs.world.World.push_table.Goals as goal
 pub invariant_of-self : goal.invariant_of-self
 invariant_of-self g c = rw c.reserve.ensures.items c.self.invariant
 
-pub insert-requires-clause-kept : goal.insert-requires-clause-kept
-insert-requires-clause-kept g c = subst (λ (ts : Tables). IndicesInvariant c.self.inside.indices ts) (sym (c.as_slice.ensures.value ∙ c.reserve.ensures.items)) c.self.invariant
+pub insert-requires-clause-indices : goal.insert-requires-clause-indices
+insert-requires-clause-indices g c = subst (λ (ts : Tables). IndicesInvariant c.self.inside.indices ts) (sym (c.as_slice.ensures.value ∙ c.reserve.ensures.items)) c.self.invariant
 
 pub insert-requires-clause-few : goal.insert-requires-clause-few
 insert-requires-clause-few g c =

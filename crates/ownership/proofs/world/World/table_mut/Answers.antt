@@ -9,20 +9,20 @@ use Rattle.ownership.proofs.world.World.table_mut.Goals as goal
 pub invariant_of-self-lent : goal.invariant_of-self-lent
 invariant_of-self-lent g c = λ w.
     let items = c.self.inside.tables.items in
-    let at : table_at items c.args.id ≡ Some c.in_ok-table.table.now = sym (c.in_ok-place.ensures.item.3.1 None) ∙ sym c.in_ok-table.ensures.value in
-    let kept = subst (λ (ts : Tables). IndicesInvariant c.mark_dirty.new.self ts) c.as_slice.ensures.value c.mark_dirty.ensures.kept in
+    let at : table_at items c.args.id ≡ Some c.in_ok-table.table.now = sym (c.in_ok-found.ensures.item.3.1 None) ∙ sym c.in_ok-table.ensures.value in
+    let kept = subst (λ (ts : Tables). IndicesInvariant c.mark_dirty.new.self ts) c.as_slice.ensures.value c.mark_dirty.ensures.indices in
     kept-fixed c.mark_dirty.new.self items kept c.args.id c.in_ok-table.table.now w at c.mark_dirty.ensures.dirty
 
 pub invariant_of-self-in_err-table : goal.invariant_of-self-in_err-table
 invariant_of-self-in_err-table g c =
     let items = c.self.inside.tables.items in
-    let kept = subst (λ (ts : Tables). IndicesInvariant c.mark_dirty.new.self ts) c.as_slice.ensures.value c.mark_dirty.ensures.kept in
-    kept-same c.mark_dirty.new.self items kept c.args.id c.in_ok-place.place.now (sym (c.in_ok-place.ensures.item.3.1 None))
+    let kept = subst (λ (ts : Tables). IndicesInvariant c.mark_dirty.new.self ts) c.as_slice.ensures.value c.mark_dirty.ensures.indices in
+    kept-same c.mark_dirty.new.self items kept c.args.id c.in_ok-found.found.now (sym (c.in_ok-found.ensures.item.3.1 None))
 
 pub returns : goal.returns
 returns g c =
     let items = c.self.inside.tables.items in
-    let at : table_at items c.args.id ≡ Some c.in_ok-table.table.now = sym (c.in_ok-place.ensures.item.3.1 None) ∙ sym c.in_ok-table.ensures.value in
+    let at : table_at items c.args.id ≡ Some c.in_ok-table.table.now = sym (c.in_ok-found.ensures.item.3.1 None) ∙ sym c.in_ok-table.ensures.value in
     let ends : (w : TableState) → _ = λ w.
     ap (λ tables. record { most_processes = c.self.inside.most_processes; most_tables = c.self.inside.most_tables; processes = c.self.inside.processes.entries; tables = tables }) (fixed-there items c.args.id c.in_ok-table.table.now w at)
     ∙ ap (λ (v : World). record v { tables = with_fixed v.tables c.args.id w }) c.self.view_is in (

@@ -9,13 +9,13 @@ use Rattle.ownership.proofs.Keeping.{kept-notes, owned-all}
 use Rattle.ownership.proofs.world.World.terminate.Goals as goal
 
 pub invariant_of-self : goal.invariant_of-self
-invariant_of-self g c = kept-notes c.self.inside.indices c.self.inside.tables.items c.self.invariant c.index_heirs.new.self c.index_heirs.ensures.stays
+invariant_of-self g c = kept-notes c.self.inside.indices c.self.inside.tables.items c.self.invariant c.index_heirs.new.self c.index_heirs.ensures.owners
 
 pub invariant_of-self-in_err-post_transfers : goal.invariant_of-self-in_err-post_transfers
-invariant_of-self-in_err-post_transfers g c = kept-notes c.self.inside.indices c.self.inside.tables.items c.self.invariant c.index_heirs.new.self c.index_heirs.ensures.stays
+invariant_of-self-in_err-post_transfers g c = kept-notes c.self.inside.indices c.self.inside.tables.items c.self.invariant c.index_heirs.new.self c.index_heirs.ensures.owners
 
-pub reassign_tables-requires-clause-kept : goal.reassign_tables-requires-clause-kept
-reassign_tables-requires-clause-kept g c = kept-notes c.self.inside.indices c.self.inside.tables.items c.self.invariant c.index_heirs.new.self c.index_heirs.ensures.stays
+pub reassign_tables-requires-clause-indices : goal.reassign_tables-requires-clause-indices
+reassign_tables-requires-clause-indices g c = kept-notes c.self.inside.indices c.self.inside.tables.items c.self.invariant c.index_heirs.new.self c.index_heirs.ensures.owners
 
 pub reassign_tables-requires-clause-dead : goal.reassign_tables-requires-clause-dead
 reassign_tables-requires-clause-dead g c =

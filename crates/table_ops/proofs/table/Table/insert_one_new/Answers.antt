@@ -3,7 +3,7 @@ use Rattle.std.proofs.lemmas.Result.{err_from_is_err_and}
 use Rattle.ets_term.specs.Depth.{is_too_deep}
 use Rattle.table_ops.specs.Content.{Content, ContentState}
 use Rattle.table_ops.specs.Put.{InsertsNew}
-use Rattle.table_ops.specs.Refusals.{Refines}
+use Rattle.table_ops.specs.Refusals.{RefinesChange}
 use Rattle.table_ops.specs.declared.refusal.Refusal.{Refusal}
 use Rattle.table_ops.specs.inside.Counted.{IsCounted}
 use Rattle.table_ops.specs.inside.TableRows.{content_of}
@@ -12,8 +12,8 @@ use Rattle.table_ops.proofs.InvariantLaws.{slot-under}
 use Rattle.table_ops.proofs.InsertNewLaws.{none-found, one-new, one-kept, one-more}
 use Rattle.table_ops.proofs.table.Table.insert_one_new.Goals as goal
 
-pub put-requires-clause-kept : goal.put-requires-clause-kept
-put-requires-clause-kept g c = (slot-under c.self.inside.inner.kind c.self.inside.inner.keypos (g.R.Rows.content c.self.inside.inner.rows) c.args.object.now c.in-Some.key.now c.self.invariant.slots_are (sym c.in-Some.ensures)).kept
+pub put-requires-clause-kind : goal.put-requires-clause-kind
+put-requires-clause-kind g c = (slot-under c.self.inside.inner.kind c.self.inside.inner.keypos (g.R.Rows.content c.self.inside.inner.rows) c.args.object.now c.in-Some.key.now c.self.invariant.slots_are (sym c.in-Some.ensures)).kept
 
 pub returns-in_err-undo-clause-content : goal.returns-in_err-undo-clause-content
 returns-in_err-undo-clause-content g c =
@@ -24,12 +24,12 @@ returns-in_err-undo-clause-content g c =
     let object = c.args.object.now in
     let shallow : is_too_deep object ≡ false = sym c.is_too_deep.ensures ∙ c.if-is_too_deep.false in
     let none = none-found c.occupied_place.result _ _ (sym c.is_some.ensures ∙ c.if-is_some.false) c.occupied_place.ensures in
-    let done : Refines (InsertsNew (object ∷ []) old) old (Err c.in_err-undo.field-0.0) new =
-    of-slots g.R.Rows.content c.self.inside.inner c.put.new.self c.in_err-undo.ensures.keeps.rest (λ (n : Content). Refines (InsertsNew (object ∷ []) old) old (Err c.in_err-undo.field-0.0) n)
+    let done : RefinesChange (InsertsNew (object ∷ []) old) old (Err c.in_err-undo.field-0.0) new =
+    of-slots g.R.Rows.content c.self.inside.inner c.put.new.self c.in_err-undo.ensures.keeps.rest (λ (n : Content). RefinesChange (InsertsNew (object ∷ []) old) old (Err c.in_err-undo.field-0.0) n)
     (one-kept object c.in-Some.key.now old (sym c.in-Some.ensures) none shallow c.self.inside.count c.self.invariant c.in_err-undo.field-0.0 (g.R.Rows.content c.put.new.self.rows) c.in_err-undo.ensures.slots) in
     let same : old ≡ c.args.self.now.content = ap (λ (t : ContentState). t.content) c.self.view_is in
-    subst (λ (r : Result Bool Refusal). Refines (InsertsNew (object ∷ []) c.args.self.now.content) c.args.self.now.content r new) (sym told)
-    (subst (λ (o : Content). Refines (InsertsNew (object ∷ []) o) o (Err c.in_err-undo.field-0.0) new) same done)
+    subst (λ (r : Result Bool Refusal). RefinesChange (InsertsNew (object ∷ []) c.args.self.now.content) c.args.self.now.content r new) (sym told)
+    (subst (λ (o : Content). RefinesChange (InsertsNew (object ∷ []) o) o (Err c.in_err-undo.field-0.0) new) same done)
 
 pub invariant_of-self-2 : goal.invariant_of-self-2
 invariant_of-self-2 g c =

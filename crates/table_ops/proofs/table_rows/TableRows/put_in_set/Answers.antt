@@ -13,7 +13,7 @@ returns-clause-slots g c =
     let place = g.R.Rows.key_at c.args.self.now.rows c.args.place in
     let one : c.one.result ≡ c.args.object.now ∷ [] = c.one.ensures ∙ ap (λ t. t ∷ []) c.in_ok-copy.ensures in
     map-key place _ _ (λ key is kept.
-    let own = own-in old place key c.replace_at-was.result is c.replace_at-was.ensures.was in
+    let own = own-in old place key c.replace_at-was.result is c.replace_at-was.ensures.objects in
     let seen = own-in old place key c.objects_at.result.now is c.objects_at.ensures in
     let equal : c.objects_at.result.now ≡ c.replace_at-was.result = same_Some _ _ (sym seen ∙ own) in
     let may : (c.args.below_limit || has_objects c.replace_at-was.result) ≡ true = ap (λ (l : List Term). c.args.below_limit || has_objects l) (sym equal) ∙ sym c.may_insert.ensures ∙ c.if-not-may_insert.false in

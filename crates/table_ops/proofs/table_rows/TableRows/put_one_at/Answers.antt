@@ -7,8 +7,8 @@ use Rattle.table_ops.proofs.UpdateLaws.{one-read}
 use Rattle.table_ops.proofs.PutLaws.{to-key, own-in, set-in}
 use Rattle.table_ops.proofs.table_rows.TableRows.put_one_at.Goals as goal
 
-pub put-requires-clause-kept : goal.put-requires-clause-kept
-put-requires-clause-kept g c = (slot-under c.args.self.now.kind c.args.self.now.keypos (g.R.Rows.content c.args.self.now.rows) c.args.object.now c.args.key.now c.requires.holds.slots_are c.requires.object).kept
+pub put-requires-clause-kind : goal.put-requires-clause-kind
+put-requires-clause-kind g c = (slot-under c.args.self.now.kind c.args.self.now.keypos (g.R.Rows.content c.args.self.now.rows) c.args.object.now c.args.key.now c.requires.holds.slots_are c.requires.object).kept
 
 pub returns-in_err-undo-clause-slots : goal.returns-in_err-undo-clause-slots
 returns-in_err-undo-clause-slots g c =

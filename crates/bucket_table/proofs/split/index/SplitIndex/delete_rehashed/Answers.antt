@@ -18,7 +18,7 @@ pub hint_after_removal-hint-requires-clause-item : goal.hint_after_removal-hint-
 hint_after_removal-hint-requires-clause-item g c =
     let index = c.args.self.now in
     let I : ℕ → Type 0 = λ i. IsItemIn (2 ^ index.hints.interval_bits) i c.args.at index.list.cells in
-    let there = behind-item c.args.start c.args.at index.list.cells c.reveal_invariant.ensures.apart c.requires.stands in
+    let there = behind-item c.args.start c.args.at index.list.cells c.reveal_invariant.ensures.apart c.requires.item in
     subst I (sym c.interval_of-interval.ensures) (item-in (2 ^ index.hints.interval_bits) c.args.at c.args.split_key index.list.cells there c.requires.key)
 
 pub returns-clause-rows : goal.returns-clause-rows
@@ -27,7 +27,7 @@ returns-clause-rows g c =
     let cells = index.list.cells in
     let hints = index.hints in
     let new = c.delete_item-count.new.self.cells in
-    let there = behind-item c.args.start c.args.at cells c.reveal_invariant.ensures.apart c.requires.stands in
+    let there = behind-item c.args.start c.args.at cells c.reveal_invariant.ensures.apart c.requires.item in
     let I : ℕ → Type 0 = λ i. IsItemIn (2 ^ hints.interval_bits) i c.args.at cells in
     let inside = subst I (sym c.interval_of-interval.ensures) (item-in (2 ^ hints.interval_bits) c.args.at c.args.split_key cells there c.requires.key) in
     let after = hints-without (2 ^ hints.interval_bits) hints.current c.replace_first.new.self c.hint_after_removal-hint.result c.args.at c.interval_of-interval.result cells new inside c.requires.rows.rows.hinted.hints c.reveal_invariant.ensures.apart c.delete_item-count.ensures.cells c.hint_after_removal-hint.ensures c.replace_first.ensures in

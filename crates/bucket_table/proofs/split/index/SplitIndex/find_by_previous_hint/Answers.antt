@@ -21,8 +21,8 @@ returns-in-Some-None-clause-found g c =
     let empty = hint-says (2 ^ (index.hints.interval_bits + 1)) index.hints.previous index.list.cells c.item_key.result (key_of_item (g.H.KeyHash.hash index.hasher c.args.key.now)) c.get.result None c.requires.rows.previous read (c.in-Some-None.is ∙ ap Some c.in-Some-None.field-0-is) key in
     empty-absent (g.H.KeyHash.hash index.hasher) index.directory index.list.cells c.args.key.now (2 ^ (index.hints.interval_bits + 1)) c.requires.rows.rows.split empty
 
-pub returns-in-Some-None-clause-looked : goal.returns-in-Some-None-clause-looked
-returns-in-Some-None-clause-looked g c =
+pub returns-in-Some-None-clause-visits : goal.returns-in-Some-None-clause-visits
+returns-in-Some-None-clause-visits g c =
     let key = c.item_key.ensures ∙ ap key_of_item c.requires.hash in
     let index = c.args.self.now in
     let read = c.get.ensures ∙ (ap (λ (z : ℕ). get_or index.hints.previous (z / 2) None) c.interval_of-interval.ensures ∙ ap (λ (z : ℕ). get_or index.hints.previous z None) (sym (part-half index.hints.interval_bits c.item_key.result))) in

@@ -10,7 +10,7 @@ returns-clause-found g c =
     let key = c.item_key.ensures ∙ ap key_of_item c.requires.hash in
     c.requires.start.finds c.find.result (c.find.ensures.found ∙ ap (λ (k : ℕ). place_of k c.args.key.now (from c.args.start c.args.self.now.list.cells)) key)
 
-pub returns-clause-looked : goal.returns-clause-looked
-returns-clause-looked g c =
+pub returns-clause-visits : goal.returns-clause-visits
+returns-clause-visits g c =
     let key = c.item_key.ensures ∙ ap key_of_item c.requires.hash in
     c.requires.start.looks c.args.steps.now c.find.new.steps (c.find.ensures.ticks ∙ ap (λ (k : ℕ). ticks (length (passed k c.args.key.now (from c.args.start c.args.self.now.list.cells))) c.args.steps.now) key)

@@ -44,7 +44,7 @@ returns-clause-rows g c =
     let learned = anew g.H.KeyHash.hash index c.requires.rows hints interval_bits c.refresh-start.ensures.hints in
     let G : Hints → Type 0 = λ h. get_or h.previous (split / 2 ^ h.interval_bits / 2) None ≡ None in
     let S : ℕ → Type 0 = λ i. SetsFirst c.is_new_first-is_first.result i put.result hints.current c.set_first.new.self in
-    let gone = subst G (sym c.refresh-start.ensures.rest) c.catch_up.ensures.gone in
+    let gone = subst G (sym c.refresh-start.ensures.rest) c.catch_up.ensures.previous in
     record {
       rows = rows-put hash_of index.directory hints.interval_bits hints.current cells learned.rows c.set_first.new.self c.is_new_first-is_first.result put.result split c.args.key c.args.objects put.new.self.cells
           put.ensures.fresh (c.item_key-split_key.ensures ∙ ap key_of_item c.requires.hash) c.requires.new put.ensures.cells

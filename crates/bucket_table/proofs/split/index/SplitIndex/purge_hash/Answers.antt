@@ -34,8 +34,8 @@ returns-then-split_key-key-clause-purged g c =
     run-purged (g.H.KeyHash.hash c.args.self.now.hasher) c.args.self.now.directory c.item_key-split_key.result c.args.hash c.item_key-split_key.ensures c.search_start-at.result c.loop-next.at c.args.self.now.list.cells c.loop-next.self.list.cells
     b.cell b.later b.is (b.below) c.reveal_invariant.ensures.sorted s.placed c.loop-next.invariant.stands c.loop-next.invariant.slots
 
-pub returns-then-split_key-key-clause-gone : goal.returns-then-split_key-key-clause-gone
-returns-then-split_key-key-clause-gone g c =
+pub returns-then-split_key-key-clause-tombstones : goal.returns-then-split_key-key-clause-tombstones
+returns-then-split_key-key-clause-tombstones g c =
     let s = c.requires.rows.rows.split in
     let b = c.search_start-at.ensures c.args.hash c.item_key-split_key.ensures (omega arith) in
     let i = c.loop-next.invariant in
@@ -53,9 +53,9 @@ loop-next-preserved g c =
     let hash_of = g.H.KeyHash.hash c.args.self.now.hasher in
     record {
       rows = e.rows;
-      stands = e.swept.stands;
-      slots = e.swept.same_end ∙ i.slots;
-      rest = λ hs a. (let P : List Cell → Type 0 = λ zs. TombstonesAreAmong hash_of hs (slots_of zs) in subst P (sym e.swept.rest) (among-rest hash_of hs (cells_after c.loop-next.at c.loop-next.self.list.cells) (i.rest hs a)));
+      stands = e.cells.stands;
+      slots = e.cells.same_end ∙ i.slots;
+      rest = λ hs a. (let P : List Cell → Type 0 = λ zs. TombstonesAreAmong hash_of hs (slots_of zs) in subst P (sym e.cells.rest) (among-rest hash_of hs (cells_after c.loop-next.at c.loop-next.self.list.cells) (i.rest hs a)));
       each = sweeps-on _ _ _ _ i.each e.each;
       keeps = record { hasher = e.keeps.hasher ∙ i.keeps.hasher; directory = e.keeps.directory ∙ i.keeps.directory };
     }
@@ -67,8 +67,8 @@ returns-clause-purged g c =
     run-purged (g.H.KeyHash.hash c.args.self.now.hasher) c.args.self.now.directory c.item_key-split_key.result c.args.hash c.item_key-split_key.ensures c.search_start-at.result c.loop-next.at c.args.self.now.list.cells c.loop-next.self.list.cells
     b.cell b.later b.is (b.below) c.reveal_invariant.ensures.sorted s.placed c.loop-next.invariant.stands c.loop-next.invariant.slots
 
-pub returns-clause-gone : goal.returns-clause-gone
-returns-clause-gone g c =
+pub returns-clause-tombstones : goal.returns-clause-tombstones
+returns-clause-tombstones g c =
     let s = c.requires.rows.rows.split in
     let b = c.search_start-at.ensures c.args.hash c.item_key-split_key.ensures (omega arith) in
     let none = nothing-behind (g.H.KeyHash.hash c.args.self.now.hasher) c.args.hash c.loop-next.at c.loop-next.self.list.cells (sym c.after.ensures ∙ c.in_default.is) in

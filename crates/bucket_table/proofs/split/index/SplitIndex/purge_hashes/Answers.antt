@@ -21,7 +21,7 @@ loop-hash-preserved g c =
     let N : g.row.H.Denot → Type 0 = λ h. TombstonesAreAmong (g.H.KeyHash.hash h) c.pop.new.self.items (slots_of c.purge_hash.new.self.list.cells) in
     record {
       rows = e.rows;
-      logged = subst N (sym e.keeps.hasher) (e.gone c.pop.new.self.items a);
+      logged = subst N (sym e.keeps.hasher) (e.tombstones c.pop.new.self.items a);
       slots = e.purged ∙ i.slots;
       each = sweeps-on _ _ _ _ i.each e.each;
       keeps = record { hasher = e.keeps.hasher ∙ i.keeps.hasher; directory = e.keeps.directory ∙ i.keeps.directory };

@@ -20,7 +20,7 @@ overflow_add-end g c =
 
 pub after-at-requires : goal.after-at-requires
 after-at-requires g c =
-    let d = c.requires.rows.rows.split.stand c.args.bucket c.args.start c.requires.entry in
+    let d = c.requires.rows.rows.split.stand c.args.bucket c.args.start c.requires.start in
     record { cell = _; later = d.later; is = d.is }
 
 pub loop-at-init : goal.loop-at-init
@@ -34,13 +34,13 @@ loop-at-init g c =
     record {
       rest = refl;
       hints = subst N first (cleared-nearly (2 ^ c.args.self.now.hints.interval_bits) c.interval_of-first_interval.result (c.interval_of-first_interval.result + 8) c.args.self.now.hints.current c.set_empty.new.self c.args.self.now.list.cells h.hints c.set_empty.ensures);
-      rebuilt = subst Q (sym c.after-at.ensures) (rebuild-start hash_of index.directory index.hints.interval_bits c.args.bucket c.args.start h.doublings index.list.cells c.requires.rows.rows.split h.size h.narrow c.reveal_invariant.ensures.sorted c.reveal_invariant.ensures.apart c.requires.entry (entry-within index.directory c.args.bucket c.args.start c.requires.entry) c.set_empty.new.self);
+      rebuilt = subst Q (sym c.after-at.ensures) (rebuild-start hash_of index.directory index.hints.interval_bits c.args.bucket c.args.start h.doublings index.list.cells c.requires.rows.rows.split h.size h.narrow c.reveal_invariant.ensures.sorted c.reveal_invariant.ensures.apart c.requires.start (entry-within index.directory c.args.bucket c.args.start c.requires.start) c.set_empty.new.self);
     }
 
 pub key-split_key-requires : goal.key-split_key-requires
 key-split_key-requires g c =
     let h = c.requires.rows.rows.hinted in
-    can-read (g.H.KeyHash.hash c.args.self.now.hasher) c.args.self.now.directory c.args.self.now.hints.interval_bits c.args.bucket c.args.start h.doublings c.args.self.now.list.cells c.requires.rows.rows.split h.size h.narrow c.reveal_invariant.ensures.sorted c.reveal_invariant.ensures.apart c.requires.entry (entry-within c.args.self.now.directory c.args.bucket c.args.start c.requires.entry) c.loop-at.hints.current c.in-Some.place c.loop-at.at c.in-Some.is c.loop-at.invariant.rebuilt
+    can-read (g.H.KeyHash.hash c.args.self.now.hasher) c.args.self.now.directory c.args.self.now.hints.interval_bits c.args.bucket c.args.start h.doublings c.args.self.now.list.cells c.requires.rows.rows.split h.size h.narrow c.reveal_invariant.ensures.sorted c.reveal_invariant.ensures.apart c.requires.start (entry-within c.args.self.now.directory c.args.bucket c.args.start c.requires.start) c.loop-at.hints.current c.in-Some.place c.loop-at.at c.in-Some.is c.loop-at.invariant.rebuilt
 
 pub interval_of-interval-requires : goal.interval_of-interval-requires
 interval_of-interval-requires g c =
@@ -51,23 +51,23 @@ interval_of-interval-requires g c =
 pub returns-then-interval-end-clause-rows : goal.returns-then-interval-end-clause-rows
 returns-then-interval-end-clause-rows g c =
     let h = c.requires.rows.rows.hinted in
-    let k = read-key (g.H.KeyHash.hash c.args.self.now.hasher) c.args.self.now.directory c.args.self.now.hints.interval_bits c.args.bucket c.args.start h.doublings c.args.self.now.list.cells c.requires.rows.rows.split h.size h.narrow c.reveal_invariant.ensures.sorted c.reveal_invariant.ensures.apart c.requires.entry (entry-within c.args.self.now.directory c.args.bucket c.args.start c.requires.entry) c.loop-at.hints.current c.in-Some.place c.loop-at.at c.in-Some.is c.loop-at.invariant.rebuilt c.key-split_key.result c.key-split_key.ensures in
+    let k = read-key (g.H.KeyHash.hash c.args.self.now.hasher) c.args.self.now.directory c.args.self.now.hints.interval_bits c.args.bucket c.args.start h.doublings c.args.self.now.list.cells c.requires.rows.rows.split h.size h.narrow c.reveal_invariant.ensures.sorted c.reveal_invariant.ensures.apart c.requires.start (entry-within c.args.self.now.directory c.args.bucket c.args.start c.requires.start) c.loop-at.hints.current c.in-Some.place c.loop-at.at c.in-Some.is c.loop-at.invariant.rebuilt c.key-split_key.result c.key-split_key.ensures in
     let e = first-is _ _ c.args.bucket c.args.self.now.hints.interval_bits c.interval_of-first_interval.ensures c.dummy_key.ensures in
     let i = interval-is c.loop-at.hints c.args.self.now.hints _ c.key-split_key.result c.interval_of-interval.ensures c.loop-at.invariant.rest in
     let past : key_of_dummy c.args.bucket / 2 ^ c.args.self.now.hints.interval_bits + 8 ≤ c.key-split_key.result / 2 ^ c.args.self.now.hints.interval_bits = omega (arith, e, i, c.if-interval-end.true) in
     let index = c.args.self.now in
-    let after = nearly-hints (2 ^ c.args.self.now.hints.interval_bits) (key_of_dummy c.args.bucket / 2 ^ c.args.self.now.hints.interval_bits) (key_of_dummy c.args.bucket / 2 ^ c.args.self.now.hints.interval_bits + 8) c.loop-at.hints.current c.args.self.now.list.cells c.loop-at.invariant.hints (ends-past (g.H.KeyHash.hash c.args.self.now.hasher) c.args.self.now.directory c.args.self.now.hints.interval_bits c.args.bucket c.args.start h.doublings c.args.self.now.list.cells c.requires.rows.rows.split h.size h.narrow c.reveal_invariant.ensures.sorted c.reveal_invariant.ensures.apart c.requires.entry (entry-within c.args.self.now.directory c.args.bucket c.args.start c.requires.entry) c.loop-at.hints.current c.in-Some.place c.loop-at.at c.in-Some.is c.loop-at.invariant.rebuilt (c.key-split_key.result / 2 ^ c.args.self.now.hints.interval_bits) (ap (λ (z : ℕ). z / 2 ^ c.args.self.now.hints.interval_bits) k) past) in
+    let after = nearly-hints (2 ^ c.args.self.now.hints.interval_bits) (key_of_dummy c.args.bucket / 2 ^ c.args.self.now.hints.interval_bits) (key_of_dummy c.args.bucket / 2 ^ c.args.self.now.hints.interval_bits + 8) c.loop-at.hints.current c.args.self.now.list.cells c.loop-at.invariant.hints (ends-past (g.H.KeyHash.hash c.args.self.now.hasher) c.args.self.now.directory c.args.self.now.hints.interval_bits c.args.bucket c.args.start h.doublings c.args.self.now.list.cells c.requires.rows.rows.split h.size h.narrow c.reveal_invariant.ensures.sorted c.reveal_invariant.ensures.apart c.requires.start (entry-within c.args.self.now.directory c.args.bucket c.args.start c.requires.start) c.loop-at.hints.current c.in-Some.place c.loop-at.at c.in-Some.is c.loop-at.invariant.rebuilt (c.key-split_key.result / 2 ^ c.args.self.now.hints.interval_bits) (ap (λ (z : ℕ). z / 2 ^ c.args.self.now.hints.interval_bits) k) past) in
     with-current g.H.KeyHash.hash index c.requires.rows c.loop-at.hints c.loop-at.invariant.rest after
 
 pub after-at-requires-in-Some : goal.after-at-requires-in-Some
 after-at-requires-in-Some g c =
     let h = c.requires.rows.rows.hinted in
-    can-read (g.H.KeyHash.hash c.args.self.now.hasher) c.args.self.now.directory c.args.self.now.hints.interval_bits c.args.bucket c.args.start h.doublings c.args.self.now.list.cells c.requires.rows.rows.split h.size h.narrow c.reveal_invariant.ensures.sorted c.reveal_invariant.ensures.apart c.requires.entry (entry-within c.args.self.now.directory c.args.bucket c.args.start c.requires.entry) c.loop-at.hints.current c.in-Some.place c.loop-at.at c.in-Some.is c.loop-at.invariant.rebuilt
+    can-read (g.H.KeyHash.hash c.args.self.now.hasher) c.args.self.now.directory c.args.self.now.hints.interval_bits c.args.bucket c.args.start h.doublings c.args.self.now.list.cells c.requires.rows.rows.split h.size h.narrow c.reveal_invariant.ensures.sorted c.reveal_invariant.ensures.apart c.requires.start (entry-within c.args.self.now.directory c.args.bucket c.args.start c.requires.start) c.loop-at.hints.current c.in-Some.place c.loop-at.at c.in-Some.is c.loop-at.invariant.rebuilt
 
 pub loop-at-smaller : goal.loop-at-smaller
 loop-at-smaller g c =
     let h = c.requires.rows.rows.hinted in
-    let l = rebuild-smaller (g.H.KeyHash.hash c.args.self.now.hasher) c.args.self.now.directory c.args.self.now.hints.interval_bits c.args.bucket c.args.start h.doublings c.args.self.now.list.cells c.requires.rows.rows.split h.size h.narrow c.reveal_invariant.ensures.sorted c.reveal_invariant.ensures.apart c.requires.entry (entry-within c.args.self.now.directory c.args.bucket c.args.start c.requires.entry) c.loop-at.hints.current c.in-Some.place c.loop-at.at c.in-Some.is c.loop-at.invariant.rebuilt in
+    let l = rebuild-smaller (g.H.KeyHash.hash c.args.self.now.hasher) c.args.self.now.directory c.args.self.now.hints.interval_bits c.args.bucket c.args.start h.doublings c.args.self.now.list.cells c.requires.rows.rows.split h.size h.narrow c.reveal_invariant.ensures.sorted c.reveal_invariant.ensures.apart c.requires.start (entry-within c.args.self.now.directory c.args.bucket c.args.start c.requires.start) c.loop-at.hints.current c.in-Some.place c.loop-at.at c.in-Some.is c.loop-at.invariant.rebuilt in
     let P : Option ℕ → Type 0 = λ z. length (tail_from z c.args.self.now.list.cells) < length (tail_from c.loop-at.at c.args.self.now.list.cells) in
     subst P (sym c.after-at-in-Some.ensures) l
 
@@ -75,29 +75,29 @@ pub returns-then-split_key-ne1-clause-rows : goal.returns-then-split_key-ne1-cla
 returns-then-split_key-ne1-clause-rows g c =
     let h = c.requires.rows.rows.hinted in
     let index = c.args.self.now in
-    let after = nearly-hints (2 ^ c.args.self.now.hints.interval_bits) (key_of_dummy c.args.bucket / 2 ^ c.args.self.now.hints.interval_bits) (key_of_dummy c.args.bucket / 2 ^ c.args.self.now.hints.interval_bits + 8) c.loop-at.hints.current c.args.self.now.list.cells c.loop-at.invariant.hints (ends-at-dummy (g.H.KeyHash.hash c.args.self.now.hasher) c.args.self.now.directory c.args.self.now.hints.interval_bits c.args.bucket c.args.start h.doublings c.args.self.now.list.cells c.requires.rows.rows.split h.size h.narrow c.reveal_invariant.ensures.sorted c.reveal_invariant.ensures.apart c.requires.entry (entry-within c.args.self.now.directory c.args.bucket c.args.start c.requires.entry) c.loop-at.hints.current c.in-Some.place c.loop-at.at c.in-Some.is c.loop-at.invariant.rebuilt (no-item-here (g.H.KeyHash.hash c.args.self.now.hasher) c.args.self.now.directory c.args.self.now.hints.interval_bits c.args.bucket c.args.start h.doublings c.args.self.now.list.cells c.requires.rows.rows.split h.size h.narrow c.reveal_invariant.ensures.sorted c.reveal_invariant.ensures.apart c.requires.entry (entry-within c.args.self.now.directory c.args.bucket c.args.start c.requires.entry) c.loop-at.hints.current c.in-Some.place c.loop-at.at c.in-Some.is c.loop-at.invariant.rebuilt c.key-split_key.result c.key-split_key.ensures c.if-split_key-ne1.true)) in
+    let after = nearly-hints (2 ^ c.args.self.now.hints.interval_bits) (key_of_dummy c.args.bucket / 2 ^ c.args.self.now.hints.interval_bits) (key_of_dummy c.args.bucket / 2 ^ c.args.self.now.hints.interval_bits + 8) c.loop-at.hints.current c.args.self.now.list.cells c.loop-at.invariant.hints (ends-at-dummy (g.H.KeyHash.hash c.args.self.now.hasher) c.args.self.now.directory c.args.self.now.hints.interval_bits c.args.bucket c.args.start h.doublings c.args.self.now.list.cells c.requires.rows.rows.split h.size h.narrow c.reveal_invariant.ensures.sorted c.reveal_invariant.ensures.apart c.requires.start (entry-within c.args.self.now.directory c.args.bucket c.args.start c.requires.start) c.loop-at.hints.current c.in-Some.place c.loop-at.at c.in-Some.is c.loop-at.invariant.rebuilt (no-item-here (g.H.KeyHash.hash c.args.self.now.hasher) c.args.self.now.directory c.args.self.now.hints.interval_bits c.args.bucket c.args.start h.doublings c.args.self.now.list.cells c.requires.rows.rows.split h.size h.narrow c.reveal_invariant.ensures.sorted c.reveal_invariant.ensures.apart c.requires.start (entry-within c.args.self.now.directory c.args.bucket c.args.start c.requires.start) c.loop-at.hints.current c.in-Some.place c.loop-at.at c.in-Some.is c.loop-at.invariant.rebuilt c.key-split_key.result c.key-split_key.ensures c.if-split_key-ne1.true)) in
     with-current g.H.KeyHash.hash index c.requires.rows c.loop-at.hints c.loop-at.invariant.rest after
 
 pub loop-at-preserved : goal.loop-at-preserved
 loop-at-preserved g c =
     let h = c.requires.rows.rows.hinted in
-    let within = entry-within c.args.self.now.directory c.args.bucket c.args.start c.requires.entry in
-    let k = read-key (g.H.KeyHash.hash c.args.self.now.hasher) c.args.self.now.directory c.args.self.now.hints.interval_bits c.args.bucket c.args.start h.doublings c.args.self.now.list.cells c.requires.rows.rows.split h.size h.narrow c.reveal_invariant.ensures.sorted c.reveal_invariant.ensures.apart c.requires.entry within c.loop-at.hints.current c.in-Some.place c.loop-at.at c.in-Some.is c.loop-at.invariant.rebuilt c.key-split_key.result c.key-split_key.ensures in
+    let within = entry-within c.args.self.now.directory c.args.bucket c.args.start c.requires.start in
+    let k = read-key (g.H.KeyHash.hash c.args.self.now.hasher) c.args.self.now.directory c.args.self.now.hints.interval_bits c.args.bucket c.args.start h.doublings c.args.self.now.list.cells c.requires.rows.rows.split h.size h.narrow c.reveal_invariant.ensures.sorted c.reveal_invariant.ensures.apart c.requires.start within c.loop-at.hints.current c.in-Some.place c.loop-at.at c.in-Some.is c.loop-at.invariant.rebuilt c.key-split_key.result c.key-split_key.ensures in
     let i = interval-is c.loop-at.hints c.args.self.now.hints _ c.key-split_key.result c.interval_of-interval.ensures c.loop-at.invariant.rest in
     let f = i ∙ ap (λ (z : ℕ). z / 2 ^ c.args.self.now.hints.interval_bits) k in
     let index = c.args.self.now in
     let hash_of = g.H.KeyHash.hash index.hasher in
     let Q : Option ℕ → Type 0 = λ z. IsRebuiltUpTo hash_of index.directory (2 ^ index.hints.interval_bits) c.args.start (key_of_dummy c.args.bucket) c.set_if_empty.new.self z index.list.cells in
-    let item = item-here (g.H.KeyHash.hash c.args.self.now.hasher) c.args.self.now.directory c.args.self.now.hints.interval_bits c.args.bucket c.args.start h.doublings c.args.self.now.list.cells c.requires.rows.rows.split h.size h.narrow c.reveal_invariant.ensures.sorted c.reveal_invariant.ensures.apart c.requires.entry within c.loop-at.hints.current c.in-Some.place c.loop-at.at c.in-Some.is c.loop-at.invariant.rebuilt c.key-split_key.result c.key-split_key.ensures c.if-split_key-ne1.false in
+    let item = item-here (g.H.KeyHash.hash c.args.self.now.hasher) c.args.self.now.directory c.args.self.now.hints.interval_bits c.args.bucket c.args.start h.doublings c.args.self.now.list.cells c.requires.rows.rows.split h.size h.narrow c.reveal_invariant.ensures.sorted c.reveal_invariant.ensures.apart c.requires.start within c.loop-at.hints.current c.in-Some.place c.loop-at.at c.in-Some.is c.loop-at.invariant.rebuilt c.key-split_key.result c.key-split_key.ensures c.if-split_key-ne1.false in
     record {
       rest = ap (λ (h : Hints). record h { current = c.set_if_empty.new.self }) c.loop-at.invariant.rest;
-      hints = hints-step (g.H.KeyHash.hash c.args.self.now.hasher) c.args.self.now.directory c.args.self.now.hints.interval_bits c.args.bucket c.args.start h.doublings c.args.self.now.list.cells c.requires.rows.rows.split h.size h.narrow c.reveal_invariant.ensures.sorted c.reveal_invariant.ensures.apart c.requires.entry within c.loop-at.hints.current c.in-Some.place c.loop-at.at c.in-Some.is c.loop-at.invariant.rebuilt (key_of_dummy c.args.bucket / 2 ^ c.args.self.now.hints.interval_bits + 8) c.set_if_empty.new.self c.interval_of-interval.result item.0 item.1 f c.loop-at.invariant.hints c.set_if_empty.ensures;
-      rebuilt = subst Q (sym c.after-at-in-Some.ensures) (rebuild-step hash_of index.directory index.hints.interval_bits c.args.bucket c.args.start h.doublings index.list.cells c.requires.rows.rows.split h.size h.narrow c.reveal_invariant.ensures.sorted c.reveal_invariant.ensures.apart c.requires.entry within c.loop-at.hints.current c.in-Some.place c.loop-at.at c.in-Some.is c.loop-at.invariant.rebuilt c.set_if_empty.new.self c.interval_of-interval.result f c.set_if_empty.ensures);
+      hints = hints-step (g.H.KeyHash.hash c.args.self.now.hasher) c.args.self.now.directory c.args.self.now.hints.interval_bits c.args.bucket c.args.start h.doublings c.args.self.now.list.cells c.requires.rows.rows.split h.size h.narrow c.reveal_invariant.ensures.sorted c.reveal_invariant.ensures.apart c.requires.start within c.loop-at.hints.current c.in-Some.place c.loop-at.at c.in-Some.is c.loop-at.invariant.rebuilt (key_of_dummy c.args.bucket / 2 ^ c.args.self.now.hints.interval_bits + 8) c.set_if_empty.new.self c.interval_of-interval.result item.0 item.1 f c.loop-at.invariant.hints c.set_if_empty.ensures;
+      rebuilt = subst Q (sym c.after-at-in-Some.ensures) (rebuild-step hash_of index.directory index.hints.interval_bits c.args.bucket c.args.start h.doublings index.list.cells c.requires.rows.rows.split h.size h.narrow c.reveal_invariant.ensures.sorted c.reveal_invariant.ensures.apart c.requires.start within c.loop-at.hints.current c.in-Some.place c.loop-at.at c.in-Some.is c.loop-at.invariant.rebuilt c.set_if_empty.new.self c.interval_of-interval.result f c.set_if_empty.ensures);
     }
 
 pub returns-clause-rows : goal.returns-clause-rows
 returns-clause-rows g c =
     let h = c.requires.rows.rows.hinted in
     let index = c.args.self.now in
-    let after = nearly-hints (2 ^ c.args.self.now.hints.interval_bits) (key_of_dummy c.args.bucket / 2 ^ c.args.self.now.hints.interval_bits) (key_of_dummy c.args.bucket / 2 ^ c.args.self.now.hints.interval_bits + 8) c.loop-at.hints.current c.args.self.now.list.cells c.loop-at.invariant.hints (ends-there (g.H.KeyHash.hash c.args.self.now.hasher) c.args.self.now.directory c.args.self.now.hints.interval_bits c.args.bucket c.args.start h.doublings c.args.self.now.list.cells c.requires.rows.rows.split h.size h.narrow c.reveal_invariant.ensures.sorted c.reveal_invariant.ensures.apart c.requires.entry (entry-within c.args.self.now.directory c.args.bucket c.args.start c.requires.entry) c.loop-at.hints.current c.loop-at.at c.in_default.is c.loop-at.invariant.rebuilt) in
+    let after = nearly-hints (2 ^ c.args.self.now.hints.interval_bits) (key_of_dummy c.args.bucket / 2 ^ c.args.self.now.hints.interval_bits) (key_of_dummy c.args.bucket / 2 ^ c.args.self.now.hints.interval_bits + 8) c.loop-at.hints.current c.args.self.now.list.cells c.loop-at.invariant.hints (ends-there (g.H.KeyHash.hash c.args.self.now.hasher) c.args.self.now.directory c.args.self.now.hints.interval_bits c.args.bucket c.args.start h.doublings c.args.self.now.list.cells c.requires.rows.rows.split h.size h.narrow c.reveal_invariant.ensures.sorted c.reveal_invariant.ensures.apart c.requires.start (entry-within c.args.self.now.directory c.args.bucket c.args.start c.requires.start) c.loop-at.hints.current c.loop-at.at c.in_default.is c.loop-at.invariant.rebuilt) in
     with-current g.H.KeyHash.hash index c.requires.rows c.loop-at.hints c.loop-at.invariant.rest after

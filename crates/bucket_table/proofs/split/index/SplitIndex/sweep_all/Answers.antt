@@ -19,8 +19,8 @@ loop-next-preserved g c =
     let e = c.sweep_next-at.ensures in
     record {
       rows = e.rows;
-      stands = e.swept.stands;
-      slots = e.swept.same_end ∙ i.slots;
+      stands = e.cells.stands;
+      slots = e.cells.same_end ∙ i.slots;
       each = sweeps-on _ _ _ _ i.each e.each;
       keeps = record { hasher = e.keeps.hasher ∙ i.keeps.hasher; directory = e.keeps.directory ∙ i.keeps.directory };
     }

@@ -16,16 +16,16 @@ use Rattle.bucket_table.proofs.sweep.Order.{alike-gone, alike-emptied}
 use Rattle.bucket_table.proofs.split.index.SplitIndex.sweep_next.Goals as goal
 
 pub action_for-requires : goal.action_for-requires
-action_for-requires g c = next-stands c.args.mode c.args.at c.args.next c.args.self.now.list.cells (neighbour c.args.at c.args.next c.args.self.now.list.cells c.reveal_invariant.ensures.apart c.requires.stands c.requires.next)
+action_for-requires g c = next-stands c.args.mode c.args.at c.args.next c.args.self.now.list.cells (neighbour c.args.at c.args.next c.args.self.now.list.cells c.reveal_invariant.ensures.apart c.requires.place c.requires.next)
 
-pub delete_after-count-requires-clause-stands : goal.delete_after-count-requires-clause-stands
-delete_after-count-requires-clause-stands g c = next-item c.args.mode c.args.at c.args.next c.args.self.now.list.cells (neighbour c.args.at c.args.next c.args.self.now.list.cells c.reveal_invariant.ensures.apart c.requires.stands c.requires.next) c.in-Remove.ensures.0
+pub delete_after-count-requires-clause-item : goal.delete_after-count-requires-clause-item
+delete_after-count-requires-clause-item g c = next-item c.args.mode c.args.at c.args.next c.args.self.now.list.cells (neighbour c.args.at c.args.next c.args.self.now.list.cells c.reveal_invariant.ensures.apart c.requires.place c.requires.next) c.in-Remove.ensures.0
 
-pub returns-in-Keep-clause-swept : goal.returns-in-Keep-clause-swept
-returns-in-Keep-clause-swept g c = stays c.args.mode c.args.at c.args.next c.args.self.now.list.cells (neighbour c.args.at c.args.next c.args.self.now.list.cells c.reveal_invariant.ensures.apart c.requires.stands c.requires.next) c.in-Keep.ensures
+pub returns-in-Keep-clause-cells : goal.returns-in-Keep-clause-cells
+returns-in-Keep-clause-cells g c = stays c.args.mode c.args.at c.args.next c.args.self.now.list.cells (neighbour c.args.at c.args.next c.args.self.now.list.cells c.reveal_invariant.ensures.apart c.requires.place c.requires.next) c.in-Keep.ensures
 
-pub returns-in-Remove-clause-swept : goal.returns-in-Remove-clause-swept
-returns-in-Remove-clause-swept g c = goes c.args.mode c.args.at c.args.next c.args.self.now.list.cells (neighbour c.args.at c.args.next c.args.self.now.list.cells c.reveal_invariant.ensures.apart c.requires.stands c.requires.next) c.delete_after-count.new.self.list.cells c.delete_after-count.ensures.cells c.in-Remove.ensures.1
+pub returns-in-Remove-clause-cells : goal.returns-in-Remove-clause-cells
+returns-in-Remove-clause-cells g c = goes c.args.mode c.args.at c.args.next c.args.self.now.list.cells (neighbour c.args.at c.args.next c.args.self.now.list.cells c.reveal_invariant.ensures.apart c.requires.place c.requires.next) c.delete_after-count.new.self.list.cells c.delete_after-count.ensures.cells c.in-Remove.ensures.1
 
 pub returns-in-Remove-clause-each : goal.returns-in-Remove-clause-each
 returns-in-Remove-clause-each g c =
@@ -47,12 +47,12 @@ returns-in-Empty-clause-rows g c =
       previous = hints-with (2 ^ (index.hints.interval_bits + 1)) index.hints.previous c.args.next c.truncate.new.self index.list.cells c.requires.rows.previous;
     }
 
-pub returns-in-Empty-clause-swept : goal.returns-in-Empty-clause-swept
-returns-in-Empty-clause-swept g c =
+pub returns-in-Empty-clause-cells : goal.returns-in-Empty-clause-cells
+returns-in-Empty-clause-cells g c =
     let none : c.truncate.new.self ≡ [] = c.truncate.ensures in
     let W : List Term → Type 0 = λ w. SweepsNext EmptyAll c.args.at c.args.self.now.list.cells c.args.next (cells_with c.args.next w c.args.self.now.list.cells) in
     let P : SweepMode → Type 0 = λ mode. SweepsNext mode c.args.at c.args.self.now.list.cells c.args.next (cells_with c.args.next c.truncate.new.self c.args.self.now.list.cells) in
-    subst P (sym c.in-Empty.ensures.1) (subst W (sym none) (empties c.args.at c.args.next c.args.self.now.list.cells (neighbour c.args.at c.args.next c.args.self.now.list.cells c.reveal_invariant.ensures.apart c.requires.stands c.requires.next) c.reveal_invariant.ensures.apart))
+    subst P (sym c.in-Empty.ensures.1) (subst W (sym none) (empties c.args.at c.args.next c.args.self.now.list.cells (neighbour c.args.at c.args.next c.args.self.now.list.cells c.reveal_invariant.ensures.apart c.requires.place c.requires.next) c.reveal_invariant.ensures.apart))
 
 pub returns-in-Empty-clause-each : goal.returns-in-Empty-clause-each
 returns-in-Empty-clause-each g c =

@@ -60,8 +60,8 @@ returns-clause-key g c =
     let Q : SplitRowsState g.row.H.Denot → Type 0 = λ v. key_of_place v.places c.args.place ≡ Some c.remove-slot.result.0 in
     subst Q c.self.view_is (p.is ∙ ap Some same_key)
 
-pub returns-clause-was : goal.returns-clause-was
-returns-clause-was g c =
+pub returns-clause-objects : goal.returns-clause-objects
+returns-clause-objects g c =
     let P : SplitRowsState g.row.H.Denot → Type 0 = λ v. IsSome (key_of_place v.places c.args.place) in
     let p = at-place c.args.place c.self.inside.index.list.cells c.reveal_invariant.ensures.apart c.self.invariant.rows.rows.split.distinct (subst P (sym c.self.view_is) c.requires) in
     let item = read-item c.args.place c.self.inside.index.list.cells p (new_item c.remove-slot.result.0 c.remove-slot.result.1) c.remove-slot.ensures.item in

@@ -61,8 +61,8 @@ invariant_of-self g c =
           (among-more hash_of c.self.inside.log.hashes.items hs (c.log_hash.ensures kept).1 ss (c.self.invariant.logged (c.log_hash.ensures kept).0)));
     }
 
-pub returns-clause-was : goal.returns-clause-was
-returns-clause-was g c =
+pub returns-clause-objects : goal.returns-clause-objects
+returns-clause-objects g c =
     let P : SplitRowsState g.row.H.Denot → Type 0 = λ v. IsSome (key_of_place v.places c.args.place) in
     let p = at-place c.args.place c.self.inside.index.list.cells c.reveal_invariant.ensures.apart c.self.invariant.rows.rows.split.distinct (subst P (sym c.self.view_is) c.requires) in
     let Q : SplitRowsState g.row.H.Denot → Type 0 = λ v. objects_in v.slots (key_of_place v.places c.args.place) ≡ Some c.chain_mut-chain.result.now in

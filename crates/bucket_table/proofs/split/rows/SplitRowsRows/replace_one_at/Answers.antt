@@ -3,7 +3,7 @@ use Rattle.std.proofs.Common.{◌≡◌, arith, ◌-◌, ℕ, List, [], ◌∷�
 use Rattle.ets_term.specs.Order.{same}
 use Rattle.node_list.specs.Changes.{cells_with}
 use Rattle.bucket_table.specs.Slots.{Slot}
-use Rattle.bucket_table.specs.Entries.{HasOne, objects_in, with_objects_in}
+use Rattle.bucket_table.specs.Entries.{HasOneObject, objects_in, with_objects_in}
 use Rattle.bucket_table.specs.SplitRowsState.{SplitRowsState, key_of_place}
 use Rattle.bucket_table.specs.inside.Nodes.{slots_of, places_of}
 use Rattle.bucket_table.specs.inside.TombstoneLog.{TombstonesAreAmong}
@@ -20,21 +20,21 @@ use Rattle.bucket_table.proofs.split.rows.SplitRowsRows.replace_one_at.Goals as 
 
 pub chain_mut-requires : goal.chain_mut-requires
 chain_mut-requires g c =
-    let P : SplitRowsState g.row.H.Denot → Type 0 = λ v. HasOne v.slots (key_of_place v.places c.args.place) in
+    let P : SplitRowsState g.row.H.Denot → Type 0 = λ v. HasOneObject v.slots (key_of_place v.places c.args.place) in
     let one = subst P (sym c.self.view_is) c.requires in
     let p = at-place c.args.place c.self.inside.index.list.cells c.reveal_invariant.ensures.apart c.self.invariant.rows.rows.split.distinct (one-stands _ _ one) in
     found-item p.key c.args.place c.self.inside.index.list.cells p.found
 
 pub replace-requires : goal.replace-requires
 replace-requires g c =
-    let P : SplitRowsState g.row.H.Denot → Type 0 = λ v. HasOne v.slots (key_of_place v.places c.args.place) in
+    let P : SplitRowsState g.row.H.Denot → Type 0 = λ v. HasOneObject v.slots (key_of_place v.places c.args.place) in
     let one = subst P (sym c.self.view_is) c.requires in
     let p = at-place c.args.place c.self.inside.index.list.cells c.reveal_invariant.ensures.apart c.self.invariant.rows.rows.split.distinct (one-stands _ _ one) in
     one-long _ _ _ one (objects-there c.self.inside.index.list.cells c.reveal_invariant.ensures.apart c.self.invariant.rows.rows.split.distinct c.args.place p c.chain_mut.result.now c.chain_mut.ensures.value)
 
 pub invariant_of-self : goal.invariant_of-self
 invariant_of-self g c =
-    let P : SplitRowsState g.row.H.Denot → Type 0 = λ v. HasOne v.slots (key_of_place v.places c.args.place) in
+    let P : SplitRowsState g.row.H.Denot → Type 0 = λ v. HasOneObject v.slots (key_of_place v.places c.args.place) in
     let one = subst P (sym c.self.view_is) c.requires in
     let p = at-place c.args.place c.self.inside.index.list.cells c.reveal_invariant.ensures.apart c.self.invariant.rows.rows.split.distinct (one-stands _ _ one) in
     let h = p.found in
@@ -50,9 +50,9 @@ invariant_of-self g c =
       logged = λ kept. subst N (sym (h.replaced c.replace.new.self)) (among-with hash_of hs p.key c.replace.new.self ss (λ e. absurd (no-held c.replace.new.self c.args.object was.written e)) (c.self.invariant.logged kept));
     }
 
-pub returns-clause-was : goal.returns-clause-was
-returns-clause-was g c =
-    let P : SplitRowsState g.row.H.Denot → Type 0 = λ v. HasOne v.slots (key_of_place v.places c.args.place) in
+pub returns-clause-objects : goal.returns-clause-objects
+returns-clause-objects g c =
+    let P : SplitRowsState g.row.H.Denot → Type 0 = λ v. HasOneObject v.slots (key_of_place v.places c.args.place) in
     let one = subst P (sym c.self.view_is) c.requires in
     let p = at-place c.args.place c.self.inside.index.list.cells c.reveal_invariant.ensures.apart c.self.invariant.rows.rows.split.distinct (one-stands _ _ one) in
     let read = objects-there c.self.inside.index.list.cells c.reveal_invariant.ensures.apart c.self.invariant.rows.rows.split.distinct c.args.place p c.chain_mut.result.now c.chain_mut.ensures.value in
@@ -62,7 +62,7 @@ returns-clause-was g c =
 
 pub returns-clause-now : goal.returns-clause-now
 returns-clause-now g c =
-    let P : SplitRowsState g.row.H.Denot → Type 0 = λ v. HasOne v.slots (key_of_place v.places c.args.place) in
+    let P : SplitRowsState g.row.H.Denot → Type 0 = λ v. HasOneObject v.slots (key_of_place v.places c.args.place) in
     let one = subst P (sym c.self.view_is) c.requires in
     let p = at-place c.args.place c.self.inside.index.list.cells c.reveal_invariant.ensures.apart c.self.invariant.rows.rows.split.distinct (one-stands _ _ one) in
     let was = swapped _ _ c.chain_mut.result.now c.replace.new.self c.replace.result c.args.object one (objects-there c.self.inside.index.list.cells c.reveal_invariant.ensures.apart c.self.invariant.rows.rows.split.distinct c.args.place p c.chain_mut.result.now c.chain_mut.ensures.value) c.replace.ensures.old c.replace.ensures.new in

@@ -3,7 +3,7 @@ use Rattle.std.proofs.Common.{◌≡◌, arith, ◌-◌, ℕ, List, length, sym,
 use Rattle.ets_term.specs.Order.{same}
 use Rattle.node_list.specs.Changes.{cells_with}
 use Rattle.bucket_table.specs.Slots.{Slot}
-use Rattle.bucket_table.specs.Entries.{HasOne, with_element_in}
+use Rattle.bucket_table.specs.Entries.{HasOneObject, with_element_in}
 use Rattle.bucket_table.specs.SplitRowsState.{SplitRowsState, key_of_place}
 use Rattle.bucket_table.specs.inside.Nodes.{slots_of, places_of}
 use Rattle.bucket_table.specs.inside.TombstoneLog.{TombstonesAreAmong}
@@ -20,14 +20,14 @@ use Rattle.bucket_table.proofs.split.rows.SplitRowsRows.set_element_at.Goals as 
 
 pub chain_mut-requires : goal.chain_mut-requires
 chain_mut-requires g c =
-    let P : SplitRowsState g.row.H.Denot → Type 0 = λ v. HasOne v.slots (key_of_place v.places c.args.place) in
+    let P : SplitRowsState g.row.H.Denot → Type 0 = λ v. HasOneObject v.slots (key_of_place v.places c.args.place) in
     let one = subst P (sym c.self.view_is) c.requires in
     let p = at-place c.args.place c.self.inside.index.list.cells c.reveal_invariant.ensures.apart c.self.invariant.rows.rows.split.distinct (one-stands _ _ one) in
     found-item p.key c.args.place c.self.inside.index.list.cells p.found
 
 pub invariant_of-self : goal.invariant_of-self
 invariant_of-self g c =
-    let P : SplitRowsState g.row.H.Denot → Type 0 = λ v. HasOne v.slots (key_of_place v.places c.args.place) in
+    let P : SplitRowsState g.row.H.Denot → Type 0 = λ v. HasOneObject v.slots (key_of_place v.places c.args.place) in
     let one = subst P (sym c.self.view_is) c.requires in
     let p = at-place c.args.place c.self.inside.index.list.cells c.reveal_invariant.ensures.apart c.self.invariant.rows.rows.split.distinct (one-stands _ _ one) in
     let h = p.found in
@@ -45,7 +45,7 @@ invariant_of-self g c =
 
 pub returns-clause-now : goal.returns-clause-now
 returns-clause-now g c =
-    let P : SplitRowsState g.row.H.Denot → Type 0 = λ v. HasOne v.slots (key_of_place v.places c.args.place) in
+    let P : SplitRowsState g.row.H.Denot → Type 0 = λ v. HasOneObject v.slots (key_of_place v.places c.args.place) in
     let one = subst P (sym c.self.view_is) c.requires in
     let p = at-place c.args.place c.self.inside.index.list.cells c.reveal_invariant.ensures.apart c.self.invariant.rows.rows.split.distinct (one-stands _ _ one) in
     let done = element-in (content_of c.self.inside.index.list.cells) (key_of_place (places_of c.self.inside.index.list.cells) c.args.place) c.chain_mut.result.now c.set_element.new.self c.args.index c.args.value (objects-there c.self.inside.index.list.cells c.reveal_invariant.ensures.apart c.self.invariant.rows.rows.split.distinct c.args.place p c.chain_mut.result.now c.chain_mut.ensures.value) c.set_element.ensures in

@@ -6,7 +6,7 @@ use Rattle.ets_packets.specs.inside.Buffer.{BeginsWith}
 use Rattle.ets_packets.specs.Output.{buffered_bytes}
 use Rattle.ets_packets.proofs.Held.{Going, going-packet, going-broken}
 use Rattle.ets_packets.proofs.KnownBytes.{between}
-use Rattle.ets_packets.proofs.run.answer_held.Goals as goal
+use Rattle.ets_packets.proofs.run.answer_buffered.Goals as goal
 
 pub returns-in_err-answer_packet-clause-err : goal.returns-in_err-answer_packet-clause-err
 returns-in_err-answer_packet-clause-err g c =

@@ -1,7 +1,7 @@
 use Rattle.std.proofs.Common.{length}
 use Rattle.ets_packets.specs.Output.{HasWriterOf, buffered_bytes}
 use Rattle.ets_packets.proofs.Held.{Going}
-use Rattle.ets_packets.proofs.run.answer_held.Given as goal
+use Rattle.ets_packets.proofs.run.answer_buffered.Given as goal
 
 abbrev pub invariant-loop-len : goal.invariant-loop-len
 invariant-loop-len g l =
