@@ -1,6 +1,6 @@
 -- Lines that were answered, one after another.
-use Rattle.std.proofs.Common.{◌≡◌, ℕ, zero, suc, ◌≤◌, ◌<◌, ◌⊎◌, Bool, true, false, List, [], ◌∷◌, ◌++◌, length, refl, sym, ap, ◌∙◌, subst, arith, inl, inr, append-nil, append_assoc}
-use Rattle.ets_script.specs.Lines.{Line, text, too_long, IsOneLine, IsLine}
+use Rattle.std.proofs.Common.{◌≡◌, ℕ, zero, suc, ◌≤◌, ◌<◌, ◌⊎◌, Bool, true, false, List, [], ◌++◌, length, refl, sym, ap, ◌∙◌, subst, arith, inl, inr, append-nil, append_assoc}
+use Rattle.ets_script.specs.Lines.{text, too_long, IsOneLine}
 use Rattle.ets_script.specs.Replies.{printed}
 use Rattle.ets_script.specs.Script.{ScriptState, AnswersLine, IsAnswered, ScriptText, AreLines}
 use Rattle.ets_script.specs.inside.LineBuffers.{PassedOver}

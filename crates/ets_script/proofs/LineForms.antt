@@ -1,18 +1,17 @@
 -- Lines in their forms are read as their commands.
-use Rattle.std.proofs.Common.{◌≡◌, ℕ, zero, suc, ◌+◌, ◌-◌, ◌*◌, ◌<◌, ◌≤◌, Bool, true, false, cond, List, [], ◌∷◌, ◌++◌, length, take, drop, refl, sym, ap, ◌∙◌, subst, arith, rules, append_assoc, length-append, inl, inr}
-use Rattle.std.specs.Prelude.{codes, ◌⊎◌, nat_le, ◌==◌, ◌&&◌, ◌||◌, if◌then◌else◌}
+use Rattle.std.proofs.Common.{◌≡◌, ℕ, zero, suc, ◌+◌, ◌-◌, ◌*◌, ◌≤◌, Bool, true, false, List, [], ◌∷◌, ◌++◌, length, take, drop, refl, sym, ap, ◌∙◌, arith, append_assoc, length-append, inl, inr}
+use Rattle.std.specs.Prelude.{codes, nat_le, ◌==◌, ◌||◌}
 use Rattle.std.proofs.lemmas.Bool.{and_parts}
 use Rattle.std.proofs.lemmas.Bool.Decides.{nat_tests}
 use Rattle.std.specs.List.{prefix_len, list_all}
 use Rattle.std.specs.Str.{bytes_eq}
 use Rattle.term_text.specs.Text.{is_digit, is_lowercase, is_name, begins, spelled}
 use Rattle.ets_script.specs.Classes.{is_line_blank, is_printable, past_blanks, is_sign}
-use Rattle.ets_script.specs.Reads.{Read, read, and_then}
-use Rattle.ets_script.specs.Commands.{Command, spawn, exit, grow, ready, gap, word, bucket, line_end, name_command, grow_command, ready_command, ask_command, ask, opening, separator, arguments, arguments_from, by_word, command_of, up_to, printable_prefix, command, is_silent}
+use Rattle.ets_script.specs.Reads.{read}
+use Rattle.ets_script.specs.Commands.{Command, spawn, exit, grow, ready, gap, word, bucket, line_end, name_command, grow_command, ready_command, ask_command, ask, opening, separator, arguments, arguments_from, by_word, command_of, printable_prefix, command, is_silent}
 use Rattle.ets_script.specs.Terms.{term, term_of}
 use Rattle.ets_script.specs.LineForms.{AreBlanks, IsGap, IsName, IsPrintable, IsNameLine, IsTerm, IsBucket, IsGrowLine, IsReadyLine, AreTerms, AreArguments, IsCallLine, is_command, IsSilentLine, Means}
 use Rattle.ets_term.specs.declared.term.Term.{Term}
-use Rattle.term_text.specs.Reading.{found, reading}
 use Rattle.term_text.proofs.Spelled.{front-read}
 
 -- a text that does not begin with a blank is left as it is

@@ -1,5 +1,5 @@
 -- What has been read and written when a script ends.
-use Rattle.std.proofs.Common.{◌≡◌, ℕ, suc, ◌≤◌, ◌<◌, ◌⊎◌, true, false, List, [], ◌++◌, length, take, drop, refl, sym, ap, ◌∙◌, subst, Option, inl, inr, append-nil, append_assoc}
+use Rattle.std.proofs.Common.{◌≡◌, ℕ, suc, List, [], ◌++◌, take, drop, refl, sym, ap, ◌∙◌, subst, Option, append-nil, append_assoc}
 use Rattle.std.specs.Prelude.{⊤, Result, Ok, Err, IfErr, OnOk, OnErr}
 use Rattle.std.specs.Result.{IsErrAnd}
 use Rattle.std.specs.Io.KnownBytes.{Appends, Consumes, Keeps, IsAtEnd}

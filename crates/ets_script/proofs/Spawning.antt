@@ -1,5 +1,5 @@
 -- A name that is spawned, in a plan.
-use Rattle.std.proofs.Common.{◌≡◌, ℕ, Bool, true, false, List, [], ◌∷◌, ◌++◌, length, Option, Some, None, refl, ap, sym, ◌∙◌}
+use Rattle.std.proofs.Common.{◌≡◌, ℕ, Bool, true, false, List, [], ◌∷◌, ◌++◌, length, Option, None, ap, sym, ◌∙◌}
 use Rattle.std.specs.Prelude.{nat_le, if◌then◌else◌}
 use Rattle.node_core.specs.declared.step.Reply.TheVariants.{SystemLimit}
 use Rattle.ets_script.specs.declared.answer.Answer.{Answer}

@@ -1,5 +1,5 @@
 -- What has been read and written when a script ends whose processes ran in threads.
-use Rattle.std.proofs.Common.{◌≡◌, ℕ, List, ◌++◌, ap, ◌∙◌, subst, Option}
+use Rattle.std.proofs.Common.{ℕ, List, ap, ◌∙◌, subst, Option}
 use Rattle.std.specs.Io.KnownBytes.{Appends}
 use Rattle.node_core.specs.declared.limits.Limits.{Limits}
 use Rattle.ets_packets.specs.Traffic.{traffic}

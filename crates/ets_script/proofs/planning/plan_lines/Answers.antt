@@ -1,4 +1,4 @@
-use Rattle.std.proofs.Common.{◌≡◌, ◌∙◌, ℕ, Option, Some, None, drop, subst}
+use Rattle.std.proofs.Common.{◌∙◌, ℕ, Option, None, subst}
 use Rattle.ets_script.specs.inside.Planning.{PlansNext, PlansFirstLine}
 use Rattle.ets_script.proofs.BufferedLines.{refill-end}
 use Rattle.ets_script.specs.inside.Planning.{IsUnplanned}

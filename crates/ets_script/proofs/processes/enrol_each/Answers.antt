@@ -1,4 +1,4 @@
-use Rattle.std.proofs.Common.{◌≡◌, ◌+◌, refl, ◌++◌, ◌∷◌, [], List, length, sym, ap, subst, ◌∙◌, append_assoc, arith, rules, length-append, vec_len}
+use Rattle.std.proofs.Common.{◌≡◌, ◌+◌, refl, ◌∷◌, [], List, length, sym, ap, subst, ◌∙◌, append_assoc, arith, rules, length-append}
 use Rattle.std.proofs.lemmas.List.{append-nil, nil_from_length}
 use Rattle.std.specs.Vec.Iter.{into_iter_items}
 use Rattle.node_shared.specs.declared.job.Job.{Job}

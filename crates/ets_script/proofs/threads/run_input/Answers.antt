@@ -1,5 +1,4 @@
-use Rattle.std.proofs.Common.{◌≡◌, ◌≤◌, length, ap, sym, ◌∙◌, subst, arith}
-use Rattle.std.specs.Prelude.{min}
+use Rattle.std.proofs.Common.{ap, ◌∙◌, subst, arith}
 use Rattle.ets_script.specs.Plan.{empty_plan, lines_plan}
 use Rattle.ets_script.specs.Threads.{RunsJobs}
 use Rattle.ets_script.specs.inside.PlanCodes.{LimitedPlanState}

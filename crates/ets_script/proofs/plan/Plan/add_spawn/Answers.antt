@@ -1,5 +1,5 @@
-use Rattle.std.proofs.Common.{◌≡◌, ◌++◌, ◌∷◌, [], length, map, true, false, Some, None, sym, ap, ◌∙◌, rules}
-use Rattle.std.specs.Prelude.{vec_items, nat_le, OnOk}
+use Rattle.std.proofs.Common.{◌≡◌, ◌++◌, ◌∷◌, [], length, map, true, false, sym, ap, ◌∙◌, rules}
+use Rattle.std.specs.Prelude.{vec_items, nat_le}
 use Rattle.std.specs.Str.{bytes_eq}
 use Rattle.std.proofs.lemmas.List.{length-map}
 use Rattle.ets_script.specs.Plan.{number_of}
