@@ -25,7 +25,7 @@ OPERATIONS = {
 COUNTS = (1_000, 100_000, 1_000_000, 4_000_000)  # objects in a table
 FIELD = ("Mutex<HashMap>", "HashMap", "cds_lfht", "oneTBB")
 OURS = {"calls": "Node::step", "calls-into": "Node::step_into", "calls-run": "Node::run, lists of 64", "table": "Table<SplitRows<Fnv>>", "rows": "SplitRows<Fnv>"}
-WHOLE = ("Mutex<HashMap>,copies", "HashMap,copies", "ets")
+WHOLE = ("Mutex<HashMap>,copies", "HashMap,copies", "ets", "ets,pinned")
 PEERS = {"calls": WHOLE, "calls-into": WHOLE, "calls-run": WHOLE, "table": FIELD, "rows": FIELD}
 WAYS = {"calls": "times", "calls-into": "into", "calls-run": "run"}  # the part of bench_calls that makes calls in this way
 CLIENTS = (1, 2, 4)
@@ -86,10 +86,15 @@ def ours_of(name: str, programs: Programs) -> list[Part]:
 def peers_of(name: str) -> list[list[Part]]:
     maps, field, ets = rust("maps"), built_tables(), erlang("ets_calls")
     if PEERS[name] is WHOLE:
-        return [[(maps, "copies")] if maps else [], [(*ets, "times")] if ets else []]
+        return [[(maps, "copies")] if maps else [], [(*ets, "times"), (*pinned(ets), "times-pinned")] if ets else []]
     ours = [(maps, part) for part in ("times", "bytes", "longest")] if maps else []
     theirs = ("cds_lfht", "cds_lfht-bytes", "oneTBB", "oneTBB-bytes", "oneTBB-longest")
     return [ours, [(field, part) for part in theirs] if field else []]
+
+
+def pinned(command: list[str]) -> list[str]:
+    """The same program of Erlang with one scheduler, which stays on one processor."""
+    return [command[0], "+S", "1:1", "+sbt", "db", *command[1:]]
 
 
 def compared(found: Figures, who: str, count: int) -> list[list[str]]:

@@ -1,5 +1,5 @@
-%% Erlang/OTP's own ets asked by calls, in one run of erl: ets_calls:main(["times", Count]), ["walks", Count],
-%% ["searches", Count], ["memory", Count], or ["clients", Clients, Calls].
+%% Erlang/OTP's own ets asked by calls, in one run of erl: ets_calls:main(["times", Count]), ["times-pinned", Count]
+%% (for an erl with one scheduler), ["walks", Count], ["searches", Count], ["memory", Count], or ["clients", Clients, Calls].
 %%
 %% Prints lines of WHO OPERATION FIGURE, in nanoseconds a call. Keys, objects and their order are made before the clock
 %% runs, and stand as persistent terms, which no collection of garbage copies.
@@ -11,7 +11,10 @@
 -define(KEYS, 10000).
 
 main(["times", Count]) ->
-    times(list_to_integer(Count)),
+    times("ets", list_to_integer(Count)),
+    halt(0);
+main(["times-pinned", Count]) ->
+    times("ets,pinned", list_to_integer(Count)),
     halt(0);
 main(["walks", Count]) ->
     walks(list_to_integer(Count)),
@@ -30,10 +33,10 @@ main(["clients", Clients, Calls]) ->
 
 %% ---- one process, phase by phase ----
 
-times(Count) ->
+times(Who, Count) ->
     [persistent_term:put(Phase, given(Phase, Count)) || Phase <- ?PHASES],
     Lives = [life() || _ <- lists:seq(1, max(1, 300000 div Count))],
-    [show("ets", Phase, lists:min([maps:get(Phase, Life) || Life <- Lives]) / Count) || Phase <- ?PHASES].
+    [show(Who, Phase, lists:min([maps:get(Phase, Life) || Life <- Lives]) / Count) || Phase <- ?PHASES].
 
 given(insert, Count) -> [{K, 1} || K <- shuffled(Count, 1)];
 given(hit, Count) -> shuffled(Count, 2);
