@@ -36,14 +36,15 @@ def limits() -> str:
 
 def versus() -> str:
     """Ratios to ets, a bar for each: single calls, searches of a whole table, memory, and threads."""
-    sized, passes, memory, clients = of("curve")[str(SIZE)], of("passes"), of("memory"), of("clients")
-    rows = [row(label, sized[f"calls {operation}"], sized[f"ets {operation}"], "ns") for operation, label in CALLS.items()]
+    sized, passes, memory, clients = of("calls")[str(SIZE)], of("passes"), of("memory"), of("clients")
+    ets = {operation: min(sized[f"{who} {operation}"] for who in ("ets", "ets,pinned")) for operation in CALLS}
+    rows = [row(label, sized[f"calls-into {operation}"], ets[operation], "ns") for operation, label in CALLS.items()]
     rows.append(row("select, one of 1,000,000", cell(passes, "select, a guard", "this store"), cell(passes, "select, a guard", "ets"), "ns per object"))
     rows.append(row("tab2list of 1,000,000", cell(passes, "tab2list", "this store"), cell(passes, "tab2list", "ets"), "ns per object"))
     rows.append(row("memory of {Int,Int}, 600,000 objects", cell(memory, "{Int,Int}", "this store"), cell(memory, "{Int,Int}", "ets"), "bytes"))
     rows.append(row("4 threads of a Server, 9 reads to a write", cell(clients, "4 clients", "Server"), cell(clients, "4 clients", "ets, concurrent"), "ns"))
     title = f"Yoyoash compared with Erlang's ets ({SIZE:,} objects where no size is named)"
-    return plot.bars(title, f"Ratio to ets, logarithmic. {machines('curve', 'passes', 'memory', 'clients')}.", rows)
+    return plot.bars(title, f"Ratio to ets, logarithmic. {machines('calls', 'passes', 'memory', 'clients')}.", rows)
 
 
 def row(label: str, ours: float, theirs: float, unit: str) -> tuple[str, float, str]:

@@ -27,6 +27,7 @@ FIELD = ("Mutex<HashMap>", "HashMap", "cds_lfht", "oneTBB")
 OURS = {"calls": "Node::step", "calls-into": "Node::step_into", "calls-run": "Node::run, lists of 64", "table": "Table<SplitRows<Fnv>>", "rows": "SplitRows<Fnv>"}
 WHOLE = ("Mutex<HashMap>,copies", "HashMap,copies", "ets", "ets,pinned")
 PEERS = {"calls": WHOLE, "calls-into": WHOLE, "calls-run": WHOLE, "table": FIELD, "rows": FIELD}
+CALLS = ("calls", "calls-into", "calls-run")  # whole calls, whose figures are also kept by themselves
 WAYS = {"calls": "times", "calls-into": "into", "calls-run": "run"}  # the part of bench_calls that makes calls in this way
 CLIENTS = (1, 2, 4)
 # What threads call, by its name and operation in the lines of the programs, and its name in a table.
