@@ -12,7 +12,7 @@ use std::{mem, slice};
 /// and to a `Vec` take no memory.
 #[derive(Debug, Drop)]
 pub struct Items<T> {
-    items: Vec<T>,
+    pub(crate) items: Vec<T>,
 }
 
 impl<T> Model for Items<T> {

@@ -16,23 +16,40 @@ impl Term {
     }
 }
 
-/// Makes `target` equal to a term.
+impl Items<Term> {
+    /// Makes each item equal to the term at its index, and reuses memory as `Term::clone_into` does.
+    ///
+    /// If memory is refused, the number of items stays, but some may be replaced already.
+    pub fn write_copies(&mut self, alloc: Global, terms: &[Term]) -> Result<(), AllocError>
+        requires { length self.old ≡ length terms.now }
+        ensures { OnOk result (self.new ≡ terms.now) }
+    {
+        write_terms(alloc, terms, self.items.as_mut_slice())
+    }
+}
+
+/// Makes `target` equal to a term. An integer takes no further call.
 #[cycle(reuse)]
+#[inline(always)]
 fn write_term(alloc: Global, term: &Term, target: &mut Term) -> Result<(), AllocError>
     ensures { OnOk result (target.new ≡ term.now) }
 {
     match term {
+        Term::Int(n) => {
+            *target = Term::Int(*n);
+            return Ok(());
+        }
         Term::Tuple(parts) => {
             if let Term::Tuple(own) = target {
                 if own.len() == parts.len() {
-                    return write_items(alloc, parts.as_slice(), own);
+                    return write_terms(alloc, parts.as_slice(), own.items.as_mut_slice());
                 }
             }
         }
         Term::List(parts) => {
             if let Term::List(own) = target {
                 if own.len() == parts.len() {
-                    return write_items(alloc, parts.as_slice(), own);
+                    return write_terms(alloc, parts.as_slice(), own.items.as_mut_slice());
                 }
             }
         }
@@ -42,36 +59,14 @@ fn write_term(alloc: Global, term: &Term, target: &mut Term) -> Result<(), Alloc
     Ok(())
 }
 
-/// Makes each item of `target` equal to the item at its index.
+/// Makes each term of `target` equal to the term at its index.
 #[cycle(reuse)]
-fn write_items(alloc: Global, items: &[Term], target: &mut Items<Term>) -> Result<(), AllocError>
-    requires { length target.old ≡ length items.now }
-    ensures { OnOk result (target.new ≡ items.now) }
+fn write_terms(alloc: Global, terms: &[Term], target: &mut [Term]) -> Result<(), AllocError>
+    requires { length target.old ≡ length terms.now }
+    ensures { OnOk result (target.new ≡ terms.now) }
 {
-    for at in 0..items.len() {
-        write_item(alloc, &items[at], target, at)?;
+    for at in 0..terms.len() {
+        write_term(alloc, &terms[at], &mut target[at])?;
     }
-    Ok(())
-}
-
-/// Makes one item of `target` equal to a term. An integer takes no further call.
-#[cycle(reuse)]
-#[inline(always)]
-fn write_item(
-    alloc: Global,
-    item: &Term,
-    target: &mut Items<Term>,
-    at: usize,
-) -> Result<(), AllocError>
-    requires { at < length target.old }
-    ensures { OnOk result (target.new ≡ slice_set target.old at item.now) }
-{
-    if let Term::Int(n) = item {
-        target.replace(at, Term::Int(*n));
-        return Ok(());
-    }
-    let mut own = target.replace(at, Term::Int(0));
-    write_term(alloc, item, &mut own)?;
-    target.replace(at, own);
     Ok(())
 }

@@ -131,15 +131,15 @@ fn depth_of(term: &Term) -> usize
     ensures { result ≡ min (depth term.now) usize.MAX }
 {
     match term {
-        Term::Tuple(items) => deepest(items.as_slice()).saturating_add(1),
-        Term::List(items) => deepest(items.as_slice()).saturating_add(1),
+        Term::Tuple(items) => max_depth(items.as_slice()).saturating_add(1),
+        Term::List(items) => max_depth(items.as_slice()).saturating_add(1),
         _ => 1,
     }
 }
 
 /// Returns the depth of the deepest item, at most `usize::MAX`, and 0 for no items.
 #[cycle(depth)]
-fn deepest(items: &[Term]) -> usize
+fn max_depth(items: &[Term]) -> usize
     ensures { result ≡ min (largest (map depth items.now)) usize.MAX }
 {
     let mut most = 0;

@@ -177,7 +177,7 @@ fn eval_strict(
         ≡ strict_of connective (map (expression_value env.entry.paths.now) arguments.now)
         (data_of env.entry.object.now)) }
 {
-    let mut all = neutral(connective);
+    let mut all = identity_of(connective);
     for argument in arguments {
         match truth_of(evaluate(env, argument)?) {
             Some(truth) => all = combine(connective, all, truth),
@@ -187,7 +187,8 @@ fn eval_strict(
     Ok(Some(all))
 }
 
-fn neutral(connective: Connective) -> bool
+/// Returns the truth value that changes no combination: true for `and`, false for `or`.
+fn identity_of(connective: Connective) -> bool
     ensures { result ≡ neutral connective }
 {
     match connective {

@@ -7,7 +7,7 @@ ghost use Rattle.match_spec.specs.inside.Functions.{function_of, one_argument, t
 use crate::expression::Connective;
 use crate::expression::arithmetic::{ArithmeticOp, absolute, arithmetic_op_of, eval_arithmetic};
 use crate::expression::comparison::{ComparisonOp, compares, comparison_op_of};
-use crate::expression::guards::{GuardKind, boolean, exclusive, guard_kind_of, is_kind, truth};
+use crate::expression::guards::{GuardKind, boolean, guard_kind_of, is_kind, truth, xor};
 use crate::expression::lists::{list_length, size, tail};
 use ets_term::Term;
 use std::alloc::{AllocError, Global};
@@ -137,7 +137,7 @@ pub(crate) fn eval_binary(
     ensures { IfOk result (λ t. option_map data_of t ≡ apply function (data_of x.now ∷ data_of y.now ∷ [])) }
 {
     match function {
-        Function::Xor => match exclusive(boolean(x), boolean(y)) {
+        Function::Xor => match xor(boolean(x), boolean(y)) {
             Some(b) => Ok(Some(truth(alloc, b)?)),
             None => Ok(None),
         },

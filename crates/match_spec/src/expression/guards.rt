@@ -86,7 +86,7 @@ pub(crate) fn boolean(term: &Term) -> Option<bool>
 }
 
 /// Computes `xor` of two booleans.
-pub(crate) fn exclusive(x: Option<bool>, y: Option<bool>) -> Option<bool>
+pub(crate) fn xor(x: Option<bool>, y: Option<bool>) -> Option<bool>
     ensures { result ≡ exclusive x y }
 {
     match (x, y) {

@@ -1,5 +1,5 @@
 // Replies. Short atoms take no memory.
-ghost use Rattle.std.specs.Prelude.{◌≡◌, ◌<◌, ◌≤◌, length, slice_set, IfOk, OnOk};
+ghost use Rattle.std.specs.Prelude.{◌≡◌, ◌≤◌, length, IfOk, OnOk};
 ghost use Rattle.ets_term.specs.Character.{IsAtomText};
 ghost use Rattle.ets_term.specs.declared.term.Term.TheVariants as term;
 ghost use Rattle.node_core.specs.declared.step.Reply.TheVariants.{Value};
@@ -8,7 +8,7 @@ ghost use Rattle.node_core.specs.inside.Refusals.{refusal_of, to_reply};
 
 use crate::step::Reply;
 use crate::terms;
-use ets_term::{Atom, Items, Term};
+use ets_term::{Atom, Term};
 use ownership::WorldFault;
 use std::alloc::{AllocError, Global};
 use table_ops::Refusal;
@@ -61,37 +61,10 @@ pub fn write_list(alloc: Global, objects: &[Term], reply: &mut Reply) -> Result<
 {
     if let Reply::Value(Term::List(own)) = reply {
         if own.len() == objects.len() {
-            return write_terms(alloc, objects, own);
+            return own.write_copies(alloc, objects);
         }
     }
     *reply = list_reply(alloc, objects)?;
-    Ok(())
-}
-
-/// Makes each term of `target` equal to the term at its index.
-fn write_terms(alloc: Global, terms: &[Term], target: &mut Items<Term>) -> Result<(), AllocError>
-    requires { length target.old ≡ length terms.now }
-    ensures { OnOk result (target.new ≡ terms.now) }
-{
-    for at in 0..terms.len() {
-        write_term(alloc, &terms[at], target, at)?;
-    }
-    Ok(())
-}
-
-/// Makes one term of `target` equal to a term.
-fn write_term(
-    alloc: Global,
-    term: &Term,
-    target: &mut Items<Term>,
-    at: usize,
-) -> Result<(), AllocError>
-    requires { at < length target.old }
-    ensures { OnOk result (target.new ≡ slice_set target.old at term.now) }
-{
-    let mut own = target.replace(at, Term::Int(0));
-    term.clone_into(alloc, &mut own)?;
-    target.replace(at, own);
     Ok(())
 }
 

@@ -2,5 +2,5 @@ use Rattle.std.proofs.Common.{◌≡◌, ◌<◌, ◌^◌, ◌-◌, max, min, dr
 use Rattle.ets_term.specs.Depth.{depth, largest}
 use Rattle.ets_term.proofs.term.+depth.Given as goal
 
-abbrev pub invariant-deepest-loop-item : goal.invariant-deepest-loop-item
-invariant-deepest-loop-item l = (l.most < 2 ^ 64) × (min (max l.most (largest (map depth (drop l.item-index l.items)))) (2 ^ 64 - 1) ≡ min (largest (map depth l.items)) (2 ^ 64 - 1))
+abbrev pub invariant-max_depth-loop-item : goal.invariant-max_depth-loop-item
+invariant-max_depth-loop-item l = (l.most < 2 ^ 64) × (min (max l.most (largest (map depth (drop l.item-index l.items)))) (2 ^ 64 - 1) ≡ min (largest (map depth l.items)) (2 ^ 64 - 1))
