@@ -19,6 +19,7 @@ pub(crate) fn bound_part(pattern: &Term, keypos: Position) -> Option<&Term>
     }
 }
 
+/// Returns the part if it is ground: it has neither a variable nor `'_'`.
 fn ground_or_none(key: &Term) -> Option<&Term>
     ensures { option_map data_of (option_copied result)
         ≡ (if is_ground (data_of key.now) then Some (data_of key.now) else None) }
@@ -40,6 +41,7 @@ pub(crate) fn common_bound_key(clauses: &[Term], keypos: Position) -> Option<&Te
     }
 }
 
+/// Returns the key if all clauses after the first bind it.
 fn key_if_all_bind<'a>(clauses: &[Term], keypos: Position, key: &'a Term) -> Option<&'a Term>
     ensures { option_map data_of (option_copied result)
         ≡ (if all_bind keypos (data_of key.now) (row_of (map data_of (drop 1 clauses.now)))
@@ -52,7 +54,7 @@ fn key_if_all_bind<'a>(clauses: &[Term], keypos: Position, key: &'a Term) -> Opt
     }
 }
 
-// Checks whether all clauses after the first bind this key.
+/// Checks whether all clauses after the first bind this key.
 fn all_bind(clauses: &[Term], keypos: Position, key: &Term) -> bool
     ensures { result ≡ all_bind keypos (data_of key.now) (row_of (map data_of (drop 1 clauses.now))) }
 {
@@ -65,6 +67,7 @@ fn all_bind(clauses: &[Term], keypos: Position, key: &Term) -> bool
     true
 }
 
+/// Returns the key that the head of a clause binds.
 fn clause_key(clause: &Term, keypos: Position) -> Option<&Term>
     ensures { option_map data_of (option_copied result) ≡ clause_key keypos (data_of clause.now) }
 {
@@ -74,6 +77,7 @@ fn clause_key(clause: &Term, keypos: Position) -> Option<&Term>
     }
 }
 
+/// Checks whether a part of a pattern has neither a variable nor `'_'`.
 #[cycle(bound)]
 fn is_ground(part: &Term) -> bool
     ensures { result ≡ is_ground (data_of part.now) }
@@ -86,6 +90,7 @@ fn is_ground(part: &Term) -> bool
     }
 }
 
+/// Checks whether all parts are ground.
 #[cycle(bound)]
 fn are_ground(parts: &[Term]) -> bool
     ensures { result ≡ are_ground (row_of (map data_of parts.now)) }
@@ -98,6 +103,7 @@ fn are_ground(parts: &[Term]) -> bool
     true
 }
 
+/// Checks whether an atom is neither `'_'` nor a variable.
 fn is_plain(name: &str) -> bool
     ensures { result ≡ is_ground (atom name.now) }
 {

@@ -88,6 +88,7 @@ impl Pattern {
         clone_subterms(alloc, self.paths.as_slice(), term)
     }
 
+    /// Returns the values of the variables, or `None` if the term does not match.
     fn find_bindings(&self, alloc: Global, term: &Term) -> Result<Option<Vec<Term>>, AllocError>
         ensures { IfOk result (λ found. option_map (λ v. map data_of v.items) found
             ≡ option_map values (bindings_of (data_of self.now) (data_of term.now))) }
@@ -108,6 +109,7 @@ impl Pattern {
     }
 }
 
+/// Checks whether a term is an atom or a tuple.
 pub(crate) fn is_pattern(term: &Term) -> bool
     ensures { result ≡ is_pattern (data_of term.now) }
 {

@@ -91,6 +91,7 @@ impl Spec {
         first_result_is_true(alloc, self.clauses.as_slice(), object)
     }
 
+    /// Checks whether the quick test shows that no clause applies to the object.
     #[inline(always)]
     fn rejects(&self, object: &Term) -> bool
         ensures { result ≡ true → result_of (data_of self.now) (data_of object.now) ≡ None }
@@ -114,6 +115,7 @@ impl Spec {
     }
 }
 
+/// Compiles the clauses. Fails with `Badarg` if a term is no clause.
 fn clauses_of(alloc: Global, terms: &[Term]) -> Result<Items<Clause>, SpecFault>
     ensures made { IfOk result (λ cs. cs ≡ clauses_from (row_of (map data_of terms.now))) }
     ensures good { OnOk result (are_clauses (row_of (map data_of terms.now)) ≡ true) }
@@ -127,6 +129,7 @@ fn clauses_of(alloc: Global, terms: &[Term]) -> Result<Items<Clause>, SpecFault>
     Ok(Items::from_vec(clauses))
 }
 
+/// Compiles a clause. Fails with `Badarg` if the term is no clause.
 fn clause_of(alloc: Global, term: &Term) -> Result<Clause, SpecFault>
     ensures made { IfOk result (λ c. c ∷ [] ≡ clauses_from (row_of (data_of term.now ∷ []))) }
     ensures good { OnOk result (is_clause (data_of term.now) ≡ true) }
@@ -142,6 +145,7 @@ fn clause_of(alloc: Global, term: &Term) -> Result<Clause, SpecFault>
     Ok(compile_clause(alloc, parts, &first)?)
 }
 
+/// Compiles the parts of a clause, which were checked. `first` has the paths of the variables that its head binds.
 fn compile_clause(
     alloc: Global,
     parts: ClauseParts,
@@ -158,6 +162,7 @@ fn compile_clause(
     })
 }
 
+/// Appends a clause.
 fn add(clauses: &mut Vec<Clause>, clause: Clause) -> Result<(), AllocError>
     ensures { OnOk result (clauses.new.items ≡ clauses.old.items ++ clause ∷ []) }
 {

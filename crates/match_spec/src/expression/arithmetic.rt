@@ -46,6 +46,7 @@ pub(crate) fn eval_arithmetic(operation: ArithmeticOp, x: &Term, y: &Term) -> Op
     }
 }
 
+/// Computes the operator on two integers. Returns `None` if the result is out of range or the divisor is 0.
 fn calculate(operation: ArithmeticOp, m: Integer, n: Integer) -> Option<Integer>
     ensures { result ≡ calculate operation m n }
 {
@@ -58,7 +59,7 @@ fn calculate(operation: ArithmeticOp, m: Integer, n: Integer) -> Option<Integer>
     }
 }
 
-// Returns the remainder. The least integer has no quotient by -1, but a remainder.
+/// Returns the remainder. The least integer has no quotient by -1, but a remainder.
 fn remainder(m: Integer, n: Integer) -> Option<Integer>
     ensures { result ≡ calculate ArithmeticOp.Remainder m n }
 {
@@ -88,6 +89,7 @@ pub(crate) fn count(n: usize) -> Option<Term>
     }
 }
 
+/// Returns the integer as a term.
 fn number(n: Option<Integer>) -> Option<Term>
     ensures { option_map data_of result ≡ option_map int n }
 {

@@ -23,6 +23,7 @@ pub(crate) fn is_expression(term: &Term, first: &FirstPaths) -> bool
     }
 }
 
+/// Checks whether the head binds this variable. No number means that the name is no variable.
 #[tactic(auto, using(crate::proofs::PathLaws::is_bound_lookup))]
 fn is_bound(number: Option<u32>, first: &FirstPaths) -> bool
     ensures { result ≡ is_bound (numbers_of first.now.entries) number }
@@ -46,6 +47,7 @@ pub(crate) fn are_expressions(terms: &[Term], start: usize, first: &FirstPaths) 
     true
 }
 
+/// Checks whether a tuple of these elements is an expression: `{{..}}`, `{const,T}` or a call.
 #[cycle(checked)]
 fn is_tuple_expression(terms: &[Term], first: &FirstPaths) -> bool
     ensures { result ≡ is_expression (numbers_of first.now.entries) (tuple (row_of (map data_of terms.now))) }
@@ -70,18 +72,21 @@ fn is_tuple_expression(terms: &[Term], first: &FirstPaths) -> bool
     }
 }
 
+/// Checks whether a name with `count` arguments is `const`, or a function whose arguments are expressions (`inside`).
 fn is_application(name: &str, count: usize, inside: bool) -> bool
     ensures { result ≡ (is_constant name.now count || (is_function name.now count && inside)) }
 {
     is_constant(name, count) || (is_function(name, count) && inside)
 }
 
+/// Checks whether this is `{const,T}`.
 fn is_constant(name: &str, count: usize) -> bool
     ensures { result ≡ is_constant name.now count }
 {
     count == 1 && name == "const"
 }
 
+/// Checks whether there is a function or connective of this name with `count` arguments.
 fn is_function(name: &str, count: usize) -> bool
     ensures { result ≡ is_function name.now count }
 {

@@ -54,6 +54,7 @@ pub(crate) fn compares_integers(comparison: ComparisonOp, m: Integer, n: Integer
     order_satisfies(comparison, m.cmp(&n))
 }
 
+/// Checks whether an order of two terms satisfies the comparison.
 #[inline(always)]
 fn order_satisfies(comparison: ComparisonOp, order: Ordering) -> bool
     ensures { result ≡ compares comparison order }

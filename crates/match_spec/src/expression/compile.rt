@@ -54,6 +54,7 @@ pub(crate) fn expressions_of(
     Ok(Items::from_vec(compiled))
 }
 
+/// Compiles a tuple: `{{..}}` makes a tuple, and any other is a call.
 #[cycle(expression)]
 fn tuple_expression(
     alloc: Global,
@@ -81,6 +82,7 @@ fn tuple_expression(
     }
 }
 
+/// Compiles an atom: a variable, `$_` for the object, `$$` for all variables, or the atom itself.
 fn name_expression(alloc: Global, name: &Atom, first: &FirstPaths) -> Result<Expression, AllocError>
     ensures { IfOk result (λ e. e ≡ name_expression first.now.entries name.now (variable name.now)) }
 {
@@ -97,6 +99,7 @@ fn name_expression(alloc: Global, name: &Atom, first: &FirstPaths) -> Result<Exp
     Ok(Expression::Constant(Term::Atom(name.try_clone(alloc)?)))
 }
 
+/// Compiles a call: `const` gives its argument as it is, and other calls have compiled arguments.
 fn application(
     alloc: Global,
     name: &str,
@@ -113,6 +116,7 @@ fn application(
     Ok(call_expression(name, arguments.len(), compiled))
 }
 
+/// Returns the call of a function or connective. `count` is the number of its arguments.
 fn call_expression(name: &str, count: usize, compiled: Items<Expression>) -> Expression
     ensures { result ≡ call_expression name.now count compiled }
 {

@@ -30,6 +30,7 @@ pub(crate) enum ExprValue<'a> {
 }
 
 impl<'a> ExprValue<'a> {
+    /// Returns the value.
     pub(crate) fn term(&self) -> &Term
         ensures { data_of result.now ≡ value_data self.now }
     {
@@ -39,6 +40,7 @@ impl<'a> ExprValue<'a> {
         }
     }
 
+    /// Returns the value as an owned term, which is a copy if it is borrowed.
     pub(crate) fn into_term(self, alloc: Global) -> Result<Term, AllocError>
         ensures { IfOk result (λ t. data_of t ≡ value_data self.entry) }
     {
@@ -121,7 +123,7 @@ pub(crate) fn evaluate<'a>(
     }
 }
 
-// Returns the values of all expressions, or `None` if one fails.
+/// Returns the values of all expressions, or `None` if one fails.
 #[cycle(evaluate)]
 fn evaluate_all(env: Env, expressions: &[Expression]) -> Result<Option<Items<Term>>, AllocError>
     ensures { IfOk result (λ terms. option_map (map data_of) terms
@@ -137,6 +139,7 @@ fn evaluate_all(env: Env, expressions: &[Expression]) -> Result<Option<Items<Ter
     Ok(Some(Items::from_vec(terms)))
 }
 
+/// Evaluates a call of a function of one or two arguments.
 #[cycle(evaluate)]
 fn eval_call<'a>(
     env: Env<'a>,
@@ -166,7 +169,7 @@ fn eval_call<'a>(
     }
 }
 
-// Evaluates `and` or `or`: all arguments, each of which must be a boolean.
+/// Evaluates `and` or `or`: all arguments, each of which must be a boolean.
 #[cycle(evaluate)]
 fn eval_strict(
     env: Env,
@@ -197,6 +200,7 @@ fn identity_of(connective: Connective) -> bool
     }
 }
 
+/// Combines the truth value so far with that of the next argument.
 fn combine(connective: Connective, x: bool, y: bool) -> bool
     ensures { result ≡ combine connective x y }
 {
@@ -206,6 +210,7 @@ fn combine(connective: Connective, x: bool, y: bool) -> bool
     }
 }
 
+/// Checks whether an argument with this truth value decides `andalso` or `orelse`.
 fn decides(connective: Connective, truth: bool) -> bool
     ensures { result ≡ decides connective truth }
 {
@@ -215,9 +220,10 @@ fn decides(connective: Connective, truth: bool) -> bool
     }
 }
 
-// Drops a value. A drop inside a loop would repeat all its cases in each later goal.
+/// Drops a value. A drop inside a loop would repeat all its cases in each later goal.
 pub(crate) fn discard(_value: ExprValue) {}
 
+/// Returns the boolean of a value, or `None` if it has no boolean.
 fn truth_of(value: Option<ExprValue>) -> Option<bool>
     ensures { result ≡ option_and_then boolean (option_map value_data value.entry) }
 {
@@ -227,7 +233,7 @@ fn truth_of(value: Option<ExprValue>) -> Option<bool>
     }
 }
 
-// Evaluates `andalso` or `orelse`: from the left, up to the first boolean that decides.
+/// Evaluates `andalso` or `orelse`: from the left, up to the first boolean that decides.
 #[cycle(evaluate)]
 fn eval_short_circuit<'a>(
     env: Env<'a>,
@@ -253,6 +259,7 @@ fn eval_short_circuit<'a>(
     Ok(None)
 }
 
+/// Returns a term as an owned value.
 fn owned_value<'a>(term: Option<Term>) -> Option<ExprValue<'a>>
     ensures { option_map value_data result ≡ option_map data_of term }
 {
@@ -262,6 +269,7 @@ fn owned_value<'a>(term: Option<Term>) -> Option<ExprValue<'a>>
     }
 }
 
+/// Applies a function to one value.
 fn apply_to_one<'a>(
     alloc: Global,
     function: Function,
@@ -275,6 +283,7 @@ fn apply_to_one<'a>(
     Ok(owned_value(eval_unary(alloc, function, x.term())?))
 }
 
+/// Applies a function to two values.
 pub(crate) fn apply_to_two<'a>(
     alloc: Global,
     function: Function,
@@ -290,6 +299,7 @@ pub(crate) fn apply_to_two<'a>(
     Ok(owned_value(eval_binary(alloc, function, x.term(), y.term())?))
 }
 
+/// Returns the first element of a list, or `None` if there is none.
 fn eval_hd<'a>(alloc: Global, x: ExprValue<'a>) -> Result<Option<ExprValue<'a>>, AllocError>
     ensures { IfOk result (λ v. option_map value_data v ≡ head (value_data x.entry)) }
 {
@@ -305,6 +315,7 @@ fn eval_hd<'a>(alloc: Global, x: ExprValue<'a>) -> Result<Option<ExprValue<'a>>,
     }
 }
 
+/// Returns element `n` of a tuple, counted from 1, or `None` if there is none.
 fn eval_element<'a>(
     alloc: Global,
     n: ExprValue<'a>,

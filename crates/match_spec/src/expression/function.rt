@@ -39,6 +39,7 @@ pub(crate) fn function_of(name: &str, count: usize) -> Option<Function>
     }
 }
 
+/// Returns the function of one argument with this name.
 fn one_argument(name: &str) -> Option<Function>
     ensures { result ≡ one_argument name.now }
 {
@@ -61,6 +62,7 @@ fn one_argument(name: &str) -> Option<Function>
     }
 }
 
+/// Returns the function of two arguments with this name.
 fn two_arguments(name: &str) -> Option<Function>
     ensures { result ≡ two_arguments name.now }
 {

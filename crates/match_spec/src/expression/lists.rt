@@ -28,6 +28,7 @@ pub(crate) fn tail(alloc: Global, term: &Term) -> Result<Option<Term>, AllocErro
     }
 }
 
+/// Makes the list of the items after the first, or returns `None` if there is none.
 #[tactic(auto, using(crate::proofs::ListLaws::tail_of))]
 fn tail_items(alloc: Global, items: &[Term]) -> Result<Option<Term>, AllocError>
     ensures { IfOk result (λ t. option_map data_of t ≡ tail (list (row_of (map data_of items.now)))) }
@@ -38,6 +39,7 @@ fn tail_items(alloc: Global, items: &[Term]) -> Result<Option<Term>, AllocError>
     Ok(Some(Term::List(copies_from(alloc, items, 1)?)))
 }
 
+/// Copies the items from index `start` on.
 fn copies_from(alloc: Global, items: &[Term], start: usize) -> Result<Items<Term>, AllocError>
     ensures { IfOk result (λ ts. ts ≡ drop start items.now) }
 {
@@ -81,6 +83,7 @@ pub(crate) fn element<'a>(n: &Term, tuple: &'a Term) -> Option<&'a Term>
     }
 }
 
+/// Returns element `n` of a tuple, counted from 1.
 #[tactic(auto, using(crate::proofs::ListLaws::element_at_tree))]
 fn nth_element(n: Integer, tuple: &Term) -> Option<&Term>
     ensures { option_map data_of (option_copied result) ≡ element (int n) (data_of tuple.now) }

@@ -43,6 +43,7 @@ pub(crate) fn part_of(
     }
 }
 
+/// Compiles the parts of a tuple or list. The current path gets the index of each in turn.
 #[cycle(compile)]
 fn parts_of(
     alloc: Global,
@@ -63,6 +64,7 @@ fn parts_of(
     Ok(Items::from_vec(compiled))
 }
 
+/// Compiles an atom: `'_'`, a variable, or a literal.
 fn name_part(
     alloc: Global,
     name: &Atom,
@@ -81,6 +83,7 @@ fn name_part(
     }
 }
 
+/// Compiles an occurrence of a variable: the first fits any subterm, and the others fit a subterm equal to that one.
 fn variable_part(
     alloc: Global,
     number: u32,

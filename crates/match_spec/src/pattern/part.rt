@@ -40,6 +40,7 @@ pub(crate) fn fits(part: &Part, object: &Term, term: &Term) -> bool
     }
 }
 
+/// Checks whether there are as many terms as parts, and each fits its part.
 #[cycle(fits)]
 fn all_fit(parts: &[Part], object: &Term, terms: &[Term]) -> bool
     ensures { result ≡ all_fit (map part_fits parts.now) (data_of object.now) (row_of (map data_of terms.now)) }
@@ -55,7 +56,7 @@ fn all_fit(parts: &[Part], object: &Term, terms: &[Term]) -> bool
     true
 }
 
-// Like `fits`, without a call for a wildcard.
+/// Like `fits`, without a call for a wildcard.
 #[inline(always)]
 #[cycle(fits)]
 fn element_fits(part: &Part, object: &Term, term: &Term) -> bool

@@ -24,6 +24,7 @@ pub(crate) fn subterm_at<'a>(path: &[usize], term: &'a Term) -> &'a Term
     part
 }
 
+/// Returns the element of a term at an index, counted from 0, or the term itself if there is none.
 fn element_or(term: &Term, i: usize) -> &Term
     ensures { data_of result.now ≡ subterm_at (i ∷ []) (data_of term.now) }
 {
@@ -34,6 +35,7 @@ fn element_or(term: &Term, i: usize) -> &Term
     }
 }
 
+/// Returns the item at an index, counted from 0, or `term` if there is none.
 fn item_or<'a>(items: &'a [Term], i: usize, term: &'a Term) -> &'a Term
     ensures { data_of result.now ≡ element_or (row_of (map data_of items.now)) i (data_of term.now) }
 {
@@ -65,6 +67,7 @@ pub(crate) fn first_paths(alloc: Global, pattern: &Term) -> Result<FirstPaths, A
     Ok(first)
 }
 
+/// Collects the first paths of the variables in the part at the current path.
 #[cycle(collect)]
 fn collect(
     alloc: Global,
@@ -87,6 +90,7 @@ fn collect(
     }
 }
 
+/// Collects the first paths of the variables in all parts. The current path gets the index of each in turn.
 #[cycle(collect)]
 fn collect_all(
     alloc: Global,
@@ -106,6 +110,7 @@ fn collect_all(
     Ok(())
 }
 
+/// Records the current path of a variable, unless there is an earlier one.
 fn record_path(
     alloc: Global,
     number: u32,

@@ -30,6 +30,7 @@ pub(crate) fn clause_parts(term: &Term) -> Option<ClauseParts>
     }
 }
 
+/// Returns the head, conditions and body of a clause, if these are three elements and the last two are lists.
 fn three_parts(parts: &[Term]) -> Option<ClauseParts>
     ensures { option_map raw_clause_of result ≡ clause_parts (tuple (row_of (map data_of parts.now))) }
 {
@@ -58,6 +59,7 @@ pub(crate) fn is_good(parts: ClauseParts, first: &FirstPaths) -> bool
     (is_pattern(parts.head) && is_nonempty(parts.body)) && (conditions && body)
 }
 
+/// Checks whether there is a term.
 #[tactic(auto, using(crate::proofs::ExpressionLaws::row_len_of))]
 pub(crate) fn is_nonempty(terms: &[Term]) -> bool
     ensures { result ≡ nat_lt 0 (row_len (row_of (map data_of terms.now))) }

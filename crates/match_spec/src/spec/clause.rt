@@ -51,7 +51,7 @@ pub(crate) fn first_result_is_true(
     }
 }
 
-// Returns the first clause that applies to the object.
+/// Returns the first clause that applies to the object.
 #[inline(always)]
 fn first_matching<'a>(
     alloc: Global,
@@ -69,6 +69,7 @@ fn first_matching<'a>(
     Ok(None)
 }
 
+/// Checks whether the head matches the object and all conditions give `true`.
 fn applies(alloc: Global, clause: &Clause, object: &Term) -> Result<bool, AllocError>
     ensures { IfOk result (λ b. b ≡ applies clause.now (data_of object.now)) }
 {
@@ -78,6 +79,7 @@ fn applies(alloc: Global, clause: &Clause, object: &Term) -> Result<bool, AllocE
     all_hold(env_of(alloc, clause, object), clause.conditions.as_slice())
 }
 
+/// Returns what the expressions of a clause are evaluated in.
 fn env_of<'a>(alloc: Global, clause: &'a Clause, object: &'a Term) -> Env<'a>
     ensures paths { result.paths.now ≡ clause.now.paths }
     ensures object { result.object.now ≡ object.now }
@@ -89,6 +91,7 @@ fn env_of<'a>(alloc: Global, clause: &'a Clause, object: &'a Term) -> Env<'a>
     }
 }
 
+/// Returns the value of the body, or the atom `'EXIT'` if an expression fails.
 #[inline(never)]
 fn body_value(alloc: Global, clause: &Clause, object: &Term) -> Result<Term, AllocError>
     ensures { IfOk result (λ t. data_of t ≡ body_value_by clause.now (data_of object.now)) }
@@ -99,6 +102,7 @@ fn body_value(alloc: Global, clause: &Clause, object: &Term) -> Result<Term, All
     }
 }
 
+/// Checks whether the value of the body is the atom `true`.
 #[tactic(auto, using(crate::proofs::ValueLaws::is_true_body_value))]
 fn body_is_true(alloc: Global, clause: &Clause, object: &Term) -> Result<bool, AllocError>
     ensures { IfOk result (λ b. b ≡ is_true (body_value_by clause.now (data_of object.now))) }
@@ -107,7 +111,7 @@ fn body_is_true(alloc: Global, clause: &Clause, object: &Term) -> Result<bool, A
     Ok(is_true(value))
 }
 
-// Returns the value of the last expression, or `None` if an expression fails or there is none.
+/// Returns the value of the last expression, or `None` if an expression fails or there is none.
 fn last_value<'a>(env: Env<'a>, body: &'a [Expression]) -> Result<Option<ExprValue<'a>>, AllocError>
     ensures { IfOk result (λ v. option_map value_data v
         ≡ last_value_of (map (expression_value env.entry.paths.now) body.now) (data_of env.entry.object.now)) }

@@ -29,7 +29,7 @@ pub(crate) fn all_hold(env: Env, conditions: &[Expression]) -> Result<bool, Allo
     Ok(true)
 }
 
-// Checks whether a condition gives `true`. A comparison makes no atom for its answer.
+/// Checks whether a condition gives `true`. A comparison makes no atom for its answer.
 #[tactic(auto, using(crate::proofs::ValueLaws::expression_value_of_two))]
 fn condition_holds(env: Env, condition: &Expression) -> Result<bool, AllocError>
     ensures { IfOk result (λ b. b
@@ -44,7 +44,7 @@ fn condition_holds(env: Env, condition: &Expression) -> Result<bool, AllocError>
     general_condition_holds(env, condition)
 }
 
-// Checks a condition of any other form. Not inlined: a comparison has no value to drop.
+/// Checks a condition of any other form. Not inlined: a comparison has no value to drop.
 #[inline(never)]
 fn general_condition_holds(env: Env, condition: &Expression) -> Result<bool, AllocError>
     ensures { IfOk result (λ b. b
@@ -54,7 +54,7 @@ fn general_condition_holds(env: Env, condition: &Expression) -> Result<bool, All
     Ok(is_true(evaluate(env, condition)?))
 }
 
-// Checks a condition of two operands. Borrowed operands are compared in place.
+/// Checks a condition of two operands. Borrowed operands are compared in place.
 #[tactic(auto, using(crate::proofs::ValueLaws::is_true_truth))]
 fn binary_condition_holds(
     env: Env,
@@ -75,7 +75,7 @@ fn binary_condition_holds(
     owned_operands_hold(env, function, first, second)
 }
 
-// Checks a condition with an operand that must be made. Not inlined: borrowed operands have no value to drop.
+/// Checks a condition with an operand that must be made. Not inlined: borrowed operands have no value to drop.
 #[inline(never)]
 fn owned_operands_hold(
     env: Env,
@@ -97,6 +97,7 @@ fn owned_operands_hold(
     values_hold(env.alloc, function, x, y)
 }
 
+/// Checks whether a function of these values gives `true`.
 #[tactic(auto, using(crate::proofs::ValueLaws::is_true_truth))]
 fn values_hold(
     alloc: Global,
@@ -123,6 +124,7 @@ pub(crate) fn is_true(value: Option<ExprValue>) -> bool
     }
 }
 
+/// Checks whether a term is the atom `true`.
 fn is_true_atom(term: &Term) -> bool
     ensures { result ≡ is_true (data_of term.now) }
 {

@@ -32,6 +32,7 @@ impl QuickTest {
         }
     }
 
+    /// Checks whether a tuple of these items fails the test.
     #[inline(always)]
     #[tactic(auto, using(crate::proofs::QuickLaws::rejects_length, crate::proofs::QuickLaws::rejects_by_element, crate::proofs::QuickLaws::rejects_nothing))]
     fn rejects_items(&self, items: &[Term]) -> bool
@@ -46,6 +47,7 @@ impl QuickTest {
         self.rejects_element(&items[self.index])
     }
 
+    /// Checks whether this element fails the test. Only an integer can fail.
     #[inline(always)]
     fn rejects_element(&self, element: &Term) -> bool
         ensures { result ≡ rejects_element self.now (data_of element.now) }
@@ -68,6 +70,7 @@ pub(crate) fn quick_test(clauses: &[Clause]) -> Option<QuickTest>
     }
 }
 
+/// Returns a quick test for a clause.
 fn clause_test(clause: &Clause) -> Option<QuickTest>
     ensures { IfSome result (λ q. RejectsClause q clause.now) }
 {
@@ -77,6 +80,7 @@ fn clause_test(clause: &Clause) -> Option<QuickTest>
     }
 }
 
+/// Returns a quick test from the first condition of a clause whose head is a tuple of `len` parts.
 fn conditions_test(len: usize, conditions: &[Expression]) -> Option<QuickTest>
     ensures { IfSome result (λ q. (q.len ≡ len) × IsNecessary q conditions.now) }
 {
@@ -86,6 +90,7 @@ fn conditions_test(len: usize, conditions: &[Expression]) -> Option<QuickTest>
     }
 }
 
+/// Returns a quick test from a condition that compares an element with an integer.
 fn condition_test(len: usize, condition: &Expression) -> Option<QuickTest>
     ensures { IfSome result (λ q. (q.len ≡ len) × IsComparison q condition.now) }
 {
@@ -112,7 +117,7 @@ fn condition_test(len: usize, condition: &Expression) -> Option<QuickTest>
     })
 }
 
-// Returns the index of the element that an expression reads in the object.
+/// Returns the index of the element that an expression reads in the object.
 fn element_index(expression: &Expression) -> Option<usize>
     ensures { IfSome result (λ i. expression.now ≡ Expression.Variable (i ∷ [])) }
 {
@@ -122,6 +127,7 @@ fn element_index(expression: &Expression) -> Option<usize>
     }
 }
 
+/// Returns the index in a path of length 1.
 #[tactic(auto, using(crate::proofs::QuickLaws::single))]
 fn single_index(path: &[usize]) -> Option<usize>
     ensures { IfSome result (λ i. path.now ≡ i ∷ []) }
@@ -132,6 +138,7 @@ fn single_index(path: &[usize]) -> Option<usize>
     Some(path[0])
 }
 
+/// Returns the integer that an expression is.
 fn integer_constant(expression: &Expression) -> Option<Integer>
     ensures { IfSome result (λ n. expression.now ≡ Expression.Constant (Term.Int n)) }
 {
