@@ -1,6 +1,6 @@
 pub mod ElementLaws
 pub mod FnvLaws
 pub mod Joined
-pub mod RowLaws
-pub mod Rows
+pub mod DataListLaws
+pub mod DataLists
 pub mod Texts

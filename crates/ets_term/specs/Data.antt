@@ -9,17 +9,17 @@ mutual
     atom : List ℕ → Data
     pid : ℕ → Data
     tid : ℕ → Data
-    tuple : Row → Data
-    list : Row → Data
+    tuple : DataList → Data
+    list : DataList → Data
     binary : List ℕ → Data
 
-  pub data Row : Type 0 where
-    no_terms : Row
-    term : Data → Row → Row
+  pub data DataList : Type 0 where
+    no_terms : DataList
+    term : Data → DataList → DataList
 
-abbrev pub row_of : List Data → Row
-row_of [] = no_terms
-row_of (d ∷ ds) = term d (row_of ds)
+abbrev pub data_list : List Data → DataList
+data_list [] = no_terms
+data_list (d ∷ ds) = term d (data_list ds)
 
 -- one level, with the trees of the terms inside
 abbrev pub data_form : Term-F Data → Data
@@ -27,8 +27,8 @@ data_form (Term-F.Int n) = int n
 data_form (Term-F.Atom a) = atom a
 data_form (Term-F.Pid n) = pid n
 data_form (Term-F.Tid n) = tid n
-data_form (Term-F.Tuple ds) = tuple (row_of ds)
-data_form (Term-F.List ds) = list (row_of ds)
+data_form (Term-F.Tuple ds) = tuple (data_list ds)
+data_form (Term-F.List ds) = list (data_list ds)
 data_form (Term-F.Binary s) = binary s
 
 abbrev pub data_of : Term → Data

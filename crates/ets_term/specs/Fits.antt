@@ -3,7 +3,7 @@ use Rattle.std.specs.Prelude.{◌<◌, ◌^◌, ◌≤ℤ◌}
 use Rattle.std.specs.List.{AllByRecursion}
 use Rattle.ets_term.specs.declared.term.Term.{Term}
 use Rattle.ets_term.specs.Character.{IsAtomText}
-use Rattle.ets_term.specs.Data.{Data, int, atom, pid, tid, tuple, list, binary, Row, no_terms, term, data_of}
+use Rattle.ets_term.specs.Data.{Data, int, atom, pid, tid, tuple, list, binary, DataList, no_terms, term, data_of}
 use Rattle.ets_term.specs.Integers.{least, greatest}
 
 abbrev mutual
@@ -13,13 +13,13 @@ abbrev mutual
   DataFits (atom s) = IsAtomText s
   DataFits (pid n) = n < 2 ^ 32
   DataFits (tid n) = n < 2 ^ 32
-  DataFits (tuple ds) = RowFits ds
-  DataFits (list ds) = RowFits ds
+  DataFits (tuple ds) = DataListFits ds
+  DataFits (list ds) = DataListFits ds
   DataFits (binary bs) = AllByRecursion (λ b. b < 256) bs
 
-  pub RowFits : Row → Type 0
-  RowFits no_terms = Unit {0}
-  RowFits (term d ds) = DataFits d × RowFits ds
+  pub DataListFits : DataList → Type 0
+  DataListFits no_terms = Unit {0}
+  DataListFits (term d ds) = DataFits d × DataListFits ds
 
 abbrev pub Fits : Term → Type 0
 Fits t = DataFits (data_of t)

@@ -3,8 +3,8 @@ ghost use Rattle.std.proofs.Common.{rules};
 ghost use Rattle.std.specs.Prelude.{◌≡◌, ◌↔◌, map};
 ghost use Rattle.std.specs.Ordering.{as_partial_cmp};
 ghost use Rattle.std.specs.Cmp.Rules.{comparing};
-ghost use Rattle.ets_term.specs.Data.{row_of, data_of};
-ghost use Rattle.ets_term.specs.Order.{order, same, row_order, rank};
+ghost use Rattle.ets_term.specs.Data.{data_list, data_of};
+ghost use Rattle.ets_term.specs.Order.{order, same, data_list_order, rank};
 ghost use Rattle.ets_term.specs.laws.Ordered.{order_total};
 
 use crate::equal::equal_terms;
@@ -70,7 +70,7 @@ impl Ord for Term {
 
 /// Compares two terms.
 #[cycle(compare)]
-#[tactic(auto, using(crate::proofs::Rows::row_len_of, crate::proofs::Rows::decided))]
+#[tactic(auto, using(crate::proofs::DataLists::data_list_len_of, crate::proofs::DataLists::decided))]
 fn compare(a: &Term, b: &Term) -> Ordering
     ensures { result ≡ order a.now b.now }
 {
@@ -92,7 +92,7 @@ fn compare(a: &Term, b: &Term) -> Ordering
 /// Compares two lists of terms, element by element.
 #[cycle(compare)]
 fn compare_items(xs: &[Term], ys: &[Term]) -> Ordering
-    ensures { result ≡ row_order (row_of (map data_of xs.now)) (row_of (map data_of ys.now)) }
+    ensures { result ≡ data_list_order (data_list (map data_of xs.now)) (data_list (map data_of ys.now)) }
 {
     let both = xs.len().min(ys.len());
     for i in 0..both {

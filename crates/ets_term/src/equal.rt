@@ -1,8 +1,8 @@
 //! The equality of terms, without their order.
 ghost use Rattle.std.specs.Prelude.{◌≡◌, true, false, map};
 ghost use Rattle.std.specs.Ordering.{is_eq};
-ghost use Rattle.ets_term.specs.Data.{row_of, data_of};
-ghost use Rattle.ets_term.specs.Order.{same, row_order};
+ghost use Rattle.ets_term.specs.Data.{data_list, data_of};
+ghost use Rattle.ets_term.specs.Order.{same, data_list_order};
 
 use crate::term::Term;
 
@@ -27,9 +27,9 @@ pub fn equal_terms(a: &Term, b: &Term) -> bool
 /// Returns whether two lists of terms are built alike. Compares from the end, because objects with one key differ after
 /// it.
 #[cycle(equal)]
-#[tactic(auto, using(crate::proofs::RowLaws::last_differs))]
+#[tactic(auto, using(crate::proofs::DataListLaws::last_differs))]
 fn equal_items(xs: &[Term], ys: &[Term]) -> bool
-    ensures { result ≡ is_eq (row_order (row_of (map data_of xs.now)) (row_of (map data_of ys.now))) }
+    ensures { result ≡ is_eq (data_list_order (data_list (map data_of xs.now)) (data_list (map data_of ys.now))) }
 {
     if xs.len() != ys.len() {
         return false;

@@ -1,8 +1,8 @@
 //! The ranges of the values in terms.
 ghost use Rattle.std.specs.Prelude.{◌<◌, map};
 ghost use Rattle.std.specs.List.{AllByRecursion};
-ghost use Rattle.ets_term.specs.Data.{row_of, data_of};
-ghost use Rattle.ets_term.specs.Fits.{Fits, RowFits};
+ghost use Rattle.ets_term.specs.Data.{data_list, data_of};
+ghost use Rattle.ets_term.specs.Fits.{Fits, DataListFits};
 
 use crate::term::Term;
 
@@ -48,7 +48,7 @@ fn fits_bytes(bytes: &[u8])
 /// Promises that each item is in range.
 #[cycle(fits)]
 fn fits_items(items: &[Term])
-    ensures { RowFits (row_of (map data_of items.now)) }
+    ensures { DataListFits (data_list (map data_of items.now)) }
 {
     for item in items {
         fits_term(item);

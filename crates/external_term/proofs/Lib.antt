@@ -5,7 +5,7 @@ pub mod IdentifierTrips
 pub mod LeafTrips
 pub mod Pairs
 pub mod RoundTrip
-pub mod Rows
+pub mod EncodedTerms
 pub mod SentPieces
 pub mod SmallIntegers
 pub mod Standing

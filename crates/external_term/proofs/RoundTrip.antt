@@ -5,7 +5,7 @@ use Rattle.std.proofs.lemmas.Bool.Decides.{nat_tests}
 use Rattle.std.proofs.lemmas.Int.{ints}
 use Rattle.std.proofs.lemmas.List.{length-map}
 use Rattle.std.specs.List.{list_all}
-use Rattle.ets_term.specs.Data.{Data, int, atom, pid, tid, tuple, list, binary, row_of, data_of}
+use Rattle.ets_term.specs.Data.{Data, int, atom, pid, tid, tuple, list, binary, data_list, data_of}
 use Rattle.ets_term.specs.Depth.{depth, largest}
 use Rattle.ets_term.specs.Fits.{DataFits}
 use Rattle.ets_term.specs.declared.term.Term.{Term, ind-Term, the_lemmas}
@@ -22,7 +22,7 @@ use Rattle.external_term.specs.RoundTrip.{ReadsBack}
 use Rattle.external_term.proofs.Encoded.{encode-Int, encode-Atom, encode-Pid, encode-Tid, encode-Tuple, encode-List, encode-Binary, tuple_not_small, list_not_small, list_empty, list_string, list_long, header_short, header_long}
 use Rattle.external_term.proofs.IdentifierTrips.{pid_reads, reference_reads}
 use Rattle.external_term.proofs.LeafTrips.{Reads, dispatch, reads_as, integer_reads, atom_reads, binary_reads}
-use Rattle.external_term.proofs.Rows.{IsRead, Known, bare, terms, row, levels_of, AllFit, row_long, tuple_reads, long_list_reads, codes_are}
+use Rattle.external_term.proofs.EncodedTerms.{IsRead, Known, bare, terms, encoded_terms, levels_of, AllFit, encoded_terms-long, tuple_reads, long_list_reads, codes_are}
 use Rattle.external_term.proofs.SmallIntegers.{byte_char, large_not_small, negative_not_small, some_bytes}
 use Rattle.external_term.proofs.Standing.{At, tail, behind, range, ok, ends, after_ok, one_at, two_at, four_at, piece}
 
@@ -51,10 +51,10 @@ data-Pid n = search (rules, the_lemmas)
 data-Tid : (n : ℕ) → data_of (Tid n) ≡ tid n
 data-Tid n = search (rules, the_lemmas)
 
-data-Tuple : (ts : List Term) → data_of (Tuple ts) ≡ tuple (row_of (map data_of ts))
+data-Tuple : (ts : List Term) → data_of (Tuple ts) ≡ tuple (data_list (map data_of ts))
 data-Tuple ts = search (rules, the_lemmas)
 
-data-List : (ts : List Term) → data_of (ListOf ts) ≡ list (row_of (map data_of ts))
+data-List : (ts : List Term) → data_of (ListOf ts) ≡ list (data_list (map data_of ts))
 data-List ts = search (rules, the_lemmas)
 
 data-Binary : (bs : List ℕ) → data_of (Binary bs) ≡ binary bs
@@ -92,7 +92,7 @@ int_char (pos n) h = elim (cases_lt n 256) [
 ]
 int_char (negsuc n) h = other _ (negative_not_small (negsuc n) (omega (arith, ints))) h
 
--- the row has no more bytes than the tuple or list around it
+-- the encoded_terms has no more bytes than the tuple or list around it
 tuple_read : (ks : List Known) (levels : ℕ) → AllFit ks → levels_of ks ≤ levels → length (tuple_bytes (map encode (terms ks))) < 2 ^ 32
     → Reads (Tuple (terms ks)) levels (tuple_bytes (map encode (terms ks)))
 tuple_read ks levels fits d small =
@@ -100,26 +100,26 @@ tuple_read ks levels fits d small =
     let n = length (terms ks) in
     let t = Tuple (terms ks) in
     let same : length es ≡ n = length-map (terms ks) encode in
-    let less : length (row ks) < 2 ^ 32 = omega (arith, small, length-append (tuple_header (length es)) (row ks)) in
+    let less : length (encoded_terms ks) < 2 ^ 32 = omega (arith, small, length-append (tuple_header (length es)) (encoded_terms ks)) in
     elim (cases_lt n 256) [
       | inl k ↦
-          let xs : List ℕ = 104 ∷ n ∷ row ks in
-          let e : xs ≡ tuple_bytes es = sym (ap (λ (m : ℕ). tuple_header m ++ row ks) same ∙ ap (λ (ys : List ℕ). ys ++ row ks) (header_short n k)) in
+          let xs : List ℕ = 104 ∷ n ∷ encoded_terms ks in
+          let e : xs ≡ tuple_bytes es = sym (ap (λ (m : ℕ). tuple_header m ++ encoded_terms ks) same ∙ ap (λ (ys : List ℕ). ys ++ encoded_terms ks) (header_short n k)) in
           reads_as t t levels xs (tuple_bytes es) refl e (λ bytes at rest h.
-          let a1 = tail bytes at 104 (n ∷ row ks) rest h in
-          let a2 = tail bytes (at + 1) n (row ks) rest a1 in
-          dispatch bytes at levels 104 (n ∷ row ks) rest h
-          ∙ tuple_reads One bytes levels ks at (at + 1 + 1) rest fits d less (one_at bytes (at + 1) n (row ks) rest a1) a2
-          ∙ ends t (at + 1 + 1 + length (row ks)) (at + length xs) (omega arith))
+          let a1 = tail bytes at 104 (n ∷ encoded_terms ks) rest h in
+          let a2 = tail bytes (at + 1) n (encoded_terms ks) rest a1 in
+          dispatch bytes at levels 104 (n ∷ encoded_terms ks) rest h
+          ∙ tuple_reads One bytes levels ks at (at + 1 + 1) rest fits d less (one_at bytes (at + 1) n (encoded_terms ks) rest a1) a2
+          ∙ ends t (at + 1 + 1 + length (encoded_terms ks)) (at + length xs) (omega arith))
       | inr k ↦
-          let xs : List ℕ = 105 ∷ (big4 n ++ row ks) in
-          let e : xs ≡ tuple_bytes es = sym (ap (λ (m : ℕ). tuple_header m ++ row ks) same ∙ ap (λ (ys : List ℕ). ys ++ row ks) (header_long n k)) in
+          let xs : List ℕ = 105 ∷ (big4 n ++ encoded_terms ks) in
+          let e : xs ≡ tuple_bytes es = sym (ap (λ (m : ℕ). tuple_header m ++ encoded_terms ks) same ∙ ap (λ (ys : List ℕ). ys ++ encoded_terms ks) (header_long n k)) in
           reads_as t t levels xs (tuple_bytes es) refl e (λ bytes at rest h.
-          let a1 = tail bytes at 105 (big4 n ++ row ks) rest h in
-          let a2 : At bytes (at + 1 + 4) (row ks) rest = behind bytes (at + 1) (big4 n) (row ks) rest a1 in
-          dispatch bytes at levels 105 (big4 n ++ row ks) rest h
-          ∙ tuple_reads Four bytes levels ks at (at + 1 + 4) rest fits d less (four_at bytes (at + 1) n (row ks) rest (omega (arith, less, row_long ks)) a1) a2
-          ∙ ends t (at + 1 + 4 + length (row ks)) (at + length xs) (omega arith))
+          let a1 = tail bytes at 105 (big4 n ++ encoded_terms ks) rest h in
+          let a2 : At bytes (at + 1 + 4) (encoded_terms ks) rest = behind bytes (at + 1) (big4 n) (encoded_terms ks) rest a1 in
+          dispatch bytes at levels 105 (big4 n ++ encoded_terms ks) rest h
+          ∙ tuple_reads Four bytes levels ks at (at + 1 + 4) rest fits d less (four_at bytes (at + 1) n (encoded_terms ks) rest (omega (arith, less, encoded_terms-long ks)) a1) a2
+          ∙ ends t (at + 1 + 4 + length (encoded_terms ks)) (at + length xs) (omega arith))
     ]
 
 nil_reads : (levels : ℕ) → Reads (ListOf []) levels (106 ∷ [])
@@ -170,9 +170,9 @@ list_read (k ∷ ks) levels fits d small =
     elim (cases_Bool (is_string es)) [
       | inl e ↦ reads_as t t levels (string_bytes es) (list_bytes es) refl (sym (list_string es some e)) (string_reads k ks levels d e)
       | inr e ↦
-          let xs : List ℕ = 108 ∷ (big4 n ++ (row (k ∷ ks) ++ 106 ∷ [])) in
-          let f : xs ≡ list_bytes es = sym (list_long es some e ∙ ap (λ (m : ℕ). 108 ∷ (big4 m ++ (row (k ∷ ks) ++ 106 ∷ []))) same) in
-          let less : length (row (k ∷ ks)) < 2 ^ 32 = omega (arith, small, ap length f, length-append (row (k ∷ ks)) (106 ∷ [])) in
+          let xs : List ℕ = 108 ∷ (big4 n ++ (encoded_terms (k ∷ ks) ++ 106 ∷ [])) in
+          let f : xs ≡ list_bytes es = sym (list_long es some e ∙ ap (λ (m : ℕ). 108 ∷ (big4 m ++ (encoded_terms (k ∷ ks) ++ 106 ∷ []))) same) in
+          let less : length (encoded_terms (k ∷ ks)) < 2 ^ 32 = omega (arith, small, ap length f, length-append (encoded_terms (k ∷ ks)) (106 ∷ [])) in
           reads_as t t levels xs (list_bytes es) refl f (long_list_reads levels (k ∷ ks) fits d less)
     ]
 
@@ -204,12 +204,12 @@ one_read (Term-F.Tid n) = subst IsRead (sym (rolls-Tid n))
 one_read (Term-F.Tuple ks) = let ts : List Term = map bare ks in
     let es = map encode ts in
     subst IsRead (sym (rolls-Tuple ts))
-    (by_parts (Tuple ts) (tuple (row_of (map data_of ts))) (tuple_bytes es) (largest (map depth ts)) (data-Tuple ts) (encode-Tuple ts) (depth-Tuple ts)
-    (header_some (length es) (row ks)) (λ h. other _ (tuple_not_small es) h) (λ levels h d small. tuple_read ks levels h d small))
+    (by_parts (Tuple ts) (tuple (data_list (map data_of ts))) (tuple_bytes es) (largest (map depth ts)) (data-Tuple ts) (encode-Tuple ts) (depth-Tuple ts)
+    (header_some (length es) (encoded_terms ks)) (λ h. other _ (tuple_not_small es) h) (λ levels h d small. tuple_read ks levels h d small))
 one_read (Term-F.List ks) = let ts : List Term = map bare ks in
     let es = map encode ts in
     subst IsRead (sym (rolls-List ts))
-    (by_parts (ListOf ts) (list (row_of (map data_of ts))) (list_bytes es) (largest (map depth ts)) (data-List ts) (encode-List ts) (depth-List ts)
+    (by_parts (ListOf ts) (list (data_list (map data_of ts))) (list_bytes es) (largest (map depth ts)) (data-List ts) (encode-List ts) (depth-List ts)
     (list_some es) (λ h. other _ (list_not_small es) h) (λ levels h d small. list_read ks levels h d small))
 one_read (Term-F.Binary bs) = subst IsRead (sym (rolls-Binary bs))
     (by_parts (Binary bs) (binary bs) (binary_bytes bs) 0 (data-Binary bs) (encode-Binary bs) (depth-Binary bs) (omega arith) (λ h. other _ refl h)

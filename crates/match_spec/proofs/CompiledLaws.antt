@@ -5,8 +5,8 @@ use Rattle.std.specs.Option.{option_map, option_and_then, option_map_or}
 use Rattle.std.specs.Str.{bytes_eq}
 use Rattle.ets_term.specs.declared.term.Term.{Term}
 use Rattle.ets_term.specs.declared.term.Term.TheVariants.{Atom}
-use Rattle.ets_term.specs.Data.{Data, int, atom, pid, tid, tuple, list, binary, Row, no_terms, term, row_of}
-use Rattle.ets_term.specs.Order.{row_len}
+use Rattle.ets_term.specs.Data.{Data, int, atom, pid, tid, tuple, list, binary, DataList, no_terms, term, data_list}
+use Rattle.ets_term.specs.Order.{data_list_len}
 use Rattle.ets_term.specs.laws.Exact.{term_of}
 use Rattle.match_spec.specs.declared.expression.Connective.{Connective}
 use Rattle.match_spec.specs.declared.expression.Connective.TheVariants.{And, Or}
@@ -80,9 +80,9 @@ module _ (head object : Data) where
   named a None h = by (bytes_eq a (codes "$_")) (bytes_eq a (codes "$$"))
     where
       by : (c d : Bool) → of (if c then Object else if d then Bound else Constant (Atom a)) object
-          ≡ (if c then Some object else if d then Some (list (row_of (values b))) else Some (atom a))
+          ≡ (if c then Some object else if d then Some (list (data_list (values b))) else Some (atom a))
       by true d = ap (λ f. f object) (of-Object ps)
-      by false true = ap (λ f. f object) (of-Bindings ps) ∙ ap (λ ds. Some (list (row_of ds))) (subterms_at-first head object)
+      by false true = ap (λ f. f object) (of-Bindings ps) ∙ ap (λ ds. Some (list (data_list ds))) (subterms_at-first head object)
       by false false = ap (λ f. f object) (of-Constant ps (Atom a)) ∙ ap Some (data_of-Atom a)
 
   constant : (d : Data) → of (Constant (term_of d)) object ≡ Some d
@@ -103,66 +103,66 @@ module _ (head object : Data) where
       let not_two : (suc (suc (suc n)) == 2) ≡ false = grind (arith, nat_tests) in
       rw (not_one, not_two) refl
 
-  abbrev xs : Row → List Expression
+  abbrev xs : DataList → List Expression
   xs es = expressions_of first es
 
-  given : (es : Row) (o : Option Function) → is_some o ≡ true → ((g : Function) → apply_of g (map of (xs es)) object ≡ option_and_then (apply g) (all_of (map of (xs es)) object))
+  given : (es : DataList) (o : Option Function) → is_some o ≡ true → ((g : Function) → apply_of g (map of (xs es)) object ≡ option_and_then (apply g) (all_of (map of (xs es)) object))
       → all_of (map of (xs es)) object ≡ all_values b object es → of (apply_else o (xs es)) object ≡ option_and_then (λ g. option_and_then (apply g) (all_values b object es)) o
   given es None h each all = cc
   given es (Some g) h each all = ap (λ f. f object) (of-Apply ps g (xs es)) ∙ each g ∙ ap (option_and_then (apply g)) all
 
-  abbrev called : List ℕ → Row → Option Data
+  abbrev called : List ℕ → DataList → Option Data
   called f es = option_and_then (call f) (all_values b object es)
 
-  applies : (f : List ℕ) (es : Row) → is_some (function_of f (row_len es)) ≡ true → all_of (map of (xs es)) object ≡ all_values b object es
-      → of (apply_else (function_of f (row_len es)) (xs es)) object ≡ called f es
+  applies : (f : List ℕ) (es : DataList) → is_some (function_of f (data_list_len es)) ≡ true → all_of (map of (xs es)) object ≡ all_values b object es
+      → of (apply_else (function_of f (data_list_len es)) (xs es)) object ≡ called f es
   applies f no_terms h all = cc
   applies f (term e no_terms) h all = given (term e no_terms) _ h (λ g. one g (of (expression_of first e)) _ refl) all ∙ call-one f (value b object e)
   applies f (term e (term x no_terms)) h all = given (term e (term x no_terms)) _ h (λ g. two g (of (expression_of first e)) (of (expression_of first x)) _ _ refl refl) all ∙ call-two f (value b object e) (value b object x)
-  applies f (term e (term x (term y es))) h all = absurd (none-is_some _ (none_of_three f (row_len es)) h)
+  applies f (term e (term x (term y es))) h all = absurd (none-is_some _ (none_of_three f (data_list_len es)) h)
 
-  abbrev stopped : Row → Bool → Option Data
+  abbrev stopped : DataList → Bool → Option Data
   stopped es decisive = short_circuit_value b object decisive es
 
-  abbrev joined : Row → Bool → Option Data
+  abbrev joined : DataList → Bool → Option Data
   joined es decisive = option_map truth (strict_value b object decisive es)
 
   -- the value of a call by its connective
-  abbrev by_connective : List ℕ → Row → Option Bool → Option Bool → Option Data
+  abbrev by_connective : List ℕ → DataList → Option Bool → Option Bool → Option Data
   by_connective f es o p = option_map_or (stopped es) o (option_map_or (joined es) p (called f es))
 
-  module _ (f : List ℕ) (es : Row) (all : all_of (map of (xs es)) object ≡ all_values b object es)
+  module _ (f : List ℕ) (es : DataList) (all : all_of (map of (xs es)) object ≡ all_values b object es)
       (joins : (connective : Connective) → strict_of connective (map of (xs es)) object ≡ strict_value b object (deciding connective) es)
       (stops : (connective : Connective) → short_circuit_of connective (map of (xs es)) object ≡ short_circuit_value b object (deciding connective) es) where
-    by_kind : (o p : Option Connective) → (((is_some o || is_some p) && nat_lt 0 (row_len es)) || is_some (function_of f (row_len es))) ≡ true
-        → of (short_circuit_else o p (function_of f (row_len es)) (xs es)) object ≡ by_connective f es (option_map deciding o) (option_map deciding p)
+    by_kind : (o p : Option Connective) → (((is_some o || is_some p) && nat_lt 0 (data_list_len es)) || is_some (function_of f (data_list_len es))) ≡ true
+        → of (short_circuit_else o p (function_of f (data_list_len es)) (xs es)) object ≡ by_connective f es (option_map deciding o) (option_map deciding p)
     by_kind (Some connective) p h = ap (λ v. v object) (of-ShortCircuit ps connective (xs es)) ∙ stops connective
     by_kind None (Some connective) h = ap (λ v. v object) (of-Strict ps connective (xs es)) ∙ ap (option_map truth) (joins connective)
     by_kind None None h = applies f es h all
 
-    not_constant : is_function f (row_len es) ≡ true → of (call_expression f (row_len es) (xs es)) object ≡ by_connective f es (short_circuit_connective f) (strict_connective f)
+    not_constant : is_function f (data_list_len es) ≡ true → of (call_expression f (data_list_len es) (xs es)) object ≡ by_connective f es (short_circuit_connective f) (strict_connective f)
     not_constant h =
-        by_kind (short_circuit_by_enum f) (strict_by_enum f) (is_function-is f (row_len es) ∙ h)
+        by_kind (short_circuit_by_enum f) (strict_by_enum f) (is_function-is f (data_list_len es) ∙ h)
         ∙ ap (λ o. by_connective f es o (option_map deciding (strict_by_enum f))) (sym (short_circuit_connective-is f))
         ∙ ap (by_connective f es (short_circuit_connective f)) (sym (strict_connective-is f))
 
   abbrev ns : List ℕ
   ns = variables head
 
-  application : (f : List ℕ) (es : Row) → (is_constant f (row_len es) || (is_function f (row_len es) && are_expressions ns es)) ≡ true
+  application : (f : List ℕ) (es : DataList) → (is_constant f (data_list_len es) || (is_function f (data_list_len es) && are_expressions ns es)) ≡ true
       → (are_expressions ns es ≡ true → all_of (map of (xs es)) object ≡ all_values b object es)
       → ((connective : Connective) → are_expressions ns es ≡ true → strict_of connective (map of (xs es)) object ≡ strict_value b object (deciding connective) es)
       → ((connective : Connective) → are_expressions ns es ≡ true → short_circuit_of connective (map of (xs es)) object ≡ short_circuit_value b object (deciding connective) es)
       → of (expression_of first (tuple (term (atom f) es))) object ≡ value b object (tuple (term (atom f) es))
   application f no_terms h all joins stops = let p = both-true _ _ h in not_constant f no_terms (all p.1) (λ s. joins s p.1) (λ s. stops s p.1) p.0
   application f (term e (term x es)) h all joins stops =
-      let not_one : (suc (suc (row_len es)) == 1) ≡ false = grind (arith, nat_tests) in
-      let p = both-true (is_function f (row_len (term e (term x es)))) (are_expressions ns (term e (term x es))) (past_false (suc (suc (row_len es)) == 1) _ _ not_one h) in
+      let not_one : (suc (suc (data_list_len es)) == 1) ≡ false = grind (arith, nat_tests) in
+      let p = both-true (is_function f (data_list_len (term e (term x es)))) (are_expressions ns (term e (term x es))) (past_false (suc (suc (data_list_len es)) == 1) _ _ not_one h) in
       not_constant f (term e (term x es)) (all p.1) (λ s. joins s p.1) (λ s. stops s p.1) p.0
   application f (term e no_terms) h all joins stops = by (bytes_eq f (codes "const")) h
     where
-      by : (c : Bool) → (c || (is_function f (row_len (term e no_terms)) && are_expressions ns (term e no_terms))) ≡ true
-          → of (if c then Constant (term_of e) else call_expression f (row_len (term e no_terms)) (xs (term e no_terms))) object
+      by : (c : Bool) → (c || (is_function f (data_list_len (term e no_terms)) && are_expressions ns (term e no_terms))) ≡ true
+          → of (if c then Constant (term_of e) else call_expression f (data_list_len (term e no_terms)) (xs (term e no_terms))) object
           ≡ (if c then Some e else by_connective f (term e no_terms) (short_circuit_connective f) (strict_connective f))
       by true i = constant e
       by false i = let p = both-true _ _ i in not_constant f (term e no_terms) (all p.1) (λ s. joins s p.1) (λ s. stops s p.1) p.0
@@ -174,9 +174,9 @@ module _ (head object : Data) where
     compiled (pid n) h = constant (pid n)
     compiled (tid n) h = constant (tid n)
     compiled (binary s) h = constant (binary s)
-    compiled (list es) h = ap (λ f. f object) (of-List ps _) ∙ ap (option_map (λ ds. list (row_of ds))) (all_compiled es h)
+    compiled (list es) h = ap (λ f. f object) (of-List ps _) ∙ ap (option_map (λ ds. list (data_list ds))) (all_compiled es h)
     compiled (tuple no_terms) h = cc
-    compiled (tuple (term (tuple es) no_terms)) h = ap (λ f. f object) (of-Tuple ps _) ∙ ap (option_map (λ ds. tuple (row_of ds))) (all_compiled es h)
+    compiled (tuple (term (tuple es) no_terms)) h = ap (λ f. f object) (of-Tuple ps _) ∙ ap (option_map (λ ds. tuple (data_list ds))) (all_compiled es h)
     compiled (tuple (term (tuple es) (term x xs))) h = cc
     compiled (tuple (term (atom f) es)) h = application f es h (all_compiled es) (λ connective. strict_compiled connective es) (λ connective. short_circuit_compiled connective es)
     compiled (tuple (term (int n) es)) h = cc
@@ -185,17 +185,17 @@ module _ (head object : Data) where
     compiled (tuple (term (list n) es)) h = cc
     compiled (tuple (term (binary n) es)) h = cc
 
-    pub all_compiled : (es : Row) → are_expressions ns es ≡ true → all_of (map of (xs es)) object ≡ all_values b object es
+    pub all_compiled : (es : DataList) → are_expressions ns es ≡ true → all_of (map of (xs es)) object ≡ all_values b object es
     all_compiled no_terms h = refl
     all_compiled (term e es) h = let p = both-true _ _ h in rw (compiled e p.0, all_compiled es p.1) refl
 
-    pub strict_compiled : (connective : Connective) (es : Row) → are_expressions ns es ≡ true → strict_of connective (map of (xs es)) object ≡ strict_value b object (deciding connective) es
+    pub strict_compiled : (connective : Connective) (es : DataList) → are_expressions ns es ≡ true → strict_of connective (map of (xs es)) object ≡ strict_value b object (deciding connective) es
     strict_compiled And no_terms h = refl
     strict_compiled Or no_terms h = refl
     strict_compiled And (term e es) h = let p = both-true _ _ h in rw (compiled e p.0, strict_compiled And es p.1) refl
     strict_compiled Or (term e es) h = let p = both-true _ _ h in rw (compiled e p.0, strict_compiled Or es p.1) refl
 
-    pub short_circuit_compiled : (connective : Connective) (es : Row) → are_expressions ns es ≡ true → short_circuit_of connective (map of (xs es)) object ≡ short_circuit_value b object (deciding connective) es
+    pub short_circuit_compiled : (connective : Connective) (es : DataList) → are_expressions ns es ≡ true → short_circuit_of connective (map of (xs es)) object ≡ short_circuit_value b object (deciding connective) es
     short_circuit_compiled connective no_terms h = refl
     short_circuit_compiled connective (term e no_terms) h = let p = both-true _ _ h in rw (compiled e p.0) refl
     short_circuit_compiled And (term e (term x es)) h = let p = both-true _ _ h in rw (compiled e p.0, short_circuit_compiled And (term x es) p.1) refl

@@ -1,7 +1,7 @@
 -- Worked examples, which hold of the definitions by computing.
 use Rattle.std.specs.Prelude.{◌≡◌, ℕ, pos, negsuc, ◌-◌, ◌^◌, Bool, true, false, List, [], ◌∷◌, Option, Some, None, codes, refl}
 use Rattle.std.specs.Option.{option_map}
-use Rattle.ets_term.specs.Data.{Data, int, atom, tid, tuple, list, binary, row_of}
+use Rattle.ets_term.specs.Data.{Data, int, atom, tid, tuple, list, binary, data_list}
 use Rattle.match_spec.specs.BoundKeys.{bound_key, spec_key}
 use Rattle.match_spec.specs.Variables.{variable}
 use Rattle.match_spec.specs.Patterns.{bindings_of, values}
@@ -11,10 +11,10 @@ abbrev numeral : ℕ → Data
 numeral n = int (pos n)
 
 abbrev t : List Data → Data
-t ds = tuple (row_of ds)
+t ds = tuple (data_list ds)
 
 abbrev l : List Data → Data
-l ds = list (row_of ds)
+l ds = list (data_list ds)
 
 a : Data
 a = atom (codes "a")

@@ -4,12 +4,12 @@ use Rattle.std.proofs.lemmas.Slice.Eq.{bytes_eq-Decides}
 use Rattle.std.specs.Option.{option_map}
 use Rattle.std.specs.Str.{bytes_eq}
 use Rattle.ets_term.specs.declared.term.Term.{Term}
-use Rattle.ets_term.specs.Data.{Data, int, atom, pid, tid, tuple, list, binary, Row, no_terms, term}
+use Rattle.ets_term.specs.Data.{Data, int, atom, pid, tid, tuple, list, binary, DataList, no_terms, term}
 use Rattle.ets_term.specs.laws.Exact.{term_of}
 use Rattle.match_spec.specs.declared.pattern.part.Part.{Part, the_lemmas}
 use Rattle.match_spec.specs.declared.pattern.part.Part.TheOpen.{Part-F}
 use Rattle.match_spec.specs.declared.pattern.part.Part.TheVariants.{Wildcard, Repeated, Tuple, List as Terms, Literal}
-use Rattle.match_spec.specs.Patterns.{Bindings, equal_terms, matches, row_matches, name_matches, values, occurrences, bindings_of}
+use Rattle.match_spec.specs.Patterns.{Bindings, equal_terms, matches, data_list_matches, name_matches, values, occurrences, bindings_of}
 use Rattle.match_spec.specs.inside.CompiledExpressions.{subterms_at}
 use Rattle.match_spec.specs.inside.CompiledPatterns.{part_fits, part_step, all_fit, part_of, parts_from, name_part, IsCompiled}
 use Rattle.match_spec.specs.inside.FirstPaths.{FirstPaths, first_path, paths_of, first_paths_of}
@@ -70,9 +70,9 @@ module _ (pattern object : Data) where
     fit : (current : Path) (p t : Data) → subterm_at current object ≡ t → part_fits (part_of first current p) object t ≡ matches b p t
     fit current (atom a) t e = fit_name current t e a (bytes_eq a (codes "_"))
     fit current (tuple ps) (tuple ts) e =
-        ap (λ f. f object (tuple ts)) (fits-Tuple _) ∙ fit_row current 0 ps ts (tuple ts) (λ j. rw zero-add (subterm_at-snoc current j object ∙ ap (λ d. element_or (parts d) j d) e))
+        ap (λ f. f object (tuple ts)) (fits-Tuple _) ∙ fit_data_list current 0 ps ts (tuple ts) (λ j. rw zero-add (subterm_at-snoc current j object ∙ ap (λ d. element_or (parts d) j d) e))
     fit current (list ps) (list ts) e =
-        ap (λ f. f object (list ts)) (fits-List _) ∙ fit_row current 0 ps ts (list ts) (λ j. rw zero-add (subterm_at-snoc current j object ∙ ap (λ d. element_or (parts d) j d) e))
+        ap (λ f. f object (list ts)) (fits-List _) ∙ fit_data_list current 0 ps ts (list ts) (λ j. rw zero-add (subterm_at-snoc current j object ∙ ap (λ d. element_or (parts d) j d) e))
     fit current (tuple ps) (int n) e = ap (λ f. f object (int n)) (fits-Tuple _)
     fit current (tuple ps) (atom n) e = ap (λ f. f object (atom n)) (fits-Tuple _)
     fit current (tuple ps) (pid n) e = ap (λ f. f object (pid n)) (fits-Tuple _)
@@ -90,13 +90,13 @@ module _ (pattern object : Data) where
     fit current (tid n) t e = fits-constant (tid n) object t
     fit current (binary s) t e = fits-constant (binary s) object t
 
-    fit_row : (current : Path) (i : ℕ) (ps ts : Row) (d : Data) → ((j : ℕ) → subterm_at (current ++ (i + j) ∷ []) object ≡ element_or ts j d)
-        → all_fit (map part_fits (parts_from first current i ps)) object ts ≡ row_matches b ps ts
-    fit_row current i no_terms no_terms d h = refl
-    fit_row current i no_terms (term t ts) d h = refl
-    fit_row current i (term p ps) no_terms d h = refl
-    fit_row current i (term p ps) (term t ts) d h = λ k. fit (current ++ i ∷ []) p t (rw add-zero at (h 0)) k
-        && fit_row current (suc i) ps ts d (λ j. subst (λ m. subterm_at (current ++ m ∷ []) object ≡ element_or ts j d) (omega arith) (h (suc j))) k
+    fit_data_list : (current : Path) (i : ℕ) (ps ts : DataList) (d : Data) → ((j : ℕ) → subterm_at (current ++ (i + j) ∷ []) object ≡ element_or ts j d)
+        → all_fit (map part_fits (parts_from first current i ps)) object ts ≡ data_list_matches b ps ts
+    fit_data_list current i no_terms no_terms d h = refl
+    fit_data_list current i no_terms (term t ts) d h = refl
+    fit_data_list current i (term p ps) no_terms d h = refl
+    fit_data_list current i (term p ps) (term t ts) d h = λ k. fit (current ++ i ∷ []) p t (rw add-zero at (h 0)) k
+        && fit_data_list current (suc i) ps ts d (λ j. subst (λ m. subterm_at (current ++ m ∷ []) object ≡ element_or ts j d) (omega arith) (h (suc j))) k
 
   -- the whole object
   pub fits-pattern : part_fits (part_of first [] pattern) object object ≡ matches b pattern object

@@ -3,15 +3,15 @@ use Rattle.std.proofs.Common.{◌≡◌, ℕ, zero, suc, ◌<◌, length, get_or
 use Rattle.std.specs.Cmp.{Equal-is}
 use Rattle.std.specs.Option.{option_map, option_and_then, option_map_or}
 use Rattle.std.specs.Str.{bytes_eq}
-use Rattle.ets_term.specs.Data.{Data, int, atom, pid, tid, tuple, list, binary, Row, no_terms, term, row_of, data_of}
+use Rattle.ets_term.specs.Data.{Data, int, atom, pid, tid, tuple, list, binary, DataList, no_terms, term, data_list, data_of}
 use Rattle.ets_term.specs.Depth.{element_at}
 use Rattle.ets_term.specs.Order.{data_order}
 use Rattle.ets_term.specs.declared.term.Term.{Term}
 use Rattle.ets_term.specs.laws.Exact.{data_of-exact}
 use Rattle.ets_term.specs.laws.Ordered.{order_exact}
 use Rattle.match_spec.specs.BoundKeys.{is_ground, are_ground, bound_key, clause_key, all_bind, spec_key, IsKeyOfMatches, IsKeyOfResults}
-use Rattle.match_spec.specs.Functions.{row_element, tuple_element}
-use Rattle.match_spec.specs.Patterns.{Bindings, matches, row_matches, name_matches, equal_terms, occurrences, bindings_of}
+use Rattle.match_spec.specs.Functions.{data_list_element, tuple_element}
+use Rattle.match_spec.specs.Patterns.{Bindings, matches, data_list_matches, name_matches, equal_terms, occurrences, bindings_of}
 use Rattle.match_spec.specs.Paths.{value_at}
 use Rattle.match_spec.specs.Specifications.{RawClause, clause_parts, clause_result_or, result_or, first_result, result_of}
 use Rattle.match_spec.specs.Variables.{variable}
@@ -35,7 +35,7 @@ module _ (b : ℕ → Option Data) where
     ground-alone (list ps) (list ts) g h = ap list (grounds-alone ps ts g h)
     ground-alone p t g h = equal_terms-exact p t h
 
-    grounds-alone : (ps ts : Row) → are_ground ps ≡ true → row_matches b ps ts ≡ true → ps ≡ ts
+    grounds-alone : (ps ts : DataList) → are_ground ps ≡ true → data_list_matches b ps ts ≡ true → ps ≡ ts
     grounds-alone no_terms no_terms g h = refl
     grounds-alone (term p ps) (term t ts) g h =
         let q = both-true _ _ g in
@@ -54,12 +54,12 @@ kept (Some d) k h = by (is_ground d) refl h
 
 module _ (b : ℕ → Option Data) (k : Data) (ground : is_ground k ≡ true) where
   -- if a list of data matches, its ground elements are equal in both
-  row_has : (ps ts : Row) (i : ℕ) → row_matches b ps ts ≡ true → row_element ps i ≡ Some k → row_element ts i ≡ Some k
-  row_has no_terms ts i h e = absurd (None-Some e)
-  row_has (term p ps) no_terms i h e = cc
-  row_has (term p ps) (term t ts) zero h e =
+  data_list_has : (ps ts : DataList) (i : ℕ) → data_list_matches b ps ts ≡ true → data_list_element ps i ≡ Some k → data_list_element ts i ≡ Some k
+  data_list_has no_terms ts i h e = absurd (None-Some e)
+  data_list_has (term p ps) no_terms i h e = cc
+  data_list_has (term p ps) (term t ts) zero h e =
       let r = both-true _ _ h in ap Some (sym (ground-alone b k t ground (subst (λ x. matches b x t ≡ true) (same_Some e) r.0)))
-  row_has (term p ps) (term t ts) (suc i) h e = let r = both-true _ _ h in row_has ps ts i r.1 e
+  data_list_has (term p ps) (term t ts) (suc i) h e = let r = both-true _ _ h in data_list_has ps ts i r.1 e
 
 module _ (keypos : ℕ) where
   key-alone : (b : ℕ → Option Data) (p t k : Data) → matches b p t ≡ true → tuple_element keypos p ≡ Some k → is_ground k ≡ true → tuple_element keypos t ≡ Some k
@@ -67,7 +67,7 @@ module _ (keypos : ℕ) where
     where
       by : (n : ℕ) (p t : Data) → matches b p t ≡ true → tuple_element n p ≡ Some k → tuple_element n t ≡ Some k
       by zero p t h e = absurd (None-Some e)
-      by (suc i) (tuple ps) (tuple ts) h e = row_has b k g ps ts i h e
+      by (suc i) (tuple ps) (tuple ts) h e = data_list_has b k g ps ts i h e
       by (suc i) (tuple ps) (int n) h e = cc
       by (suc i) (tuple ps) (atom n) h e = cc
       by (suc i) (tuple ps) (pid n) h e = cc
@@ -115,12 +115,12 @@ module _ (keypos : ℕ) where
     same_key None h = absurd (clash h refl)
     same_key (Some d) h = ap Some (sym (equal_terms-exact k d h))
 
-    clauses_have : (cs : Row) → all_bind keypos k cs ≡ true → is_some (first_result cs t) ≡ true → Has
+    clauses_have : (cs : DataList) → all_bind keypos k cs ≡ true → is_some (first_result cs t) ≡ true → Has
     clauses_have no_terms a h = absurd (clash h refl)
     clauses_have (term c cs) a h =
         let both = both-true _ _ a in clause_has (clause_parts c) (first_result cs t) (same_key (clause_key keypos c) both.0) (clauses_have cs both.1) h
 
-    all_kept : (o : Option Data) (cs : Row) → option_and_then (λ key. if all_bind keypos key cs then Some key else None) o ≡ Some k → (o ≡ Some k) × (all_bind keypos k cs ≡ true)
+    all_kept : (o : Option Data) (cs : DataList) → option_and_then (λ key. if all_bind keypos key cs then Some key else None) o ≡ Some k → (o ≡ Some k) × (all_bind keypos k cs ≡ true)
     all_kept None cs h = absurd (None-Some h)
     all_kept (Some d) cs h = by (all_bind keypos d cs) refl h
       where
@@ -158,15 +158,15 @@ key_of_element keypos p key e = ap (option_and_then (λ k. if is_ground k then S
 pub key_of_none : (keypos : ℕ) (p : Term) → element_at keypos p ≡ None → bound_key keypos (data_of p) ≡ None
 key_of_none keypos p e = ap (option_and_then (λ k. if is_ground k then Some k else None)) (sym (element_at_tree keypos p) ∙ ap (option_map data_of) e)
 
-pub key_of_nothing : (keypos : ℕ) (cs : List Term) → length cs ≡ 0 → spec_key keypos (list (row_of (map data_of cs))) ≡ None
+pub key_of_nothing : (keypos : ℕ) (cs : List Term) → length cs ≡ 0 → spec_key keypos (list (data_list (map data_of cs))) ≡ None
 key_of_nothing keypos [] h = refl
 key_of_nothing keypos (c ∷ cs) h = absurd (omega arith)
 
 pub key_of_first : (keypos : ℕ) (cs : List Term) (c : Term) (k : Data) → 0 < length cs → get_or cs 0 c ≡ c → clause_key keypos (data_of c) ≡ Some k
-    → spec_key keypos (list (row_of (map data_of cs))) ≡ (if all_bind keypos k (row_of (map data_of (drop 1 cs))) then Some k else None)
+    → spec_key keypos (list (data_list (map data_of cs))) ≡ (if all_bind keypos k (data_list (map data_of (drop 1 cs))) then Some k else None)
 key_of_first keypos [] c k h is e = absurd (omega arith)
 key_of_first keypos (a ∷ cs) c k h is e = rw (is, e) refl
 
-pub key_of_no_first : (keypos : ℕ) (cs : List Term) (c : Term) → 0 < length cs → get_or cs 0 c ≡ c → clause_key keypos (data_of c) ≡ None → spec_key keypos (list (row_of (map data_of cs))) ≡ None
+pub key_of_no_first : (keypos : ℕ) (cs : List Term) (c : Term) → 0 < length cs → get_or cs 0 c ≡ c → clause_key keypos (data_of c) ≡ None → spec_key keypos (list (data_list (map data_of cs))) ≡ None
 key_of_no_first keypos [] c h is e = absurd (omega arith)
 key_of_no_first keypos (a ∷ cs) c h is e = rw (is, e) refl

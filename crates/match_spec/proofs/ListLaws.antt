@@ -5,17 +5,17 @@ use Rattle.std.specs.List.{slice_get}
 use Rattle.std.specs.Option.{option_map}
 use Rattle.ets_term.specs.declared.term.Term.{Term, the_lemmas}
 use Rattle.ets_term.specs.declared.term.Term.TheVariants.{Int, Atom, Pid, Tid, Tuple, List as Lst, Binary}
-use Rattle.ets_term.specs.Data.{Data, int, atom, pid, tid, tuple, list, binary, row_of, data_of}
+use Rattle.ets_term.specs.Data.{Data, int, atom, pid, tid, tuple, list, binary, data_list, data_of}
 use Rattle.ets_term.specs.Depth.{elements, element_at}
 use Rattle.ets_term.specs.laws.Exact.{term_of, terms_of, back, data_of-Tuple, data_of-List}
-use Rattle.match_spec.specs.Functions.{tail, list_length, size, count, row_element, tuple_element}
-use Rattle.match_spec.proofs.ExpressionLaws.{row_len_of}
+use Rattle.match_spec.specs.Functions.{tail, list_length, size, count, data_list_element, tuple_element}
+use Rattle.match_spec.proofs.ExpressionLaws.{data_list_len_of}
 
-pub row_element_get : (ts : List Term) (i : ℕ) → row_element (row_of (map data_of ts)) i ≡ option_map data_of (slice_get ts i)
-row_element_get [] zero = refl
-row_element_get [] (suc i) = refl
-row_element_get (t ∷ ts) zero = refl
-row_element_get (t ∷ ts) (suc i) = row_element_get ts i
+pub data_list_element_get : (ts : List Term) (i : ℕ) → data_list_element (data_list (map data_of ts)) i ≡ option_map data_of (slice_get ts i)
+data_list_element_get [] zero = refl
+data_list_element_get [] (suc i) = refl
+data_list_element_get (t ∷ ts) zero = refl
+data_list_element_get (t ∷ ts) (suc i) = data_list_element_get ts i
 
 elements-Tuple : (ts : List Term) → elements (Tuple ts) ≡ ts
 elements-Tuple ts = search (rules, the_lemmas)
@@ -39,14 +39,14 @@ elements-Binary : (s : List ℕ) → elements (Binary s) ≡ []
 elements-Binary s = search (rules, the_lemmas)
 
 nothing : (ts : List Term) (i : ℕ) → ts ≡ [] → option_map data_of (slice_get ts i) ≡ None
-nothing ts i e = rw e (sym (row_element_get [] i) ∙ empty i)
+nothing ts i e = rw e (sym (data_list_element_get [] i) ∙ empty i)
   where
-    empty : (i : ℕ) → row_element (row_of (map data_of [])) i ≡ None
+    empty : (i : ℕ) → data_list_element (data_list (map data_of [])) i ≡ None
     empty i = refl
 
 module _ (i : ℕ) (t : Term) where
   by_kind : (d : Data) → t ≡ term_of d → option_map data_of (slice_get (elements t) i) ≡ tuple_element (suc i) (data_of t)
-  by_kind (tuple ds) e = rw (e, elements-Tuple (terms_of ds), data_of-Tuple (terms_of ds)) (sym (row_element_get (terms_of ds) i))
+  by_kind (tuple ds) e = rw (e, elements-Tuple (terms_of ds), data_of-Tuple (terms_of ds)) (sym (data_list_element_get (terms_of ds) i))
   by_kind (int n) e = nothing _ i (ap elements e ∙ elements-Int n) ∙ rw e (search (rules, the_lemmas))
   by_kind (atom a) e = nothing _ i (ap elements e ∙ elements-Atom a) ∙ rw e (search (rules, the_lemmas))
   by_kind (pid n) e = nothing _ i (ap elements e ∙ elements-Pid n) ∙ rw e (search (rules, the_lemmas))
@@ -63,11 +63,11 @@ element_at_tree (suc i) t =
     rw (some, less) (by_kind i t (data_of t) (sym (back t)))
 
 pub list_length_of : (t : Term) (ts : List Term) → t ≡ Lst ts → list_length (data_of t) ≡ count (length ts)
-list_length_of t ts e = rw (e, data_of-List ts, row_len_of ts) refl
+list_length_of t ts e = rw (e, data_of-List ts, data_list_len_of ts) refl
 
 pub size_of_tuple : (t : Term) (ts : List Term) → t ≡ Tuple ts → size (data_of t) ≡ count (length ts)
-size_of_tuple t ts e = rw (e, data_of-Tuple ts, row_len_of ts) refl
+size_of_tuple t ts e = rw (e, data_of-Tuple ts, data_list_len_of ts) refl
 
-pub tail_of : (ts : List Term) → tail (list (row_of (map data_of ts))) ≡ (if length ts == 0 then None else Some (list (row_of (map data_of (drop 1 ts)))))
+pub tail_of : (ts : List Term) → tail (list (data_list (map data_of ts))) ≡ (if length ts == 0 then None else Some (list (data_list (map data_of (drop 1 ts)))))
 tail_of [] = refl
 tail_of (t ∷ ts) = let some : (length (t ∷ ts) == 0) ≡ false = grind (arith, nat_tests) in rw some refl

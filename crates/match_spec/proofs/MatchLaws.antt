@@ -3,11 +3,11 @@ use Rattle.std.proofs.Common.{◌≡◌, ℕ, suc, ◌+◌, ◌==◌, ◌&&◌, 
 use Rattle.std.proofs.lemmas.Slice.Eq.{bytes_eq-Decides}
 use Rattle.std.specs.Option.{option_map, option_or}
 use Rattle.std.specs.Str.{bytes_eq}
-use Rattle.ets_term.specs.Data.{Data, int, atom, pid, tid, tuple, list, binary, Row, no_terms, term}
-use Rattle.match_spec.specs.Patterns.{Bindings, binding, Match, matches, row_matches, name_matches, is_bound_to, occurrences, bindings_of, values, IsBindings}
+use Rattle.ets_term.specs.Data.{Data, int, atom, pid, tid, tuple, list, binary, DataList, no_terms, term}
+use Rattle.match_spec.specs.Patterns.{Bindings, binding, Match, matches, data_list_matches, name_matches, is_bound_to, occurrences, bindings_of, values, IsBindings}
 use Rattle.match_spec.specs.laws.Bindings.{AreTheBindings}
 use Rattle.match_spec.specs.Paths.{Path, subterm_at, parts, element_or, path_of, path_from, is_number, value_at}
-use Rattle.match_spec.specs.Variables.{numbers_in, variable_numbers, row_variable_numbers, variable, variables}
+use Rattle.match_spec.specs.Variables.{numbers_in, variable_numbers, data_list_variable_numbers, variable, variables}
 use Rattle.match_spec.proofs.BoolLaws.{both-true, or-left, or-right, or-cases, clash, same_Some, None-Some}
 use Rattle.match_spec.proofs.NumberLaws.{has, has-append, has-fold, same_number, itself, Rising, fold-rising, above-apart, above-rising}
 use Rattle.match_spec.proofs.PathLaws.{found}
@@ -40,8 +40,8 @@ module _ (b : ℕ → Option Data) (n : ℕ) where
   mutual
     pub follow : (p t : Data) (path : Path) → path_of n p ≡ Some path → matches b p t ≡ true → b n ≡ Some (subterm_at path t)
     follow (atom a) t path e h = here a t (variable a) path refl e h
-    follow (tuple ps) (tuple ts) path e h = follow_row ps ts (tuple ts) 0 path e h (λ j. rw zero-add refl)
-    follow (list ps) (list ts) path e h = follow_row ps ts (list ts) 0 path e h (λ j. rw zero-add refl)
+    follow (tuple ps) (tuple ts) path e h = follow_data_list ps ts (tuple ts) 0 path e h (λ j. rw zero-add refl)
+    follow (list ps) (list ts) path e h = follow_data_list ps ts (list ts) 0 path e h (λ j. rw zero-add refl)
     follow (tuple ps) (int x) path e h = cc
     follow (tuple ps) (atom x) path e h = cc
     follow (tuple ps) (pid x) path e h = cc
@@ -59,15 +59,15 @@ module _ (b : ℕ → Option Data) (n : ℕ) where
     follow (tid x) t path e h = cc
     follow (binary x) t path e h = cc
 
-    follow_row : (ps ts : Row) (whole : Data) (i : ℕ) (path : Path) → path_from n i ps ≡ Some path → row_matches b ps ts ≡ true
+    follow_data_list : (ps ts : DataList) (whole : Data) (i : ℕ) (path : Path) → path_from n i ps ≡ Some path → data_list_matches b ps ts ≡ true
         → ((j : ℕ) → element_or (parts whole) (i + j) whole ≡ element_or ts j whole) → b n ≡ Some (subterm_at path whole)
-    follow_row no_terms ts whole i path e h elements = cc
-    follow_row (term p ps) no_terms whole i path e h elements = cc
-    follow_row (term p ps) (term t ts) whole i path e h elements =
+    follow_data_list no_terms ts whole i path e h elements = cc
+    follow_data_list (term p ps) no_terms whole i path e h elements = cc
+    follow_data_list (term p ps) (term t ts) whole i path e h elements =
         let both = both-true _ _ h in
         either (path_of n p) refl e
         (λ inner is. follow p t inner is both.0 ∙ ap (λ d. Some (subterm_at inner d)) (sym (rw add-zero at (elements 0))))
-        (λ rest. follow_row ps ts whole (suc i) path rest both.1 (λ j. subst (λ m. element_or (parts whole) m whole ≡ element_or ts j whole) (omega arith) (elements (suc j))))
+        (λ rest. follow_data_list ps ts whole (suc i) path rest both.1 (λ j. subst (λ m. element_or (parts whole) m whole ≡ element_or ts j whole) (omega arith) (elements (suc j))))
       where
         either : (o : Option Path) → path_of n p ≡ o → option_or (option_map (λ q. i ∷ q) o) (path_from n (suc i) ps) ≡ Some path
             → ((inner : Path) → path_of n p ≡ Some inner → b n ≡ Some (subterm_at inner (element_or (parts whole) i whole)))
@@ -93,14 +93,14 @@ module _ (f g : ℕ → Option Data) where
   mutual
     pub matches_alike : (p t : Data) → Agree (variable_numbers p) → matches f p t ≡ matches g p t
     matches_alike (atom a) t h = ap (λ c. bytes_eq a (codes "_") || c) (alike_names a t (variable a) h)
-    matches_alike (tuple ps) (tuple ts) h = rows_alike ps ts h
-    matches_alike (list ps) (list ts) h = rows_alike ps ts h
+    matches_alike (tuple ps) (tuple ts) h = data_lists_alike ps ts h
+    matches_alike (list ps) (list ts) h = data_lists_alike ps ts h
     matches_alike p t h = refl
 
-    rows_alike : (ps ts : Row) → Agree (row_variable_numbers ps) → row_matches f ps ts ≡ row_matches g ps ts
-    rows_alike no_terms ts h = refl
-    rows_alike (term p ps) no_terms h = refl
-    rows_alike (term p ps) (term t ts) h = λ i. matches_alike p t (first_part (variable_numbers p) (row_variable_numbers ps) h) i && rows_alike ps ts (second_part (variable_numbers p) (row_variable_numbers ps) h) i
+    data_lists_alike : (ps ts : DataList) → Agree (data_list_variable_numbers ps) → data_list_matches f ps ts ≡ data_list_matches g ps ts
+    data_lists_alike no_terms ts h = refl
+    data_lists_alike (term p ps) no_terms h = refl
+    data_lists_alike (term p ps) (term t ts) h = λ i. matches_alike p t (first_part (variable_numbers p) (data_list_variable_numbers ps) h) i && data_lists_alike ps ts (second_part (variable_numbers p) (data_list_variable_numbers ps) h) i
 
 -- the variables of a pattern are its numbers
 has-variables : (p : Data) (n : ℕ) → has (variable_numbers p) n ≡ true → has (variables p) n ≡ true
@@ -134,18 +134,18 @@ module _ (n : ℕ) where
   mutual
     pub placed : (p : Data) → has (variable_numbers p) n ≡ true → is_some (path_of n p) ≡ true
     placed (atom a) h = name_placed (variable a) h
-    placed (tuple ps) h = row_placed 0 ps h
-    placed (list ps) h = row_placed 0 ps h
+    placed (tuple ps) h = data_list_placed 0 ps h
+    placed (list ps) h = data_list_placed 0 ps h
     placed (int x) h = h
     placed (pid x) h = h
     placed (tid x) h = h
     placed (binary x) h = h
 
-    row_placed : (i : ℕ) (ps : Row) → has (row_variable_numbers ps) n ≡ true → is_some (path_from n i ps) ≡ true
-    row_placed i no_terms h = h
-    row_placed i (term p ps) h =
+    data_list_placed : (i : ℕ) (ps : DataList) → has (data_list_variable_numbers ps) n ≡ true → is_some (path_from n i ps) ≡ true
+    data_list_placed i no_terms h = h
+    data_list_placed i (term p ps) h =
         some-or (option_map (λ q. i ∷ q) (path_of n p)) (path_from n (suc i) ps)
-        (or-cases _ _ _ _ (sym (has-append (variable_numbers p) (row_variable_numbers ps) n) ∙ h) (λ e. some-map (λ q. i ∷ q) (path_of n p) ∙ placed p e) (row_placed (suc i) ps))
+        (or-cases _ _ _ _ (sym (has-append (variable_numbers p) (data_list_variable_numbers ps) n) ∙ h) (λ e. some-map (λ q. i ∷ q) (path_of n p) ∙ placed p e) (data_list_placed (suc i) ps))
 
 found_value : (pattern t : Data) (n : ℕ) (ns : List ℕ) → has ns n ≡ true → binding (map (λ m. (m, value_at pattern t m)) ns) n ≡ Some (value_at pattern t n)
 found_value pattern t n ns h = found pattern t n ns h

@@ -9,11 +9,11 @@ use Rattle.std.specs.List.{list_any}
 use Rattle.std.specs.Map.{lookup}
 use Rattle.std.specs.Option.{option_map, option_or}
 use Rattle.std.specs.Ordering.{nat_cmp}
-use Rattle.ets_term.specs.Data.{Data, int, atom, pid, tid, tuple, list, binary, Row, no_terms, term}
+use Rattle.ets_term.specs.Data.{Data, int, atom, pid, tid, tuple, list, binary, DataList, no_terms, term}
 use Rattle.match_spec.specs.Expressions.{is_bound}
 use Rattle.match_spec.specs.Patterns.{Bindings}
 use Rattle.match_spec.specs.Paths.{Path, is_number, path_of, path_from, variable_path, value_at}
-use Rattle.match_spec.specs.Variables.{numbers_in, variable_numbers, row_variable_numbers, variable, variables, put}
+use Rattle.match_spec.specs.Variables.{numbers_in, variable_numbers, data_list_variable_numbers, variable, variables, put}
 use Rattle.match_spec.specs.inside.FirstPaths.{FirstPaths, path_in, first_path, numbers_of, paths_of, insert_unless, record_path, add_first_paths, add_first_paths_from, first_paths_of}
 use Rattle.match_spec.proofs.BoolLaws.{or-right, clash}
 use Rattle.match_spec.proofs.NumberLaws.{has, same_number, itself, Rising, put-rising, put-there, above-apart, above-rising}
@@ -115,7 +115,7 @@ module _ (m : ℕ) where
     lookup-first current first (tid n) = sym (or-None _)
     lookup-first current first (binary s) = sym (or-None _)
 
-    lookup-from : (current : Path) (i : ℕ) (first : FirstPaths) (ps : Row) → at_number (add_first_paths_from current i first ps) m ≡ option_or (at_number first m) (below_here current (path_from m i ps))
+    lookup-from : (current : Path) (i : ℕ) (first : FirstPaths) (ps : DataList) → at_number (add_first_paths_from current i first ps) m ≡ option_or (at_number first m) (below_here current (path_from m i ps))
     lookup-from current i first no_terms = sym (or-None _)
     lookup-from current i first (term p ps) =
         lookup-from current (suc i) (add_first_paths (current ++ i ∷ []) first p) ps
@@ -148,12 +148,12 @@ mutual
   variable_numbers-first current first (tid n) r = refl
   variable_numbers-first current first (binary s) r = refl
 
-  variable_numbers-from : (current : Path) (i : ℕ) (first : FirstPaths) (ps : Row) → Rising (numbers_of first) → numbers_of (add_first_paths_from current i first ps) ≡ fold putting (numbers_of first) (row_variable_numbers ps)
+  variable_numbers-from : (current : Path) (i : ℕ) (first : FirstPaths) (ps : DataList) → Rising (numbers_of first) → numbers_of (add_first_paths_from current i first ps) ≡ fold putting (numbers_of first) (data_list_variable_numbers ps)
   variable_numbers-from current i first no_terms r = refl
   variable_numbers-from current i first (term p ps) r =
       let same = variable_numbers-first (current ++ i ∷ []) first p r in
       variable_numbers-from current (suc i) (add_first_paths (current ++ i ∷ []) first p) ps (subst Rising (sym same) (rising-fold (variable_numbers p) _ r))
-      ∙ ap (λ ms. fold putting ms (row_variable_numbers ps)) same ∙ sym (fold-append putting (numbers_of first) (variable_numbers p) (row_variable_numbers ps))
+      ∙ ap (λ ms. fold putting ms (data_list_variable_numbers ps)) same ∙ sym (fold-append putting (numbers_of first) (variable_numbers p) (data_list_variable_numbers ps))
 
 -- paths in order of number are the results of looking up each number
 paths_at : (f : ℕ → Path) (es : FirstPaths) → Rising (numbers_of es) → ((n : ℕ) → has (numbers_of es) n ≡ true → f n ≡ unwrap_or (at_number es n) []) → paths_of es ≡ map f (numbers_of es)

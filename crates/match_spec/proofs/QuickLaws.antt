@@ -6,8 +6,8 @@ use Rattle.std.specs.Option.{option_map_or}
 use Rattle.std.specs.Prelude.{IfSome}
 use Rattle.ets_term.specs.declared.term.Term.{Term}
 use Rattle.ets_term.specs.declared.term.Term.TheVariants.{Int}
-use Rattle.ets_term.specs.Data.{Data, int, atom, pid, tid, tuple, list, binary, Row, no_terms, term, row_of, data_of}
-use Rattle.ets_term.specs.Order.{data_order, row_len}
+use Rattle.ets_term.specs.Data.{Data, int, atom, pid, tid, tuple, list, binary, DataList, no_terms, term, data_list, data_of}
+use Rattle.ets_term.specs.Order.{data_order, data_list_len}
 use Rattle.match_spec.specs.declared.expression.Expression.{Expression}
 use Rattle.match_spec.specs.declared.expression.Expression.TheVariants.{Constant, Variable, Apply}
 use Rattle.match_spec.specs.declared.expression.comparison.ComparisonOp.{ComparisonOp}
@@ -16,7 +16,7 @@ use Rattle.match_spec.specs.declared.pattern.part.Part.{Part}
 use Rattle.match_spec.specs.declared.pattern.part.Part.TheVariants.{Tuple}
 use Rattle.match_spec.specs.declared.spec.clause.Clause.{Clause}
 use Rattle.match_spec.specs.declared.spec.quick.QuickTest.{QuickTest}
-use Rattle.match_spec.specs.Functions.{row_element, truth}
+use Rattle.match_spec.specs.Functions.{data_list_element, truth}
 use Rattle.match_spec.specs.inside.Functions.{compares}
 use Rattle.match_spec.specs.Specifications.{result_of}
 use Rattle.match_spec.specs.Paths.{Path, element_or, subterm_at}
@@ -26,7 +26,7 @@ use Rattle.match_spec.specs.inside.CompiledPatterns.{part_fits, all_fit}
 use Rattle.match_spec.specs.inside.QuickTests.{rejects, rejects_element, IsComparison, IsNecessary, RejectsClause, RejectsAll, IsCompiledSpec}
 use Rattle.match_spec.proofs.BoolLaws.{clash, same_Some}
 use Rattle.match_spec.proofs.CompiledLaws.{of-Constant, of-Variable}
-use Rattle.match_spec.proofs.ExpressionLaws.{row_len_of}
+use Rattle.match_spec.proofs.ExpressionLaws.{data_list_len_of}
 use Rattle.match_spec.proofs.FitLaws.{fits-Tuple}
 use Rattle.match_spec.proofs.NumberLaws.{itself}
 use Rattle.match_spec.proofs.SpecLaws.{result_of_first-spec}
@@ -38,20 +38,20 @@ single [] i n is = absurd (omega arith)
 single (j ∷ []) i n is = rw is refl
 single (j ∷ k ∷ path) i n is = absurd (omega arith)
 
-row_element-at : (ts : List Term) (i : ℕ) (t : Term) → i < length ts → get_or ts i t ≡ t → row_element (row_of (map data_of ts)) i ≡ Some (data_of t)
-row_element-at [] i t n is = absurd (omega arith)
-row_element-at (u ∷ us) zero t n is = rw is refl
-row_element-at (u ∷ us) (suc i) t n is = row_element-at us i t (omega arith) is
+data_list_element-at : (ts : List Term) (i : ℕ) (t : Term) → i < length ts → get_or ts i t ≡ t → data_list_element (data_list (map data_of ts)) i ≡ Some (data_of t)
+data_list_element-at [] i t n is = absurd (omega arith)
+data_list_element-at (u ∷ us) zero t n is = rw is refl
+data_list_element-at (u ∷ us) (suc i) t n is = data_list_element-at us i t (omega arith) is
 
-row_element-past : (ts : List Term) (i : ℕ) → length ts ≤ i → row_element (row_of (map data_of ts)) i ≡ None
-row_element-past [] i n = refl
-row_element-past (u ∷ us) zero n = absurd (omega arith)
-row_element-past (u ∷ us) (suc i) n = row_element-past us i (omega arith)
+data_list_element-past : (ts : List Term) (i : ℕ) → length ts ≤ i → data_list_element (data_list (map data_of ts)) i ≡ None
+data_list_element-past [] i n = refl
+data_list_element-past (u ∷ us) zero n = absurd (omega arith)
+data_list_element-past (u ∷ us) (suc i) n = data_list_element-past us i (omega arith)
 
 -- the test of a tuple's elements
 module _ (q : QuickTest) (ts : List Term) where
   abbrev pub of_items : Bool
-  of_items = rejects q (tuple (row_of (map data_of ts)))
+  of_items = rejects q (tuple (data_list (map data_of ts)))
 
   same_length : length ts ≡ q.len → (length ts == q.len) ≡ true
   same_length n = subst (λ m. (length ts == m) ≡ true) n (itself (length ts))
@@ -61,13 +61,13 @@ module _ (q : QuickTest) (ts : List Term) where
     where
       by : (c : Bool) → (length ts == q.len) ≡ c → true ≡ of_items
       by true e = let same : length ts ≡ q.len = grind (arith, nat_tests) in absurd (h same)
-      by false e = rw (row_len_of ts, e) refl
+      by false e = rw (data_list_len_of ts, e) refl
 
   pub rejects_by_element : (t : Term) → length ts ≡ q.len → q.index < length ts → get_or ts q.index t ≡ t → rejects_element q (data_of t) ≡ of_items
-  rejects_by_element t n i is = rw (row_len_of ts, same_length n, row_element-at ts q.index t i is) refl
+  rejects_by_element t n i is = rw (data_list_len_of ts, same_length n, data_list_element-at ts q.index t i is) refl
 
   pub rejects_nothing : length ts ≡ q.len → length ts ≤ q.index → false ≡ of_items
-  rejects_nothing n i = rw (row_len_of ts, same_length n, row_element-past ts q.index i) refl
+  rejects_nothing n i = rw (data_list_len_of ts, same_length n, data_list_element-past ts q.index i) refl
 
 -- the value of a comparison of an element with an integer
 module _ (paths : List Path) (object : Data) where
@@ -86,7 +86,7 @@ first_fails : (paths : List Path) (es : List Expression) (e : Expression) (objec
 first_fails paths [] e object b n is v f = absurd (omega arith)
 first_fails paths (a ∷ es) e object b n is v f = rw (is, v, f) refl
 
-element_or-element : (ts : Row) (i : ℕ) (t d : Data) → row_element ts i ≡ Some d → element_or ts i t ≡ d
+element_or-element : (ts : DataList) (i : ℕ) (t d : Data) → data_list_element ts i ≡ Some d → element_or ts i t ≡ d
 element_or-element no_terms i t d h = cc
 element_or-element (term e es) zero t d h = same_Some h
 element_or-element (term e es) (suc i) t d h = element_or-element es i t d h
@@ -98,7 +98,7 @@ right-false : (a b : Bool) → b ≡ false → (a && b) ≡ false
 right-false true b e = e
 right-false false b e = refl
 
-unlike_lengths : (fs : List (Data → Data → Bool)) (object : Data) (ts : Row) → (length fs ≡ row_len ts → ⊥) → all_fit fs object ts ≡ false
+unlike_lengths : (fs : List (Data → Data → Bool)) (object : Data) (ts : DataList) → (length fs ≡ data_list_len ts → ⊥) → all_fit fs object ts ≡ false
 unlike_lengths [] object no_terms h = absurd (h refl)
 unlike_lengths [] object (term t ts) h = refl
 unlike_lengths (f ∷ fs) object no_terms h = refl
@@ -119,7 +119,7 @@ module _ (q : QuickTest) (c : Clause) (ps : List Part) (head : c.head ≡ Tuple 
   fails : (object : Data) → compares q.comparison (data_order (subterm_at (q.index ∷ []) object) (int q.value)) ≡ false → applies c object ≡ false
   fails object h = right-false _ _ (need c.paths object h)
 
-  fails-element : (ts : Row) (d : Data) → row_element ts q.index ≡ Some d → rejects_element q d ≡ true → applies c (tuple ts) ≡ false
+  fails-element : (ts : DataList) (d : Data) → data_list_element ts q.index ≡ Some d → rejects_element q d ≡ true → applies c (tuple ts) ≡ false
   fails-element ts (int n) i h =
       fails (tuple ts) (ap (λ d. compares q.comparison (data_order d (int q.value))) (element_or-element ts q.index (tuple ts) (int n) i) ∙ not-true _ h)
   fails-element ts (atom a) i h = cc
@@ -129,11 +129,11 @@ module _ (q : QuickTest) (c : Clause) (ps : List Part) (head : c.head ≡ Tuple 
   fails-element ts (list a) i h = cc
   fails-element ts (binary a) i h = cc
 
-  unlike : (ts : Row) → (row_len ts == q.len) ≡ false → length (map part_fits ps) ≡ row_len ts → ⊥
-  unlike ts h n = let same : row_len ts ≡ q.len = sym n ∙ length-map ps part_fits ∙ sym len in
-      clash (subst (λ m. (row_len ts == m) ≡ true) same (itself (row_len ts))) h
+  unlike : (ts : DataList) → (data_list_len ts == q.len) ≡ false → length (map part_fits ps) ≡ data_list_len ts → ⊥
+  unlike ts h n = let same : data_list_len ts ≡ q.len = sym n ∙ length-map ps part_fits ∙ sym len in
+      clash (subst (λ m. (data_list_len ts == m) ≡ true) same (itself (data_list_len ts))) h
 
-  by_tuple : (ts : Row) (m : Bool) → (row_len ts == q.len) ≡ m → (o : Option Data) → row_element ts q.index ≡ o → (not m || option_map_or (rejects_element q) o false) ≡ true → applies c (tuple ts) ≡ false
+  by_tuple : (ts : DataList) (m : Bool) → (data_list_len ts == q.len) ≡ m → (o : Option Data) → data_list_element ts q.index ≡ o → (not m || option_map_or (rejects_element q) o false) ≡ true → applies c (tuple ts) ≡ false
   by_tuple ts false m o i h = misfit (tuple ts) (ap (λ f. f (tuple ts) (tuple ts)) (fits-Tuple ps) ∙ unlike_lengths (map part_fits ps) (tuple ts) ts (unlike ts m))
   by_tuple ts true m None i h = cc
   by_tuple ts true m (Some d) i h = fails-element ts d i h

@@ -2,11 +2,11 @@
 use Rattle.std.proofs.Common.{◌≡◌, ◌==◌, ℕ, zero, suc, ◌<◌, ◌&&◌, Bool, true, false, if◌then◌else◌, List, [], ◌∷◌, Option, Some, None, map, length, get_or, drop, nat_lt, refl, sym, ap, ◌∙◌, arith}
 use Rattle.std.proofs.lemmas.Bool.Decides.{nat_tests}
 use Rattle.std.specs.Option.{option_map, option_map_or}
-use Rattle.ets_term.specs.Data.{Data, int, atom, pid, tid, tuple, list, binary, Row, no_terms, term, row_of, data_of}
+use Rattle.ets_term.specs.Data.{Data, int, atom, pid, tid, tuple, list, binary, DataList, no_terms, term, data_list, data_of}
 use Rattle.ets_term.specs.declared.term.Term.{Term}
 use Rattle.ets_term.specs.declared.term.Term.TheVariants.{List as Lst}
 use Rattle.ets_term.specs.laws.Exact.{data_of-List}
-use Rattle.ets_term.specs.Order.{row_len}
+use Rattle.ets_term.specs.Order.{data_list_len}
 use Rattle.match_spec.specs.declared.spec.check.ClauseParts.{ClauseParts}
 use Rattle.match_spec.specs.declared.spec.clause.Clause.{Clause}
 use Rattle.match_spec.specs.inside.CompiledClauses.{raw_clause_of, applies, all_hold_of, last_value_of, body_value_by, result_of_first, clause_of, clause_else, clauses_from, clauses_of}
@@ -23,11 +23,11 @@ use Rattle.match_spec.proofs.FitLaws.{fits-pattern}
 use Rattle.match_spec.proofs.PathLaws.{numbers_of-first}
 
 module _ (head object : Data) where
-  hold_compiled : (es : Row) → are_expressions (variables head) es ≡ true → all_hold_of (map (expression_value (paths_of (first_paths_of head))) (expressions_of (first_paths_of head) es)) object ≡ all_hold (occurrences head object) object es
+  hold_compiled : (es : DataList) → are_expressions (variables head) es ≡ true → all_hold_of (map (expression_value (paths_of (first_paths_of head))) (expressions_of (first_paths_of head) es)) object ≡ all_hold (occurrences head object) object es
   hold_compiled no_terms h = refl
   hold_compiled (term e es) h = let p = both-true _ _ h in rw (compiled head object e p.0, hold_compiled es p.1) refl
 
-  last_compiled : (es : Row) → are_expressions (variables head) es ≡ true → last_value_of (map (expression_value (paths_of (first_paths_of head))) (expressions_of (first_paths_of head) es)) object ≡ last_value (occurrences head object) object es
+  last_compiled : (es : DataList) → are_expressions (variables head) es ≡ true → last_value_of (map (expression_value (paths_of (first_paths_of head))) (expressions_of (first_paths_of head) es)) object ≡ last_value (occurrences head object) object es
   last_compiled no_terms h = refl
   last_compiled (term e no_terms) h = let p = both-true _ _ h in compiled head object e p.0
   last_compiled (term e (term x es)) h = let p = both-true _ _ h in rw (compiled head object e p.0, last_compiled (term x es) p.1) refl
@@ -47,7 +47,7 @@ module _ (object : Data) where
   clause_else_result None cs rest good e = e
   clause_else_result (Some c) cs rest good e = clause_result c cs rest good e
 
-  from : (cs : Row) → are_clauses cs ≡ true → result_of_first (clauses_from cs) object ≡ first_result cs object
+  from : (cs : DataList) → are_clauses cs ≡ true → result_of_first (clauses_from cs) object ≡ first_result cs object
   from no_terms h = refl
   from (term c cs) h = let p = both-true _ _ h in clause_else_result (clause_parts c) (clauses_from cs) (first_result cs object) p.0 (from cs p.1)
 
@@ -81,11 +81,11 @@ positive : (n : ℕ) → nat_lt 0 (suc n) ≡ true
 positive n = grind (arith, nat_tests)
 
 -- a nonempty list of good clauses is a match specification
-pub is_spec-list : (t : Term) (ts : List Term) → t ≡ Lst ts → (length ts == 0) ≡ false → are_clauses (row_of (map data_of ts)) ≡ true → is_spec (data_of t) ≡ true
+pub is_spec-list : (t : Term) (ts : List Term) → t ≡ Lst ts → (length ts == 0) ≡ false → are_clauses (data_list (map data_of ts)) ≡ true → is_spec (data_of t) ≡ true
 is_spec-list t [] e n a = cc
-is_spec-list t (c ∷ cs) e n a = rw (e, data_of-List (c ∷ cs)) (and_true (nat_lt 0 (row_len (row_of (map data_of (c ∷ cs))))) _ (positive _) a)
+is_spec-list t (c ∷ cs) e n a = rw (e, data_of-List (c ∷ cs)) (and_true (nat_lt 0 (data_list_len (data_list (map data_of (c ∷ cs))))) _ (positive _) a)
 
-pub clauses_of-list : (t : Term) (ts : List Term) → t ≡ Lst ts → clauses_from (row_of (map data_of ts)) ≡ clauses_of (data_of t)
+pub clauses_of-list : (t : Term) (ts : List Term) → t ≡ Lst ts → clauses_from (data_list (map data_of ts)) ≡ clauses_of (data_of t)
 clauses_of-list t ts e = rw (e, data_of-List ts) refl
 
 -- a term is a clause if its parts are good

@@ -4,7 +4,7 @@ use Rattle.std.specs.Cmp.{Equal-is}
 use Rattle.std.proofs.lemmas.Cmp.{tied_itself}
 use Rattle.ets_term.specs.declared.term.Term.{the_lemmas}
 use Rattle.ets_term.specs.declared.term.Term.TheVariants.{Int, Atom}
-use Rattle.ets_term.specs.Data.{Data, int, atom, pid, tid, tuple, list, binary, Row, no_terms, term, row_of, data_of}
+use Rattle.ets_term.specs.Data.{Data, int, atom, pid, tid, tuple, list, binary, DataList, no_terms, term, data_list, data_of}
 use Rattle.ets_term.specs.laws.Exact.{term_of, terms_of, data_of-Tuple, data_of-List}
 use Rattle.ets_term.specs.laws.Ordered.{order_total}
 use Rattle.match_spec.specs.Patterns.{equal_terms}
@@ -21,13 +21,13 @@ mutual
   data_of-term_of (atom a) = search (rules, the_lemmas)
   data_of-term_of (pid n) = search (rules, the_lemmas)
   data_of-term_of (tid n) = search (rules, the_lemmas)
-  data_of-term_of (tuple ds) = data_of-Tuple (terms_of ds) ∙ ap tuple (row_of-terms_of ds)
-  data_of-term_of (list ds) = data_of-List (terms_of ds) ∙ ap list (row_of-terms_of ds)
+  data_of-term_of (tuple ds) = data_of-Tuple (terms_of ds) ∙ ap tuple (data_list-terms_of ds)
+  data_of-term_of (list ds) = data_of-List (terms_of ds) ∙ ap list (data_list-terms_of ds)
   data_of-term_of (binary s) = search (rules, the_lemmas)
 
-  pub row_of-terms_of : (ds : Row) → row_of (map data_of (terms_of ds)) ≡ ds
-  row_of-terms_of no_terms = refl
-  row_of-terms_of (term d ds) = λ i. term (data_of-term_of d i) (row_of-terms_of ds i)
+  pub data_list-terms_of : (ds : DataList) → data_list (map data_of (terms_of ds)) ≡ ds
+  data_list-terms_of no_terms = refl
+  data_list-terms_of (term d ds) = λ i. term (data_of-term_of d i) (data_list-terms_of ds i)
 
 -- a term equals itself
 pub equal_terms-refl : (d : Data) → equal_terms d d ≡ true

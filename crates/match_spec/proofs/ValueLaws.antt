@@ -3,7 +3,7 @@ use Rattle.std.proofs.Common.{◌≡◌, ℕ, zero, suc, ◌<◌, Bool, true, fa
 use Rattle.std.specs.List.{slice_get}
 use Rattle.std.specs.Option.{option_map, option_map_or}
 use Rattle.ets_term.specs.declared.term.Term.{Term}
-use Rattle.ets_term.specs.Data.{Data, atom, list, row_of, data_of}
+use Rattle.ets_term.specs.Data.{Data, atom, list, data_list, data_of}
 use Rattle.match_spec.specs.declared.expression.Connective.{Connective}
 use Rattle.match_spec.specs.declared.expression.Expression.{Expression}
 use Rattle.match_spec.specs.inside.CompiledClauses.{last_value_of}
@@ -18,7 +18,7 @@ use Rattle.match_spec.proofs.CompiledLaws.{of-Apply}
 use Rattle.ets_term.specs.laws.Exact.{data_of-List}
 use Rattle.ets_term.specs.declared.term.Term.TheVariants.{List as Lst}
 
-pub head_get : (ts : List Term) → head (list (row_of (map data_of ts))) ≡ option_map data_of (slice_get ts 0)
+pub head_get : (ts : List Term) → head (list (data_list (map data_of ts))) ≡ option_map data_of (slice_get ts 0)
 head_get [] = refl
 head_get (t ∷ ts) = refl
 

@@ -2,7 +2,7 @@
 use Rattle.std.specs.Prelude.{◌≡◌, ℕ, ◌&&◌, not, Bool, true, false, if◌then◌else◌, Option, Some, None, is_some, codes}
 use Rattle.std.specs.Option.{option_and_then, option_map_or}
 use Rattle.std.specs.Str.{bytes_eq}
-use Rattle.ets_term.specs.Data.{Data, atom, tuple, list, Row, no_terms, term, data_of}
+use Rattle.ets_term.specs.Data.{Data, atom, tuple, list, DataList, no_terms, term, data_of}
 use Rattle.ets_term.specs.Depth.{element_at}
 use Rattle.ets_term.specs.declared.term.Term.{Term}
 use Rattle.match_spec.specs.Functions.{tuple_element}
@@ -18,7 +18,7 @@ abbrev mutual
   is_ground (list ps) = are_ground ps
   is_ground p = true
 
-  pub are_ground : Row → Bool
+  pub are_ground : DataList → Bool
   are_ground no_terms = true
   are_ground (term p ps) = is_ground p && are_ground ps
 
@@ -30,7 +30,7 @@ bound_key keypos pattern =
 abbrev pub clause_key : ℕ → Data → Option Data
 clause_key keypos clause = option_and_then (λ parts. bound_key keypos parts.head) (clause_parts clause)
 
-abbrev pub all_bind : ℕ → Data → Row → Bool
+abbrev pub all_bind : ℕ → Data → DataList → Bool
 all_bind keypos key no_terms = true
 all_bind keypos key (term c cs) = option_map_or (equal_terms key) (clause_key keypos c) false && all_bind keypos key cs
 

@@ -3,8 +3,8 @@ use Rattle.std.specs.Prelude.{ℕ, ◌==◌, ◌&&◌, ◌||◌, not, nat_lt, Bo
 use Rattle.std.specs.List.{list_any}
 use Rattle.std.specs.Option.{option_and_then, option_map_or}
 use Rattle.std.specs.Str.{bytes_eq}
-use Rattle.ets_term.specs.Data.{Data, atom, tuple, list, Row, no_terms, term, row_of}
-use Rattle.ets_term.specs.Order.{row_len}
+use Rattle.ets_term.specs.Data.{Data, atom, tuple, list, DataList, no_terms, term, data_list}
+use Rattle.ets_term.specs.Order.{data_list_len}
 use Rattle.match_spec.specs.Functions.{boolean, truth, one_argument, two_arguments, call}
 use Rattle.match_spec.specs.Patterns.{Bindings, binding, values}
 use Rattle.match_spec.specs.Variables.{variable}
@@ -14,7 +14,7 @@ abbrev pub name_value : Bindings → Data → List ℕ → Option ℕ → Option
 name_value b object a (Some n) = binding b n
 name_value b object a None =
     if bytes_eq a (codes "$_") then Some object
-    else if bytes_eq a (codes "$$") then Some (list (row_of (values b)))
+    else if bytes_eq a (codes "$$") then Some (list (data_list (values b)))
     else Some (atom a)
 
 -- the truth that decides a connective that evaluates all arguments
@@ -38,7 +38,7 @@ join true x y = x || y
 join false x y = x && y
 
 -- `{const,T}` is T, which is not evaluated
-abbrev pub constant_or : List ℕ → Row → Option Data → Option Data
+abbrev pub constant_or : List ℕ → DataList → Option Data → Option Data
 constant_or f (term e no_terms) otherwise = if bytes_eq f (codes "const") then Some e else otherwise
 constant_or f es otherwise = otherwise
 
@@ -46,8 +46,8 @@ abbrev mutual
   -- the value of an expression, or None if it fails
   pub value : Bindings → Data → Data → Option Data
   value b object (atom a) = name_value b object a (variable a)
-  value b object (list es) = option_map (λ ds. list (row_of ds)) (all_values b object es)
-  value b object (tuple (term (tuple es) no_terms)) = option_map (λ ds. tuple (row_of ds)) (all_values b object es)
+  value b object (list es) = option_map (λ ds. list (data_list ds)) (all_values b object es)
+  value b object (tuple (term (tuple es) no_terms)) = option_map (λ ds. tuple (data_list ds)) (all_values b object es)
   value b object (tuple (term (atom f) es)) =
       constant_or f es (
       option_map_or (λ decisive. short_circuit_value b object decisive es) (short_circuit_connective f) (
@@ -57,13 +57,13 @@ abbrev mutual
   value b object d = Some d
 
   -- the values of all expressions, or None if one fails
-  pub all_values : Bindings → Data → Row → Option (List Data)
+  pub all_values : Bindings → Data → DataList → Option (List Data)
   all_values b object no_terms = Some []
   all_values b object (term e es) =
       option_and_then (λ d. option_map (λ ds. d ∷ ds) (all_values b object es)) (value b object e)
 
   -- `and` and `or`: all arguments are evaluated, and each must be a boolean
-  pub strict_value : Bindings → Data → Bool → Row → Option Bool
+  pub strict_value : Bindings → Data → Bool → DataList → Option Bool
   strict_value b object decisive no_terms = Some (not decisive)
   strict_value b object decisive (term e es) =
       option_and_then
@@ -71,7 +71,7 @@ abbrev mutual
       (value b object e)
 
   -- `andalso` and `orelse`: from the left, up to the first boolean that decides; the rest is not evaluated
-  pub short_circuit_value : Bindings → Data → Bool → Row → Option Data
+  pub short_circuit_value : Bindings → Data → Bool → DataList → Option Data
   short_circuit_value b object decisive no_terms = None
   short_circuit_value b object decisive (term e no_terms) =
       option_and_then (λ d. option_map (λ x. d) (boolean d)) (value b object e)
@@ -101,10 +101,10 @@ abbrev mutual
   is_expression ns (list es) = are_expressions ns es
   is_expression ns (tuple (term (tuple es) no_terms)) = are_expressions ns es
   is_expression ns (tuple (term (atom f) es)) =
-      is_constant f (row_len es) || (is_function f (row_len es) && are_expressions ns es)
+      is_constant f (data_list_len es) || (is_function f (data_list_len es) && are_expressions ns es)
   is_expression ns (tuple es) = false
   is_expression ns d = true
 
-  pub are_expressions : List ℕ → Row → Bool
+  pub are_expressions : List ℕ → DataList → Bool
   are_expressions ns no_terms = true
   are_expressions ns (term e es) = is_expression ns e && are_expressions ns es

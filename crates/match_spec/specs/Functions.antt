@@ -4,9 +4,9 @@ use Rattle.std.specs.Option.{option_and_then}
 use Rattle.std.specs.declared.cmp.Ordering.{Ordering}
 use Rattle.std.specs.Ordering.{is_eq, is_ne, is_lt, is_le, is_gt, is_ge, int_cmp}
 use Rattle.std.specs.Str.{bytes_eq}
-use Rattle.ets_term.specs.Data.{Data, int, atom, pid, tid, tuple, list, binary, Row, no_terms, term}
+use Rattle.ets_term.specs.Data.{Data, int, atom, pid, tid, tuple, list, binary, DataList, no_terms, term}
 use Rattle.ets_term.specs.Integers.{in_range}
-use Rattle.ets_term.specs.Order.{data_order, row_len}
+use Rattle.ets_term.specs.Order.{data_order, data_list_len}
 
 abbrev pub truth : Bool → Data
 truth true = atom (codes "true")
@@ -47,12 +47,12 @@ abbrev pub count : ℕ → Option Data
 count n = option_map int (in_range (pos n))
 
 abbrev pub list_length : Data → Option Data
-list_length (list ds) = count (row_len ds)
+list_length (list ds) = count (data_list_len ds)
 list_length d = None
 
 -- the number of elements of a tuple, or of bytes of a binary
 abbrev pub size : Data → Option Data
-size (tuple ds) = count (row_len ds)
+size (tuple ds) = count (data_list_len ds)
 size (binary s) = count (length s)
 size d = None
 
@@ -94,14 +94,14 @@ xor false b = b
 abbrev pub exclusive : Option Bool → Option Bool → Option Bool
 exclusive a b = option_and_then (λ x. option_map (xor x) b) a
 
-abbrev pub row_element : Row → ℕ → Option Data
-row_element no_terms i = None
-row_element (term d ds) zero = Some d
-row_element (term d ds) (suc i) = row_element ds i
+abbrev pub data_list_element : DataList → ℕ → Option Data
+data_list_element no_terms i = None
+data_list_element (term d ds) zero = Some d
+data_list_element (term d ds) (suc i) = data_list_element ds i
 
 -- element n of a tuple, counted from 1
 abbrev pub tuple_element : ℕ → Data → Option Data
-tuple_element (suc i) (tuple ds) = row_element ds i
+tuple_element (suc i) (tuple ds) = data_list_element ds i
 tuple_element n d = None
 
 abbrev pub element : Data → Data → Option Data

@@ -2,8 +2,8 @@
 use Rattle.std.specs.Prelude.{ℕ, ◌&&◌, nat_lt, Bool, true, false, if◌then◌else◌, List, Option, Some, None, unwrap_or, codes}
 use Rattle.std.specs.Option.{option_map_or, option_and_then}
 use Rattle.std.specs.Str.{bytes_eq}
-use Rattle.ets_term.specs.Data.{Data, atom, tuple, list, Row, no_terms, term}
-use Rattle.ets_term.specs.Order.{row_len}
+use Rattle.ets_term.specs.Data.{Data, atom, tuple, list, DataList, no_terms, term}
+use Rattle.ets_term.specs.Order.{data_list_len}
 use Rattle.match_spec.specs.Patterns.{Bindings, bindings_of}
 use Rattle.match_spec.specs.Expressions.{value, are_expressions}
 use Rattle.match_spec.specs.Variables.{variables}
@@ -16,8 +16,8 @@ is_pattern d = false
 
 pub record RawClause : Type 0 where
   pub head : Data
-  pub conditions : Row
-  pub body : Row
+  pub conditions : DataList
+  pub body : DataList
 
 -- `{Head,Conditions,Body}`, where Conditions and Body are lists
 abbrev pub clause_parts : Data → Option RawClause
@@ -28,7 +28,7 @@ clause_parts d = None
 -- the head is a pattern, the conditions are expressions of these variables, and the body is at least one expression
 abbrev pub is_good_by : List ℕ → RawClause → Bool
 is_good_by ns c =
-    (is_pattern c.head && nat_lt 0 (row_len c.body))
+    (is_pattern c.head && nat_lt 0 (data_list_len c.body))
     && (are_expressions ns c.conditions && are_expressions ns c.body)
 
 -- the head binds its variables
@@ -38,13 +38,13 @@ is_good c = is_good_by (variables c.head) c
 abbrev pub is_clause : Data → Bool
 is_clause c = option_map_or is_good (clause_parts c) false
 
-abbrev pub are_clauses : Row → Bool
+abbrev pub are_clauses : DataList → Bool
 are_clauses no_terms = true
 are_clauses (term c cs) = is_clause c && are_clauses cs
 
 -- a match specification is a nonempty list of clauses `{Head,Conditions,Body}`
 abbrev pub is_spec : Data → Bool
-is_spec (list cs) = nat_lt 0 (row_len cs) && are_clauses cs
+is_spec (list cs) = nat_lt 0 (data_list_len cs) && are_clauses cs
 is_spec d = false
 
 abbrev pub is_true : Data → Bool
@@ -52,18 +52,18 @@ is_true (atom a) = bytes_eq a (codes "true")
 is_true d = false
 
 -- whether all conditions give true; a condition that fails does not
-abbrev pub all_hold : Bindings → Data → Row → Bool
+abbrev pub all_hold : Bindings → Data → DataList → Bool
 all_hold b object no_terms = true
 all_hold b object (term c cs) = option_map_or is_true (value b object c) false && all_hold b object cs
 
 -- the value of the last expression, or None if one fails
-abbrev pub last_value : Bindings → Data → Row → Option Data
+abbrev pub last_value : Bindings → Data → DataList → Option Data
 last_value b object no_terms = None
 last_value b object (term e no_terms) = value b object e
 last_value b object (term e es) = option_and_then (λ d. last_value b object es) (value b object e)
 
 -- the value of the last expression of a body, or `'EXIT'` if one of them fails
-abbrev pub body_value : Bindings → Data → Row → Data
+abbrev pub body_value : Bindings → Data → DataList → Data
 body_value b object body = unwrap_or (last_value b object body) (atom (codes "EXIT"))
 
 abbrev pub clause_result_or : Option Bindings → Data → RawClause → Option Data → Option Data
@@ -76,7 +76,7 @@ result_or None object otherwise = otherwise
 result_or (Some c) object otherwise = clause_result_or (bindings_of c.head object) object c otherwise
 
 -- the result of the first clause whose head matches and whose conditions hold
-abbrev pub first_result : Row → Data → Option Data
+abbrev pub first_result : DataList → Data → Option Data
 first_result no_terms object = None
 first_result (term c cs) object = result_or (clause_parts c) object (first_result cs object)
 

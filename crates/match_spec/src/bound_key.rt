@@ -1,7 +1,7 @@
 // The keys that patterns and match specifications bind.
 ghost use Rattle.std.specs.Prelude.{◌≡◌, if◌then◌else◌, Some, None, map, drop, option_copied};
 ghost use Rattle.std.specs.Option.{option_map};
-ghost use Rattle.ets_term.specs.Data.{atom, list, data_of, row_of};
+ghost use Rattle.ets_term.specs.Data.{atom, list, data_of, data_list};
 ghost use Rattle.match_spec.specs.BoundKeys.{is_ground, are_ground, bound_key, clause_key, all_bind, spec_key};
 
 use crate::spec::check::clause_parts;
@@ -30,7 +30,7 @@ fn ground_or_none(key: &Term) -> Option<&Term>
 /// Returns the key that the heads of all clauses bind.
 #[tactic(auto, using(crate::proofs::KeyLaws::key_of_first, crate::proofs::KeyLaws::key_of_no_first, crate::proofs::KeyLaws::key_of_nothing))]
 pub(crate) fn common_bound_key(clauses: &[Term], keypos: Position) -> Option<&Term>
-    ensures { option_map data_of (option_copied result) ≡ spec_key keypos (list (row_of (map data_of clauses.now))) }
+    ensures { option_map data_of (option_copied result) ≡ spec_key keypos (list (data_list (map data_of clauses.now))) }
 {
     if clauses.is_empty() {
         return None;
@@ -44,7 +44,7 @@ pub(crate) fn common_bound_key(clauses: &[Term], keypos: Position) -> Option<&Te
 /// Returns the key if all clauses after the first bind it.
 fn key_if_all_bind<'a>(clauses: &[Term], keypos: Position, key: &'a Term) -> Option<&'a Term>
     ensures { option_map data_of (option_copied result)
-        ≡ (if all_bind keypos (data_of key.now) (row_of (map data_of (drop 1 clauses.now)))
+        ≡ (if all_bind keypos (data_of key.now) (data_list (map data_of (drop 1 clauses.now)))
         then Some (data_of key.now) else None) }
 {
     if all_bind(clauses, keypos, key) {
@@ -56,7 +56,7 @@ fn key_if_all_bind<'a>(clauses: &[Term], keypos: Position, key: &'a Term) -> Opt
 
 /// Checks whether all clauses after the first bind this key.
 fn all_bind(clauses: &[Term], keypos: Position, key: &Term) -> bool
-    ensures { result ≡ all_bind keypos (data_of key.now) (row_of (map data_of (drop 1 clauses.now))) }
+    ensures { result ≡ all_bind keypos (data_of key.now) (data_list (map data_of (drop 1 clauses.now))) }
 {
     for i in 1..clauses.len() {
         match clause_key(&clauses[i], keypos) {
@@ -93,7 +93,7 @@ fn is_ground(part: &Term) -> bool
 /// Checks whether all parts are ground.
 #[cycle(bound)]
 fn are_ground(parts: &[Term]) -> bool
-    ensures { result ≡ are_ground (row_of (map data_of parts.now)) }
+    ensures { result ≡ are_ground (data_list (map data_of parts.now)) }
 {
     for part in parts {
         if !is_ground(part) {

@@ -1,6 +1,6 @@
 ghost use Rattle.std.specs.Prelude.{◌≡◌, [], ◌∷◌, ◌++◌, true, false, None, map, option_copied, IfOk, OnOk, IfSome, IsErrOf};
 ghost use Rattle.std.specs.Option.{option_map, option_map_or};
-ghost use Rattle.ets_term.specs.Data.{list, data_of, row_of};
+ghost use Rattle.ets_term.specs.Data.{list, data_of, data_list};
 ghost use Rattle.match_spec.specs.BoundKeys.{spec_key, IsKeyOfResults};
 ghost use Rattle.match_spec.specs.Specifications.{is_true, is_spec, is_clause, are_clauses, is_good, result_of};
 ghost use Rattle.match_spec.specs.inside.CompiledClauses.{clauses_of, clauses_from, clause_of, clause_with, raw_clause_of};
@@ -117,9 +117,9 @@ impl Spec {
 
 /// Compiles the clauses. Fails with `Badarg` if a term is no clause.
 fn clauses_of(alloc: Global, terms: &[Term]) -> Result<Items<Clause>, SpecFault>
-    ensures made { IfOk result (λ cs. cs ≡ clauses_from (row_of (map data_of terms.now))) }
-    ensures good { OnOk result (are_clauses (row_of (map data_of terms.now)) ≡ true) }
-    ensures badarg { IsErrOf result SpecFault.Badarg → are_clauses (row_of (map data_of terms.now)) ≡ false }
+    ensures made { IfOk result (λ cs. cs ≡ clauses_from (data_list (map data_of terms.now))) }
+    ensures good { OnOk result (are_clauses (data_list (map data_of terms.now)) ≡ true) }
+    ensures badarg { IsErrOf result SpecFault.Badarg → are_clauses (data_list (map data_of terms.now)) ≡ false }
 {
     let mut clauses = Vec::with_capacity(alloc, terms.len())?;
     for term in terms {
@@ -131,7 +131,7 @@ fn clauses_of(alloc: Global, terms: &[Term]) -> Result<Items<Clause>, SpecFault>
 
 /// Compiles a clause. Fails with `Badarg` if the term is no clause.
 fn clause_of(alloc: Global, term: &Term) -> Result<Clause, SpecFault>
-    ensures made { IfOk result (λ c. c ∷ [] ≡ clauses_from (row_of (data_of term.now ∷ []))) }
+    ensures made { IfOk result (λ c. c ∷ [] ≡ clauses_from (data_list (data_of term.now ∷ []))) }
     ensures good { OnOk result (is_clause (data_of term.now) ≡ true) }
     ensures badarg { IsErrOf result SpecFault.Badarg → is_clause (data_of term.now) ≡ false }
 {

@@ -6,11 +6,11 @@ use Rattle.node_core.specs.declared.step.Reply.{Reply}
 use Rattle.node_core.specs.declared.step.Reply.TheVariants.{Value, Badarg, SystemLimit, NoProcess}
 use Rattle.node_core.specs.declared.step.Step.{Step}
 use Rattle.node_core.specs.declared.step.Step.TheVariants.{Enrol, End, Ask, Grow, Ready}
-use Rattle.term_text.specs.Printed.{printed, atom_text, row_text}
+use Rattle.term_text.specs.Printed.{printed, atom_text, comma_separated}
 
 -- `insert(t,{a,1})`
 abbrev pub call_text : Call → List ℕ
-call_text call = atom_text call.name ++ (codes "(" ++ (row_text false (map printed call.args) ++ codes ")"))
+call_text call = atom_text call.name ++ (codes "(" ++ (comma_separated false (map printed call.args) ++ codes ")"))
 
 -- `spawn <0.3.0>`, `exit <0.3.0>`, `<0.3.0> insert(t,{a,1})`, `grow #Tid<2>` and `ready #Tid<2> 5`
 abbrev pub step_text : Step → List ℕ

@@ -1,6 +1,6 @@
 //! Steps, calls and replies as texts, for people to read.
 ghost use Rattle.std.specs.Prelude.{◌≡◌, ◌++◌, map, false, IfOk, OnOk, string_bytes};
-ghost use Rattle.term_text.specs.Printed.{printed, atom_text, row_text, comma_if};
+ghost use Rattle.term_text.specs.Printed.{printed, atom_text, comma_separated, comma_if};
 ghost use Rattle.node_text.specs.Printed.{call_text, step_text, reply_text};
 
 use ets_term::{Atom, Term};
@@ -76,7 +76,7 @@ fn atom_text(alloc: Global, atom: &Atom) -> Result<String, AllocError>
 
 /// Returns the texts of terms with commas between them.
 fn arguments_text(alloc: Global, terms: &[Term]) -> Result<String, AllocError>
-    ensures { IfOk result (λ text. string_bytes text ≡ row_text false (map printed terms.now)) }
+    ensures { IfOk result (λ text. string_bytes text ≡ comma_separated false (map printed terms.now)) }
 {
     let mut text = String::new(alloc);
     let mut later = false;

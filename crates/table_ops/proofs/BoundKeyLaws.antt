@@ -8,7 +8,7 @@ use Rattle.std.specs.Map.{keys_of}
 use Rattle.std.specs.Option.{option_map, option_and_then}
 use Rattle.ets_term.specs.declared.term.Term.{Term}
 use Rattle.ets_term.specs.Atoms.{is_atom}
-use Rattle.ets_term.specs.Data.{Data, data_of, list, row_of}
+use Rattle.ets_term.specs.Data.{Data, data_of, list, data_list}
 use Rattle.ets_term.specs.Depth.{element_at}
 use Rattle.ets_term.specs.Order.{same}
 use Rattle.ets_term.specs.laws.Exact.{term_of, back, data_of-exact}
@@ -200,7 +200,7 @@ module _ {A : Type 0} (now : A → Term) (keypos : ℕ) where
   bindings-require pattern o h =
       requires-of (λ object. is_some (bound_in pattern object)) o
       (some-weaker (λ k. IsKeyOfMatches keypos (data_of pattern) (now k)) (λ k. (object : Term) → is_some (bound_in pattern object) ≡ true → element_at keypos object ≡ Some (now k)) o
-      (λ k e object t. e object (mapped-some (λ b. list (row_of (values b))) (bindings_of (data_of pattern) (data_of object)) t)) h)
+      (λ k e object t. e object (mapped-some (λ b. list (data_list (values b))) (bindings_of (data_of pattern) (data_of object)) t)) h)
 
   pub objects-require : (pattern : Term) (o : Option A) → IfSome o (λ k. IsKeyOfMatches keypos (data_of pattern) (now k)) → RequiresKey keypos (option_map now o) (λ object. is_some (matched_object pattern object))
   objects-require pattern o h =

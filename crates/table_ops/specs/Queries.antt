@@ -3,7 +3,7 @@
 use Rattle.std.specs.Prelude.{◌≡◌, ℕ, Bool, false, if◌then◌else◌, List, [], ◌∷◌, ◌++◌, Option, Some, None, is_some, Result, IfOk, OnOk, length, map, filter}
 use Rattle.std.specs.Option.{option_map, option_map_or}
 use Rattle.ets_term.specs.declared.term.Term.{Term}
-use Rattle.ets_term.specs.Data.{Data, list, row_of, data_of}
+use Rattle.ets_term.specs.Data.{Data, list, data_list, data_of}
 use Rattle.ets_term.specs.laws.Exact.{term_of}
 use Rattle.node_list.specs.Ticks.{ticks}
 use Rattle.bucket_table.specs.Slots.{Slot, object_count}
@@ -16,7 +16,7 @@ use Rattle.table_ops.specs.Read.{all_objects}
 -- match: the list of the values of the variables, in order of their numbers, for an object that matches
 abbrev pub bound_in : Term → Term → Option Data
 bound_in pattern object =
-    option_map (λ b. list (row_of (values b))) (bindings_of (data_of pattern) (data_of object))
+    option_map (λ b. list (data_list (values b))) (bindings_of (data_of pattern) (data_of object))
 
 -- match_object, match_delete: whether an object matches
 abbrev pub matches : Term → Term → Bool

@@ -20,7 +20,7 @@ use Rattle.term_text.proofs.Offsets.{if-true, if-false, read-fails, by-test, nat
 use Rattle.term_text.proofs.Meaning.{here-len, begins-more}
 use Rattle.term_text.proofs.Signs.{blank-no-name, blank-no-digit, comma-no-name, comma-no-blank, comma-no-close, comma-no-digit, small-begins, string-begins, quote-begins, minus-begins, angle-begins, hash-begins, digit-no-blank, digit-no-quote}
 use Rattle.term_text.proofs.SoundNumbers.{nine-fits}
-use Rattle.term_text.proofs.Spelled.{opens-wanted, row_text, holding}
+use Rattle.term_text.proofs.Spelled.{opens-wanted, comma_separated, holding}
 use Rattle.term_text.proofs.SpelledBinaries.{bytes-text}
 use Rattle.term_text.proofs.SpelledForms.{digits-wanted, wants-first}
 use Rattle.term_text.proofs.SpelledParts.{byte-taken, blanks-stay, blanks-then, signs-text, begins-other}
@@ -45,7 +45,7 @@ inside-run k square ts os inner rest p (further us row before behind r h i) room
     let p2 : ℕ = p1 + length before in (
       false,
       ap (λ (w : List ℕ). read_from p (reads_on (wants true) (opening square ∷ os)) w) (append_assoc row (before ++ 44 ∷ behind) rest ∙ ap (λ (w : List ℕ). row ++ w) (append_assoc before (44 ∷ behind) rest))
-          ∙ row_text k row ts r p square os (before ++ 44 ∷ tail) p1 room (blanks-then is_name before 44 tail h blank-no-name comma-no-name) refl
+          ∙ comma_separated k row ts r p square os (before ++ 44 ∷ tail) p1 room (blanks-then is_name before 44 tail h blank-no-name comma-no-name) refl
           ∙ blanks-stay p1 (reads_on after (holding square ts ∷ os)) before (44 ∷ tail) (after-ignores (holding square ts) os) h
           ∙ byte-taken p2 (reads_on after (holding square ts ∷ os)) (reads_on (wants false) (holding square ts ∷ os)) 44 tail (if-false _ _ _ (comma-no-close square) ∙ if-false _ _ _ comma-no-blank)
           ∙ blanks-stay (p2 + 1) (reads_on (wants false) (holding square ts ∷ os)) behind rest (wants-ignores false (holding square ts ∷ os)) i

@@ -9,7 +9,7 @@ use Rattle.term_text.specs.declared.quote_form.QuoteForm.TheVariants as form
 use Rattle.term_text.specs.Text.{is_blank, is_digit, is_lowercase, is_name, begins}
 use Rattle.term_text.specs.inside.Reader.{OpenBracket, Number, integer, Expect, whole, digits, Mode, wants, digit, number, name, quoted, escaped, signs, angle, opened_binary, wants_byte, after_byte, after_string, after, Reading, reads_on, found, fails, quote}
 use Rattle.term_text.specs.Faults.{AwaitsTerm, AwaitsByte, LeadsNumber, number_start, FaultMeans}
-use Rattle.term_text.specs.Grammar.{AreBlanks, SpellsNumber, SpellsQuoted, SpellsBytes, opening_sign, Spells, SpellsRow, Front}
+use Rattle.term_text.specs.Grammar.{AreBlanks, SpellsNumber, SpellsQuoted, SpellsBytes, opening_sign, Spells, SpellsTerms, Front}
 
 -- the text up to where a term must begin, and the first bytes s of that term
 pub record At (os : List OpenBracket) (pre s : List ℕ) : Type 0 where
@@ -26,7 +26,7 @@ pub record Behind (o : OpenBracket) (os : List OpenBracket) (pre : List ℕ) : T
   pub blanks : List ℕ
   pub cut : pre ≡ outer ++ (opening_sign o.square ∷ (row ++ blanks))
   pub here : AwaitsTerm (suc k) os outer
-  pub spells : SpellsRow k row o.terms
+  pub spells : SpellsTerms k row o.terms
   pub are_blanks : AreBlanks blanks
 
 -- the bytes before an opening quote

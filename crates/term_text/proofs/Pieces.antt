@@ -7,7 +7,7 @@ use Rattle.std.proofs.Math.Seq.{take-append_seam}
 use Rattle.std.specs.Str.{IsUtf8}
 use Rattle.std.specs.String.Boundary.{IsSplitPoint}
 use Rattle.std.proofs.lemmas.Str.{IsCharBoundary-from_take}
-use Rattle.term_text.specs.Printed.{row_text, comma_if}
+use Rattle.term_text.specs.Printed.{comma_separated, comma_if}
 use Rattle.term_text.specs.Sent.{AppendsFront, AppendsOrFront}
 
 pub appends-then : (a b c : Option (List ℕ)) (x y : List ℕ) → Appends a b x → Appends b c y → Appends a c (x ++ y)
@@ -44,7 +44,7 @@ appends-as a b x y e h = let P : List ℕ → Type 0 = λ w. Appends a b w in su
 
 -- texts separated by commas, of which the first were sent
 abbrev pub Rows : {X : Type 0} → Option (List ℕ) → Option (List ℕ) → (X → List ℕ) → Bool → List X → List ℕ → Type 0
-Rows a b f later xs whole = (sent : List ℕ) × (sent ++ row_text later (map f xs) ≡ whole) × Appends a b sent
+Rows a b f later xs whole = (sent : List ℕ) × (sent ++ comma_separated later (map f xs) ≡ whole) × Appends a b sent
 
 pub rows-comma : {X : Type 0} (a b c : Option (List ℕ)) (f : X → List ℕ) (later : Bool) (x : X) (xs : List X) (whole : List ℕ)
     → Rows a b f later (x ∷ xs) whole → AppendsFront b c (comma_if later) → AppendsFront a c whole
@@ -59,7 +59,7 @@ pub rows-more : {X : Type 0} (a b m c : Option (List ℕ)) (f : X → List ℕ) 
 rows-more a b m c f later x xs whole (sent, e, h) j k =
     let now : List ℕ = comma_if later ++ f x in (
       sent ++ now,
-      append_assoc sent now (row_text true (map f xs)) ∙ ap (λ (w : List ℕ). sent ++ w) (append_assoc (comma_if later) (f x) (row_text true (map f xs))) ∙ e,
+      append_assoc sent now (comma_separated true (map f xs)) ∙ ap (λ (w : List ℕ). sent ++ w) (append_assoc (comma_if later) (f x) (comma_separated true (map f xs))) ∙ e,
       appends-then a b c sent now h (appends-then b m c (comma_if later) (f x) j k),
     )
 

@@ -3,7 +3,7 @@ use Rattle.std.proofs.Common.{◌≡◌, ℕ, ℤ, List, [], ◌∷◌, ◌++◌
 use Rattle.std.specs.Fmt.{signed_decimal}
 use Rattle.ets_term.specs.declared.term.Term.{Term, the_lemmas}
 use Rattle.ets_term.specs.declared.term.Term.TheVariants.{Int, Atom, Pid, Tid, Tuple, List as ListOf, Binary}
-use Rattle.term_text.specs.Printed.{printed, row_text, atom_text}
+use Rattle.term_text.specs.Printed.{printed, comma_separated, atom_text}
 
 pub printed-Int : (n : ℤ) → printed (Int n) ≡ signed_decimal n
 printed-Int n = search (rules, the_lemmas)
@@ -17,11 +17,11 @@ printed-Pid n = search (rules, the_lemmas)
 pub printed-Tid : (n : ℕ) → printed (Tid n) ≡ (35 ∷ 84 ∷ 105 ∷ 100 ∷ 60 ∷ []) ++ (decimal n ++ 62 ∷ [])
 printed-Tid n = search (rules, the_lemmas)
 
-pub printed-Tuple : (ts : List Term) → printed (Tuple ts) ≡ (123 ∷ []) ++ (row_text false (map printed ts) ++ 125 ∷ [])
+pub printed-Tuple : (ts : List Term) → printed (Tuple ts) ≡ (123 ∷ []) ++ (comma_separated false (map printed ts) ++ 125 ∷ [])
 printed-Tuple ts = search (rules, the_lemmas)
 
-pub printed-List : (ts : List Term) → printed (ListOf ts) ≡ (91 ∷ []) ++ (row_text false (map printed ts) ++ 93 ∷ [])
+pub printed-List : (ts : List Term) → printed (ListOf ts) ≡ (91 ∷ []) ++ (comma_separated false (map printed ts) ++ 93 ∷ [])
 printed-List ts = search (rules, the_lemmas)
 
-pub printed-Binary : (bs : List ℕ) → printed (Binary bs) ≡ (60 ∷ 60 ∷ []) ++ (row_text false (map decimal bs) ++ 62 ∷ 62 ∷ [])
+pub printed-Binary : (bs : List ℕ) → printed (Binary bs) ≡ (60 ∷ 60 ∷ []) ++ (comma_separated false (map decimal bs) ++ 62 ∷ 62 ∷ [])
 printed-Binary bs = search (rules, the_lemmas)

@@ -12,18 +12,18 @@ use Rattle.std.specs.Fmt.{signed_decimal}
 use Rattle.std.specs.List.{list_all, flat_map, AllByRecursion}
 use Rattle.std.specs.Str.Parse.{AllDigits, digits_value_after}
 use Rattle.ets_term.specs.Character.{is_character, IsAtomText}
-use Rattle.ets_term.specs.Data.{Data, int, atom, pid as pid_data, tid, tuple, list, binary, row_of, data_of}
+use Rattle.ets_term.specs.Data.{Data, int, atom, pid as pid_data, tid, tuple, list, binary, data_list, data_of}
 use Rattle.ets_term.specs.Depth.{depth, largest}
-use Rattle.ets_term.specs.Fits.{DataFits, RowFits, Fits}
+use Rattle.ets_term.specs.Fits.{DataFits, DataListFits, Fits}
 use Rattle.ets_term.specs.Integers.{least, greatest}
 use Rattle.ets_term.specs.declared.term.Term.{Term, ind-Term, the_lemmas}
 use Rattle.ets_term.specs.declared.term.Term.TheViews.{roll-Term}
 use Rattle.ets_term.specs.declared.term.Term.TheFolds.{map-Term}
 use Rattle.ets_term.specs.declared.term.Term.TheOpen.{Term-F}
 use Rattle.ets_term.specs.declared.term.Term.TheVariants.{Int, Atom, Pid, Tid, Tuple, List as ListOf, Binary, rolls-Int, rolls-Atom, rolls-Pid, rolls-Tid, rolls-Tuple, rolls-List, rolls-Binary}
-use Rattle.term_text.specs.Grammar.{SpellsNumber, SpellsQuoted, SpellsBytes, Spells, SpellsRow, none, plain, escaped as escaped_form, first, more, positive, negative, plain_atom, quoted_atom, pid_form, identifier_form, no_bytes, bytes, empty_bracket, full_bracket, first_term, more_terms}
+use Rattle.term_text.specs.Grammar.{SpellsNumber, SpellsQuoted, SpellsBytes, Spells, SpellsTerms, none, plain, escaped as escaped_form, first, more, positive, negative, plain_atom, quoted_atom, pid_form, identifier_form, no_bytes, bytes, empty_bracket, full_bracket, first_term, more_terms}
 use Rattle.term_text.specs.inside.Reader.{Number, integer, pid, identifier, byte, max_magnitude}
-use Rattle.term_text.specs.Printed.{is_plain, escaped, atom_text, row_text, printed}
+use Rattle.term_text.specs.Printed.{is_plain, escaped, atom_text, comma_separated, printed}
 use Rattle.term_text.specs.RoundTrip.{ReadsBack}
 use Rattle.term_text.specs.Text.{is_digit, is_lowercase, is_name, begins, spelled}
 use Rattle.term_text.proofs.Offsets.{by-test, if-true, if-false}
@@ -92,15 +92,15 @@ bytes-along s t cs ds e f h = subst (λ (w : List ℕ). SpellsBytes w ds) e (sub
 byte-spelled : (b : ℕ) → b < 256 → SpellsNumber (byte []) (decimal b) b
 byte-spelled b h = number-spelled (byte []) b (omega (arith, h)) (omega (arith, h))
 
-bytes-on : (row us bs : List ℕ) → SpellsBytes row us → AllByRecursion (λ b. b < 256) bs → SpellsBytes (row ++ row_text true (map decimal bs)) (us ++ bs)
+bytes-on : (row us bs : List ℕ) → SpellsBytes row us → AllByRecursion (λ b. b < 256) bs → SpellsBytes (row ++ comma_separated true (map decimal bs)) (us ++ bs)
 bytes-on row us [] sp h = bytes-along row (row ++ []) us (us ++ []) (sym (append-nil row)) (sym (append-nil us)) sp
 bytes-on row us (b ∷ bs) sp h =
-    bytes-along _ (row ++ row_text true (map decimal (b ∷ bs))) _ (us ++ b ∷ bs) (append_assoc row (44 ∷ decimal b) (row_text true (map decimal bs))) (append_assoc us (b ∷ []) bs)
+    bytes-along _ (row ++ comma_separated true (map decimal (b ∷ bs))) _ (us ++ b ∷ bs) (append_assoc row (44 ∷ decimal b) (comma_separated true (map decimal bs))) (append_assoc us (b ∷ []) bs)
     (bytes-on (row ++ 44 ∷ decimal b) (us ++ b ∷ []) bs (more row [] [] (decimal b) us b sp refl refl (byte-spelled b h.0)) h.1)
 
-binary-spelled : (k : ℕ) (bs : List ℕ) → AllByRecursion (λ b. b < 256) bs → Spells (suc k) ((60 ∷ 60 ∷ []) ++ (row_text false (map decimal bs) ++ 62 ∷ 62 ∷ [])) (Binary bs)
+binary-spelled : (k : ℕ) (bs : List ℕ) → AllByRecursion (λ b. b < 256) bs → Spells (suc k) ((60 ∷ 60 ∷ []) ++ (comma_separated false (map decimal bs) ++ 62 ∷ 62 ∷ [])) (Binary bs)
 binary-spelled k [] h = no_bytes k [] refl
-binary-spelled k (b ∷ bs) h = bytes k (decimal b ++ row_text true (map decimal bs)) [] (b ∷ bs) (bytes-on (decimal b) (b ∷ []) bs (first [] (decimal b) b refl (byte-spelled b h.0)) h.1) refl
+binary-spelled k (b ∷ bs) h = bytes k (decimal b ++ comma_separated true (map decimal bs)) [] (b ∷ bs) (bytes-on (decimal b) (b ∷ []) bs (first [] (decimal b) b refl (byte-spelled b h.0)) h.1) refl
 
 -- terms
 abbrev IsSpelled : Term → Type 0
@@ -112,8 +112,8 @@ Known = (t : Term) × IsSpelled t
 abbrev bare : Known → Term
 bare k = k.0
 
-row-along : (k : ℕ) (s t : List ℕ) (ts us : List Term) → s ≡ t → ts ≡ us → SpellsRow k s ts → SpellsRow k t us
-row-along k s t ts us e f h = subst (λ (w : List ℕ). SpellsRow k w us) e (subst (λ (w : List Term). SpellsRow k s w) f h)
+row-along : (k : ℕ) (s t : List ℕ) (ts us : List Term) → s ≡ t → ts ≡ us → SpellsTerms k s ts → SpellsTerms k t us
+row-along k s t ts us e f h = subst (λ (w : List ℕ). SpellsTerms k w us) e (subst (λ (w : List Term). SpellsTerms k s w) f h)
 
 max-left : (m n k : ℕ) → max m n ≤ k → m ≤ k
 max-left m n k h = omega (arith, h)
@@ -121,27 +121,27 @@ max-left m n k h = omega (arith, h)
 max-right : (m n k : ℕ) → max m n ≤ k → n ≤ k
 max-right m n k h = omega (arith, h)
 
-row-on : (k : ℕ) (row : List ℕ) (us : List Term) (xs : List Known) → SpellsRow k row us → RowFits (row_of (map data_of (map bare xs))) → largest (map depth (map bare xs)) ≤ k
-    → SpellsRow k (row ++ row_text true (map printed (map bare xs))) (us ++ map bare xs)
+row-on : (k : ℕ) (row : List ℕ) (us : List Term) (xs : List Known) → SpellsTerms k row us → DataListFits (data_list (map data_of (map bare xs))) → largest (map depth (map bare xs)) ≤ k
+    → SpellsTerms k (row ++ comma_separated true (map printed (map bare xs))) (us ++ map bare xs)
 row-on k row us [] sp h d = row-along k row (row ++ []) us (us ++ []) (sym (append-nil row)) (sym (append-nil us)) sp
 row-on k row us (x ∷ xs) sp h d =
-    let tail : List ℕ = row_text true (map printed (map bare xs)) in
+    let tail : List ℕ = comma_separated true (map printed (map bare xs)) in
     row-along k _ (row ++ 44 ∷ (printed x.0 ++ tail)) _ (us ++ x.0 ∷ map bare xs) (append_assoc row (44 ∷ printed x.0) tail) (append_assoc us (x.0 ∷ []) (map bare xs))
     (row-on k (row ++ 44 ∷ printed x.0) (us ++ x.0 ∷ []) xs (more_terms k row [] [] (printed x.0) us x.0 sp refl refl (x.1 k h.0 (max-left _ _ k d))) h.1 (max-right (depth x.0) _ k d))
 
-row-spelled : (k : ℕ) (x : Known) (xs : List Known) → RowFits (row_of (map data_of (map bare (x ∷ xs)))) → largest (map depth (map bare (x ∷ xs))) ≤ k
-    → SpellsRow k (row_text false (map printed (map bare (x ∷ xs)))) (map bare (x ∷ xs))
+row-spelled : (k : ℕ) (x : Known) (xs : List Known) → DataListFits (data_list (map data_of (map bare (x ∷ xs)))) → largest (map depth (map bare (x ∷ xs))) ≤ k
+    → SpellsTerms k (comma_separated false (map printed (map bare (x ∷ xs)))) (map bare (x ∷ xs))
 row-spelled k x xs h d = row-on k (printed x.0) (x.0 ∷ []) xs (first_term k [] (printed x.0) x.0 refl (x.1 k h.0 (max-left _ _ k d))) h.1 (max-right (depth x.0) _ k d)
 
-tuple-spelled : (k : ℕ) (xs : List Known) → RowFits (row_of (map data_of (map bare xs))) → largest (map depth (map bare xs)) ≤ k
-    → Spells (suc k) ((123 ∷ []) ++ (row_text false (map printed (map bare xs)) ++ 125 ∷ [])) (Tuple (map bare xs))
+tuple-spelled : (k : ℕ) (xs : List Known) → DataListFits (data_list (map data_of (map bare xs))) → largest (map depth (map bare xs)) ≤ k
+    → Spells (suc k) ((123 ∷ []) ++ (comma_separated false (map printed (map bare xs)) ++ 125 ∷ [])) (Tuple (map bare xs))
 tuple-spelled k [] h d = empty_bracket k false [] refl
-tuple-spelled k (x ∷ xs) h d = full_bracket k false (row_text false (map printed (map bare (x ∷ xs)))) [] (map bare (x ∷ xs)) (row-spelled k x xs h d) refl
+tuple-spelled k (x ∷ xs) h d = full_bracket k false (comma_separated false (map printed (map bare (x ∷ xs)))) [] (map bare (x ∷ xs)) (row-spelled k x xs h d) refl
 
-list-spelled : (k : ℕ) (xs : List Known) → RowFits (row_of (map data_of (map bare xs))) → largest (map depth (map bare xs)) ≤ k
-    → Spells (suc k) ((91 ∷ []) ++ (row_text false (map printed (map bare xs)) ++ 93 ∷ [])) (ListOf (map bare xs))
+list-spelled : (k : ℕ) (xs : List Known) → DataListFits (data_list (map data_of (map bare xs))) → largest (map depth (map bare xs)) ≤ k
+    → Spells (suc k) ((91 ∷ []) ++ (comma_separated false (map printed (map bare xs)) ++ 93 ∷ [])) (ListOf (map bare xs))
 list-spelled k [] h d = empty_bracket k true [] refl
-list-spelled k (x ∷ xs) h d = full_bracket k true (row_text false (map printed (map bare (x ∷ xs)))) [] (map bare (x ∷ xs)) (row-spelled k x xs h d) refl
+list-spelled k (x ∷ xs) h d = full_bracket k true (comma_separated false (map printed (map bare (x ∷ xs)))) [] (map bare (x ∷ xs)) (row-spelled k x xs h d) refl
 
 -- a term is spelled one level further in, if its tree, text and depth are known
 by-parts : (t : Term) (z : Data) (text : List ℕ) (inner : ℕ) → data_of t ≡ z → printed t ≡ text → depth t ≡ inner + 1 → ((k : ℕ) → DataFits z → inner ≤ k → Spells (suc k) text t) → IsSpelled t
@@ -160,10 +160,10 @@ data-Pid n = search (rules, the_lemmas)
 data-Tid : (n : ℕ) → data_of (Tid n) ≡ tid n
 data-Tid n = search (rules, the_lemmas)
 
-data-Tuple : (ts : List Term) → data_of (Tuple ts) ≡ tuple (row_of (map data_of ts))
+data-Tuple : (ts : List Term) → data_of (Tuple ts) ≡ tuple (data_list (map data_of ts))
 data-Tuple ts = search (rules, the_lemmas)
 
-data-List : (ts : List Term) → data_of (ListOf ts) ≡ list (row_of (map data_of ts))
+data-List : (ts : List Term) → data_of (ListOf ts) ≡ list (data_list (map data_of ts))
 data-List ts = search (rules, the_lemmas)
 
 data-Binary : (bs : List ℕ) → data_of (Binary bs) ≡ binary bs
@@ -199,9 +199,9 @@ one-spelled (Term-F.Atom s) = subst IsSpelled (sym (rolls-Atom s)) (by-parts (At
 one-spelled (Term-F.Pid n) = subst IsSpelled (sym (rolls-Pid n)) (by-parts (Pid n) (pid_data n) _ 0 (data-Pid n) (printed-Pid n) (depth-Pid n) (λ k h d. pid_form k (decimal n) n (number-32 pid n h refl)))
 one-spelled (Term-F.Tid n) = subst IsSpelled (sym (rolls-Tid n)) (by-parts (Tid n) (tid n) _ 0 (data-Tid n) (printed-Tid n) (depth-Tid n) (λ k h d. identifier_form k (decimal n) n (number-32 identifier n h refl)))
 one-spelled (Term-F.Tuple xs) = let ts : List Term = map bare xs in
-    subst IsSpelled (sym (rolls-Tuple ts)) (by-parts (Tuple ts) (tuple (row_of (map data_of ts))) _ (largest (map depth ts)) (data-Tuple ts) (printed-Tuple ts) (depth-Tuple ts) (λ k h d. tuple-spelled k xs h d))
+    subst IsSpelled (sym (rolls-Tuple ts)) (by-parts (Tuple ts) (tuple (data_list (map data_of ts))) _ (largest (map depth ts)) (data-Tuple ts) (printed-Tuple ts) (depth-Tuple ts) (λ k h d. tuple-spelled k xs h d))
 one-spelled (Term-F.List xs) = let ts : List Term = map bare xs in
-    subst IsSpelled (sym (rolls-List ts)) (by-parts (ListOf ts) (list (row_of (map data_of ts))) _ (largest (map depth ts)) (data-List ts) (printed-List ts) (depth-List ts) (λ k h d. list-spelled k xs h d))
+    subst IsSpelled (sym (rolls-List ts)) (by-parts (ListOf ts) (list (data_list (map data_of ts))) _ (largest (map depth ts)) (data-List ts) (printed-List ts) (depth-List ts) (λ k h d. list-spelled k xs h d))
 one-spelled (Term-F.Binary bs) = subst IsSpelled (sym (rolls-Binary bs)) (by-parts (Binary bs) (binary bs) _ 0 (data-Binary bs) (printed-Binary bs) (depth-Binary bs) (λ k h d. binary-spelled k bs h))
 
 pub printed-spells : (t : Term) → IsSpelled t

@@ -8,7 +8,7 @@ use Rattle.term_text.specs.declared.fault.TextFault.TheVariants.{Unexpected, Too
 use Rattle.term_text.specs.Text.{is_blank, is_digit, closes, begins_term}
 use Rattle.term_text.specs.inside.Reader.{OpenBracket, integer, wants, reads_on, bracket, opening, begin, next_opened}
 use Rattle.term_text.specs.Faults.{AwaitsItem, fresh, further, AwaitsTerm, a_term}
-use Rattle.term_text.specs.Grammar.{AreBlanks, opening_sign, closing_sign, Spells, SpellsRow, none, empty_bracket, first_term, more_terms}
+use Rattle.term_text.specs.Grammar.{AreBlanks, opening_sign, closing_sign, Spells, SpellsTerms, none, empty_bracket, first_term, more_terms}
 use Rattle.term_text.proofs.FirstBytes.{begins-small}
 use Rattle.term_text.proofs.Names.{small-is-name}
 use Rattle.term_text.proofs.Meaning.{At, Holds, blank-more, here-len, holds-if, more-len, noticed}
@@ -75,7 +75,7 @@ fresh-blanks : (k : ℕ) (ts : List Term) (inner : List ℕ) → AwaitsItem k ts
 fresh-blanks k ts inner (fresh blanks h) e = h
 fresh-blanks k ts inner (further us row before behind r h i) e = absurd (some-terms k row us r e)
   where
-    some-terms : (k : ℕ) (row : List ℕ) (us : List Term) → SpellsRow k row us → us ≡ [] → ⊥
+    some-terms : (k : ℕ) (row : List ℕ) (us : List Term) → SpellsTerms k row us → us ≡ [] → ⊥
     some-terms k row us (first_term j before s t h sp) e = cc
     some-terms k row us (more_terms j r before behind s ts t q h i sp) e = absurd (not-nil ts t e)
       where

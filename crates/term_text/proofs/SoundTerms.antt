@@ -7,7 +7,7 @@ use Rattle.term_text.specs.declared.fault.TextFault.TheVariants.{Unexpected}
 use Rattle.term_text.specs.Text.{is_blank, is_digit, is_lowercase, closes}
 use Rattle.term_text.specs.inside.Reader.{OpenBracket, Number, integer, pid, identifier, byte, Expect, whole, digits, with_term, bracket, put, expect, next_sign, next_after, next_unless_found}
 use Rattle.term_text.specs.Faults.{AwaitsItem, fresh, further, LeadsNumber, number_start}
-use Rattle.term_text.specs.Grammar.{AreBlanks, opening_sign, closing_sign, Spells, SpellsRow, Ends, Front, full_bracket, first_term, more_terms}
+use Rattle.term_text.specs.Grammar.{AreBlanks, opening_sign, closing_sign, Spells, SpellsTerms, Ends, Front, full_bracket, first_term, more_terms}
 use Rattle.term_text.proofs.Meaning.{At, Behind, Closed, Holds, IsFramed, Leads, at_more, blank-more, holds-if, more-len, noticed}
 use Rattle.term_text.proofs.Signs.{close-is, is-byte}
 
@@ -28,10 +28,10 @@ front-of pre p s t n rest e h sp len ends = record {
 }
 
 -- a term is complete
-inside-with : (k : ℕ) (ts : List Term) (inner s : List ℕ) (t : Term) → AwaitsItem k ts inner → Spells k s t → SpellsRow k (inner ++ s) (ts ++ t ∷ [])
+inside-with : (k : ℕ) (ts : List Term) (inner s : List ℕ) (t : Term) → AwaitsItem k ts inner → Spells k s t → SpellsTerms k (inner ++ s) (ts ++ t ∷ [])
 inside-with k ts inner s t (fresh blanks h) sp = first_term k blanks s t h sp
 inside-with k ts inner s t (further us row before behind r h i) sp =
-    let P : List ℕ → Type 0 = λ w. SpellsRow k w (ts ++ t ∷ []) in
+    let P : List ℕ → Type 0 = λ w. SpellsTerms k w (ts ++ t ∷ []) in
     subst P (sym (append_assoc row (before ++ 44 ∷ behind) s ∙ ap (λ (w : List ℕ). row ++ w) (append_assoc before (44 ∷ behind) s))) (more_terms k row before behind s us t r h i sp)
 
 term-after : (o : OpenBracket) (os : List OpenBracket) (pre s : List ℕ) (t : Term) (a : At (o ∷ os) pre s) → Spells (suc a.k) s t → Behind (with_term o t) os pre

@@ -5,7 +5,7 @@ use Rattle.ets_term.specs.declared.term.Term.TheVariants.{Atom, Pid, Tid, List a
 use Rattle.term_text.specs.declared.quote_form.QuoteForm.TheVariants as form
 use Rattle.term_text.specs.Text.{is_digit, is_name, begins}
 use Rattle.term_text.specs.inside.Reader.{OpenBracket, integer, pid, identifier, digits, wants, digit, quoted, signs, angle, opened_binary, after, reads_on, found, code, bracket, opening, put, read_from, reading}
-use Rattle.term_text.specs.Grammar.{AreBlanks, opening_sign, closing_sign, Spells, SpellsRow, Ends, Front, positive, negative, plain_atom, quoted_atom, pid_form, identifier_form, no_bytes, bytes, byte_string, empty_string, string, empty_bracket, full_bracket, first_term, more_terms}
+use Rattle.term_text.specs.Grammar.{AreBlanks, opening_sign, closing_sign, Spells, SpellsTerms, Ends, Front, positive, negative, plain_atom, quoted_atom, pid_form, identifier_form, no_bytes, bytes, byte_string, empty_string, string, empty_bracket, full_bracket, first_term, more_terms}
 use Rattle.term_text.proofs.FirstBytes.{begin-brace, begin-square, begin-minus, begin-quoted, begin-string, begin-angle, begin-identifier}
 use Rattle.term_text.proofs.Blanks.{wants-ignores, after-ignores}
 use Rattle.term_text.proofs.Offsets.{if-true, if-false, read-found}
@@ -93,23 +93,23 @@ mutual
       let text : List ℕ = row ++ (behind ++ closing_sign square ∷ []) in
       opens-wanted at opened square os (text ++ rest) (omega (arith, room))
       ∙ ap (λ (w : List ℕ). read_from (at + 1) (reads_on (wants true) (opening square ∷ os)) w) (append_assoc row (behind ++ closing_sign square ∷ []) rest ∙ ap (λ (w : List ℕ). row ++ w) (append_assoc behind (closing_sign square ∷ []) rest))
-      ∙ row_text j row ts sp (at + 1) square os (behind ++ closing_sign square ∷ rest) (at + 1 + length row) (omega (arith, room)) (blanks-then is_name behind (closing_sign square) rest h blank-no-name (close-no-name square)) refl
+      ∙ comma_separated j row ts sp (at + 1) square os (behind ++ closing_sign square ∷ rest) (at + 1 + length row) (omega (arith, room)) (blanks-then is_name behind (closing_sign square) rest h blank-no-name (close-no-name square)) refl
       ∙ close-text (at + 1 + length row) square ts os behind rest fin h (omega (arith, e, length-append row (behind ++ closing_sign square ∷ [])))
 
-  pub row_text : (k : ℕ) (row : List ℕ) (ts : List Term) → SpellsRow k row ts → (at : ℕ) (square : Bool) (os : List OpenBracket) (rest : List ℕ) (fin : ℕ) → length os + 1 + k ≤ 128 → begins is_name rest ≡ false → fin ≡ at + length row
+  pub comma_separated : (k : ℕ) (row : List ℕ) (ts : List Term) → SpellsTerms k row ts → (at : ℕ) (square : Bool) (os : List OpenBracket) (rest : List ℕ) (fin : ℕ) → length os + 1 + k ≤ 128 → begins is_name rest ≡ false → fin ≡ at + length row
       → read_from at (reads_on (wants true) (opening square ∷ os)) (row ++ rest) ≡ read_from fin (reads_on after (holding square ts ∷ os)) rest
-  row_text k row ts (first_term j before s t h sp) at square os rest fin room stop e =
+  comma_separated k row ts (first_term j before s t h sp) at square os rest fin room stop e =
       ap (λ (w : List ℕ). read_from at (reads_on (wants true) (opening square ∷ os)) w) (append_assoc before s rest)
       ∙ blanks-stay at (reads_on (wants true) (opening square ∷ os)) before (s ++ rest) (wants-ignores true (opening square ∷ os)) h
       ∙ term_text j s t sp (at + length before) true (opening square ∷ os) rest fin (omega (arith, room)) (no-name-ends s rest stop) (omega (arith, e, length-append before s))
-  row_text k row ts (more_terms j r before behind s us t sr h i sp) at square os rest fin room stop e =
+  comma_separated k row ts (more_terms j r before behind s us t sr h i sp) at square os rest fin room stop e =
       let tail : List ℕ = behind ++ (s ++ rest) in
       let p1 : ℕ = at + length r in
       let p2 : ℕ = p1 + length before in
       let p3 : ℕ = p2 + 1 + length behind in
       ap (λ (w : List ℕ). read_from at (reads_on (wants true) (opening square ∷ os)) w)
       (append_assoc r (before ++ 44 ∷ (behind ++ s)) rest ∙ ap (λ (w : List ℕ). r ++ w) (append_assoc before (44 ∷ (behind ++ s)) rest ∙ ap (λ (w : List ℕ). before ++ 44 ∷ w) (append_assoc behind s rest)))
-      ∙ row_text j r us sr at square os (before ++ 44 ∷ tail) p1 room (blanks-then is_name before 44 tail h blank-no-name comma-no-name) refl
+      ∙ comma_separated j r us sr at square os (before ++ 44 ∷ tail) p1 room (blanks-then is_name before 44 tail h blank-no-name comma-no-name) refl
       ∙ blanks-stay p1 (reads_on after (holding square us ∷ os)) before (44 ∷ tail) (after-ignores (holding square us) os) h
       ∙ byte-taken p2 (reads_on after (holding square us ∷ os)) (reads_on (wants false) (holding square us ∷ os)) 44 tail (if-false _ _ _ (comma-no-close square) ∙ if-false _ _ _ comma-no-blank)
       ∙ blanks-stay (p2 + 1) (reads_on (wants false) (holding square us ∷ os)) behind (s ++ rest) (wants-ignores false (holding square us ∷ os)) i

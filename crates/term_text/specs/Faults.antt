@@ -7,13 +7,13 @@ use Rattle.ets_term.specs.Depth.{max_depth}
 use Rattle.term_text.specs.declared.fault.TextFault.{TextFault}
 use Rattle.term_text.specs.declared.fault.TextFault.TheVariants.{Unexpected, Unclosed, OutOfRange, TooDeep, AtomTooLong, Memory}
 use Rattle.term_text.specs.Forms.{OpenBracket, Number, integer, pid, identifier, byte, max_magnitude}
-use Rattle.term_text.specs.Grammar.{AreBlanks, SpellsNumber, SpellsQuoted, SpellsBytes, SpellsRow, opening_sign, Front}
+use Rattle.term_text.specs.Grammar.{AreBlanks, SpellsNumber, SpellsQuoted, SpellsBytes, SpellsTerms, opening_sign, Front}
 use Rattle.term_text.specs.Text.{apostrophe, quotation_mark, is_digit, is_lowercase, is_name, begins, begins_term}
 
 -- inner is the text in a bracket after the terms ts, up to where the next must begin
 pub data AwaitsItem (k : ℕ) : List Term → List ℕ → Type 0 where
   fresh : (blanks : List ℕ) → AreBlanks blanks → AwaitsItem k [] blanks
-  further : (ts : List Term) (row before after : List ℕ) → SpellsRow k row ts → AreBlanks before → AreBlanks after
+  further : (ts : List Term) (row before after : List ℕ) → SpellsTerms k row ts → AreBlanks before → AreBlanks after
       → AwaitsItem k ts (row ++ (before ++ (codes "," ++ after)))
 
 -- pre ends where a term of at most k levels must begin, in these open brackets

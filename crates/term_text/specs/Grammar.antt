@@ -71,18 +71,18 @@ mutual
     empty_bracket : (k : ℕ) (square : Bool) (blanks : List ℕ) → AreBlanks blanks
         → Spells (suc k) (opening_sign square ∷ (blanks ++ closing_sign square ∷ []))
         (bracket (record { square = square; terms = [] }))
-    full_bracket : (k : ℕ) (square : Bool) (row after : List ℕ) (ts : List Term) → SpellsRow k row ts
+    full_bracket : (k : ℕ) (square : Bool) (row after : List ℕ) (ts : List Term) → SpellsTerms k row ts
         → AreBlanks after
         → Spells (suc k) (opening_sign square ∷ (row ++ (after ++ closing_sign square ∷ [])))
         (bracket (record { square = square; terms = ts }))
 
   -- the terms in a bracket, one or more, separated by commas
-  pub data SpellsRow : ℕ → List ℕ → List Term → Type 0 where
+  pub data SpellsTerms : ℕ → List ℕ → List Term → Type 0 where
     first_term : (k : ℕ) (before s : List ℕ) (t : Term) → AreBlanks before → Spells k s t
-        → SpellsRow k (before ++ s) (t ∷ [])
-    more_terms : (k : ℕ) (row before after s : List ℕ) (ts : List Term) (t : Term) → SpellsRow k row ts
+        → SpellsTerms k (before ++ s) (t ∷ [])
+    more_terms : (k : ℕ) (row before after s : List ℕ) (ts : List Term) (t : Term) → SpellsTerms k row ts
         → AreBlanks before → AreBlanks after → Spells k s t
-        → SpellsRow k (row ++ (before ++ (codes "," ++ (after ++ s)))) (ts ++ t ∷ [])
+        → SpellsTerms k (row ++ (before ++ (codes "," ++ (after ++ s)))) (ts ++ t ∷ [])
 
 -- an integer or an unquoted atom ends only before a byte that cannot belong to it
 abbrev pub Ends : List ℕ → List ℕ → Type 0

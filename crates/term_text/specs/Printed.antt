@@ -23,9 +23,9 @@ abbrev pub comma_if : Bool → List ℕ
 comma_if later = if later then codes "," else []
 
 -- texts separated by commas
-abbrev pub row_text : Bool → List (List ℕ) → List ℕ
-row_text later [] = []
-row_text later (s ∷ ss) = comma_if later ++ (s ++ row_text true ss)
+abbrev pub comma_separated : Bool → List (List ℕ) → List ℕ
+comma_separated later [] = []
+comma_separated later (s ∷ ss) = comma_if later ++ (s ++ comma_separated true ss)
 
 -- `<0.7.0>`, `#Tid<7>`, `{a,b}`, `[1,2]` and `<<97,98>>`
 abbrev pub printed_form : Term-F (List ℕ) → List ℕ
@@ -33,9 +33,9 @@ printed_form (Term-F.Int n) = signed_decimal n
 printed_form (Term-F.Atom s) = atom_text s
 printed_form (Term-F.Pid n) = codes "<0." ++ (decimal n ++ codes ".0>")
 printed_form (Term-F.Tid n) = codes "#Tid<" ++ (decimal n ++ codes ">")
-printed_form (Term-F.Tuple ss) = codes "{" ++ (row_text false ss ++ codes "}")
-printed_form (Term-F.List ss) = codes "[" ++ (row_text false ss ++ codes "]")
-printed_form (Term-F.Binary bs) = codes "<<" ++ (row_text false (map decimal bs) ++ codes ">>")
+printed_form (Term-F.Tuple ss) = codes "{" ++ (comma_separated false ss ++ codes "}")
+printed_form (Term-F.List ss) = codes "[" ++ (comma_separated false ss ++ codes "]")
+printed_form (Term-F.Binary bs) = codes "<<" ++ (comma_separated false (map decimal bs) ++ codes ">>")
 
 -- the printed text of a term
 abbrev pub printed : Term → List ℕ

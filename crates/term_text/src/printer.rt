@@ -3,7 +3,7 @@ ghost use Rattle.std.specs.Prelude.{◌≡◌, ◌++◌, ◌-◌, ◌≤◌, ◌
 ghost use Rattle.std.specs.Fmt.{signed_decimal};
 ghost use Rattle.std.specs.List.{list_all, flat_map};
 ghost use Rattle.ets_term.specs.Character.{is_character};
-ghost use Rattle.term_text.specs.Printed.{printed, row_text, is_plain, escaped, atom_text, comma_if};
+ghost use Rattle.term_text.specs.Printed.{printed, comma_separated, is_plain, escaped, atom_text, comma_if};
 ghost use Rattle.term_text.specs.Sent.{AppendsOrFront};
 ghost use Rattle.term_text.specs.Text.{is_name};
 
@@ -37,7 +37,7 @@ fn append_items<S: Sink>(
     out: &mut S,
 ) -> Result<(), S::Fault>
     ensures { AppendsOrFront (S.contents out.old) (S.contents out.new)
-        (front.now ++ (row_text false (map printed items.now) ++ back.now)) result }
+        (front.now ++ (comma_separated false (map printed items.now) ++ back.now)) result }
 {
     out.write_str(front)?;
     let mut later = false;
@@ -52,7 +52,7 @@ fn append_items<S: Sink>(
 /// Appends bytes, separated by commas, between two signs.
 fn append_bytes<S: Sink>(front: &str, bytes: &[u8], back: &str, out: &mut S) -> Result<(), S::Fault>
     ensures { AppendsOrFront (S.contents out.old) (S.contents out.new)
-        (front.now ++ (row_text false (map decimal bytes.now) ++ back.now)) result }
+        (front.now ++ (comma_separated false (map decimal bytes.now) ++ back.now)) result }
 {
     out.write_str(front)?;
     let mut later = false;

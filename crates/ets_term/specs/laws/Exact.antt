@@ -6,7 +6,7 @@ use Rattle.ets_term.specs.declared.term.Term.TheViews.{roll-Term}
 use Rattle.ets_term.specs.declared.term.Term.TheFolds.{map-Term}
 use Rattle.ets_term.specs.declared.term.Term.TheOpen.{Term-F}
 use Rattle.ets_term.specs.declared.term.Term.TheVariants.{Int, Atom, Pid, Tid, Tuple, List as Lst, Binary, rolls-Int, rolls-Atom, rolls-Pid, rolls-Tid, rolls-Tuple, rolls-List, rolls-Binary}
-use Rattle.ets_term.specs.Data.{Data, int, atom, pid, tid, tuple, list, binary, Row, no_terms, term, row_of, data_form, data_of}
+use Rattle.ets_term.specs.Data.{Data, int, atom, pid, tid, tuple, list, binary, DataList, no_terms, term, data_list, data_form, data_of}
 
 -- the term of a tree
 abbrev mutual
@@ -19,14 +19,14 @@ abbrev mutual
   term_of (list ds) = Lst (terms_of ds)
   term_of (binary s) = Binary s
 
-  pub terms_of : Row → List Term
+  pub terms_of : DataList → List Term
   terms_of no_terms = []
   terms_of (term d ds) = term_of d ∷ terms_of ds
 
-pub data_of-Tuple : (ts : List Term) → data_of (Tuple ts) ≡ tuple (row_of (map data_of ts))
+pub data_of-Tuple : (ts : List Term) → data_of (Tuple ts) ≡ tuple (data_list (map data_of ts))
 data_of-Tuple ts = search (rules, the_lemmas)
 
-pub data_of-List : (ts : List Term) → data_of (Lst ts) ≡ list (row_of (map data_of ts))
+pub data_of-List : (ts : List Term) → data_of (Lst ts) ≡ list (data_list (map data_of ts))
 data_of-List ts = search (rules, the_lemmas)
 
 abbrev Known : Type 0
@@ -35,7 +35,7 @@ Known = (t : Term) × (term_of (data_of t) ≡ t)
 abbrev plain : Known → Term
 plain k = k.0
 
-all_back : (ks : List Known) → terms_of (row_of (map data_of (map plain ks))) ≡ map plain ks
+all_back : (ks : List Known) → terms_of (data_list (map data_of (map plain ks))) ≡ map plain ks
 all_back [] = refl
 all_back (k ∷ ks) = λ i. k.1 i ∷ all_back ks i
 

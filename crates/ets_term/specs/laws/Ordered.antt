@@ -7,8 +7,8 @@ use Rattle.std.proofs.lemmas.Map.Text.{is_eq-slice_cmp}
 use Rattle.std.proofs.lemmas.Slice.Eq.{bytes_eq-Decides}
 use Rattle.std.specs.Cmp.{IsTotalOrder, int_cmp_total}
 use Rattle.std.specs.Cmp.Lexicographic.{slice_cmp, lists_total}
-use Rattle.ets_term.specs.Data.{Data, int, atom, pid, tid, tuple, list, binary, Row, no_terms, term}
-use Rattle.ets_term.specs.Order.{data_order, row_order, row_len}
+use Rattle.ets_term.specs.Data.{Data, int, atom, pid, tid, tuple, list, binary, DataList, no_terms, term}
+use Rattle.ets_term.specs.Order.{data_order, data_list_order, data_list_len}
 
 -- the code of a text: its characters, and then an end that is less than each
 abbrev text_code : List ℕ → List ℤ
@@ -22,13 +22,13 @@ abbrev mutual
   code (atom s) = pos 1 ∷ text_code s
   code (tid n) = pos 2 ∷ pos n ∷ []
   code (pid n) = pos 3 ∷ pos n ∷ []
-  code (tuple ds) = pos 4 ∷ pos (row_len ds) ∷ row_code ds
-  code (list ds) = pos 5 ∷ row_code ds
+  code (tuple ds) = pos 4 ∷ pos (data_list_len ds) ∷ data_list_code ds
+  code (list ds) = pos 5 ∷ data_list_code ds
   code (binary s) = pos 6 ∷ text_code s
 
-  row_code : Row → List ℤ
-  row_code no_terms = negsuc 0 ∷ []
-  row_code (term d ds) = pos 0 ∷ (code d ++ row_code ds)
+  data_list_code : DataList → List ℤ
+  data_list_code no_terms = negsuc 0 ∷ []
+  data_list_code (term d ds) = pos 0 ∷ (code d ++ data_list_code ds)
 
 abbrev cmp : List ℤ → List ℤ → Ordering
 cmp = slice_cmp int_cmp
@@ -66,25 +66,25 @@ mutual
   code_first (tid m) (tid n) x y = rw (pos_cmp m n)
   code_first (pid m) (pid n) x y = rw (pos_cmp m n)
   code_first (tuple ds) (tuple es) x y =
-      rw (pos_cmp (row_len ds) (row_len es), row_first ds es x y)
-      (sym (then_assoc (nat_cmp (row_len ds) (row_len es)) (row_order ds es) (cmp x y)))
-  code_first (list ds) (list es) x y = row_first ds es x y
+      rw (pos_cmp (data_list_len ds) (data_list_len es), data_list_first ds es x y)
+      (sym (then_assoc (nat_cmp (data_list_len ds) (data_list_len es)) (data_list_order ds es) (cmp x y)))
+  code_first (list ds) (list es) x y = data_list_first ds es x y
   code_first (binary s) (binary t) x y = text_first s t x y
   code_first d e x y = refl
 
-  row_first : (ds es : Row) (x y : List ℤ)
-      → cmp (row_code ds ++ x) (row_code es ++ y) ≡ ordering_then (row_order ds es) (cmp x y)
-  row_first no_terms no_terms x y = refl
-  row_first no_terms (term e es) x y = refl
-  row_first (term d ds) no_terms x y = refl
-  row_first (term d ds) (term e es) x y =
+  data_list_first : (ds es : DataList) (x y : List ℤ)
+      → cmp (data_list_code ds ++ x) (data_list_code es ++ y) ≡ ordering_then (data_list_order ds es) (cmp x y)
+  data_list_first no_terms no_terms x y = refl
+  data_list_first no_terms (term e es) x y = refl
+  data_list_first (term d ds) no_terms x y = refl
+  data_list_first (term d ds) (term e es) x y =
       rw (
-        append_assoc (code d) (row_code ds) x,
-        append_assoc (code e) (row_code es) y,
-        code_first d e (row_code ds ++ x) (row_code es ++ y),
-        row_first ds es x y,
+        append_assoc (code d) (data_list_code ds) x,
+        append_assoc (code e) (data_list_code es) y,
+        code_first d e (data_list_code ds ++ x) (data_list_code es ++ y),
+        data_list_first ds es x y,
       )
-      (sym (then_assoc (data_order d e) (row_order ds es) (cmp x y)))
+      (sym (then_assoc (data_order d e) (data_list_order ds es) (cmp x y)))
 
 then_equal : (o : Ordering) → ordering_then o Equal ≡ o
 then_equal Less = refl
@@ -123,16 +123,16 @@ mutual
   order_exact (atom s) (atom t) h = ap atom (texts_exact s t h)
   order_exact (tid m) (tid n) h = ap tid (nat_exact m n h)
   order_exact (pid m) (pid n) h = ap pid (nat_exact m n h)
-  order_exact (tuple ds) (tuple es) h = ap tuple (row_exact ds es (both_equal _ _ h).1)
-  order_exact (list ds) (list es) h = ap list (row_exact ds es h)
+  order_exact (tuple ds) (tuple es) h = ap tuple (data_list_exact ds es (both_equal _ _ h).1)
+  order_exact (list ds) (list es) h = ap list (data_list_exact ds es h)
   order_exact (binary s) (binary t) h = ap binary (texts_exact s t h)
   order_exact d e h = cc
 
-  row_exact : (ds es : Row) → row_order ds es ≡ Equal → ds ≡ es
-  row_exact no_terms no_terms h = refl
-  row_exact no_terms (term e es) h = cc
-  row_exact (term d ds) no_terms h = cc
-  row_exact (term d ds) (term e es) h =
-      let both = both_equal (data_order d e) (row_order ds es) h in
+  data_list_exact : (ds es : DataList) → data_list_order ds es ≡ Equal → ds ≡ es
+  data_list_exact no_terms no_terms h = refl
+  data_list_exact no_terms (term e es) h = cc
+  data_list_exact (term d ds) no_terms h = cc
+  data_list_exact (term d ds) (term e es) h =
+      let both = both_equal (data_order d e) (data_list_order ds es) h in
       let first = order_exact d e both.0 in
-      let rest = row_exact ds es both.1 in cc
+      let rest = data_list_exact ds es both.1 in cc

@@ -1,7 +1,7 @@
 -- Compiled match specifications. They are no part of what a match specification means.
 use Rattle.std.specs.Prelude.{◌&&◌, Bool, true, false, if◌then◌else◌, List, [], ◌∷◌, Option, Some, None, map, unwrap_or, codes}
 use Rattle.std.specs.Option.{option_map_or, option_and_then}
-use Rattle.ets_term.specs.Data.{Data, atom, list, Row, no_terms, term, row_of, data_of}
+use Rattle.ets_term.specs.Data.{Data, atom, list, DataList, no_terms, term, data_list, data_of}
 use Rattle.match_spec.specs.declared.spec.check.ClauseParts.{ClauseParts}
 use Rattle.match_spec.specs.declared.spec.clause.Clause.{Clause}
 use Rattle.match_spec.specs.Specifications.{is_true, RawClause, clause_parts}
@@ -36,8 +36,8 @@ result_of_first (c ∷ cs) object = if applies c object then Some (body_value_by
 abbrev pub raw_clause_of : ClauseParts → RawClause
 raw_clause_of c = record {
   head = data_of c.head.now;
-  conditions = row_of (map data_of c.conditions.now);
-  body = row_of (map data_of c.body.now);
+  conditions = data_list (map data_of c.conditions.now);
+  body = data_list (map data_of c.body.now);
 }
 
 -- compiles a clause by the head's first paths
@@ -56,7 +56,7 @@ abbrev pub clause_else : Option RawClause → List Clause → List Clause
 clause_else None cs = cs
 clause_else (Some c) cs = clause_of c ∷ cs
 
-abbrev pub clauses_from : Row → List Clause
+abbrev pub clauses_from : DataList → List Clause
 clauses_from no_terms = []
 clauses_from (term c cs) = clause_else (clause_parts c) (clauses_from cs)
 

@@ -2,7 +2,7 @@
 use Rattle.std.specs.Prelude.{ℕ, Bool, if◌then◌else◌, List, [], ◌∷◌, Option, Some, None, map, option_map, codes}
 use Rattle.std.specs.Str.{bytes_eq}
 use Rattle.std.specs.Option.{option_and_then}
-use Rattle.ets_term.specs.Data.{Data, atom, tuple, list, Row, no_terms, term, row_of, data_of}
+use Rattle.ets_term.specs.Data.{Data, atom, tuple, list, DataList, no_terms, term, data_list, data_of}
 use Rattle.match_spec.specs.declared.expression.Expression.{Expression, fold-Expression}
 use Rattle.match_spec.specs.declared.expression.Expression.TheOpen.{Expression-F}
 use Rattle.match_spec.specs.declared.expression.Expression.TheVariants.{Constant, Object, Bindings, Variable, Tuple, List as Terms, Apply, Strict, ShortCircuit}
@@ -11,7 +11,7 @@ use Rattle.match_spec.specs.declared.expression.function.Function.{Function}
 use Rattle.match_spec.specs.declared.expression.evaluate.ExprValue.{ExprValue}
 use Rattle.match_spec.specs.declared.expression.evaluate.ExprValue.TheVariants.{Borrowed, Owned}
 use Rattle.ets_term.specs.declared.term.Term.TheVariants.{Atom}
-use Rattle.ets_term.specs.Order.{row_len}
+use Rattle.ets_term.specs.Order.{data_list_len}
 use Rattle.ets_term.specs.laws.Exact.{term_of}
 use Rattle.match_spec.specs.Functions.{boolean, truth}
 use Rattle.match_spec.specs.Paths.{Path, subterm_at}
@@ -58,10 +58,10 @@ short_circuit_of connective (f ∷ g ∷ fs) object =
 abbrev pub expression_step : List Path → Expression-F (Data → Option Data) → Data → Option Data
 expression_step paths (Expression-F.Constant t) object = Some (data_of t)
 expression_step paths Expression-F.Object object = Some object
-expression_step paths Expression-F.Bindings object = Some (list (row_of (subterms_at paths object)))
+expression_step paths Expression-F.Bindings object = Some (list (data_list (subterms_at paths object)))
 expression_step paths (Expression-F.Variable path) object = Some (subterm_at path object)
-expression_step paths (Expression-F.Tuple fs) object = option_map (λ ds. tuple (row_of ds)) (all_of fs object)
-expression_step paths (Expression-F.List fs) object = option_map (λ ds. list (row_of ds)) (all_of fs object)
+expression_step paths (Expression-F.Tuple fs) object = option_map (λ ds. tuple (data_list ds)) (all_of fs object)
+expression_step paths (Expression-F.List fs) object = option_map (λ ds. list (data_list ds)) (all_of fs object)
 expression_step paths (Expression-F.Apply f fs) object = apply_of f fs object
 expression_step paths (Expression-F.Strict connective fs) object = option_map truth (strict_of connective fs object)
 expression_step paths (Expression-F.ShortCircuit connective fs) object = short_circuit_of connective fs object
@@ -77,7 +77,7 @@ name_expression first a None =
     else if bytes_eq a (codes "$$") then Bindings
     else Constant (Atom a)
 
-abbrev pub constant_else : List ℕ → Row → Expression → Expression
+abbrev pub constant_else : List ℕ → DataList → Expression → Expression
 constant_else f (term e no_terms) otherwise = if bytes_eq f (codes "const") then Constant (term_of e) else otherwise
 constant_else f es otherwise = otherwise
 
@@ -105,10 +105,10 @@ abbrev mutual
   expression_of first (list es) = Terms (expressions_of first es)
   expression_of first (tuple (term (tuple es) no_terms)) = Tuple (expressions_of first es)
   expression_of first (tuple (term (atom f) es)) =
-      constant_else f es (call_expression f (row_len es) (expressions_of first es))
+      constant_else f es (call_expression f (data_list_len es) (expressions_of first es))
   expression_of first (tuple es) = Object
   expression_of first d = Constant (term_of d)
 
-  pub expressions_of : FirstPaths → Row → List Expression
+  pub expressions_of : FirstPaths → DataList → List Expression
   expressions_of first no_terms = []
   expressions_of first (term e es) = expression_of first e ∷ expressions_of first es

@@ -2,7 +2,7 @@
 use Rattle.std.specs.Prelude.{◌≡◌, ℕ, suc, ◌&&◌, Bool, true, false, if◌then◌else◌, List, [], ◌∷◌, ◌++◌, Option, Some, None, codes}
 use Rattle.std.specs.Str.{bytes_eq}
 use Rattle.ets_term.specs.declared.term.Term.TheVariants.{Atom}
-use Rattle.ets_term.specs.Data.{Data, atom, tuple, list, Row, no_terms, term, data_of}
+use Rattle.ets_term.specs.Data.{Data, atom, tuple, list, DataList, no_terms, term, data_of}
 use Rattle.ets_term.specs.laws.Exact.{term_of}
 use Rattle.match_spec.specs.declared.pattern.part.Part.{Part, fold-Part}
 use Rattle.match_spec.specs.declared.pattern.part.Part.TheOpen.{Part-F}
@@ -12,7 +12,7 @@ use Rattle.match_spec.specs.Paths.{Path, subterm_at}
 use Rattle.match_spec.specs.Variables.{variable}
 use Rattle.match_spec.specs.inside.FirstPaths.{FirstPaths, first_path, paths_of, first_paths_of}
 
-abbrev pub all_fit : List (Data → Data → Bool) → Data → Row → Bool
+abbrev pub all_fit : List (Data → Data → Bool) → Data → DataList → Bool
 all_fit [] object no_terms = true
 all_fit (f ∷ fs) object (term t ts) = f object t && all_fit fs object ts
 all_fit _ object _ = false
@@ -45,7 +45,7 @@ abbrev mutual
   part_of first current (list ps) = Terms (parts_from first current 0 ps)
   part_of first current d = Literal (term_of d)
 
-  pub parts_from : FirstPaths → Path → ℕ → Row → List Part
+  pub parts_from : FirstPaths → Path → ℕ → DataList → List Part
   parts_from first current i no_terms = []
   parts_from first current i (term p ps) = part_of first (current ++ i ∷ []) p ∷ parts_from first current (suc i) ps
 

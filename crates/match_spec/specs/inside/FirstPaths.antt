@@ -3,7 +3,7 @@ use Rattle.std.specs.Prelude.{ℕ, suc, List, [], ◌∷◌, ◌++◌, Option, S
 use Rattle.std.specs.BTreeMap.{is_at, insert_entry}
 use Rattle.std.specs.Map.{lookup}
 use Rattle.std.specs.Ordering.{nat_cmp}
-use Rattle.ets_term.specs.Data.{Data, atom, tuple, list, Row, no_terms, term}
+use Rattle.ets_term.specs.Data.{Data, atom, tuple, list, DataList, no_terms, term}
 use Rattle.match_spec.specs.Paths.{Path}
 use Rattle.match_spec.specs.Variables.{variable}
 
@@ -40,7 +40,7 @@ abbrev mutual
   add_first_paths current first (list ps) = add_first_paths_from current 0 first ps
   add_first_paths current first d = first
 
-  pub add_first_paths_from : Path → ℕ → FirstPaths → Row → FirstPaths
+  pub add_first_paths_from : Path → ℕ → FirstPaths → DataList → FirstPaths
   add_first_paths_from current i first no_terms = first
   add_first_paths_from current i first (term p ps) =
       add_first_paths_from current (suc i) (add_first_paths (current ++ i ∷ []) first p) ps

@@ -2,11 +2,11 @@
 use Rattle.std.specs.Prelude.{◌≡◌, ◌==◌, ◌||◌, not, Bool, true, false, map, List, [], ◌∷◌, Option, Some, None, IfSome}
 use Rattle.std.specs.Option.{option_map_or}
 use Rattle.ets_term.specs.Data.{Data, int, tuple}
-use Rattle.ets_term.specs.Order.{data_order, row_len}
+use Rattle.ets_term.specs.Order.{data_order, data_list_len}
 use Rattle.match_spec.specs.declared.expression.Expression.{Expression}
 use Rattle.match_spec.specs.declared.spec.clause.Clause.{Clause}
 use Rattle.match_spec.specs.declared.spec.quick.QuickTest.{QuickTest}
-use Rattle.match_spec.specs.Functions.{row_element, truth}
+use Rattle.match_spec.specs.Functions.{data_list_element, truth}
 use Rattle.match_spec.specs.Paths.{Path, subterm_at}
 use Rattle.match_spec.specs.Specifications.{is_spec}
 use Rattle.match_spec.specs.inside.CompiledClauses.{all_hold_of, applies, result_of_first, clauses_of}
@@ -19,7 +19,7 @@ rejects_element q (int n) = not (compares q.comparison (data_order (int n) (int 
 rejects_element q d = false
 
 abbrev pub rejects : QuickTest → Data → Bool
-rejects q (tuple ts) = not (row_len ts == q.len) || option_map_or (rejects_element q) (row_element ts q.index) false
+rejects q (tuple ts) = not (data_list_len ts == q.len) || option_map_or (rejects_element q) (data_list_element ts q.index) false
 rejects q d = true
 
 -- the condition compares the element with the integer, if the head binds its variables at any paths

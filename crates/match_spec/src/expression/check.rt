@@ -1,6 +1,6 @@
 // The check of expressions.
 ghost use Rattle.std.specs.Prelude.{◌≡◌, ◌&&◌, ◌||◌, drop, map};
-ghost use Rattle.ets_term.specs.Data.{tuple, data_of, row_of};
+ghost use Rattle.ets_term.specs.Data.{tuple, data_of, data_list};
 ghost use Rattle.match_spec.specs.Expressions.{is_expression, are_expressions, is_constant, is_bound};
 ghost use Rattle.match_spec.specs.inside.Functions.{is_function};
 ghost use Rattle.match_spec.specs.inside.FirstPaths.{numbers_of};
@@ -37,7 +37,7 @@ fn is_bound(number: Option<u32>, first: &FirstPaths) -> bool
 /// Checks whether the terms from index `start` on are expressions.
 #[cycle(checked)]
 pub(crate) fn are_expressions(terms: &[Term], start: usize, first: &FirstPaths) -> bool
-    ensures { result ≡ are_expressions (numbers_of first.now.entries) (row_of (map data_of (drop start terms.now))) }
+    ensures { result ≡ are_expressions (numbers_of first.now.entries) (data_list (map data_of (drop start terms.now))) }
 {
     for i in start..terms.len() {
         if !is_expression(&terms[i], first) {
@@ -50,7 +50,7 @@ pub(crate) fn are_expressions(terms: &[Term], start: usize, first: &FirstPaths) 
 /// Checks whether a tuple of these elements is an expression: `{{..}}`, `{const,T}` or a call.
 #[cycle(checked)]
 fn is_tuple_expression(terms: &[Term], first: &FirstPaths) -> bool
-    ensures { result ≡ is_expression (numbers_of first.now.entries) (tuple (row_of (map data_of terms.now))) }
+    ensures { result ≡ is_expression (numbers_of first.now.entries) (tuple (data_list (map data_of terms.now))) }
 {
     if terms.is_empty() {
         return false;

@@ -1,6 +1,6 @@
 // The compilation of expressions.
 ghost use Rattle.std.specs.Prelude.{◌≡◌, drop, length, map, IfOk};
-ghost use Rattle.ets_term.specs.Data.{tuple, data_of, row_of};
+ghost use Rattle.ets_term.specs.Data.{tuple, data_of, data_list};
 ghost use Rattle.match_spec.specs.Variables.{variable};
 ghost use Rattle.match_spec.specs.inside.CompiledExpressions.{expression_of, expressions_of, name_expression, constant_else, call_expression};
 
@@ -45,7 +45,7 @@ pub(crate) fn expressions_of(
     start: usize,
     first: &FirstPaths,
 ) -> Result<Items<Expression>, AllocError>
-    ensures { IfOk result (λ es. es ≡ expressions_of first.now.entries (row_of (map data_of (drop start terms.now)))) }
+    ensures { IfOk result (λ es. es ≡ expressions_of first.now.entries (data_list (map data_of (drop start terms.now)))) }
 {
     let mut compiled = Vec::new(alloc);
     for i in start..terms.len() {
@@ -61,7 +61,7 @@ fn tuple_expression(
     terms: &[Term],
     first: &FirstPaths,
 ) -> Result<Expression, AllocError>
-    ensures { IfOk result (λ e. e ≡ expression_of first.now.entries (tuple (row_of (map data_of terms.now)))) }
+    ensures { IfOk result (λ e. e ≡ expression_of first.now.entries (tuple (data_list (map data_of terms.now)))) }
 {
     if terms.is_empty() {
         return Ok(Expression::Object);
@@ -107,7 +107,7 @@ fn application(
     compiled: Items<Expression>,
 ) -> Result<Expression, AllocError>
     ensures { IfOk result (λ e. e
-        ≡ constant_else name.now (row_of (map data_of arguments.now))
+        ≡ constant_else name.now (data_list (map data_of arguments.now))
         (call_expression name.now (length arguments.now) compiled)) }
 {
     if arguments.len() == 1 && name == "const" {

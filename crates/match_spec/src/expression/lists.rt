@@ -1,7 +1,7 @@
 // Elements and sizes of lists and tuples.
 ghost use Rattle.std.specs.Prelude.{◌≡◌, drop, map, IfOk, option_copied};
 ghost use Rattle.std.specs.Option.{option_map};
-ghost use Rattle.ets_term.specs.Data.{int, list, data_of, row_of};
+ghost use Rattle.ets_term.specs.Data.{int, list, data_of, data_list};
 ghost use Rattle.match_spec.specs.Functions.{head, tail, element, list_length, size};
 
 use crate::expression::arithmetic::count;
@@ -31,7 +31,7 @@ pub(crate) fn tail(alloc: Global, term: &Term) -> Result<Option<Term>, AllocErro
 /// Makes the list of the items after the first, or returns `None` if there is none.
 #[tactic(auto, using(crate::proofs::ListLaws::tail_of))]
 fn tail_items(alloc: Global, items: &[Term]) -> Result<Option<Term>, AllocError>
-    ensures { IfOk result (λ t. option_map data_of t ≡ tail (list (row_of (map data_of items.now)))) }
+    ensures { IfOk result (λ t. option_map data_of t ≡ tail (list (data_list (map data_of items.now)))) }
 {
     if items.is_empty() {
         return Ok(None);

@@ -1,6 +1,6 @@
 // From a pattern to its compiled form.
 ghost use Rattle.std.specs.Prelude.{◌≡◌, map, IfOk, OnOk};
-ghost use Rattle.ets_term.specs.Data.{atom, data_of, row_of};
+ghost use Rattle.ets_term.specs.Data.{atom, data_of, data_list};
 ghost use Rattle.match_spec.specs.inside.CompiledPatterns.{part_of, parts_from, variable_part};
 ghost use Rattle.match_spec.specs.inside.FirstPaths.{first_path};
 
@@ -52,7 +52,7 @@ fn parts_of(
     current_path: &mut Vec<usize>,
 ) -> Result<Items<Part>, AllocError>
     ensures made { IfOk result (λ ps. ps
-        ≡ parts_from first.now.entries current_path.old.items 0 (row_of (map data_of parts.now))) }
+        ≡ parts_from first.now.entries current_path.old.items 0 (data_list (map data_of parts.now))) }
     ensures current_path { OnOk result (current_path.new.items ≡ current_path.old.items) }
 {
     let mut compiled = Vec::with_capacity(alloc, parts.len())?;

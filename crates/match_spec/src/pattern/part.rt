@@ -1,6 +1,6 @@
 // The parts of compiled patterns.
 ghost use Rattle.std.specs.Prelude.{◌≡◌, map};
-ghost use Rattle.ets_term.specs.Data.{data_of, row_of};
+ghost use Rattle.ets_term.specs.Data.{data_of, data_list};
 ghost use Rattle.match_spec.specs.inside.CompiledPatterns.{part_fits, all_fit};
 
 use crate::pattern::path::subterm_at;
@@ -43,7 +43,7 @@ pub(crate) fn fits(part: &Part, object: &Term, term: &Term) -> bool
 /// Checks whether there are as many terms as parts, and each fits its part.
 #[cycle(fits)]
 fn all_fit(parts: &[Part], object: &Term, terms: &[Term]) -> bool
-    ensures { result ≡ all_fit (map part_fits parts.now) (data_of object.now) (row_of (map data_of terms.now)) }
+    ensures { result ≡ all_fit (map part_fits parts.now) (data_of object.now) (data_list (map data_of terms.now)) }
 {
     if parts.len() != terms.len() {
         return false;

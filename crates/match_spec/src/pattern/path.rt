@@ -1,6 +1,6 @@
 // Paths in terms, and the first paths of a pattern's variables.
 ghost use Rattle.std.specs.Prelude.{◌≡◌, [], ◌∷◌, map, IfOk, OnOk};
-ghost use Rattle.ets_term.specs.Data.{data_of, row_of};
+ghost use Rattle.ets_term.specs.Data.{data_of, data_list};
 ghost use Rattle.match_spec.specs.Paths.{subterm_at, element_or};
 ghost use Rattle.match_spec.specs.inside.CompiledExpressions.{subterms_at};
 ghost use Rattle.match_spec.specs.inside.FirstPaths.{add_first_paths, add_first_paths_from, first_paths_of, record_path, paths_of, first_path};
@@ -37,7 +37,7 @@ fn element_or(term: &Term, i: usize) -> &Term
 
 /// Returns the item at an index, counted from 0, or `term` if there is none.
 fn item_or<'a>(items: &'a [Term], i: usize, term: &'a Term) -> &'a Term
-    ensures { data_of result.now ≡ element_or (row_of (map data_of items.now)) i (data_of term.now) }
+    ensures { data_of result.now ≡ element_or (data_list (map data_of items.now)) i (data_of term.now) }
 {
     if i < items.len() { &items[i] } else { term }
 }
@@ -99,7 +99,7 @@ fn collect_all(
     first: &mut FirstPaths,
 ) -> Result<(), AllocError>
     ensures paths { OnOk result (first.new.entries
-        ≡ add_first_paths_from current_path.old.items 0 first.old.entries (row_of (map data_of parts.now))) }
+        ≡ add_first_paths_from current_path.old.items 0 first.old.entries (data_list (map data_of parts.now))) }
     ensures current_path { OnOk result (current_path.new.items ≡ current_path.old.items) }
 {
     for i in 0..parts.len() {

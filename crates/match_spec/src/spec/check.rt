@@ -1,8 +1,8 @@
 // The parts of a clause, and the check of them.
 ghost use Rattle.std.specs.Prelude.{◌≡◌, nat_lt, map};
 ghost use Rattle.std.specs.Option.{option_map};
-ghost use Rattle.ets_term.specs.Data.{tuple, data_of, row_of};
-ghost use Rattle.ets_term.specs.Order.{row_len};
+ghost use Rattle.ets_term.specs.Data.{tuple, data_of, data_list};
+ghost use Rattle.ets_term.specs.Order.{data_list_len};
 ghost use Rattle.match_spec.specs.Specifications.{clause_parts, is_good_by};
 ghost use Rattle.match_spec.specs.inside.CompiledClauses.{raw_clause_of};
 ghost use Rattle.match_spec.specs.inside.FirstPaths.{numbers_of};
@@ -32,7 +32,7 @@ pub(crate) fn clause_parts(term: &Term) -> Option<ClauseParts>
 
 /// Returns the head, conditions and body of a clause, if these are three elements and the last two are lists.
 fn three_parts(parts: &[Term]) -> Option<ClauseParts>
-    ensures { option_map raw_clause_of result ≡ clause_parts (tuple (row_of (map data_of parts.now))) }
+    ensures { option_map raw_clause_of result ≡ clause_parts (tuple (data_list (map data_of parts.now))) }
 {
     if parts.len() != 3 {
         return None;
@@ -60,9 +60,9 @@ pub(crate) fn is_good(parts: ClauseParts, first: &FirstPaths) -> bool
 }
 
 /// Checks whether there is a term.
-#[tactic(auto, using(crate::proofs::ExpressionLaws::row_len_of))]
+#[tactic(auto, using(crate::proofs::ExpressionLaws::data_list_len_of))]
 pub(crate) fn is_nonempty(terms: &[Term]) -> bool
-    ensures { result ≡ nat_lt 0 (row_len (row_of (map data_of terms.now))) }
+    ensures { result ≡ nat_lt 0 (data_list_len (data_list (map data_of terms.now))) }
 {
     terms.len() > 0
 }

@@ -1,6 +1,6 @@
 // A quick test, which rejects most objects before the first clause is tried.
 ghost use Rattle.std.specs.Prelude.{◌≡◌, [], ◌∷◌, false, map, IfSome};
-ghost use Rattle.ets_term.specs.Data.{tuple, data_of, row_of};
+ghost use Rattle.ets_term.specs.Data.{tuple, data_of, data_list};
 ghost use Rattle.match_spec.specs.inside.QuickTests.{rejects, rejects_element, IsComparison, IsNecessary, RejectsClause, RejectsAll};
 
 use crate::expression::Expression;
@@ -36,7 +36,7 @@ impl QuickTest {
     #[inline(always)]
     #[tactic(auto, using(crate::proofs::QuickLaws::rejects_length, crate::proofs::QuickLaws::rejects_by_element, crate::proofs::QuickLaws::rejects_nothing))]
     fn rejects_items(&self, items: &[Term]) -> bool
-        ensures { result ≡ rejects self.now (tuple (row_of (map data_of items.now))) }
+        ensures { result ≡ rejects self.now (tuple (data_list (map data_of items.now))) }
     {
         if items.len() != self.len {
             return true;

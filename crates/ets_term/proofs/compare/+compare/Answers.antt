@@ -1,5 +1,5 @@
 use Rattle.std.proofs.Common.{rules, sym, ◌∙◌, arith}
-use Rattle.ets_term.proofs.Rows.{tuples, decided, by_length}
+use Rattle.ets_term.proofs.DataLists.{tuples, decided, by_length}
 use Rattle.ets_term.proofs.compare.+compare.Goals as goal
 
 pub compare-returns-in-Equal : goal.compare-returns-in-Equal

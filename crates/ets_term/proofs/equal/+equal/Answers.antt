@@ -1,5 +1,5 @@
 use Rattle.std.proofs.Common.{rules, sym, ◌∙◌, arith}
-use Rattle.ets_term.proofs.RowLaws.{atoms_alike, binaries_alike, tuples_alike, sizes_differ, differ_here, alike_here, none_left}
+use Rattle.ets_term.proofs.DataListLaws.{atoms_alike, binaries_alike, tuples_alike, sizes_differ, differ_here, alike_here, none_left}
 use Rattle.ets_term.proofs.equal.+equal.Goals as goal
 
 pub equal_terms-returns-in-Atom-Atom : goal.equal_terms-returns-in-Atom-Atom

@@ -46,12 +46,12 @@ send_long_list-returns-in_err-send_items-clause-sent g t c =
     let new = g.W.Write.contents c.send_items.new.out in
     let r = c.from_residual-in_err-send_items.result in
     let header : List ℕ = 108 ∷ big4 (length ts) in
-    let row = joined (map encode ts) in
-    let back : List ℕ = row ++ 106 ∷ [] in
+    let encoded_terms = joined (map encode ts) in
+    let back : List ℕ = encoded_terms ++ 106 ∷ [] in
     let form : c.as_slice.result.now ≡ header = form-is c.clear.new.self.items c.put_tag_and_u32.new.out.items c.as_slice.result.now header c.clear.ensures.items c.put_tag_and_u32.ensures.items c.as_slice.ensures.value in
     sends-as old new (header ++ back) (long_list_bytes (map encode ts)) r (list-pieces ts)
     (sends-fault old new (header ++ back) r c.from_residual-in_err-send_items.ensures.0
-    (prefix-then old now new header back (appends-as old now c.as_slice.result.now header form c.in_ok-send_bytes.ensures) (prefix-first now new row (106 ∷ []) c.in_err-send_items.ensures.sent)))
+    (prefix-then old now new header back (appends-as old now c.as_slice.result.now header form c.in_ok-send_bytes.ensures) (prefix-first now new encoded_terms (106 ∷ []) c.in_err-send_items.ensures.sent)))
 
 pub send_long_list-returns-clause-sent : goal.send_long_list-returns-clause-sent
 send_long_list-returns-clause-sent g t c =
@@ -62,12 +62,12 @@ send_long_list-returns-clause-sent g t c =
     let new = g.W.Write.contents c.send_bytes-2.new.out in
     let r = c.send_bytes-2.result in
     let header : List ℕ = 108 ∷ big4 (length ts) in
-    let row = joined (map encode ts) in
-    let back : List ℕ = row ++ 106 ∷ [] in
+    let encoded_terms = joined (map encode ts) in
+    let back : List ℕ = encoded_terms ++ 106 ∷ [] in
     let form : c.as_slice.result.now ≡ header = form-is c.clear.new.self.items c.put_tag_and_u32.new.out.items c.as_slice.result.now header c.clear.ensures.items c.put_tag_and_u32.ensures.items c.as_slice.ensures.value in
     sends-as old new (header ++ back) (long_list_bytes (map encode ts)) r (list-pieces ts)
     (sends-then old now new header back r (appends-as old now c.as_slice.result.now header form c.in_ok-send_bytes.ensures)
-    (sends-then now later new row (106 ∷ []) r c.in_ok-send_items.ensures.sent c.send_bytes-2.ensures))
+    (sends-then now later new encoded_terms (106 ∷ []) r c.in_ok-send_items.ensures.sent c.send_bytes-2.ensures))
 
 pub send_term-returns-in-Pid-clause-sent : goal.send_term-returns-in-Pid-clause-sent
 send_term-returns-in-Pid-clause-sent g t c = rw (c.in-Pid.is, encode-Pid c.in-Pid.n) c.send_pid.ensures.sent
@@ -81,11 +81,11 @@ send_tuple-returns-in_err-send_bytes-clause-sent g t c =
     let old = g.W.Write.contents c.args.out.now in
     let now = g.W.Write.contents c.send_bytes.new.out in
     let header = tuple_header (length ts) in
-    let row = joined (map encode ts) in
+    let encoded_terms = joined (map encode ts) in
     let form : c.as_slice.result.now ≡ header =
     form-is c.clear.new.self.items c.append_tuple_header.new.out.items c.as_slice.result.now header c.clear.ensures.items c.append_tuple_header.ensures.items c.as_slice.ensures.value in
-    sends-as old now (header ++ row) (tuple_bytes (map encode ts)) c.from_residual.result (tuple-pieces ts)
-    (sends-first old now header row c.from_residual.result c.from_residual.ensures.0 (prefix-as old now c.as_slice.result.now header form c.in_err-send_bytes.ensures))
+    sends-as old now (header ++ encoded_terms) (tuple_bytes (map encode ts)) c.from_residual.result (tuple-pieces ts)
+    (sends-first old now header encoded_terms c.from_residual.result c.from_residual.ensures.0 (prefix-as old now c.as_slice.result.now header form c.in_err-send_bytes.ensures))
 
 pub send_tuple-returns-clause-sent : goal.send_tuple-returns-clause-sent
 send_tuple-returns-clause-sent g t c =
@@ -94,8 +94,8 @@ send_tuple-returns-clause-sent g t c =
     let now = g.W.Write.contents c.send_bytes.new.out in
     let new = g.W.Write.contents c.send_items.new.out in
     let header = tuple_header (length ts) in
-    let row = joined (map encode ts) in
+    let encoded_terms = joined (map encode ts) in
     let form : c.as_slice.result.now ≡ header =
     form-is c.clear.new.self.items c.append_tuple_header.new.out.items c.as_slice.result.now header c.clear.ensures.items c.append_tuple_header.ensures.items c.as_slice.ensures.value in
-    sends-as old new (header ++ row) (tuple_bytes (map encode ts)) c.send_items.result (tuple-pieces ts)
-    (sends-then old now new header row c.send_items.result (appends-as old now c.as_slice.result.now header form c.in_ok-send_bytes.ensures) c.send_items.ensures.sent)
+    sends-as old new (header ++ encoded_terms) (tuple_bytes (map encode ts)) c.send_items.result (tuple-pieces ts)
+    (sends-then old now new header encoded_terms c.send_items.result (appends-as old now c.as_slice.result.now header form c.in_ok-send_bytes.ensures) c.send_items.ensures.sent)

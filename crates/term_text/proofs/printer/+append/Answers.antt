@@ -1,5 +1,5 @@
 use Rattle.std.proofs.Common.{◌++◌, map, false, drop, get_or, ◌+◌, rules, arith, ◌≡◌}
-use Rattle.term_text.specs.Printed.{printed, row_text}
+use Rattle.term_text.specs.Printed.{printed, comma_separated}
 use Rattle.term_text.proofs.Printed.{printed-Binary}
 use Rattle.term_text.proofs.Pieces.{front-first, sends-fault, rows-more, rows-here, rows-at, row-comma-fails, row-item-fails, row-sent}
 use Rattle.term_text.proofs.printer.+append.Goals as goal
@@ -10,13 +10,13 @@ append-returns-in-Binary g t c =
     rw (c.in-Binary.is, printed-Binary c.in-Binary.bytes) (rw bytes at c.append_bytes.ensures)
 
 pub append_items-returns-in_err-write_str : goal.append_items-returns-in_err-write_str
-append_items-returns-in_err-write_str g t c = sends-fault _ _ _ c.from_residual.result c.from_residual.ensures.0 (front-first _ _ c.args.front.now (row_text false (map printed c.args.items.now) ++ c.args.back.now) c.in_err-write_str.ensures)
+append_items-returns-in_err-write_str g t c = sends-fault _ _ _ c.from_residual.result c.from_residual.ensures.0 (front-first _ _ c.args.front.now (comma_separated false (map printed c.args.items.now) ++ c.args.back.now) c.in_err-write_str.ensures)
 
 pub append_items-returns-in_err-append_comma : goal.append_items-returns-in_err-append_comma
 append_items-returns-in_err-append_comma g t c =
     let l = c.loop-item in
     let ts = c.args.items.now in
-    let row = row_text false (map printed ts) in
+    let row = comma_separated false (map printed ts) in
     let sent = g.S.Sink.contents c.write_str.new.self in
     let now = g.S.Sink.contents l.out in
     let x = c.item-item.result in
@@ -27,7 +27,7 @@ pub append_items-returns-in_err-append : goal.append_items-returns-in_err-append
 append_items-returns-in_err-append g t c =
     let l = c.loop-item in
     let ts = c.args.items.now in
-    let row = row_text false (map printed ts) in
+    let row = comma_separated false (map printed ts) in
     let sent = g.S.Sink.contents c.write_str.new.self in
     let now = g.S.Sink.contents l.out in
     let x = c.item-item.result in
@@ -39,7 +39,7 @@ pub append_items-loop-item-preserved : goal.append_items-loop-item-preserved
 append_items-loop-item-preserved g t c =
     let l = c.loop-item in
     let ts = c.args.items.now in
-    let row = row_text false (map printed ts) in
+    let row = comma_separated false (map printed ts) in
     let sent = g.S.Sink.contents c.write_str.new.self in
     let now = g.S.Sink.contents l.out in
     let x = c.item-item.result in
@@ -51,5 +51,5 @@ pub append_items-returns : goal.append_items-returns
 append_items-returns g t c =
     let l = c.loop-item in
     let ts = c.args.items.now in
-    row-sent _ (g.S.Sink.contents c.write_str.new.self) (g.S.Sink.contents l.out) _ printed l.later ts l.item-index c.args.front.now (row_text false (map printed ts)) c.args.back.now c.write_str-2.result (omega arith)
+    row-sent _ (g.S.Sink.contents c.write_str.new.self) (g.S.Sink.contents l.out) _ printed l.later ts l.item-index c.args.front.now (comma_separated false (map printed ts)) c.args.back.now c.write_str-2.result (omega arith)
     c.in_ok-write_str.ensures l.invariant c.write_str-2.ensures

@@ -1,7 +1,7 @@
 use Rattle.std.proofs.Common.{◌<◌, List, length, map, sym, ap, ◌∙◌, arith}
 use Rattle.std.proofs.lemmas.Bool.Decides.{nat_tests}
 use Rattle.ets_term.specs.declared.term.Term.{Term}
-use Rattle.ets_term.specs.Data.{data_of, row_of}
+use Rattle.ets_term.specs.Data.{data_of, data_list}
 use Rattle.match_spec.specs.Expressions.{are_expressions}
 use Rattle.match_spec.specs.inside.FirstPaths.{numbers_of}
 use Rattle.match_spec.proofs.ExpressionLaws.{is-tuple, is-tuples, is-atom, is-other}
@@ -9,7 +9,7 @@ use Rattle.match_spec.proofs.expression.check.+checked.Goals as goal
 
 pub is_tuple_expression-returns-then-terms-eq1 : goal.is_tuple_expression-returns-then-terms-eq1
 is_tuple_expression-returns-then-terms-eq1 t c =
-    c.are_expressions.ensures ∙ ap (λ (ts : List Term). are_expressions (numbers_of c.args.first.now.entries) (row_of (map data_of ts))) c.as_slice.ensures
+    c.are_expressions.ensures ∙ ap (λ (ts : List Term). are_expressions (numbers_of c.args.first.now.entries) (data_list (map data_of ts))) c.as_slice.ensures
     ∙ is-tuple (numbers_of c.args.first.now.entries) _ c.index-terms-0.result _ c.if-terms-eq1.true (sym c.index-terms-0.is) c.in-Tuple.is
 
 pub is_tuple_expression-returns-else-terms-eq1 : goal.is_tuple_expression-returns-else-terms-eq1
