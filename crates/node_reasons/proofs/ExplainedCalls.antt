@@ -17,7 +17,7 @@ use Rattle.ownership.specs.World.{Table, World, table_at, resolve, whereis, live
 use Rattle.ownership.specs.Access.{is_owner}
 use Rattle.ownership.specs.Options.{options_of, pid_form, heir_after}
 use Rattle.ownership.specs.Info.{item_of}
-use Rattle.ownership.specs.Messages.{name_or_identifier, post, transfer_message}
+use Rattle.ownership.specs.Messages.{name_or_identifier, push_message, transfer_message}
 use Rattle.ownership.specs.Tables as tables
 use Rattle.ownership.specs.Tables.{without_table, with_changed, with_owner, with_heir, with_table, new_metadata}
 use Rattle.node_core.specs.declared.node.access.Access.TheVariants.{Read, Write}
@@ -175,7 +175,7 @@ module _ (old : State) where
       (unless-explained None (Some (argument 2 rule.NotAlive)) (λ _. true_reply) (lives old.world.processes q) (gives (Ok (tt {0})) after) (λ reply e. (e, refl)) (done-explained (λ _. true_reply) (tt {0}) after refl))
 
   abbrev after-gift : ℕ → Term → ℕ → ℕ → Table → World
-  after-gift p gift t q table = record old.world { processes = post old.world.processes q (transfer_message table.metadata t p gift); tables = with_changed (with_owner q) old.world.tables t }
+  after-gift p gift t q table = record old.world { processes = push_message old.world.processes q (transfer_message table.metadata t p gift); tables = with_changed (with_owner q) old.world.tables t }
 
   abbrev Gives : ℕ → Term → ℕ → ℕ → Table → Outcome (Result (Unit {0}) WorldFault) World
   Gives p gift t q table = refuse old.world (q == p) (Err fault.Badarg) (refuse old.world (not (lives old.world.processes q)) (Err fault.Badarg) (gives (Ok (tt {0})) (after-gift p gift t q table)))

@@ -10,7 +10,7 @@ use Rattle.ownership.specs.declared.metadata.Heir.{Heir}
 use Rattle.ownership.specs.declared.process.Process.{Process}
 use Rattle.ownership.specs.World.{Table, Tables, Processes, process_at, lives, table_at}
 use Rattle.ownership.specs.Access.{is_owner}
-use Rattle.ownership.specs.Messages.{with_message, transfer_message, post, post_all}
+use Rattle.ownership.specs.Messages.{with_message, transfer_message, push_message, push_messages}
 use Rattle.ownership.specs.Tables.{with_owner}
 use Rattle.ownership.specs.End.{living_heir, receiver_of, without_fixes, table_after_exit, message_of, messages_from, with_ended}
 use Rattle.ownership.specs.inside.Ending.{after_transfers, after_message, messages_at}
@@ -65,20 +65,20 @@ module _ (q r : ℕ) (own new : Process) (keeps : new.lives ≡ own.lives) where
   set-lives (e ∷ es) h = at-lives (nat_eq q e.0) e es (set-lives es) h
 
 -- a message does not change who lives
-post-lives-at : (o : Option Process) (ps : Processes) (q : ℕ) (m : Term) → process_at ps q ≡ o → SameLives (option_map_or (λ process. set_value (λ k. q == k) ps (with_message process m)) o ps) ps
-post-lives-at None ps q m e r = refl
-post-lives-at (Some own) ps q m e r = set-lives q r own (with_message own m) refl ps e
+push_message-lives-at : (o : Option Process) (ps : Processes) (q : ℕ) (m : Term) → process_at ps q ≡ o → SameLives (option_map_or (λ process. set_value (λ k. q == k) ps (with_message process m)) o ps) ps
+push_message-lives-at None ps q m e r = refl
+push_message-lives-at (Some own) ps q m e r = set-lives q r own (with_message own m) refl ps e
 
-pub post-lives : (ps : Processes) (q : ℕ) (m : Term) → SameLives (post ps q m) ps
-post-lives ps q m = post-lives-at (process_at ps q) ps q m refl
+pub push_message-lives : (ps : Processes) (q : ℕ) (m : Term) → SameLives (push_message ps q m) ps
+push_message-lives ps q m = push_message-lives-at (process_at ps q) ps q m refl
 
-pub post_all-lives : (ps : Processes) (ms : List (ℕ × Term)) → SameLives (post_all ps ms) ps
-post_all-lives ps [] r = refl
-post_all-lives ps (m ∷ ms) r = post_all-lives (post ps m.0 m.1) ms r ∙ post-lives ps m.0 m.1 r
+pub push_messages-lives : (ps : Processes) (ms : List (ℕ × Term)) → SameLives (push_messages ps ms) ps
+push_messages-lives ps [] r = refl
+push_messages-lives ps (m ∷ ms) r = push_messages-lives (push_message ps m.0 m.1) ms r ∙ push_message-lives ps m.0 m.1 r
 
-post_all-append : (ps : Processes) (ms ns : List (ℕ × Term)) → post_all ps (ms ++ ns) ≡ post_all (post_all ps ms) ns
-post_all-append ps [] ns = refl
-post_all-append ps (m ∷ ms) ns = post_all-append (post ps m.0 m.1) ms ns
+push_messages-append : (ps : Processes) (ms ns : List (ℕ × Term)) → push_messages ps (ms ++ ns) ≡ push_messages (push_messages ps ms) ns
+push_messages-append ps [] ns = refl
+push_messages-append ps (m ∷ ms) ns = push_messages-append (push_message ps m.0 m.1) ms ns
 
 abbrev as_list : Option (ℕ × Term) → List (ℕ × Term)
 as_list None = []
@@ -100,23 +100,23 @@ module _ (ps : Processes) (p : ℕ) (at : ℕ → Option Table) where
       ∙ sym (append_assoc (as_list (message_of ps p i (at i))) (messages_at ps p at ids) (as_list (message_of ps p t (at t))))
       ∙ ap (λ r. r ++ as_list (message_of ps p t (at t))) (sym (listed (message_of ps p i (at i)) (messages_at ps p at ids)))
 
-one : (qs : Processes) (m : Option (ℕ × Term)) → post_all qs (as_list m) ≡ after_message qs m
+one : (qs : Processes) (m : Option (ℕ × Term)) → push_messages qs (as_list m) ≡ after_message qs m
 one qs None = refl
 one qs (Some m) = refl
 
 pub posted-lives : (ps : Processes) (p : ℕ) (tables : Tables) (ids : List ℕ) → SameLives (after_transfers ps p tables ids) ps
-posted-lives ps p tables ids = post_all-lives ps (messages_at ps p (table_at tables) ids)
+posted-lives ps p tables ids = push_messages-lives ps (messages_at ps p (table_at tables) ids)
 
 -- one table more
 pub posted-more : (ps : Processes) (p : ℕ) (tables : Tables) (ids : List ℕ) (t : ℕ) → after_transfers ps p tables (ids ++ t ∷ []) ≡ after_message (after_transfers ps p tables ids) (message_of (after_transfers ps p tables ids) p t (table_at tables t))
 posted-more ps p tables ids t =
-    ap (post_all ps) (messages-push ps p (table_at tables) ids t) ∙ post_all-append ps (messages_at ps p (table_at tables) ids) (as_list (message_of ps p t (table_at tables t)))
+    ap (push_messages ps) (messages-push ps p (table_at tables) ids t) ∙ push_messages-append ps (messages_at ps p (table_at tables) ids) (as_list (message_of ps p t (table_at tables t)))
     ∙ one (after_transfers ps p tables ids) (message_of ps p t (table_at tables t))
     ∙ ap (after_message (after_transfers ps p tables ids)) (sym (message-same (after_transfers ps p tables ids) ps p t (table_at tables t) (posted-lives ps p tables ids)))
 
 after_message-lives : (ps : Processes) (m : Option (ℕ × Term)) → SameLives (after_message ps m) ps
 after_message-lives ps None r = refl
-after_message-lives ps (Some m) r = post-lives ps m.0 m.1 r
+after_message-lives ps (Some m) r = push_message-lives ps m.0 m.1 r
 
 -- the message of a table is the same when it is posted
 pub message-still : (before now : Processes) (p t : ℕ) (o : Option Table) → now ≡ after_message before (message_of before p t o) → message_of before p t o ≡ message_of now p t o

@@ -11,7 +11,7 @@ use Rattle.ownership.specs.declared.metadata.Metadata.{Metadata}
 use Rattle.ownership.specs.declared.metadata.Heir.{Heir}
 use Rattle.ownership.specs.World.{Table, Tables, Processes, World, lives}
 use Rattle.ownership.specs.Access.{is_owner}
-use Rattle.ownership.specs.Messages.{transfer_message, post_all}
+use Rattle.ownership.specs.Messages.{transfer_message, push_messages}
 use Rattle.ownership.specs.Tables.{with_owner}
 
 -- the processes after one has ended: it lives no more, and its messages are gone
@@ -58,7 +58,7 @@ messages_from processes p t (table ∷ tables) =
 abbrev pub after_exit : World → Processes → ℕ → World
 after_exit w processes p =
     record w {
-      processes = post_all processes (messages_from processes p 0 w.tables);
+      processes = push_messages processes (messages_from processes p 0 w.tables);
       tables = map (table_after_exit processes p) w.tables;
     }
 

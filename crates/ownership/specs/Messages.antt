@@ -22,15 +22,15 @@ abbrev pub with_message : Process → Term → Process
 with_message process message = record process { mailbox = process.mailbox ++ message ∷ [] }
 
 -- the processes after a message to one of them; the same if it was not enrolled
-abbrev pub post : Processes → ℕ → Term → Processes
-post processes p message =
+abbrev pub push_message : Processes → ℕ → Term → Processes
+push_message processes p message =
     option_map_or (λ process. set_value (λ q. p == q) processes (with_message process message))
     (process_at processes p) processes
 
 -- messages in order, each with its receiver
-abbrev pub post_all : Processes → List (ℕ × Term) → Processes
-post_all processes [] = processes
-post_all processes (message ∷ messages) = post_all (post processes message.0 message.1) messages
+abbrev pub push_messages : Processes → List (ℕ × Term) → Processes
+push_messages processes [] = processes
+push_messages processes (message ∷ messages) = push_messages (push_message processes message.0 message.1) messages
 
 -- the messages that a process has not yet received, oldest first
 abbrev pub mailbox_of : Processes → ℕ → List Term

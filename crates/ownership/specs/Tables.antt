@@ -11,7 +11,7 @@ use Rattle.ownership.specs.declared.metadata.Heir.{Heir}
 use Rattle.ownership.specs.declared.options.NewOptions.{NewOptions}
 use Rattle.ownership.specs.World.{Table, Tables, World, process_at, lives, table_at, whereis}
 use Rattle.ownership.specs.Access.{is_owner}
-use Rattle.ownership.specs.Messages.{name_or_identifier, transfer_message, post}
+use Rattle.ownership.specs.Messages.{name_or_identifier, transfer_message, push_message}
 use Rattle.ownership.specs.Options.{heir_after}
 
 -- the world after a process was enrolled
@@ -69,7 +69,7 @@ with_changed change tables t = slice_set tables t (option_map change (table_at t
 -- the world after a table passed to another owner, which gets a message
 abbrev pub after_transfer : World → ℕ → ℕ → Term → World
 after_transfer w t q message =
-    record w { processes = post w.processes q message; tables = with_changed (with_owner q) w.tables t }
+    record w { processes = push_message w.processes q message; tables = with_changed (with_owner q) w.tables t }
 
 -- The owner gives the table to another living process, which gets the transfer message.
 abbrev pub GiveAway : World → ℕ → ℕ → ℕ → Term → Outcome (Result (Unit {0}) WorldFault) World

@@ -1,6 +1,6 @@
 // Messages to processes.
 ghost use Rattle.std.specs.Prelude.{◌≡◌, List, ℕ, OnOk, OnErr, IfOk};
-ghost use Rattle.ownership.specs.Messages.{name_or_identifier, transfer_message, post, post_all};
+ghost use Rattle.ownership.specs.Messages.{name_or_identifier, transfer_message, push_message, push_messages};
 ghost use Rattle.ownership.specs.declared.process.Process as model;
 ghost use Rattle.ets_term.specs.declared.term.Term as term;
 
@@ -48,12 +48,12 @@ pub fn transfer_message(
 }
 
 /// Appends a message to the mailbox of a process, if the process was enrolled. Otherwise drops the message.
-pub fn post(
+pub fn push_message(
     processes: &mut IndexMap<u32, Process>,
     pid: u32,
     message: Term,
 ) -> Result<(), AllocError>
-    ensures ok { OnOk result (processes.new.entries ≡ post processes.old.entries pid message) }
+    ensures ok { OnOk result (processes.new.entries ≡ push_message processes.old.entries pid message) }
     ensures err { OnErr result (processes.new.entries ≡ processes.old.entries) }
 {
     match processes.get_mut(&pid) {
@@ -71,9 +71,9 @@ pub fn post(
 }
 
 /// Removes the message that was posted last to a process. This takes no memory.
-pub fn unpost(processes: &mut IndexMap<u32, Process>, pid: u32)
+pub fn pop_message(processes: &mut IndexMap<u32, Process>, pid: u32)
     ensures { (before : List (ℕ × model.Process)) (message : term.Term)
-        → processes.old.entries ≡ post before pid message → processes.new.entries ≡ before }
+        → processes.old.entries ≡ push_message before pid message → processes.new.entries ≡ before }
 {
     if let Some(process) = processes.get_mut(&pid) {
         let _ = process.mailbox.pop();

@@ -18,7 +18,7 @@ pub struct OwnedTable<R: Rows> {
 #[derive(Drop)]
 struct Parts<R: Rows> {
     metadata: Metadata,
-    walked: Walked<R>,
+    table: Walked<R>,
 }
 
 impl<R: Rows> Model for OwnedTable<R> {
@@ -29,37 +29,40 @@ impl<R: Rows> Model for OwnedTable<R> {
 
     ghost coded = { table_code };
 
-    ghost view = { λ t. record { metadata = t.parts.value.metadata; fixed = t.parts.value.walked } };
+    ghost view = { λ t. record { metadata = t.parts.value.metadata; fixed = t.parts.value.table } };
 }
 
 impl<R: Rows> OwnedTable<R> {
     ghost use Rattle.ownership.specs.inside.Lending.{LendsFixed};
 
     /// Puts a table and its metadata into a box. If memory is refused, both are dropped.
-    pub fn new(alloc: Global, metadata: Metadata, walked: Walked<R>) -> Result<Self, AllocError>
-        ensures { IfOk result (λ table. table ≡ record { metadata = metadata; fixed = walked }) }
+    pub fn new(alloc: Global, metadata: Metadata, table: Walked<R>) -> Result<Self, AllocError>
+        ensures { IfOk result (λ owned. owned ≡ record { metadata = metadata; fixed = table }) }
     {
-        let parts = Box::new(alloc, Parts { metadata, walked })?;
+        let parts = Box::new(alloc, Parts { metadata, table })?;
         Ok(OwnedTable { parts })
     }
 
+    /// Returns the metadata.
     pub fn metadata(&self) -> &Metadata
         ensures { result.now ≡ self.now.metadata }
     {
         &self.parts.metadata
     }
 
-    pub fn walked(&self) -> &Walked<R>
+    /// Returns the table without its metadata.
+    pub fn table(&self) -> &Walked<R>
         ensures { result.now ≡ self.now.fixed }
     {
-        &self.parts.walked
+        &self.parts.table
     }
 
-    pub fn walked_mut(&mut self) -> &mut Walked<R>
+    /// Borrows the table without its metadata for a change.
+    pub fn table_mut(&mut self) -> &mut Walked<R>
         ensures* lends { sem 𝓛 (LendsFixed R.row R.Rows self.entry result) }
         ensures value { result.now ≡ self.old.fixed }
     {
-        &mut self.parts.walked
+        &mut self.parts.table
     }
 
     /// Sets the owner.
@@ -80,6 +83,6 @@ impl<R: Rows> OwnedTable<R> {
     pub fn release_all(&mut self, pid: u32)
         ensures { self.new ≡ without_fixes pid self.old }
     {
-        self.parts.walked.release_all(pid);
+        self.parts.table.release_all(pid);
     }
 }

@@ -13,7 +13,7 @@ use Rattle.ownership.specs.declared.metadata.Heir.{Heir}
 use Rattle.ownership.specs.declared.options.NewOptions.{NewOptions}
 use Rattle.ownership.specs.World.{Table, Tables, Processes, World, process_at, lives, table_at, whereis}
 use Rattle.ownership.specs.Access.{is_owner}
-use Rattle.ownership.specs.Messages.{name_or_identifier, transfer_message, post, post_all}
+use Rattle.ownership.specs.Messages.{name_or_identifier, transfer_message, push_message, push_messages}
 use Rattle.ownership.specs.Options.{heir_after}
 use Rattle.ownership.specs.Tables as tables
 use Rattle.ownership.specs.Tables.{after_enrol, new_metadata, with_table, with_owner, with_heir, with_changed, after_set_heir}
@@ -32,7 +32,7 @@ pub record IsLawfulOutcome (P : World → Type 0) (X : Type 0) (outcome unobserv
 -- a table that was given away, in the world without its metadata
 abbrev pub given : World → ℕ → ℕ → ℕ → Term → Metadata → World
 given w p t q gift metadata =
-    record w { processes = post w.processes q (transfer_message metadata t p gift); tables = with_changed (with_owner q) w.tables t }
+    record w { processes = push_message w.processes q (transfer_message metadata t p gift); tables = with_changed (with_owner q) w.tables t }
 
 module _ (P : World → Type 0) (old : World) (same : P old) where
   abbrev Lawful : (X : Type 0) → Outcome (Result X WorldFault) World → Outcome (Result X WorldFault) World → Type 0
@@ -122,7 +122,7 @@ module _ (P : World → Type 0) (old : World) (same : P old) where
           refuse-lawful (q == p) Badarg (λ another.
           refuse-lawful (not (lives old.processes q)) Badarg (λ living.
           gives-lawful tt (given old p t q gift metadata) (given (observable_world old) p t q gift metadata)
-          (ap (λ ts. record old { processes = post old.processes q (transfer_message metadata t p gift); tables = ts }) (sym (changed-observable (with_owner q) (λ table. refl) old.tables t))) after)))
+          (ap (λ ts. record old { processes = push_message old.processes q (transfer_message metadata t p gift); tables = ts }) (sym (changed-observable (with_owner q) (λ table. refl) old.tables t))) after)))
 
       pub give-lawful : ((metadata : Metadata) → P (given old p t q gift metadata))
           → Lawful (Unit {0}) (tables.GiveAway old p t q gift) (tables.GiveAway (observable_world old) p t q gift)
@@ -193,7 +193,7 @@ module _ (processes : Processes) (p : ℕ) where
 
   handed-observable : (w : World) → observable_world (after_exit w processes p) ≡ after_exit (observable_world w) processes p
   handed-observable w =
-      ap₂ (λ ms ts. record w { processes = post_all processes ms; tables = ts }) (sym (messages-observable 0 w.tables)) (sym (all-observable w.tables))
+      ap₂ (λ ms ts. record w { processes = push_messages processes ms; tables = ts }) (sym (messages-observable 0 w.tables)) (sym (all-observable w.tables))
 
 pub end-lawful : (P : World → Type 0) (old : World) → P old → (p : ℕ) → P (after_exit old (with_ended old.processes p) p)
     → IsLawfulOutcome P (Unit {0}) (ends.End old p) (ends.End (observable_world old) p)

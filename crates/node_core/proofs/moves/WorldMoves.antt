@@ -11,7 +11,7 @@ use Rattle.ownership.specs.declared.metadata.Heir.{Heir}
 use Rattle.ownership.specs.declared.options.NewOptions.{NewOptions}
 use Rattle.ownership.specs.World.{Table, Processes, World, process_at, whereis}
 use Rattle.ownership.specs.Access.{is_owner}
-use Rattle.ownership.specs.Messages.{transfer_message, post, post_all, after_receive}
+use Rattle.ownership.specs.Messages.{transfer_message, push_message, push_messages, after_receive}
 use Rattle.ownership.specs.Tables.{after_enrol, new_metadata, with_table, without_table, with_owner, with_heir, after_set_heir}
 use Rattle.ownership.specs.End.{with_ended, living_heir, without_fixes, table_after_exit, messages_from, after_exit}
 use Rattle.node_core.specs.rules.Tables.{first_buckets}
@@ -20,8 +20,8 @@ use Rattle.node_core.proofs.moves.Preserves.{all_released-preserves}
 use Rattle.node_core.proofs.moves.WorldLaws.{given}
 
 -- ---- messages are posted and received
-length-post : (processes : Processes) (q : ℕ) (message : Term) → length (post processes q message) ≡ length processes
-length-post processes q message = by (process_at processes q)
+length-push_message : (processes : Processes) (q : ℕ) (message : Term) → length (push_message processes q message) ≡ length processes
+length-push_message processes q message = by (process_at processes q)
   where
     by : (o : Option _)
         → length (option_map_or (λ process. set_value (λ x. q == x) processes (record process { mailbox = process.mailbox ++ message ∷ [] })) o processes) ≡ length processes
@@ -29,10 +29,10 @@ length-post processes q message = by (process_at processes q)
     by (Some process) =
         length-set_value (λ x. q == x) processes (record process { mailbox = process.mailbox ++ message ∷ [] })
 
-length-post_all : (processes : Processes) (messages : List (ℕ × Term))
-    → length (post_all processes messages) ≡ length processes
-length-post_all processes [] = refl
-length-post_all processes (m ∷ ms) = length-post_all (post processes m.0 m.1) ms ∙ length-post processes m.0 m.1
+length-push_messages : (processes : Processes) (messages : List (ℕ × Term))
+    → length (push_messages processes messages) ≡ length processes
+length-push_messages processes [] = refl
+length-push_messages processes (m ∷ ms) = length-push_messages (push_message processes m.0 m.1) ms ∙ length-push_message processes m.0 m.1
 
 length-received : (processes : Processes) (p : ℕ) → length (after_receive processes p) ≡ length processes
 length-received processes p = by (process_at processes p)
@@ -73,7 +73,7 @@ module _ (own : ℕ → Bool) (old : World) where
   pub give-moves : (p t q : ℕ) (gift : Term) (metadata : Metadata) → Moves own old (given old p t q gift metadata)
   give-moves p t q gift metadata = record {
     most = refl;
-    known = let e = length-post old.processes q (transfer_message metadata t p gift) in omega (arith, e);
+    known = let e = length-push_message old.processes q (transfer_message metadata t p gift) in omega (arith, e);
     tables =
         follows-changed own old.tables (with_owner q) (λ table. let same = stays-same own table in record { name = refl; named = refl; fixed = same.fixed }) t;
   }
@@ -115,7 +115,7 @@ pub end-moves : (old : World) (p : ℕ) → Moves (λ w. p == w) old (after_exit
 end-moves old p = record {
   most = refl;
   known =
-      let e = length-post_all (with_ended old.processes p) (messages_from (with_ended old.processes p) p 0 old.tables) in
+      let e = length-push_messages (with_ended old.processes p) (messages_from (with_ended old.processes p) p 0 old.tables) in
       let f = length-set_value (λ q. p == q) old.processes (record { lives = false; mailbox = [] }) in
       omega (arith, e, f);
   tables =

@@ -3,14 +3,14 @@ use Rattle.std.specs.Prelude.{◌≡◌, ℕ, List, [], ◌∷◌, Option, Some,
 use Rattle.std.specs.Option.{option_map_or}
 use Rattle.ets_term.specs.declared.term.Term.{Term}
 use Rattle.ownership.specs.World.{Table, Tables, Processes, table_at}
-use Rattle.ownership.specs.Messages.{post, post_all}
+use Rattle.ownership.specs.Messages.{push_message, push_messages}
 use Rattle.ownership.specs.End.{message_of}
 use Rattle.ownership.specs.inside.Indices.{IsAmong}
 
 -- the processes after a message, if there is one
 abbrev pub after_message : Processes → Option (ℕ × Term) → Processes
 after_message processes None = processes
-after_message processes (Some message) = post processes message.0 message.1
+after_message processes (Some message) = push_message processes message.0 message.1
 
 -- the processes after the transfer message of the table with this identifier
 abbrev pub after_transfer_of : Processes → ℕ → Tables → ℕ → Processes
@@ -24,7 +24,7 @@ messages_at processes p at (t ∷ ids) =
     (message_of processes p t (at t)) (messages_at processes p at ids)
 
 abbrev pub after_transfers : Processes → ℕ → Tables → List ℕ → Processes
-after_transfers processes p tables ids = post_all processes (messages_at processes p (table_at tables) ids)
+after_transfers processes p tables ids = push_messages processes (messages_at processes p (table_at tables) ids)
 
 -- the end of the process leaves the table at a place as it is
 abbrev pub IsReassigned : (Option Table → Option Table) → Tables → ℕ → Type 0

@@ -45,12 +45,12 @@ impl Indices {
             return;
         };
         self.dirty = None;
-        let Some(Some(table)) = tables.get(last as usize) else {
+        let Some(Some(owned)) = tables.get(last as usize) else {
             return;
         };
-        let walked = table.walked();
-        walked.reveal_invariant();
-        if walked.is_fixed() {
+        let table = owned.table();
+        table.reveal_invariant();
+        if table.is_fixed() {
             let _ = insert_sorted(&mut self.fixed, last);
         }
     }
@@ -70,7 +70,7 @@ fn is_fixed_at<R: Rows>(tables: &[Option<OwnedTable<R>>], id: u32) -> bool
     ensures { result ≡ is_fixed_at tables.now id }
 {
     match tables.get(id as usize) {
-        Some(Some(table)) => table.walked().is_fixed(),
+        Some(Some(owned)) => owned.table().is_fixed(),
         _ => false,
     }
 }

@@ -8,7 +8,7 @@ ghost use Rattle.ownership.specs.inside.Ending.{after_transfers, after_transfer_
 
 use super::World;
 use crate::fault::WorldFault;
-use crate::messages::{post, transfer_message, unpost};
+use crate::messages::{pop_message, push_message, transfer_message};
 use crate::metadata::{Heir, Metadata};
 use crate::process::{Process, process_in};
 use crate::table::OwnedTable;
@@ -140,7 +140,7 @@ fn post_transfer<R: Rows>(
         return Ok(());
     };
     let message = transfer_message(alloc, table.metadata(), id, pid, &heir.gift)?;
-    post(processes, heir.pid, message)
+    push_message(processes, heir.pid, message)
 }
 
 /// Removes the transfer messages of these tables, the last first.
@@ -177,7 +177,7 @@ fn unpost_transfer<R: Rows>(
     let Some(heir) = receiver_of(processes, table, pid) else {
         return;
     };
-    unpost(processes, heir.pid);
+    pop_message(processes, heir.pid);
 }
 
 /// Returns the heir that gets a table of the process.

@@ -4,7 +4,7 @@ ghost use Rattle.ownership.specs.Outcomes.{RefinesWorld};
 
 use super::World;
 use crate::fault::WorldFault;
-use crate::messages::{post, transfer_message};
+use crate::messages::{push_message, transfer_message};
 use crate::metadata::Heir;
 use crate::options::heir_in_setopts;
 use crate::table::OwnedTable;
@@ -69,7 +69,7 @@ impl<R: Rows> World<R> {
             drop(message);
             return Err(error);
         }
-        post(&mut self.processes, owner, message)?;
+        push_message(&mut self.processes, owner, message)?;
         set_owner_at(&mut self.tables, id, owner);
         Ok(())
     }

@@ -22,16 +22,17 @@ impl<R: Rows> World<R> {
     }
 }
 
+/// Returns what `info` answers for one item of a table.
 fn info_value<R: Rows>(
     alloc: Global,
-    table: &OwnedTable<R>,
+    owned: &OwnedTable<R>,
     id: u32,
     item: InfoItem,
 ) -> Result<Term, AllocError>
-    ensures { IfOk result (λ t. t ≡ info_of item id table.now) }
+    ensures { IfOk result (λ t. t ≡ info_of item id owned.now) }
 {
-    let metadata = table.metadata();
-    let walked = table.walked();
+    let metadata = owned.metadata();
+    let table = owned.table();
     match item {
         InfoItem::Name => Ok(Term::Atom(metadata.name.try_clone(alloc)?)),
         InfoItem::NamedTable => truth(alloc, metadata.named),
@@ -39,9 +40,9 @@ fn info_value<R: Rows>(
         InfoItem::Protection => protection_term(alloc, metadata.protection),
         InfoItem::Heir => heir_term(alloc, &metadata.heir),
         InfoItem::Id => Ok(Term::Tid(id)),
-        InfoItem::Size => Ok(Term::Int(walked.size() as Integer)),
-        InfoItem::Kind => kind_term(alloc, walked.kind()),
-        InfoItem::Keypos => Ok(Term::Int(walked.keypos() as Integer)),
-        InfoItem::Fixed => truth(alloc, walked.is_fixed()),
+        InfoItem::Size => Ok(Term::Int(table.size() as Integer)),
+        InfoItem::Kind => kind_term(alloc, table.kind()),
+        InfoItem::Keypos => Ok(Term::Int(table.keypos() as Integer)),
+        InfoItem::Fixed => truth(alloc, table.is_fixed()),
     }
 }

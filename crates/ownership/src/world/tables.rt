@@ -66,7 +66,7 @@ impl<R: Rows> World<R> {
         ensures { option_copied result ≡ fixed_at self.now.tables id }
     {
         match self.tables.get(id as usize) {
-            Some(Some(table)) => Some(table.walked()),
+            Some(Some(owned)) => Some(owned.table()),
             _ => None,
         }
     }
@@ -78,8 +78,8 @@ impl<R: Rows> World<R> {
     {
         self.indices.mark_dirty(self.tables.as_slice(), id);
         let found = self.tables.get_mut(id as usize)?;
-        let table = found.as_mut()?;
-        Some(table.walked_mut())
+        let owned = found.as_mut()?;
+        Some(owned.table_mut())
     }
 
     /// Creates a table of a process (stdlib manual, ets:new/2). Returns the name of a named table, else the
@@ -161,25 +161,25 @@ impl<R: Rows> World<R> {
     }
 
     /// Adds a table with the next identifier. If it is named, its name must be free.
-    fn push_table(&mut self, metadata: Metadata, walked: Walked<R>) -> Result<(), AllocError>
+    fn push_table(&mut self, metadata: Metadata, table: Walked<R>) -> Result<(), AllocError>
         requires free { IsNameFree self.old.tables metadata }
         requires few { length self.old.tables + 1 < 2 ^ 32 }
-        ensures ok { OnOk result (self.new ≡ with_table self.old metadata walked) }
+        ensures ok { OnOk result (self.new ≡ with_table self.old metadata table) }
         ensures err { OnErr result (self.new ≡ self.old) }
     {
-        let table = OwnedTable::new(self.alloc, metadata, walked)?;
+        let owned = OwnedTable::new(self.alloc, metadata, table)?;
         if let Err(error) = self.tables.reserve(1) {
-            drop(table);
+            drop(owned);
             return Err(error);
         }
         if let Err(error) = self
             .indices
-            .insert(self.alloc, self.tables.as_slice(), &table)
+            .insert(self.alloc, self.tables.as_slice(), &owned)
         {
-            drop(table);
+            drop(owned);
             return Err(error);
         }
-        self.tables.push_reserved(Some(table));
+        self.tables.push_reserved(Some(owned));
         Ok(())
     }
 

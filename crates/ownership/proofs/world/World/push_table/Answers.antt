@@ -17,8 +17,8 @@ insert-requires-clause-few g c =
 
 pub insert-requires-clause-free : goal.insert-requires-clause-free
 insert-requires-clause-free g c = λ named.
-    let table = c.in_ok-table.table in
-    let its = ap (λ (t : Table). t.metadata) c.in_ok-table.ensures in
+    let table = c.in_ok-owned.owned in
+    let its = ap (λ (t : Table). t.metadata) c.in_ok-owned.ensures in
     ap (λ (ts : Tables). whereis ts table.metadata.name) (c.as_slice.ensures.value ∙ c.reserve.ensures.items) ∙ ap (λ (v : World). whereis v.tables table.metadata.name) c.self.view_is
     ∙ ap (λ (h : Metadata). whereis c.args.self.now.tables h.name) its ∙ c.requires.free (ap (λ (h : Metadata). h.named) (sym its) ∙ named)
 
@@ -27,4 +27,4 @@ invariant_of-self-in-Err-insert g c = subst (λ (ts : Tables). IndicesInvariant 
 
 pub invariant_of-self-2 : goal.invariant_of-self-2
 invariant_of-self-2 g c =
-    subst (λ (ts : Tables). IndicesInvariant c.insert.new.self ts) (ap (λ (ts : Tables). ts ++ Some c.in_ok-table.table ∷ []) c.as_slice.ensures.value ∙ sym c.push_reserved.ensures.items) c.in_default-insert.ensures.ok
+    subst (λ (ts : Tables). IndicesInvariant c.insert.new.self ts) (ap (λ (ts : Tables). ts ++ Some c.in_ok-owned.owned ∷ []) c.as_slice.ensures.value ∙ sym c.push_reserved.ensures.items) c.in_default-insert.ensures.ok

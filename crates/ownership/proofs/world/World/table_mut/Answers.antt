@@ -9,12 +9,12 @@ use Rattle.ownership.proofs.world.World.table_mut.Goals as goal
 pub invariant_of-self-lent : goal.invariant_of-self-lent
 invariant_of-self-lent g c = λ w.
     let items = c.self.inside.tables.items in
-    let at : table_at items c.args.id ≡ Some c.in_ok-table.table.now = sym (c.in_ok-found.ensures.item.3.1 None) ∙ sym c.in_ok-table.ensures.value in
+    let at : table_at items c.args.id ≡ Some c.in_ok-owned.owned.now = sym (c.in_ok-found.ensures.item.3.1 None) ∙ sym c.in_ok-owned.ensures.value in
     let kept = subst (λ (ts : Tables). IndicesInvariant c.mark_dirty.new.self ts) c.as_slice.ensures.value c.mark_dirty.ensures.indices in
-    kept-fixed c.mark_dirty.new.self items kept c.args.id c.in_ok-table.table.now w at c.mark_dirty.ensures.dirty
+    kept-fixed c.mark_dirty.new.self items kept c.args.id c.in_ok-owned.owned.now w at c.mark_dirty.ensures.dirty
 
-pub invariant_of-self-in_err-table : goal.invariant_of-self-in_err-table
-invariant_of-self-in_err-table g c =
+pub invariant_of-self-in_err-owned : goal.invariant_of-self-in_err-owned
+invariant_of-self-in_err-owned g c =
     let items = c.self.inside.tables.items in
     let kept = subst (λ (ts : Tables). IndicesInvariant c.mark_dirty.new.self ts) c.as_slice.ensures.value c.mark_dirty.ensures.indices in
     kept-same c.mark_dirty.new.self items kept c.args.id c.in_ok-found.found.now (sym (c.in_ok-found.ensures.item.3.1 None))
@@ -22,10 +22,10 @@ invariant_of-self-in_err-table g c =
 pub returns : goal.returns
 returns g c =
     let items = c.self.inside.tables.items in
-    let at : table_at items c.args.id ≡ Some c.in_ok-table.table.now = sym (c.in_ok-found.ensures.item.3.1 None) ∙ sym c.in_ok-table.ensures.value in
+    let at : table_at items c.args.id ≡ Some c.in_ok-owned.owned.now = sym (c.in_ok-found.ensures.item.3.1 None) ∙ sym c.in_ok-owned.ensures.value in
     let ends : (w : TableState) → _ = λ w.
-    ap (λ tables. record { most_processes = c.self.inside.most_processes; most_tables = c.self.inside.most_tables; processes = c.self.inside.processes.entries; tables = tables }) (fixed-there items c.args.id c.in_ok-table.table.now w at)
+    ap (λ tables. record { most_processes = c.self.inside.most_processes; most_tables = c.self.inside.most_tables; processes = c.self.inside.processes.entries; tables = tables }) (fixed-there items c.args.id c.in_ok-owned.owned.now w at)
     ∙ ap (λ (v : World). record v { tables = with_fixed v.tables c.args.id w }) c.self.view_is in (
-      λ i. inl (c.walked_mut.result.ghost_name, λ w. ends w i),
-      record { lends = tt; value = ap Some (c.walked_mut.ensures.value) ∙ ap (λ (o : Option Table). option_map (λ table. table.fixed) o) (sym at ∙ ap (λ (v : World). table_at v.tables c.args.id) c.self.view_is) },
+      λ i. inl (c.table_mut.result.ghost_name, λ w. ends w i),
+      record { lends = tt; value = ap Some (c.table_mut.ensures.value) ∙ ap (λ (o : Option Table). option_map (λ table. table.fixed) o) (sym at ∙ ap (λ (v : World). table_at v.tables c.args.id) c.self.view_is) },
     )

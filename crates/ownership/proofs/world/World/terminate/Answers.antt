@@ -1,6 +1,6 @@
 use Rattle.std.proofs.Common.{◌≡◌, ◌+◌, ℕ, Some, sym, ap, subst, ◌∙◌, List, map, arith}
 use Rattle.ownership.specs.World.{Tables, World, Processes, table_at, lives}
-use Rattle.ownership.specs.Messages.{post_all}
+use Rattle.ownership.specs.Messages.{push_messages}
 use Rattle.ownership.specs.End.{with_ended, after_exit, living_heir, table_after_exit, messages_from}
 use Rattle.ownership.specs.inside.Ending.{after_transfers, messages_at}
 use Rattle.ownership.specs.inside.Indices.{IsAmong, HeirsAreIndexed, CoversTablesOf, ids_under}
@@ -54,7 +54,7 @@ returns-clause-ok g c =
     messages-found start p (table_at items) 4294967296 0 items own (omega (arith, c.self.invariant.few)) (c.self.invariant.order p) (λ k. ap (table_at items) (from k), λ k table at mine. subst (λ i. IsAmong i own) (sym (from k)) (owned-all (ids_under c.self.inside.indices) items p c.self.invariant.by_owner k table at mine)) in
     let posts : c.post_transfers.new.processes.entries ≡ after_transfers start p items own =
     c.in_ok-post_transfers.ensures.ok ∙ ap (λ (ts : Tables). after_transfers start p ts c.as_slice-4.result.now) c.as_slice-3.ensures.value ∙ ap (after_transfers start p items) (c.as_slice-4.ensures.value ∙ c.in_ok-own.ensures) in
-    let processes : c.post_transfers.new.processes.entries ≡ post_all start (messages_from start p 0 items) = posts ∙ ap (post_all start) (sym found) in
+    let processes : c.post_transfers.new.processes.entries ≡ push_messages start (messages_from start p 0 items) = posts ∙ ap (push_messages start) (sym found) in
     let tables : c.reassign_tables.new.tables.items ≡ map (table_after_exit start p) items =
     c.reassign_tables.ensures.after ∙ ap (λ (ps : Processes). map (table_after_exit ps p) items) posts ∙ all-after-same (after_transfers start p items own) start p items (posted-lives start p items own) in
     (λ i. record { most_processes = c.self.inside.most_processes; most_tables = c.self.inside.most_tables; processes = processes i; tables = tables i })

@@ -7,8 +7,8 @@ use Rattle.ownership.proofs.world.World.transfer.Goals as goal
 pub invariant_of-self : goal.invariant_of-self
 invariant_of-self g c = kept-notes c.self.inside.indices c.self.inside.tables.items c.self.invariant c.index_owner.new.self c.index_owner.ensures.owners
 
-pub invariant_of-self-in_err-post : goal.invariant_of-self-in_err-post
-invariant_of-self-in_err-post g c = kept-notes c.self.inside.indices c.self.inside.tables.items c.self.invariant c.index_owner.new.self c.index_owner.ensures.owners
+pub invariant_of-self-in_err-push_message : goal.invariant_of-self-in_err-push_message
+invariant_of-self-in_err-push_message g c = kept-notes c.self.inside.indices c.self.inside.tables.items c.self.invariant c.index_owner.new.self c.index_owner.ensures.owners
 
 pub invariant_of-self-2 : goal.invariant_of-self-2
 invariant_of-self-2 g c =

@@ -1,7 +1,7 @@
 use Rattle.std.proofs.Common.{sym, ap, ◌∙◌}
 use Rattle.ownership.specs.declared.process.Process.{Process}
 use Rattle.ownership.proofs.Posting.{taken, absent, popped}
-use Rattle.ownership.proofs.messages.unpost.Goals as goal
+use Rattle.ownership.proofs.messages.pop_message.Goals as goal
 
 pub returns-in-Some : goal.returns-in-Some
 returns-in-Some c = λ before message after_transfers.

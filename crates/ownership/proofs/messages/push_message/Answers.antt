@@ -2,7 +2,7 @@ use Rattle.std.proofs.Common.{◌≡◌, ◌==◌, sym, ap, ◌∙◌}
 use Rattle.std.specs.Map.{set_value}
 use Rattle.ownership.specs.declared.process.Process.{Process}
 use Rattle.ownership.proofs.Posting.{set_value-same}
-use Rattle.ownership.proofs.messages.post.Goals as goal
+use Rattle.ownership.proofs.messages.push_message.Goals as goal
 
 pub returns-in-Err-clause-err : goal.returns-in-Err-clause-err
 returns-in-Err-clause-err c =
