@@ -8,7 +8,7 @@ use Rattle.ets_term.specs.declared.term.Term.{Term}
 use Rattle.ets_term.specs.declared.term.Term.TheVariants.{Atom, Tid}
 use Rattle.ets_term.specs.Atoms.{is_atom}
 use Rattle.fixed_walk.specs.Fixes.{max_fixes, fix_count}
-use Rattle.ownership.specs.Access.{may, may_read}
+use Rattle.ownership.specs.Access.{has_access, may_read}
 use Rattle.ownership.specs.World.{table_at, resolve, lives}
 use Rattle.node_core.specs.declared.step.Step.{Step}
 use Rattle.node_core.specs.declared.step.Step.TheVariants.{Enrol, End, Ask, Grow, Ready}
@@ -85,7 +85,7 @@ module _ (p t : ℕ) where
 
   -- whether the process lives, and the table exists and may be read by it
   abbrev pub can_read : State → Bool
-  can_read s = lives s.world.processes p && may may_read s.world.tables p t
+  can_read s = lives s.world.processes p && has_access may_read s.world.tables p t
 
   -- the process's fixes of the table
   abbrev pub fixes_in : State → ℕ

@@ -71,7 +71,7 @@ impl PendingTables {
     }
 
     /// Returns the dirty table.
-    pub fn dirty(&self) -> Option<u32>
+    pub fn dirty_table(&self) -> Option<u32>
         ensures { result ≡ self.now.dirty }
     {
         self.dirty

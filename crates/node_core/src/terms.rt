@@ -16,14 +16,14 @@ pub fn copy_terms(alloc: Global, terms: &[Term]) -> Result<Items<Term>, AllocErr
     Ok(Items::from_vec(copies))
 }
 
-/// Returns whether the lists have equal terms.
-pub fn same(term: &Term, other: &Term) -> bool
+/// Checks whether two terms are equal.
+pub fn equals(term: &Term, other: &Term) -> bool
     ensures { Decides result (term.now ≡ other.now) }
 {
     term == other
 }
 
-/// Returns whether the lists have the same length, and equal terms at each index.
+/// Checks whether the lists have the same length, and equal terms at each index.
 pub fn same_terms(terms: &[Term], others: &[Term]) -> bool
     ensures { Decides result (terms.now ≡ others.now) }
 {

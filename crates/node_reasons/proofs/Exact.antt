@@ -31,7 +31,7 @@ use Rattle.node_core.specs.rules.Replies.{true_reply, is_value}
 use Rattle.node_reasons.specs.declared.reason.Rule.{Rule}
 use Rattle.node_reasons.specs.declared.reason.Rule.TheVariants as rule
 use Rattle.node_reasons.specs.declared.reason.Reason.{Reason}
-use Rattle.node_reasons.specs.Reasons.{refusal_of, argument, whole}
+use Rattle.node_reasons.specs.Reasons.{refusal_of, argument, about_whole_call}
 use Rattle.node_reasons.specs.Calls.{why_call}
 use Rattle.node_reasons.specs.Why.{limit_of, or_limit, why}
 use Rattle.node_reasons.specs.Laws.{Explains, ReasonsAreExact}
@@ -53,16 +53,16 @@ answer-right other limit Badarg e = absurd (cc)
 answer-right other limit SystemLimit e = absurd (cc)
 answer-right other limit NoProcess e = absurd (cc)
 
-limit-right : (limit : Rule) (other : Reason) (v : Option Reason) (reply : Reply) → refusal_of limit ≡ SystemLimit → ReasonExplains v reply → NamesReason v other → Right (or_limit limit v reply) other (whole limit) reply
+limit-right : (limit : Rule) (other : Reason) (v : Option Reason) (reply : Reply) → refusal_of limit ≡ SystemLimit → ReasonExplains v reply → NamesReason v other → Right (or_limit limit v reply) other (about_whole_call limit) reply
 limit-right limit other None reply l (inl e) named = by reply e
   where
-    by : (reply : Reply) → is_value reply ≡ true → Right (or_limit limit None reply) other (whole limit) reply
+    by : (reply : Reply) → is_value reply ≡ true → Right (or_limit limit None reply) other (about_whole_call limit) reply
     by (Value term) e = (refl, refl)
     by Badarg e = absurd (cc)
     by SystemLimit e = absurd (cc)
     by NoProcess e = absurd (cc)
-limit-right limit other None reply l (inr e) named = subst (λ r. Right (or_limit limit None r) other (whole limit) r) (sym e) (sym l, refl)
-limit-right limit other (Some reason) reply l h named = subst (λ r. Right (Some reason) other (whole limit) r) (sym h.0) (sym h.1, ap Some named)
+limit-right limit other None reply l (inr e) named = subst (λ r. Right (or_limit limit None r) other (about_whole_call limit) r) (sym e) (sym l, refl)
+limit-right limit other (Some reason) reply l h named = subst (λ r. Right (Some reason) other (about_whole_call limit) r) (sym h.0) (sym h.1, ap Some named)
 
 limit-refuses : (name : CallName) → refusal_of (limit_of name) ≡ SystemLimit
 limit-refuses name.Insert = refl
@@ -91,8 +91,8 @@ deep-at test args = subst (λ (o : Option ℕ). Deep o (list_any test args)) (sy
 module _ (old : State) where
   abbrev Called : ℕ → List Term → Reply → Option CallName → Type 0
   Called p args reply o =
-      Right (option_map_or (λ name. or_limit (limit_of name) (why_call old.world p name args) reply) o (Some (whole rule.NoCall)))
-      (option_map_or (last_rule_of_refused old.world p args false) o (whole rule.NoCall)) (option_map_or (last_rule_of_refused old.world p args true) o (whole rule.NoCall)) reply
+      Right (option_map_or (λ name. or_limit (limit_of name) (why_call old.world p name args) reply) o (Some (about_whole_call rule.NoCall)))
+      (option_map_or (last_rule_of_refused old.world p args false) o (about_whole_call rule.NoCall)) (option_map_or (last_rule_of_refused old.world p args true) o (about_whole_call rule.NoCall)) reply
 
   called-right : (p : ℕ) (args : List Term) (reply : Reply) (new : State) (o : Option CallName) → refuse_none old o Badarg (λ name. call old p name args) reply new → Called p args reply o
   called-right p args reply new None h = subst (λ r. Called p args r None) (sym h.0) (refl, refl)
@@ -102,9 +102,9 @@ module _ (old : State) where
 
   abbrev Asked : ℕ → Call → Reply → Bool → Option ℕ → Type 0
   Asked p asked reply b o =
-      Right (if b then option_map_or (λ index. Some (argument (index + 1) rule.TooDeep)) o (option_map_or (λ name. or_limit (limit_of name) (why_call old.world p name asked.args) reply) (call_name asked.name) (Some (whole rule.NoCall))) else Some (whole rule.NoProcess))
-      (if b then option_map_or (λ index. argument (index + 1) rule.TooDeep) o (option_map_or (last_rule_of_refused old.world p asked.args false) (call_name asked.name) (whole rule.NoCall)) else whole rule.NoProcess)
-      (if b then option_map_or (λ index. argument (index + 1) rule.TooDeep) o (option_map_or (last_rule_of_refused old.world p asked.args true) (call_name asked.name) (whole rule.NoCall)) else whole rule.NoProcess) reply
+      Right (if b then option_map_or (λ index. Some (argument (index + 1) rule.TooDeep)) o (option_map_or (λ name. or_limit (limit_of name) (why_call old.world p name asked.args) reply) (call_name asked.name) (Some (about_whole_call rule.NoCall))) else Some (about_whole_call rule.NoProcess))
+      (if b then option_map_or (λ index. argument (index + 1) rule.TooDeep) o (option_map_or (last_rule_of_refused old.world p asked.args false) (call_name asked.name) (about_whole_call rule.NoCall)) else about_whole_call rule.NoProcess)
+      (if b then option_map_or (λ index. argument (index + 1) rule.TooDeep) o (option_map_or (last_rule_of_refused old.world p asked.args true) (call_name asked.name) (about_whole_call rule.NoCall)) else about_whole_call rule.NoProcess) reply
 
   asked-right : (p : ℕ) (asked : Call) (reply : Reply) (new : State) (o : Option ℕ) (b : Bool) → Deep o b → Either b (gives SystemLimit old) (call_by_text old p asked.name asked.args) reply new → Asked p asked reply true o
   asked-right p asked reply new None true d h = absurd (cc)
@@ -117,29 +117,29 @@ module _ (old : State) where
   ask-right p asked reply new true h = asked-right p asked reply new (position is_too_deep asked.args) (list_any is_too_deep asked.args) (deep-at is_too_deep asked.args) h
   ask-right p asked reply new false h = subst (λ r. Asked p asked r false (position is_too_deep asked.args)) (sym h.0) (refl, refl)
 
-  enrol-explained : (p : ℕ) → ReasonExplainsAll (if is_some (process_at old.world.processes p) then Some (whole rule.AlreadyEnrolled) else None) (step old (Enrol p))
+  enrol-explained : (p : ℕ) → ReasonExplainsAll (if is_some (process_at old.world.processes p) then Some (about_whole_call rule.AlreadyEnrolled) else None) (step old (Enrol p))
   enrol-explained p =
-      asks-explained old (if is_some (process_at old.world.processes p) then Some (whole rule.AlreadyEnrolled) else None) (λ _. Value (Pid p)) (tables.Enrol old.world p)
-      (where-explained old None (Some (whole rule.AlreadyEnrolled)) (λ _. Value (Pid p)) (is_some (process_at old.world.processes p))
+      asks-explained old (if is_some (process_at old.world.processes p) then Some (about_whole_call rule.AlreadyEnrolled) else None) (λ _. Value (Pid p)) (tables.Enrol old.world p)
+      (where-explained old None (Some (about_whole_call rule.AlreadyEnrolled)) (λ _. Value (Pid p)) (is_some (process_at old.world.processes p))
       (refuse old.world (nat_le old.world.most_processes (length old.world.processes)) (Err fault.SystemLimit) (gives (Ok (tt {0})) (after_enrol old.world p))) (λ reply e. (e, refl))
       (within-explained old (λ _. Value (Pid p)) (nat_le old.world.most_processes (length old.world.processes)) (tt {0}) (after_enrol old.world p) refl))
 
   ended : (after : World) (result : _) (reply : Reply) (new : World) (b : Bool) → refuse old.world (not b) (Err fault.NoProcess) (gives (Ok (tt {0})) after) result new → WorldResultToReply (λ _. true_reply) result reply
-      → Right (if b then None else Some (whole rule.NoProcess)) (whole rule.NoProcess) (whole rule.NoProcess) reply
+      → Right (if b then None else Some (about_whole_call rule.NoProcess)) (about_whole_call rule.NoProcess) (about_whole_call rule.NoProcess) reply
   ended after result reply new true h e =
       let r : reply ≡ true_reply = subst (λ r. WorldResultToReply (λ _. true_reply) r reply) h.0 e in
-      answer-right (whole rule.NoProcess) (whole rule.NoProcess) reply (ap is_value r)
+      answer-right (about_whole_call rule.NoProcess) (about_whole_call rule.NoProcess) reply (ap is_value r)
   ended after result reply new false h e =
       let r : reply ≡ NoProcess = subst (λ r. WorldResultToReply (λ _. true_reply) r reply) h.0 e in
-      subst (λ r. Right (Some (whole rule.NoProcess)) (whole rule.NoProcess) (whole rule.NoProcess) r) (sym r) (refl, refl)
+      subst (λ r. Right (Some (about_whole_call rule.NoProcess)) (about_whole_call rule.NoProcess) (about_whole_call rule.NoProcess) r) (sym r) (refl, refl)
 
-  grown : (o : Option Table) (reply : Reply) → reply ≡ option_map_or (λ _. ok_reply) o Badarg → Right (if is_some o then None else Some (whole rule.NoTable)) (whole rule.NoTable) (whole rule.NoTable) reply
-  grown None reply e = subst (λ r. Right (Some (whole rule.NoTable)) (whole rule.NoTable) (whole rule.NoTable) r) (sym e) (refl, refl)
-  grown (Some table) reply e = answer-right (whole rule.NoTable) (whole rule.NoTable) reply (ap is_value e)
+  grown : (o : Option Table) (reply : Reply) → reply ≡ option_map_or (λ _. ok_reply) o Badarg → Right (if is_some o then None else Some (about_whole_call rule.NoTable)) (about_whole_call rule.NoTable) (about_whole_call rule.NoTable) reply
+  grown None reply e = subst (λ r. Right (Some (about_whole_call rule.NoTable)) (about_whole_call rule.NoTable) (about_whole_call rule.NoTable) r) (sym e) (refl, refl)
+  grown (Some table) reply e = answer-right (about_whole_call rule.NoTable) (about_whole_call rule.NoTable) reply (ap is_value e)
 
 right : (old new : State) (s : Step) (reply : Reply) → step old s reply new → Right (why old s reply) (last_rule old.world s false) (last_rule old.world s true) reply
-right old new (Enrol p) reply h = limit-right rule.TooManyProcesses (whole rule.AlreadyEnrolled) (if is_some (process_at old.world.processes p) then Some (whole rule.AlreadyEnrolled) else None) reply refl
-    (enrol-explained old p reply new h) (last-where (is_some (process_at old.world.processes p)) (whole rule.AlreadyEnrolled))
+right old new (Enrol p) reply h = limit-right rule.TooManyProcesses (about_whole_call rule.AlreadyEnrolled) (if is_some (process_at old.world.processes p) then Some (about_whole_call rule.AlreadyEnrolled) else None) reply refl
+    (enrol-explained old p reply new h) (last-where (is_some (process_at old.world.processes p)) (about_whole_call rule.AlreadyEnrolled))
 right old new (End p) reply h = ended old (ends.after_exit old.world (ends.with_ended old.world.processes p) p) h.0 reply new.world (lives old.world.processes p) h.1 h.2
 right old new (Ask p asked) reply h = ask-right old p asked reply new (lives old.world.processes p) h
 right old new (Grow t) reply h = grown old (table_at old.world.tables t) reply h.0

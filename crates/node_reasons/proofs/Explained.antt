@@ -16,7 +16,7 @@ use Rattle.node_core.specs.declared.node.access.Access.TheVariants.{Read, Write}
 use Rattle.node_core.specs.declared.step.Reply.{Reply}
 use Rattle.node_core.specs.declared.step.Reply.TheVariants.{Badarg, SystemLimit}
 use Rattle.node_core.specs.State.{State}
-use Rattle.node_core.specs.Access.{may, allowed, usable, with_table, CallRule, ChangeResultToReply, WorldResultToReply, reads, changes}
+use Rattle.node_core.specs.Access.{may_access, allowed, usable, with_table, CallRule, ChangeResultToReply, WorldResultToReply, reads, changes}
 use Rattle.node_core.specs.rules.Replies.{truth_reply, is_value}
 use Rattle.node_reasons.specs.declared.reason.Reason.{Reason}
 use Rattle.node_reasons.specs.Reasons.{refusal_of, argument, table_of_term, on_table, rule_of_access}
@@ -49,13 +49,13 @@ lacks-explained Read old reply new h = (h.0, refl)
 lacks-explained Write old reply new h = (h.0, refl)
 
 module _ (old : State) (p : ℕ) (access : Access) (rest : Content → Option Reason) (outcome : ℕ × Table → Outcome Reply State) (explains : (found : ℕ × Table) → ReasonExplainsAll (rest found.1.fixed.content) (outcome found)) where
-  may-explained : (t : ℕ) (table : Table) (b : Bool) → ReasonExplainsAll (if b then rest table.fixed.content else Some (argument 1 (rule_of_access access))) (Where (if b then Some (t, table) else None) old outcome)
-  may-explained t table true = explains (t, table)
-  may-explained t table false = lacks-explained access old
+  may_access-explained : (t : ℕ) (table : Table) (b : Bool) → ReasonExplainsAll (if b then rest table.fixed.content else Some (argument 1 (rule_of_access access))) (Where (if b then Some (t, table) else None) old outcome)
+  may_access-explained t table true = explains (t, table)
+  may_access-explained t table false = lacks-explained access old
 
   at-explained : (t : ℕ) (o : Option Table) → ReasonExplainsAll (on_table access p o rest) (Where (option_and_then (allowed access p t) o) old outcome)
   at-explained t None = λ reply new h. (h.0, refl)
-  at-explained t (Some table) = may-explained t table (may access table.metadata p)
+  at-explained t (Some table) = may_access-explained t table (may_access access table.metadata p)
 
   resolved-explained : (o : Option ℕ) → ReasonExplainsAll (on_table access p (option_and_then (table_at old.world.tables) o) rest) (Where (option_and_then (λ t. option_and_then (allowed access p t) (table_at old.world.tables t)) o) old outcome)
   resolved-explained None = λ reply new h. (h.0, refl)

@@ -15,7 +15,7 @@ use Rattle.node_core.specs.Observable.{observable_table, observable_tables}
 use Rattle.node_core.proofs.buckets.ObservableTables.{observable_world, at-observable, resolve-observable}
 use Rattle.node_reasons.specs.declared.reason.Rule.TheVariants as rule
 use Rattle.node_reasons.specs.declared.reason.Reason.{Reason}
-use Rattle.node_reasons.specs.Reasons.{argument, whole, table_of_term}
+use Rattle.node_reasons.specs.Reasons.{argument, about_whole_call, table_of_term}
 use Rattle.node_reasons.specs.Objects.{why_insert, why_delete_object, why_next, why_match, why_select, why_lookup_element, why_lookup_element_or}
 use Rattle.node_reasons.specs.Updates.{why_update_counter, why_update_element}
 use Rattle.node_reasons.specs.Calls.{why_call}
@@ -80,15 +80,15 @@ call-seen w p name args = ap (λ o. last_rule_of_known p (metadata_of o) (conten
     by None = refl
     by (Some table) = refl
 
-refused-seen : (w : World) (p : ℕ) (args : List Term) (limited : Bool) (o : Option CallName) → option_map_or (last_rule_of_refused (observable_world w) p args limited) o (whole rule.NoCall) ≡ option_map_or (last_rule_of_refused w p args limited) o (whole rule.NoCall)
+refused-seen : (w : World) (p : ℕ) (args : List Term) (limited : Bool) (o : Option CallName) → option_map_or (last_rule_of_refused (observable_world w) p args limited) o (about_whole_call rule.NoCall) ≡ option_map_or (last_rule_of_refused w p args limited) o (about_whole_call rule.NoCall)
 refused-seen w p args limited None = refl
-refused-seen w p args limited (Some name) = ap (λ (r : Reason). if limited then whole (limit_of name) else r) (call-seen w p name args)
+refused-seen w p args limited (Some name) = ap (λ (r : Reason). if limited then about_whole_call (limit_of name) else r) (call-seen w p name args)
 
 pub last_rule-seen : (w : World) (event : Step) (limited : Bool) → last_rule (observable_world w) event limited ≡ last_rule w event limited
 last_rule-seen w (Enrol p) limited = refl
 last_rule-seen w (End p) limited = refl
 last_rule-seen w (Ask p asked) limited =
-    ap (λ (r : Reason). if lives w.processes p then option_map_or (λ index. argument (index + 1) rule.TooDeep) (position is_too_deep asked.args) r else whole rule.NoProcess)
+    ap (λ (r : Reason). if lives w.processes p then option_map_or (λ index. argument (index + 1) rule.TooDeep) (position is_too_deep asked.args) r else about_whole_call rule.NoProcess)
     (refused-seen w p asked.args limited (call_name asked.name))
 last_rule-seen w (Grow t) limited = refl
 last_rule-seen w (Ready t bucket) limited = refl

@@ -21,7 +21,7 @@ use Rattle.ownership.specs.World.{Table, Tables, Processes, metadata_of, lives, 
 use Rattle.ownership.specs.Access.{is_owner}
 use Rattle.ownership.specs.Options.{options_of, pid_form, heir_after}
 use Rattle.ownership.specs.Info.{item_of}
-use Rattle.node_core.specs.Access.{may}
+use Rattle.node_core.specs.Access.{may_access}
 use Rattle.node_core.specs.Positions.{position_of}
 use Rattle.node_core.specs.declared.node.access.Access.{Access}
 use Rattle.node_core.specs.declared.node.access.Access.TheVariants.{Read}
@@ -51,7 +51,7 @@ last-where false r = tt {0}
 module _ (access : Access) (p : ℕ) (rest : Content → Option Reason) where
   pub on-named : (o : Option Table) (r : Reason) → ((content : Content) → NamesReason (rest content) r) → NamesReason (on_table access p o rest) (needs_access access p (metadata_of o) r)
   on-named None r named = refl
-  on-named (Some table) r named = by (may access table.metadata p)
+  on-named (Some table) r named = by (may_access access table.metadata p)
     where
       by : (b : Bool) → NamesReason (if b then rest table.fixed.content else Some (argument 1 (rule_of_access access))) (if b then r else argument 1 (rule_of_access access))
       by true = named table.fixed.content
@@ -59,7 +59,7 @@ module _ (access : Access) (p : ℕ) (rest : Content → Option Reason) where
 
   pub content-named : (o : Option Table) (last_rule : Content → Reason) → ((content : Content) → NamesReason (rest content) (last_rule content)) → NamesReason (on_table access p o rest) (last_rule_of_content access p (metadata_of o) (content_in (fixed_of o)) last_rule)
   content-named None last_rule named = refl
-  content-named (Some table) last_rule named = by (may access table.metadata p)
+  content-named (Some table) last_rule named = by (may_access access table.metadata p)
     where
       by : (b : Bool) → NamesReason (if b then rest table.fixed.content else Some (argument 1 (rule_of_access access))) (if b then last_rule table.fixed.content else argument 1 (rule_of_access access))
       by true = named table.fixed.content

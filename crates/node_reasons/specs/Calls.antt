@@ -8,7 +8,7 @@ use Rattle.node_core.specs.declared.call_name.CallName.TheVariants as name
 use Rattle.node_core.specs.declared.node.access.Access.TheVariants.{Read, Write}
 use Rattle.node_reasons.specs.declared.reason.Rule.TheVariants as rule
 use Rattle.node_reasons.specs.declared.reason.Reason.{Reason}
-use Rattle.node_reasons.specs.Reasons.{whole, on_table, table_of_term}
+use Rattle.node_reasons.specs.Reasons.{about_whole_call, on_table, table_of_term}
 use Rattle.node_reasons.specs.Objects.{no_further_rule, why_insert, why_delete_object, why_next, why_match, why_select, why_lookup_element, why_lookup_element_or}
 use Rattle.node_reasons.specs.Updates.{why_update_counter, why_update_element}
 use Rattle.node_reasons.specs.Tables.{why_whereis, why_new, why_info, why_safe_fixtable, why_setopts, why_give_away}
@@ -57,4 +57,4 @@ module _ (w : World) (p : ℕ) where
   why_call name.LookupElement (x ∷ y ∷ z ∷ default ∷ []) = why_reads x (why_lookup_element_or y z)
   why_call name.UpdateCounter (x ∷ y ∷ z ∷ default ∷ []) = why_writes x (why_update_counter y z (Some default))
   why_call name.UpdateElement (x ∷ y ∷ z ∷ default ∷ []) = why_writes x (why_update_element y z (Some default))
-  why_call _ _ = Some (whole rule.WrongArity)
+  why_call _ _ = Some (about_whole_call rule.WrongArity)

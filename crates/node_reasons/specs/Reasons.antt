@@ -8,7 +8,7 @@ use Rattle.node_core.specs.declared.node.access.Access.{Access}
 use Rattle.node_core.specs.declared.node.access.Access.TheVariants.{Read, Write}
 use Rattle.node_core.specs.declared.step.Reply.{Reply}
 use Rattle.node_core.specs.declared.step.Reply.TheVariants.{Badarg, SystemLimit, NoProcess}
-use Rattle.node_core.specs.Access.{may}
+use Rattle.node_core.specs.Access.{may_access}
 use Rattle.node_reasons.specs.declared.reason.Rule.{Rule}
 use Rattle.node_reasons.specs.declared.reason.Rule.TheVariants as rule
 use Rattle.node_reasons.specs.declared.reason.Reason.{Reason}
@@ -25,8 +25,8 @@ refusal_of rule.LimitExceeded = SystemLimit
 refusal_of _ = Badarg
 
 -- a rule on the step, or on its call as a whole
-abbrev pub whole : Rule → Reason
-whole broken = record { rule = broken; argument = None }
+abbrev pub about_whole_call : Rule → Reason
+about_whole_call broken = record { rule = broken; argument = None }
 
 -- a rule on an argument, counted from 1
 abbrev pub argument : ℕ → Rule → Reason
@@ -45,4 +45,4 @@ rule_of_access Write = rule.NotWritable
 abbrev pub on_table : Access → ℕ → Option Table → (Content → Option Reason) → Option Reason
 on_table access p None rest = Some (argument 1 rule.NoTable)
 on_table access p (Some table) rest =
-    if may access table.metadata p then rest table.fixed.content else Some (argument 1 (rule_of_access access))
+    if may_access access table.metadata p then rest table.fixed.content else Some (argument 1 (rule_of_access access))

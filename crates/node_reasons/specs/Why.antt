@@ -15,7 +15,7 @@ use Rattle.node_core.specs.rules.Replies.{is_value}
 use Rattle.node_reasons.specs.declared.reason.Rule.{Rule}
 use Rattle.node_reasons.specs.declared.reason.Rule.TheVariants as rule
 use Rattle.node_reasons.specs.declared.reason.Reason.{Reason}
-use Rattle.node_reasons.specs.Reasons.{whole, argument}
+use Rattle.node_reasons.specs.Reasons.{about_whole_call, argument}
 use Rattle.node_reasons.specs.Calls.{why_call}
 
 -- the limit that a call can exceed
@@ -29,7 +29,7 @@ limit_of _ = rule.LimitExceeded
 -- the rule that is broken; if none is, the limit, if the step is refused all the same
 abbrev pub or_limit : Rule → Option Reason → Reply → Option Reason
 or_limit limit (Some reason) reply = Some reason
-or_limit limit None reply = if is_value reply then None else Some (whole limit)
+or_limit limit None reply = if is_value reply then None else Some (about_whole_call limit)
 
 -- a call of a process that lives: the first argument that is too deep, then the name, then the rules of the call, then
 -- its limit
@@ -37,21 +37,21 @@ abbrev pub why_ask : World → ℕ → Call → Reply → Option Reason
 why_ask w p asked reply =
     option_map_or (λ index. Some (argument (index + 1) rule.TooDeep)) (position is_too_deep asked.args) (
     option_map_or (λ name. or_limit (limit_of name) (why_call w p name asked.args) reply) (call_name asked.name) (
-    Some (whole rule.NoCall)))
+    Some (about_whole_call rule.NoCall)))
 
 -- a process that is already known
 abbrev pub why_enrol : World → ℕ → Option Reason
-why_enrol w p = if is_some (process_at w.processes p) then Some (whole rule.AlreadyEnrolled) else None
+why_enrol w p = if is_some (process_at w.processes p) then Some (about_whole_call rule.AlreadyEnrolled) else None
 
 abbrev pub why_growth : World → ℕ → Option Reason
-why_growth w t = if is_some (table_at w.tables t) then None else Some (whole rule.NoTable)
+why_growth w t = if is_some (table_at w.tables t) then None else Some (about_whole_call rule.NoTable)
 
 -- why a step in this state has this reply; None if it is a value. Of the reply only whether it is a refusal matters,
 -- and only if only a limit can be the reason.
 abbrev pub why : State → Step → Reply → Option Reason
 why s (Enrol p) reply = or_limit rule.TooManyProcesses (why_enrol s.world p) reply
-why s (End p) reply = if lives s.world.processes p then None else Some (whole rule.NoProcess)
+why s (End p) reply = if lives s.world.processes p then None else Some (about_whole_call rule.NoProcess)
 why s (Ask p asked) reply =
-    if lives s.world.processes p then why_ask s.world p asked reply else Some (whole rule.NoProcess)
+    if lives s.world.processes p then why_ask s.world p asked reply else Some (about_whole_call rule.NoProcess)
 why s (Grow t) reply = why_growth s.world t
 why s (Ready t bucket) reply = why_growth s.world t

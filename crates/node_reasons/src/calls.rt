@@ -45,7 +45,7 @@ pub fn last_rule_of_call<R: Rows>(
             z,
             default,
         ),
-        _ => Reason::whole(Rule::WrongArity),
+        _ => Reason::about_whole_call(Rule::WrongArity),
     }
 }
 
@@ -60,7 +60,7 @@ fn last_rule_of_one<R: Rows>(used: &TableUse<R>, name: CallName) -> Reason
         CallName::FirstLookup => used.last_rule_of_read(),
         CallName::Tab2list => used.last_rule_of_read(),
         CallName::Whereis => Reason::argument(1, Rule::NotAnAtom),
-        _ => Reason::whole(Rule::WrongArity),
+        _ => Reason::about_whole_call(Rule::WrongArity),
     }
 }
 
@@ -88,7 +88,7 @@ fn last_rule_of_two<R: Rows>(used: &TableUse<R>, name: CallName, y: &Term) -> Re
         CallName::SelectDelete => used.needs_write(second_argument(Rule::NotASpecification)),
         CallName::SetOptions => used.needs_owner(second_argument(Rule::NotOptions)),
         CallName::Take => used.last_rule_of_write(),
-        _ => Reason::whole(Rule::WrongArity),
+        _ => Reason::about_whole_call(Rule::WrongArity),
     }
 }
 
@@ -101,7 +101,7 @@ fn last_rule_of_three<R: Rows>(used: &TableUse<R>, name: CallName, y: &Term, z: 
         CallName::LookupElement => updates::last_rule_of_lookup_element(used, y, z, true),
         CallName::UpdateCounter => updates::last_rule_of_update_counter(used, y, z, None),
         CallName::UpdateElement => updates::last_rule_of_update_element(used, y, z, None),
-        _ => Reason::whole(Rule::WrongArity),
+        _ => Reason::about_whole_call(Rule::WrongArity),
     }
 }
 
@@ -119,7 +119,7 @@ fn last_rule_of_four<R: Rows>(
         CallName::LookupElement => updates::last_rule_of_lookup_element(used, y, z, false),
         CallName::UpdateCounter => updates::last_rule_of_update_counter(used, y, z, Some(default)),
         CallName::UpdateElement => updates::last_rule_of_update_element(used, y, z, Some(default)),
-        _ => Reason::whole(Rule::WrongArity),
+        _ => Reason::about_whole_call(Rule::WrongArity),
     }
 }
 

@@ -1,5 +1,5 @@
 ghost use Rattle.std.specs.Prelude.{◌≡◌};
-ghost use Rattle.node_reasons.specs.Reasons.{whole, argument};
+ghost use Rattle.node_reasons.specs.Reasons.{about_whole_call, argument};
 
 /// A rule of docs/calls.md, which a refused step breaks.
 #[derive(Clone, Copy, Debug, PartialEq, Eq)]
@@ -80,8 +80,8 @@ pub struct Reason {
 
 impl Reason {
     /// Returns the reason that the step, or its whole call, breaks a rule.
-    pub(crate) fn whole(rule: Rule) -> Reason
-        ensures { result ≡ whole rule }
+    pub(crate) fn about_whole_call(rule: Rule) -> Reason
+        ensures { result ≡ about_whole_call rule }
     {
         Reason {
             rule,

@@ -48,12 +48,12 @@ fn last_rule<R: Rows>(world: &World<R>, event: &Step, limited: bool) -> Reason
     ensures { result ≡ last_rule world.now event.now limited }
 {
     match event {
-        Step::Enrol(_) if limited => Reason::whole(Rule::TooManyProcesses),
-        Step::Enrol(_) => Reason::whole(Rule::AlreadyEnrolled),
-        Step::End(_) => Reason::whole(Rule::NoProcess),
+        Step::Enrol(_) if limited => Reason::about_whole_call(Rule::TooManyProcesses),
+        Step::Enrol(_) => Reason::about_whole_call(Rule::AlreadyEnrolled),
+        Step::End(_) => Reason::about_whole_call(Rule::NoProcess),
         Step::Ask(pid, call) => last_rule_of_ask(world, *pid, call, limited),
-        Step::Grow(_) => Reason::whole(Rule::NoTable),
-        Step::Ready(_, _) => Reason::whole(Rule::NoTable),
+        Step::Grow(_) => Reason::about_whole_call(Rule::NoTable),
+        Step::Ready(_, _) => Reason::about_whole_call(Rule::NoTable),
     }
 }
 
@@ -61,15 +61,15 @@ fn last_rule_of_ask<R: Rows>(world: &World<R>, pid: u32, call: &Call, limited: b
     ensures { result ≡ last_rule_of_ask world.now pid call.now limited }
 {
     if !world.lives(pid) {
-        return Reason::whole(Rule::NoProcess);
+        return Reason::about_whole_call(Rule::NoProcess);
     }
     let args = call.args.as_slice();
     if let Some(index) = first_too_deep(args) {
         return Reason::argument(index + 1, Rule::TooDeep);
     }
     match CallName::read(call.name.text()) {
-        None => Reason::whole(Rule::NoCall),
-        Some(name) if limited => Reason::whole(limit_of(name)),
+        None => Reason::about_whole_call(Rule::NoCall),
+        Some(name) if limited => Reason::about_whole_call(limit_of(name)),
         Some(name) => last_rule_of_call(world, pid, name, args),
     }
 }

@@ -13,10 +13,10 @@ pub struct Entry {
 
 impl Entry {
     /// Returns whether the entries are equal: equal steps and equal replies.
-    pub fn same(&self, other: &Entry) -> bool
+    pub fn equals(&self, other: &Entry) -> bool
         ensures { Decides result (self.now ≡ other.now) }
     {
-        self.step.same(&other.step) && self.reply.same(&other.reply)
+        self.step.equals(&other.step) && self.reply.equals(&other.reply)
     }
 
     /// Returns whether its step is of this process.

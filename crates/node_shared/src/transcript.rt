@@ -90,7 +90,7 @@ fn is_part(journal: &[Entry], pid: u32, own: &[Entry]) -> bool
             if at >= own.len() {
                 return false;
             }
-            if !entry.same(&own[at]) {
+            if !entry.equals(&own[at]) {
                 return false;
             }
             at += 1;

@@ -28,5 +28,5 @@ abbrev pub may_write : Metadata → ℕ → Bool
 may_write metadata p = is_owner metadata p || others_write metadata.protection
 
 -- the table exists, and a process has this access
-abbrev pub may : (Metadata → ℕ → Bool) → Tables → ℕ → ℕ → Bool
-may access tables p t = option_map_or (λ table. access table.metadata p) (table_at tables t) false
+abbrev pub has_access : (Metadata → ℕ → Bool) → Tables → ℕ → ℕ → Bool
+has_access access tables p t = option_map_or (λ table. access table.metadata p) (table_at tables t) false

@@ -10,7 +10,7 @@ use Rattle.ownership.proofs.MetadataLaws.{fixed-same}
 use Rattle.node_core.specs.declared.node.access.Access.{Access}
 use Rattle.node_core.specs.State.{State}
 use Rattle.node_core.specs.Observable.{observable_fixed, observable_table, observable_tables, observable}
-use Rattle.node_core.specs.Access.{may, allowed, usable, with_table}
+use Rattle.node_core.specs.Access.{may_access, allowed, usable, with_table}
 
 -- the world without the buckets of its tables
 abbrev pub observable_world : World → World
@@ -56,7 +56,7 @@ either-observable false t table = refl
 
 allowed-observable : (access : Access) (p t : ℕ) (o : Option Table) → option_and_then (allowed access p t) (option_map observable_table o) ≡ option_map observable_found (option_and_then (allowed access p t) o)
 allowed-observable access p t None = refl
-allowed-observable access p t (Some table) = either-observable (may access table.metadata p) t table
+allowed-observable access p t (Some table) = either-observable (may_access access table.metadata p) t table
 
 found-observable : (access : Access) (ts : Tables) (p : ℕ) (o : Option ℕ)
     → option_and_then (λ t. option_and_then (allowed access p t) (table_at (observable_tables ts) t)) o ≡ option_map observable_found (option_and_then (λ t. option_and_then (allowed access p t) (table_at ts t)) o)

@@ -14,7 +14,7 @@ use Rattle.node_core.specs.declared.node.access.Access.{Access}
 use Rattle.node_core.specs.declared.step.Reply.{Reply}
 use Rattle.node_core.specs.declared.step.Reply.TheVariants as told
 use Rattle.node_core.specs.State.{State}
-use Rattle.node_core.specs.Access.{may, allowed, usable, with_table, changes, CallRule, replies}
+use Rattle.node_core.specs.Access.{may_access, allowed, usable, with_table, changes, CallRule, replies}
 use Rattle.node_core.specs.inside.Lending.{with_usable}
 use Rattle.node_core.specs.inside.Refusals as called
 
@@ -28,7 +28,7 @@ allowed_at false t table found e = cc
 
 there_at : (tables : Tables) (access : Access) (p t : ℕ) (o : Option Table) (found : ℕ × Table) → table_at tables t ≡ o → option_and_then (allowed access p t) o ≡ Some found → IsThere tables found
 there_at tables access p t None found at e = cc
-there_at tables access p t (Some table) found at e = subst (IsThere tables) (allowed_at (may access table.metadata p) t table found e) (record { at = at })
+there_at tables access p t (Some table) found at e = subst (IsThere tables) (allowed_at (may_access access table.metadata p) t table found e) (record { at = at })
 
 resolved_at : (tables : Tables) (access : Access) (p : ℕ) (o : Option ℕ) (found : ℕ × Table) → option_and_then (λ t. option_and_then (allowed access p t) (table_at tables t)) o ≡ Some found → IsThere tables found
 resolved_at tables access p None found e = cc

@@ -6,7 +6,7 @@ use Rattle.std.specs.Option.{option_map_or}
 use Rattle.std.proofs.lemmas.Bool.Decides.{nat_tests}
 use Rattle.ets_term.specs.declared.term.Term.{Term, out-Term}
 use Rattle.ets_term.specs.declared.term.Term.TheVariants.{Tid}
-use Rattle.ownership.specs.Access.{may, may_read}
+use Rattle.ownership.specs.Access.{has_access, may_read}
 use Rattle.ownership.specs.World.{Table, table_at, lives}
 use Rattle.node_core.specs.declared.step.Reply.{Reply}
 use Rattle.node_core.specs.declared.step.Reply.TheVariants.{Value}
@@ -39,7 +39,7 @@ module _ (p t : ℕ) where
   readable-at (Some table) e = refl
 
   pub readable-there : (s : State) → can_read p t s ≡ true → exists_in t s ≡ true
-  readable-there s h = let parts = both-true (lives s.world.processes p) (may may_read s.world.tables p t) h in readable-at (table_at s.world.tables t) parts.1
+  readable-there s h = let parts = both-true (lives s.world.processes p) (has_access may_read s.world.tables p t) h in readable-at (table_at s.world.tables t) parts.1
 
   -- ---- calls of the walk
   table-at : (o : Option Table) → is_some o ≡ true → option_map_or (λ u. u == t) (option_map (λ _. t) o) false ≡ true

@@ -25,7 +25,7 @@ use Rattle.fixed_walk.specs.declared.fault.FixFault.{FixFault}
 use Rattle.fixed_walk.specs.declared.fault.FixFault.TheVariants as fixing
 use Rattle.fixed_walk.specs.Walk.{first_key, next_key}
 use Rattle.fixed_walk.specs.laws.Walks.{walk_answer}
-use Rattle.ownership.specs.Access.{may, may_read}
+use Rattle.ownership.specs.Access.{has_access, may_read}
 use Rattle.ownership.specs.World.{Table, Tables, table_at, lives, fixed_in}
 use Rattle.ownership.proofs.MetadataLaws.{fixed-same}
 use Rattle.node_core.specs.declared.node.access.Access.TheVariants.{Read}
@@ -146,12 +146,12 @@ both-true true false e = absurd (true≢false (sym e))
 both-true false b e = absurd (true≢false (sym e))
 
 module _ (p t : ℕ) where
-  may-observable : (o : Option Table) → option_map_or (λ table. may_read table.metadata p) (option_map observable_table o) false ≡ option_map_or (λ table. may_read table.metadata p) o false
-  may-observable None = refl
-  may-observable (Some table) = refl
+  has_access-observable : (o : Option Table) → option_map_or (λ table. may_read table.metadata p) (option_map observable_table o) false ≡ option_map_or (λ table. may_read table.metadata p) o false
+  has_access-observable None = refl
+  has_access-observable (Some table) = refl
 
   pub can_read-observable : (s : State) → can_read p t (observable s) ≡ can_read p t s
-  can_read-observable s = ap (λ b. lives s.world.processes p && b) (ap (λ o. option_map_or (λ table. may_read table.metadata p) o false) (at-observable s.world.tables t) ∙ may-observable (table_at s.world.tables t))
+  can_read-observable s = ap (λ b. lives s.world.processes p && b) (ap (λ o. option_map_or (λ table. may_read table.metadata p) o false) (at-observable s.world.tables t) ∙ has_access-observable (table_at s.world.tables t))
 
   count-observable : (o : Option Table) → option_map_or (λ table. fix_count table.fixed.fixes p) (option_map observable_table o) 0 ≡ option_map_or (λ table. fix_count table.fixed.fixes p) o 0
   count-observable None = refl
@@ -285,7 +285,7 @@ module _ (p t : ℕ) where
 
   lent : (s : State) (was : TableState) → Some was ≡ option_map (λ table. table.fixed) (table_at s.world.tables t) → can_read p t s ≡ true → Lent s was
   lent s was e h =
-      let parts = both-true (lives s.world.processes p) (may may_read s.world.tables p t) h in
+      let parts = both-true (lives s.world.processes p) (has_access may_read s.world.tables p t) h in
       lent-at s was (table_at s.world.tables t) refl e parts.0 parts.1
 
   not-lent-at : (o : Option Table) → option_map (λ table. table.fixed) o ≡ None → option_map_or (λ table. may_read table.metadata p) o false ≡ false
@@ -298,7 +298,7 @@ module _ (p t : ℕ) where
 
   -- there is no table
   pub not-lent : (s : State) → None ≡ option_map (λ table. table.fixed) (table_at s.world.tables t) → can_read p t s ≡ false
-  not-lent s e = and-false (lives s.world.processes p) (may may_read s.world.tables p t) (not-lent-at (table_at s.world.tables t) (sym e))
+  not-lent s e = and-false (lives s.world.processes p) (has_access may_read s.world.tables p t) (not-lent-at (table_at s.world.tables t) (sym e))
 
   same-after : (s : State) (f : TableState) (table : Table) → table_at s.world.tables t ≡ Some table → f ≡ table.fixed → with_table s t f ≡ s
   same-after s f table at e =

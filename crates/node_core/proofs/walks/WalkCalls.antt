@@ -28,7 +28,7 @@ use Rattle.node_core.specs.declared.step.Step.{Step}
 use Rattle.node_core.specs.declared.step.Step.TheVariants.{Enrol, End, Ask, Grow, Ready}
 use Rattle.node_core.specs.CallName.{call_name}
 use Rattle.node_core.specs.State.{State}
-use Rattle.node_core.specs.Access.{may, allowed, usable, reads}
+use Rattle.node_core.specs.Access.{may_access, allowed, usable, reads}
 use Rattle.node_core.specs.Calls.{call}
 use Rattle.node_core.specs.Machine.{step}
 use Rattle.node_core.specs.rules.Walking.{key_reply, slot_reply, key_and_objects, first_reply, next_reply, first_lookup_reply, next_lookup_reply}
@@ -72,7 +72,7 @@ told-free (Some c) ss k free e = next-free ss c k free e
 -- ---- a call that reads the table
 named-at : (ts : Tables) (access : Access) (p : ℕ) (u : ℕ) (o : Option Table) (found : ℕ × Table) → option_and_then (allowed access p u) o ≡ Some found → u ≡ found.0
 named-at ts access p u None found e = cc
-named-at ts access p u (Some table) found e = by (may access table.metadata p) e
+named-at ts access p u (Some table) found e = by (may_access access table.metadata p) e
   where
     by : (b : Bool) → cond b (Some (u, table)) None ≡ Some found → u ≡ found.0
     by true e = let is : (u, table) ≡ found = cc in ap (λ (x : ℕ × Table). x.0) is

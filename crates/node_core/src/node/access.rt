@@ -4,7 +4,7 @@ ghost use Rattle.std.specs.Option.{option_copied_mut};
 ghost use Rattle.std.specs.Borrow.{sem};
 ghost use Rattle.node_core.specs.declared.node.access.Access.TheVariants.{Read};
 ghost use Rattle.ownership.specs.World.{fixed_at};
-ghost use Rattle.node_core.specs.Access.{may, usable, usable_fixed};
+ghost use Rattle.node_core.specs.Access.{may_access, usable, usable_fixed};
 
 use super::Node;
 use super::due::mark_dirty;
@@ -24,19 +24,19 @@ impl<H: KeyHash + Copy + Drop> Node<H> {
     ghost use Rattle.node_core.specs.inside.Lending.{LendsTable, LendsUsable};
 
     /// Returns the table that a term names, if the process may read it.
-    pub(crate) fn readable(&self, pid: u32, term: &Term) -> Option<&Walked<SplitRows<H>>>
+    pub(crate) fn readable_table(&self, pid: u32, term: &Term) -> Option<&Walked<SplitRows<H>>>
         ensures { option_copied result ≡ usable_fixed Read self.now.world.tables pid term.now }
     {
         let id = self.world.resolve(term)?;
         let metadata = self.world.metadata(id)?;
-        if !may(Access::Read, metadata, pid) {
+        if !may_access(Access::Read, metadata, pid) {
             return None;
         }
         self.world.table(id)
     }
 
     /// Borrows the table that a term names for a change, if the process may use it in this way.
-    pub(crate) fn usable_mut(
+    pub(crate) fn usable_table_mut(
         &mut self,
         access: Access,
         pid: u32,
@@ -50,7 +50,7 @@ impl<H: KeyHash + Copy + Drop> Node<H> {
     {
         let id = self.world.resolve(term)?;
         let metadata = self.world.metadata(id)?;
-        if !may(access, metadata, pid) {
+        if !may_access(access, metadata, pid) {
             return None;
         }
         self.table_mut(id)
@@ -73,15 +73,15 @@ impl<H: KeyHash + Copy + Drop> Node<H> {
     {
         let id = self.world.resolve(term)?;
         let metadata = self.world.metadata(id)?;
-        if !may(access, metadata, pid) {
+        if !may_access(access, metadata, pid) {
             return None;
         }
         Some(id)
     }
 }
 
-fn may(access: Access, metadata: &Metadata, pid: u32) -> bool
-    ensures { result ≡ may access metadata.now pid }
+fn may_access(access: Access, metadata: &Metadata, pid: u32) -> bool
+    ensures { result ≡ may_access access metadata.now pid }
 {
     match access {
         Access::Read => metadata.may_read(pid),

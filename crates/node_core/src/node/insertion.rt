@@ -16,7 +16,7 @@ impl<H: KeyHash + Copy + Drop> Node<H> {
         ensures { RefinesReply (writes self.old pid table.now (Insert objects.now))
             self.old (to_reply (λ _. true_reply) result) self.new }
     {
-        let Some(table) = self.usable_mut(Access::Write, pid, table) else {
+        let Some(table) = self.usable_table_mut(Access::Write, pid, table) else {
             return Err(Refusal::Badarg);
         };
         table.insert(objects_in(objects))?;
@@ -32,7 +32,7 @@ impl<H: KeyHash + Copy + Drop> Node<H> {
         ensures { RefinesReply (writes self.old pid table.now (InsertNew objects.now))
             self.old (to_reply truth_reply result) self.new }
     {
-        let Some(table) = self.usable_mut(Access::Write, pid, table) else {
+        let Some(table) = self.usable_table_mut(Access::Write, pid, table) else {
             return Err(Refusal::Badarg);
         };
         let inserted = table.insert_new(objects_in(objects))?;

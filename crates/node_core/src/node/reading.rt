@@ -23,7 +23,7 @@ impl<H: KeyHash + Copy + Drop> Node<H> {
         ensures { RefinesInto (reads self.now pid table.now (lookup_reply key.now))
             self.now result reply.new self.now }
     {
-        let table = self.readable(pid, table).ok_or(Refusal::Badarg)?;
+        let table = self.readable_table(pid, table).ok_or(Refusal::Badarg)?;
         write_list(self.alloc, table.lookup(key), reply)?;
         Ok(())
     }
@@ -32,7 +32,7 @@ impl<H: KeyHash + Copy + Drop> Node<H> {
         ensures { RefinesReply (reads self.now pid table.now (member_reply key.now))
             self.now (to_reply truth_reply result) self.now }
     {
-        let table = self.readable(pid, table).ok_or(Refusal::Badarg)?;
+        let table = self.readable_table(pid, table).ok_or(Refusal::Badarg)?;
         Ok(table.member(key))
     }
 
@@ -46,7 +46,7 @@ impl<H: KeyHash + Copy + Drop> Node<H> {
         ensures { RefinesReply (reads self.now pid table.now (lookup_element_reply key.now position.now))
             self.now (to_reply Value result) self.now }
     {
-        let table = self.readable(pid, table).ok_or(Refusal::Badarg)?;
+        let table = self.readable_table(pid, table).ok_or(Refusal::Badarg)?;
         let position = position_of(position).ok_or(Refusal::Badarg)?;
         let element = table.lookup_element(key, position)?;
         Ok(element)
@@ -64,7 +64,7 @@ impl<H: KeyHash + Copy + Drop> Node<H> {
             (reads self.now pid table.now (lookup_element_or_reply key.now position.now default.now))
             self.now (to_reply Value result) self.now }
     {
-        let table = self.readable(pid, table).ok_or(Refusal::Badarg)?;
+        let table = self.readable_table(pid, table).ok_or(Refusal::Badarg)?;
         let position = position_of(position).ok_or(Refusal::Badarg)?;
         let element = table.lookup_element_or(key, position, default)?;
         Ok(element)
@@ -73,7 +73,7 @@ impl<H: KeyHash + Copy + Drop> Node<H> {
     pub(crate) fn tab2list(&self, pid: u32, table: &Term) -> Result<Reply, Refusal>
         ensures { RefinesReply (reads self.now pid table.now tab2list_reply) self.now result self.now }
     {
-        let table = self.readable(pid, table).ok_or(Refusal::Badarg)?;
+        let table = self.readable_table(pid, table).ok_or(Refusal::Badarg)?;
         Ok(Reply::Value(Term::List(table.objects()?)))
     }
 }

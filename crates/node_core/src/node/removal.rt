@@ -14,7 +14,7 @@ impl<H: KeyHash + Copy + Drop> Node<H> {
     pub(crate) fn take(&mut self, pid: u32, table: &Term, key: &Term) -> Result<Reply, Refusal>
         ensures { RefinesReply (writes self.old pid table.now (Take key.now)) self.old result self.new }
     {
-        let Some(table) = self.usable_mut(Access::Write, pid, table) else {
+        let Some(table) = self.usable_table_mut(Access::Write, pid, table) else {
             return Err(Refusal::Badarg);
         };
         let objects = table.take(key)?;
@@ -25,7 +25,7 @@ impl<H: KeyHash + Copy + Drop> Node<H> {
         ensures { RefinesReply (writes self.old pid table.now (Delete key.now))
             self.old (to_reply (λ _. true_reply) result) self.new }
     {
-        let Some(table) = self.usable_mut(Access::Write, pid, table) else {
+        let Some(table) = self.usable_table_mut(Access::Write, pid, table) else {
             return Err(Refusal::Badarg);
         };
         table.delete_key(key);
@@ -41,7 +41,7 @@ impl<H: KeyHash + Copy + Drop> Node<H> {
         ensures { RefinesReply (writes self.old pid table.now (DeleteObject object.now))
             self.old (to_reply (λ _. true_reply) result) self.new }
     {
-        let Some(table) = self.usable_mut(Access::Write, pid, table) else {
+        let Some(table) = self.usable_table_mut(Access::Write, pid, table) else {
             return Err(Refusal::Badarg);
         };
         table.delete_object(object)?;
@@ -52,7 +52,7 @@ impl<H: KeyHash + Copy + Drop> Node<H> {
         ensures { RefinesReply (writes self.old pid table.now DeleteAllObjects)
             self.old (to_reply (λ _. true_reply) result) self.new }
     {
-        let Some(table) = self.usable_mut(Access::Write, pid, table) else {
+        let Some(table) = self.usable_table_mut(Access::Write, pid, table) else {
             return Err(Refusal::Badarg);
         };
         table.delete_all();

@@ -95,7 +95,7 @@ impl<H: KeyHash + Copy + Drop> Node<H> {
     fn predicted_take(&self, pid: u32, table: &Term, key: &Term) -> Result<Reply, AllocError>
         ensures { IfOk result (Predicts (writes self.now pid table.now (Take key.now))) }
     {
-        match self.readable(pid, table) {
+        match self.readable_table(pid, table) {
             Some(table) => list_reply(self.alloc, table.lookup(key)),
             None => Ok(Reply::Badarg),
         }

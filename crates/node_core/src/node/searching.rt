@@ -28,7 +28,7 @@ impl<H: KeyHash + Copy + Drop> Node<H> {
         ensures { RefinesReply (reads self.now pid table.now (match_reply pattern.now))
             self.now result self.now }
     {
-        let table = self.readable(pid, table).ok_or(Refusal::Badarg)?;
+        let table = self.readable_table(pid, table).ok_or(Refusal::Badarg)?;
         let pattern = pattern_of(self.alloc, pattern)?;
         let found = table.matches(&pattern);
         drop(pattern);
@@ -44,7 +44,7 @@ impl<H: KeyHash + Copy + Drop> Node<H> {
         ensures { RefinesReply (reads self.now pid table.now (match_object_reply pattern.now))
             self.now result self.now }
     {
-        let table = self.readable(pid, table).ok_or(Refusal::Badarg)?;
+        let table = self.readable_table(pid, table).ok_or(Refusal::Badarg)?;
         let pattern = pattern_of(self.alloc, pattern)?;
         let found = table.match_objects(&pattern);
         drop(pattern);
@@ -61,7 +61,7 @@ impl<H: KeyHash + Copy + Drop> Node<H> {
             self.old result self.new }
     {
         let alloc = self.alloc;
-        let Some(table) = self.usable_mut(Access::Write, pid, table) else {
+        let Some(table) = self.usable_table_mut(Access::Write, pid, table) else {
             return Err(Refusal::Badarg);
         };
         delete_matching(alloc, table, pattern)?;
@@ -72,7 +72,7 @@ impl<H: KeyHash + Copy + Drop> Node<H> {
         ensures { RefinesReply (reads self.now pid table.now (select_reply spec.now))
             self.now result self.now }
     {
-        let table = self.readable(pid, table).ok_or(Refusal::Badarg)?;
+        let table = self.readable_table(pid, table).ok_or(Refusal::Badarg)?;
         let spec = spec_of(self.alloc, spec)?;
         let found = table.select(&spec);
         drop(spec);
@@ -83,7 +83,7 @@ impl<H: KeyHash + Copy + Drop> Node<H> {
         ensures { RefinesReply (reads self.now pid table.now (select_count_reply spec.now))
             self.now result self.now }
     {
-        let table = self.readable(pid, table).ok_or(Refusal::Badarg)?;
+        let table = self.readable_table(pid, table).ok_or(Refusal::Badarg)?;
         let spec = spec_of(self.alloc, spec)?;
         let count = table.select_count(&spec);
         drop(spec);
@@ -100,7 +100,7 @@ impl<H: KeyHash + Copy + Drop> Node<H> {
             self.old result self.new }
     {
         let alloc = self.alloc;
-        let Some(table) = self.usable_mut(Access::Write, pid, table) else {
+        let Some(table) = self.usable_table_mut(Access::Write, pid, table) else {
             return Err(Refusal::Badarg);
         };
         let deleted = delete_chosen(alloc, table, spec)?;

@@ -31,7 +31,7 @@ impl<H: KeyHash + Copy + Drop> Node<H> {
             self.old (to_reply Value result) self.new }
     {
         let alloc = self.alloc;
-        let Some(table) = self.usable_mut(Access::Write, pid, table) else {
+        let Some(table) = self.usable_table_mut(Access::Write, pid, table) else {
             return Err(Refusal::Badarg);
         };
         let answer = count(alloc, table, key, updates, default)?;
@@ -52,7 +52,7 @@ impl<H: KeyHash + Copy + Drop> Node<H> {
             self.old (to_reply truth_reply result) self.new }
     {
         let alloc = self.alloc;
-        let Some(table) = self.usable_mut(Access::Write, pid, table) else {
+        let Some(table) = self.usable_table_mut(Access::Write, pid, table) else {
             return Err(Refusal::Badarg);
         };
         let is_written = write(alloc, table, key, updates, default)?;

@@ -38,7 +38,7 @@ impl<H: KeyHash + Copy + Drop> Node<H> {
             self.old result self.new }
     {
         let alloc = self.alloc;
-        let Some(table) = self.usable_mut(Access::Read, pid, table) else {
+        let Some(table) = self.usable_table_mut(Access::Read, pid, table) else {
             return Err(Refusal::Badarg);
         };
         table.fix(pid)?;
@@ -50,7 +50,7 @@ impl<H: KeyHash + Copy + Drop> Node<H> {
             self.old result self.new }
     {
         let alloc = self.alloc;
-        let Some(table) = self.usable_mut(Access::Read, pid, table) else {
+        let Some(table) = self.usable_table_mut(Access::Read, pid, table) else {
             return Err(Refusal::Badarg);
         };
         table.release(pid);
@@ -60,14 +60,14 @@ impl<H: KeyHash + Copy + Drop> Node<H> {
     pub(crate) fn first(&self, pid: u32, table: &Term) -> Result<Reply, Refusal>
         ensures { RefinesReply (reads self.now pid table.now first_reply) self.now result self.now }
     {
-        let table = self.readable(pid, table).ok_or(Refusal::Badarg)?;
+        let table = self.readable_table(pid, table).ok_or(Refusal::Badarg)?;
         Ok(key_reply(self.alloc, table.first())?)
     }
 
     pub(crate) fn next(&self, pid: u32, table: &Term, key: &Term) -> Result<Reply, Refusal>
         ensures { RefinesReply (reads self.now pid table.now (next_reply key.now)) self.now result self.now }
     {
-        let table = self.readable(pid, table).ok_or(Refusal::Badarg)?;
+        let table = self.readable_table(pid, table).ok_or(Refusal::Badarg)?;
         let found = table.next(key)?;
         Ok(key_reply(self.alloc, found)?)
     }
@@ -75,7 +75,7 @@ impl<H: KeyHash + Copy + Drop> Node<H> {
     pub(crate) fn first_lookup(&self, pid: u32, table: &Term) -> Result<Reply, Refusal>
         ensures { RefinesReply (reads self.now pid table.now first_lookup_reply) self.now result self.now }
     {
-        let table = self.readable(pid, table).ok_or(Refusal::Badarg)?;
+        let table = self.readable_table(pid, table).ok_or(Refusal::Badarg)?;
         Ok(slot_reply(self.alloc, table.first_lookup())?)
     }
 
@@ -83,7 +83,7 @@ impl<H: KeyHash + Copy + Drop> Node<H> {
         ensures { RefinesReply (reads self.now pid table.now (next_lookup_reply key.now))
             self.now result self.now }
     {
-        let table = self.readable(pid, table).ok_or(Refusal::Badarg)?;
+        let table = self.readable_table(pid, table).ok_or(Refusal::Badarg)?;
         let found = table.next_lookup(key)?;
         Ok(slot_reply(self.alloc, found)?)
     }

@@ -20,7 +20,7 @@ use Rattle.node_core.specs.declared.step.Step.TheVariants.{Enrol, End, Ask, Grow
 use Rattle.node_reasons.specs.declared.reason.Rule.{Rule}
 use Rattle.node_reasons.specs.declared.reason.Rule.TheVariants as rule
 use Rattle.node_reasons.specs.declared.reason.Reason.{Reason}
-use Rattle.node_reasons.specs.Reasons.{whole, argument, table_of_term}
+use Rattle.node_reasons.specs.Reasons.{about_whole_call, argument, table_of_term}
 use Rattle.node_reasons.specs.Why.{limit_of}
 use Rattle.node_reasons.specs.inside.LastRules.{needs_access, last_rule_of_use, last_rule_of_content, needs_owner, last_rule_of_give_away, last_rule_of_safe_fixtable, last_rule_of_new, last_rule_of_info, last_rule_of_lookup_element, last_rule_of_update_counter, last_rule_of_update_element}
 
@@ -82,7 +82,7 @@ module _ (p : ℕ) (metadata : Option Metadata) (content : Option Content) where
       last_on_content Write (last_rule_of_update_counter y z (Some default))
   last_rule_of_known name.UpdateElement (x ∷ y ∷ z ∷ default ∷ []) =
       last_on_content Write (last_rule_of_update_element y z (Some default))
-  last_rule_of_known _ _ = whole rule.WrongArity
+  last_rule_of_known _ _ = about_whole_call rule.WrongArity
 
 -- the last reason of a call that is badarg
 abbrev pub last_rule_of_call : World → ℕ → CallName → List Term → Reason
@@ -93,25 +93,25 @@ last_rule_of_call w p name args =
 -- the last reason of a call that exceeds a limit, or is badarg
 abbrev pub last_rule_of_refused : World → ℕ → List Term → Bool → CallName → Reason
 last_rule_of_refused w p args limited name =
-    if limited then whole (limit_of name) else last_rule_of_call w p name args
+    if limited then about_whole_call (limit_of name) else last_rule_of_call w p name args
 
 abbrev pub last_rule_of_ask : World → ℕ → Call → Bool → Reason
 last_rule_of_ask w p asked limited =
     if lives w.processes p
     then option_map_or (λ index. argument (index + 1) rule.TooDeep) (position is_too_deep asked.args)
-    (option_map_or (last_rule_of_refused w p asked.args limited) (call_name asked.name) (whole rule.NoCall))
-    else whole rule.NoProcess
+    (option_map_or (last_rule_of_refused w p asked.args limited) (call_name asked.name) (about_whole_call rule.NoCall))
+    else about_whole_call rule.NoProcess
 
 abbrev pub last_rule_of_enrol : Bool → Reason
-last_rule_of_enrol limited = if limited then whole rule.TooManyProcesses else whole rule.AlreadyEnrolled
+last_rule_of_enrol limited = if limited then about_whole_call rule.TooManyProcesses else about_whole_call rule.AlreadyEnrolled
 
 -- the last reason of a refused step, with or without a limit
 abbrev pub last_rule : World → Step → Bool → Reason
 last_rule w (Enrol p) limited = last_rule_of_enrol limited
-last_rule w (End p) limited = whole rule.NoProcess
+last_rule w (End p) limited = about_whole_call rule.NoProcess
 last_rule w (Ask p asked) limited = last_rule_of_ask w p asked limited
-last_rule w (Grow t) limited = whole rule.NoTable
-last_rule w (Ready t bucket) limited = whole rule.NoTable
+last_rule w (Grow t) limited = about_whole_call rule.NoTable
+last_rule w (Ready t bucket) limited = about_whole_call rule.NoTable
 
 -- no reason for a value, the second for a limit, and the first for any other refusal
 abbrev pub reason_by_reply : Reason → Reason → Reply → Option Reason

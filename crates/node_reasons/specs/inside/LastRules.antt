@@ -11,7 +11,7 @@ use Rattle.ownership.specs.declared.metadata.Metadata.{Metadata}
 use Rattle.ownership.specs.Access.{is_owner}
 use Rattle.ownership.specs.Options.{pid_form}
 use Rattle.ownership.specs.Info.{item_of}
-use Rattle.node_core.specs.Access.{may}
+use Rattle.node_core.specs.Access.{may_access}
 use Rattle.node_core.specs.Positions.{position_of}
 use Rattle.node_core.specs.declared.node.access.Access.{Access}
 use Rattle.node_core.specs.declared.node.access.Access.TheVariants.{Read}
@@ -28,7 +28,7 @@ NamesReason (Some reason) named = named ≡ reason
 -- the table exists, and the process may use it in this way, and then this
 abbrev pub needs_access : Access → ℕ → Option Metadata → Reason → Reason
 needs_access access p None rest = argument 1 rule.NoTable
-needs_access access p (Some metadata) rest = if may access metadata p then rest else argument 1 (rule_of_access access)
+needs_access access p (Some metadata) rest = if may_access access metadata p then rest else argument 1 (rule_of_access access)
 
 -- the process may use the table in this way, and then this of its content
 abbrev pub last_rule_of_content : Access → ℕ → Option Metadata → Option Content → (Content → Reason) → Reason

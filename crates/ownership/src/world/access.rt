@@ -1,5 +1,5 @@
 ghost use Rattle.std.specs.Prelude.{◌≡◌};
-ghost use Rattle.ownership.specs.Access.{may, is_owner, may_read, may_write};
+ghost use Rattle.ownership.specs.Access.{has_access, is_owner, may_read, may_write};
 
 use super::World;
 use bucket_table::Rows;
@@ -9,7 +9,7 @@ use bucket_table::Rows;
 impl<R: Rows> World<R> {
     /// Checks whether the process may read the table with this identifier.
     pub fn may_read(&self, pid: u32, id: u32) -> bool
-        ensures { result ≡ may may_read self.now.tables pid id }
+        ensures { result ≡ has_access may_read self.now.tables pid id }
     {
         match self.metadata(id) {
             Some(metadata) => metadata.may_read(pid),
@@ -19,7 +19,7 @@ impl<R: Rows> World<R> {
 
     /// Checks whether the process may write to the table with this identifier.
     pub fn may_write(&self, pid: u32, id: u32) -> bool
-        ensures { result ≡ may may_write self.now.tables pid id }
+        ensures { result ≡ has_access may_write self.now.tables pid id }
     {
         match self.metadata(id) {
             Some(metadata) => metadata.may_write(pid),
@@ -29,7 +29,7 @@ impl<R: Rows> World<R> {
 
     /// Checks whether the process owns the table with this identifier.
     pub fn is_owner(&self, pid: u32, id: u32) -> bool
-        ensures { result ≡ may is_owner self.now.tables pid id }
+        ensures { result ≡ has_access is_owner self.now.tables pid id }
     {
         match self.metadata(id) {
             Some(metadata) => metadata.is_owned_by(pid),

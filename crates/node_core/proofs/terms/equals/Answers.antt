@@ -1,7 +1,7 @@
 use Rattle.std.proofs.Common.{ap, sym, ◌∙◌}
 use Rattle.ets_term.specs.Order as order
 use Rattle.ets_term.specs.laws.Same.{same-exact, same-refl}
-use Rattle.node_core.proofs.terms.same.Goals as goal
+use Rattle.node_core.proofs.terms.equals.Goals as goal
 
 pub returns : goal.returns
 returns c =
