@@ -4,7 +4,7 @@ use Rattle.std.specs.List.{prefix_len}
 use Rattle.ets_term.specs.Character.{max_characters}
 use Rattle.term_text.specs.Text.{is_lowercase, is_name}
 use Rattle.script_reasons.specs.declared.syntax_problem.SyntaxProblem.TheVariants.{LongName}
-use Rattle.script_reasons.specs.SyntaxProblems.{word}
+use Rattle.script_reasons.specs.SyntaxProblems.{diagnose_word}
 
 small-name : (b : ℕ) → is_lowercase b ≡ true → is_name b ≡ true
 unfolding is_name
@@ -13,7 +13,7 @@ small-name b h = rw h refl
 above : (m n : ℕ) → m ≤ n → nat_lt m (1 + n) ≡ true
 above m n h = search (arith, rules)
 
-pub word-long : (b : ℕ) (after : List ℕ) → is_lowercase b ≡ true → max_characters ≤ prefix_len is_name after → word b after ≡ LongName
-word-long b after h k = let named : is_name b ≡ true = small-name b h in
+pub diagnose_word-long : (b : ℕ) (after : List ℕ) → is_lowercase b ≡ true → max_characters ≤ prefix_len is_name after → diagnose_word b after ≡ LongName
+diagnose_word-long b after h k = let named : is_name b ≡ true = small-name b h in
     let longer : nat_lt max_characters (1 + prefix_len is_name after) ≡ true = above max_characters (prefix_len is_name after) k in
     rw (h, named, longer) refl

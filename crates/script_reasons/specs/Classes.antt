@@ -36,12 +36,12 @@ abbrev pub may_begin_term : ℕ → Bool
 may_begin_term b = begins_term b || is_blank b
 
 -- the last byte, or 0
-abbrev pub last : List ℕ → ℕ
-last text = slice_index text (length text - 1)
+abbrev pub last_byte : List ℕ → ℕ
+last_byte text = slice_index text (length text - 1)
 
 -- the last byte that is neither a space nor a tab, or 0
 abbrev pub last_sign : List ℕ → ℕ
-last_sign text = last (filter (λ b. not (is_gap b)) text)
+last_sign text = last_byte (filter (λ b. not (is_gap b)) text)
 
 -- a term may begin after these signs
 abbrev pub expects_term : List ℕ → Bool

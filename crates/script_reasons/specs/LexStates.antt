@@ -13,34 +13,34 @@ is_quoted (Inside quote) = true
 is_quoted (Escaped quote) = true
 
 -- after one more byte: a quote `'` or `"` is closed by the same sign, unless a backslash comes before it
-abbrev pub after_byte : QuoteState → ℕ → QuoteState
-after_byte Outside b = if among (codes "'\"") b then Inside b else Outside
-after_byte (Inside quote) b = if b == quote then Outside else if b == byte "\\" then Escaped quote else Inside quote
-after_byte (Escaped quote) b = Inside quote
+abbrev pub next_quote_state : QuoteState → ℕ → QuoteState
+next_quote_state Outside b = if among (codes "'\"") b then Inside b else Outside
+next_quote_state (Inside quote) b = if b == quote then Outside else if b == byte "\\" then Escaped quote else Inside quote
+next_quote_state (Escaped quote) b = Inside quote
 
 -- whether a text ends in quotes
 abbrev pub quote_state_of : List ℕ → QuoteState
-quote_state_of text = fold after_byte Outside text
+quote_state_of text = fold next_quote_state Outside text
 
 -- a text that begins in this state, without the bytes in quotes
 abbrev pub without_quotes_from : QuoteState → List ℕ → List ℕ
 without_quotes_from before [] = []
-without_quotes_from before (b ∷ bs) = if is_quoted before then without_quotes_from (after_byte before b) bs else b ∷ without_quotes_from (after_byte before b) bs
+without_quotes_from before (b ∷ bs) = if is_quoted before then without_quotes_from (next_quote_state before b) bs else b ∷ without_quotes_from (next_quote_state before b) bs
 
 -- a text without the bytes in quotes
 abbrev pub without_quotes : List ℕ → List ℕ
 without_quotes text = without_quotes_from Outside text
 
 -- the number of open brackets after one more byte
-abbrev pub level : ℕ → ℕ → ℕ
-level n b = if among (codes "[{") b then n + 1 else if among (codes "]}") b then n - 1 else n
+abbrev pub next_levels : ℕ → ℕ → ℕ
+next_levels n b = if among (codes "[{") b then n + 1 else if among (codes "]}") b then n - 1 else n
 
 -- the state at the end of a text: in quotes or not; the number of open brackets; and whether the parentheses came, all
 -- outside quotes
 abbrev pub lex_state_of : List ℕ → LexState
 lex_state_of text = record {
   quotes = quote_state_of text;
-  levels = fold level 0 (without_quotes text);
+  levels = fold next_levels 0 (without_quotes text);
   is_open = list_any (λ b. b == byte "(") (without_quotes text);
   is_closed = list_any (λ b. b == byte ")") (without_quotes text);
 }

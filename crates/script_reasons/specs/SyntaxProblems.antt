@@ -10,7 +10,7 @@ use Rattle.script_reasons.specs.declared.syntax_problem.SyntaxProblem.TheVariant
 use Rattle.script_reasons.specs.declared.lex_state.LexState.{LexState}
 use Rattle.script_reasons.specs.declared.lex_state.QuoteState.{QuoteState}
 use Rattle.script_reasons.specs.declared.lex_state.QuoteState.TheVariants.{Escaped}
-use Rattle.script_reasons.specs.Classes.{is_line_byte, begins_atom, begins_number, begins_nested_term, begins_variable, may_begin_term, last, expects_term}
+use Rattle.script_reasons.specs.Classes.{is_line_byte, begins_atom, begins_number, begins_nested_term, begins_variable, may_begin_term, last_byte, expects_term}
 use Rattle.script_reasons.specs.LexStates.{is_quoted, lex_state_of}
 
 -- digits enough for a number that can be out of range in any position
@@ -18,72 +18,72 @@ abbrev pub long_number : ℕ
 long_number = 10
 
 -- at the end of the line
-abbrev pub at_end : LexState → SyntaxProblem
-at_end state = if is_quoted state.quotes || nat_lt 0 state.levels then problem.EndOfLineInTerm
+abbrev pub diagnose_end : LexState → SyntaxProblem
+diagnose_end state = if is_quoted state.quotes || nat_lt 0 state.levels then problem.EndOfLineInTerm
     else if state.is_open then problem.EndOfLineInCall
     else problem.EndOfLine
 
 -- inside quotes: after a backslash; or a character of a string, which is one level deeper
-abbrev pub in_quotes_at : QuoteState → ℕ → ℕ → SyntaxProblem
-in_quotes_at (Escaped quote) levels b = problem.Escape quote
-in_quotes_at _ levels b = if nat_le (max_depth - 1) levels then problem.TooDeep else problem.Other b
+abbrev pub diagnose_in_quotes_at : QuoteState → ℕ → ℕ → SyntaxProblem
+diagnose_in_quotes_at (Escaped quote) levels b = problem.Escape quote
+diagnose_in_quotes_at _ levels b = if nat_le (max_depth - 1) levels then problem.TooDeep else problem.Other b
 
-abbrev pub in_quotes : LexState → ℕ → SyntaxProblem
-in_quotes state b = in_quotes_at state.quotes state.levels b
+abbrev pub diagnose_in_quotes : LexState → ℕ → SyntaxProblem
+diagnose_in_quotes state b = diagnose_in_quotes_at state.quotes state.levels b
 
 -- after the parenthesis that ends a call
-abbrev pub after_call : ℕ → SyntaxProblem
-after_call b = if b == byte "." then problem.FullStop
+abbrev pub diagnose_after_call : ℕ → SyntaxProblem
+diagnose_after_call b = if b == byte "." then problem.FullStop
     else if b == byte "%" then problem.Comment
     else problem.TrailingText
 
 -- a name of more characters than an atom has, or a long number
-abbrev pub word : ℕ → List ℕ → SyntaxProblem
-word b after = if is_lowercase b && nat_lt max_characters (prefix_len is_name (b ∷ after)) then problem.LongName
+abbrev pub diagnose_word : ℕ → List ℕ → SyntaxProblem
+diagnose_word b after = if is_lowercase b && nat_lt max_characters (prefix_len is_name (b ∷ after)) then problem.LongName
     else if nat_le long_number (prefix_len is_digit (b ∷ after)) then problem.PastRange
     else problem.Other b
 
 -- a sign, whatever is before and after it
-abbrev pub sign : ℕ → List ℕ → SyntaxProblem
-sign b after = if b == byte "." then problem.FullStop
+abbrev pub diagnose_sign : ℕ → List ℕ → SyntaxProblem
+diagnose_sign b after = if b == byte "." then problem.FullStop
     else if b == byte "%" then problem.Comment
     else if b == byte "|" then problem.ImproperList
     else if b == byte "$" then problem.Character
     else if b == byte ":" then problem.Colon
     else if b == byte "+" then problem.PlusSign
     else if begins_variable b then problem.Variable
-    else word b after
+    else diagnose_word b after
 
 -- directly after `#`
-abbrev pub after_hash : ℕ → SyntaxProblem
-after_hash b = if b == byte "{" then problem.Map else problem.Identifier
+abbrev pub diagnose_after_hash : ℕ → SyntaxProblem
+diagnose_after_hash b = if b == byte "{" then problem.Map else problem.Identifier
 
 -- where no term may begin, or none with this byte
-abbrev pub unexpected_byte : List ℕ → ℕ → List ℕ → SyntaxProblem
-unexpected_byte before b after = if last before == byte "#" then after_hash b
-    else if (b == byte ".") && is_digit (last before) && begins is_digit after then problem.Float
-    else if (b == byte "#") && is_digit (last before) then problem.Base
-    else sign b after
+abbrev pub diagnose_unexpected_byte : List ℕ → ℕ → List ℕ → SyntaxProblem
+diagnose_unexpected_byte before b after = if last_byte before == byte "#" then diagnose_after_hash b
+    else if (b == byte ".") && is_digit (last_byte before) && begins is_digit after then problem.Float
+    else if (b == byte "#") && is_digit (last_byte before) then problem.Base
+    else diagnose_sign b after
 
 -- where a term may begin: a level too deep; or a term whose fault is further on, and is reported where
 -- it begins
-abbrev pub at_term_start : LexState → List ℕ → ℕ → List ℕ → SyntaxProblem
-at_term_start state before b after = if nat_le max_depth state.levels && begins_nested_term b then problem.TooDeep
+abbrev pub diagnose_term_start : LexState → List ℕ → ℕ → List ℕ → SyntaxProblem
+diagnose_term_start state before b after = if nat_le max_depth state.levels && begins_nested_term b then problem.TooDeep
     else if begins_atom b then problem.LongName
     else if begins_number b then problem.PastRange
-    else unexpected_byte before b after
+    else diagnose_unexpected_byte before b after
 
 -- a byte, between this text and that
 abbrev pub diagnose_byte : List ℕ → ℕ → List ℕ → SyntaxProblem
 diagnose_byte before b after = if not (is_line_byte b) then problem.NotPrintable b
-    else if is_quoted (lex_state_of before).quotes then in_quotes (lex_state_of before) b
-    else if (lex_state_of before).is_closed then after_call b
-    else if expects_term before then at_term_start (lex_state_of before) before b after
-    else unexpected_byte before b after
+    else if is_quoted (lex_state_of before).quotes then diagnose_in_quotes (lex_state_of before) b
+    else if (lex_state_of before).is_closed then diagnose_after_call b
+    else if expects_term before then diagnose_term_start (lex_state_of before) before b after
+    else diagnose_unexpected_byte before b after
 
 -- the rest of a line, after this text
 abbrev pub diagnose_rest : List ℕ → List ℕ → SyntaxProblem
-diagnose_rest before [] = at_end (lex_state_of before)
+diagnose_rest before [] = diagnose_end (lex_state_of before)
 diagnose_rest before (b ∷ after) = diagnose_byte before b after
 
 -- the problem at an offset of a line

@@ -105,8 +105,8 @@ pub fn starts_with_digit(text: &[u8]) -> bool
 }
 
 /// Returns the last byte of a text, or 0 if it is empty.
-pub fn last(text: &[u8]) -> u8
-    ensures { result ≡ spec.last text.now }
+pub fn last_byte(text: &[u8]) -> u8
+    ensures { result ≡ spec.last_byte text.now }
 {
     text.last().copied().unwrap_or(0)
 }

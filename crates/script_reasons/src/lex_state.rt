@@ -24,8 +24,8 @@ impl QuoteState {
     }
 
     /// Returns the state after one more byte.
-    fn after_byte(self, byte: u8) -> QuoteState
-        ensures { result ≡ spec.after_byte self byte }
+    fn next_state(self, byte: u8) -> QuoteState
+        ensures { result ≡ spec.next_quote_state self byte }
     {
         match self {
             QuoteState::Outside if byte == b'\'' || byte == b'"' => QuoteState::Inside(byte),
@@ -52,7 +52,7 @@ pub struct LexState {
 
 impl LexState {
     /// Returns the state at the end of a text.
-    pub fn after(text: &[u8]) -> LexState
+    pub fn of_text(text: &[u8]) -> LexState
         ensures { result ≡ spec.lex_state_of text.now }
     {
         let mut state = LexState {
@@ -73,18 +73,18 @@ impl LexState {
         ensures { self.new ≡ advance self.old byte }
     {
         if !self.quotes.is_quoted() {
-            self.levels = level(self.levels, byte);
+            self.levels = next_levels(self.levels, byte);
             self.is_open |= byte == b'(';
             self.is_closed |= byte == b')';
         }
-        self.quotes = self.quotes.after_byte(byte);
+        self.quotes = self.quotes.next_state(byte);
     }
 }
 
 /// Returns the number of open brackets after one more byte, which is outside quotes.
-fn level(levels: usize, byte: u8) -> usize
+fn next_levels(levels: usize, byte: u8) -> usize
     requires { levels + 1 < 2 ^ 64 }
-    ensures { result ≡ spec.level levels byte }
+    ensures { result ≡ spec.next_levels levels byte }
 {
     match byte {
         b'[' | b'{' => levels + 1,

@@ -4,7 +4,7 @@ ghost use Rattle.script_reasons.specs.SyntaxProblems as spec;
 
 use crate::classes::{
     begins_atom, begins_nested_term, begins_number, begins_variable, digits_len, expects_term,
-    is_line_byte, last, may_begin_term, name_len, starts_with_digit,
+    is_line_byte, last_byte, may_begin_term, name_len, starts_with_digit,
 };
 use crate::lex_state::{LexState, QuoteState};
 use ets_term::{MAX_CHARACTERS, MAX_DEPTH};
@@ -57,7 +57,7 @@ pub fn diagnose_at(line: &[u8], at: usize) -> SyntaxProblem
 {
     let (before, rest) = line.split_at(at.min(line.len()));
     match rest {
-        [] => at_end(&LexState::after(before)),
+        [] => diagnose_end(&LexState::of_text(before)),
         [byte, after @ ..] => diagnose_byte(before, *byte, after),
     }
 }
@@ -73,8 +73,8 @@ pub fn diagnose_in_call(text: &[u8], at: usize) -> SyntaxProblem
     }
 }
 
-fn at_end(state: &LexState) -> SyntaxProblem
-    ensures { result ≡ spec.at_end state.now }
+fn diagnose_end(state: &LexState) -> SyntaxProblem
+    ensures { result ≡ spec.diagnose_end state.now }
 {
     if state.quotes.is_quoted() || state.levels > 0 {
         SyntaxProblem::EndOfLineInTerm
@@ -89,22 +89,22 @@ fn at_end(state: &LexState) -> SyntaxProblem
 fn diagnose_byte(before: &[u8], byte: u8, after: &[u8]) -> SyntaxProblem
     ensures { result ≡ spec.diagnose_byte before.now byte after.now }
 {
-    let state = LexState::after(before);
+    let state = LexState::of_text(before);
     if !is_line_byte(byte) {
         SyntaxProblem::NotPrintable(byte)
     } else if state.quotes.is_quoted() {
-        in_quotes(&state, byte)
+        diagnose_in_quotes(&state, byte)
     } else if state.is_closed {
-        after_call(byte)
+        diagnose_after_call(byte)
     } else if expects_term(before) {
-        at_term_start(&state, before, byte, after)
+        diagnose_term_start(&state, before, byte, after)
     } else {
-        unexpected_byte(before, byte, after)
+        diagnose_unexpected_byte(before, byte, after)
     }
 }
 
-fn in_quotes(state: &LexState, byte: u8) -> SyntaxProblem
-    ensures { result ≡ spec.in_quotes state.now byte }
+fn diagnose_in_quotes(state: &LexState, byte: u8) -> SyntaxProblem
+    ensures { result ≡ spec.diagnose_in_quotes state.now byte }
 {
     match state.quotes {
         QuoteState::Escaped(quote) => SyntaxProblem::Escape(quote),
@@ -113,8 +113,8 @@ fn in_quotes(state: &LexState, byte: u8) -> SyntaxProblem
     }
 }
 
-fn after_call(byte: u8) -> SyntaxProblem
-    ensures { result ≡ spec.after_call byte }
+fn diagnose_after_call(byte: u8) -> SyntaxProblem
+    ensures { result ≡ spec.diagnose_after_call byte }
 {
     match byte {
         b'.' => SyntaxProblem::FullStop,
@@ -124,8 +124,8 @@ fn after_call(byte: u8) -> SyntaxProblem
 }
 
 /// Diagnoses a byte where a term must begin.
-fn at_term_start(state: &LexState, before: &[u8], byte: u8, after: &[u8]) -> SyntaxProblem
-    ensures { result ≡ spec.at_term_start state.now before.now byte after.now }
+fn diagnose_term_start(state: &LexState, before: &[u8], byte: u8, after: &[u8]) -> SyntaxProblem
+    ensures { result ≡ spec.diagnose_term_start state.now before.now byte after.now }
 {
     if state.levels >= MAX_DEPTH && begins_nested_term(byte) {
         SyntaxProblem::TooDeep
@@ -134,28 +134,28 @@ fn at_term_start(state: &LexState, before: &[u8], byte: u8, after: &[u8]) -> Syn
     } else if begins_number(byte) {
         SyntaxProblem::PastRange
     } else {
-        unexpected_byte(before, byte, after)
+        diagnose_unexpected_byte(before, byte, after)
     }
 }
 
 /// Diagnoses a byte of a kind that cannot come here.
-fn unexpected_byte(before: &[u8], byte: u8, after: &[u8]) -> SyntaxProblem
-    ensures { result ≡ spec.unexpected_byte before.now byte after.now }
+fn diagnose_unexpected_byte(before: &[u8], byte: u8, after: &[u8]) -> SyntaxProblem
+    ensures { result ≡ spec.diagnose_unexpected_byte before.now byte after.now }
 {
-    let last = last(before);
+    let last = last_byte(before);
     if last == b'#' {
-        return after_hash(byte);
+        return diagnose_after_hash(byte);
     }
     let follows_digit = is_digit_byte(last);
     match byte {
         b'.' if follows_digit && starts_with_digit(after) => SyntaxProblem::Float,
         b'#' if follows_digit => SyntaxProblem::Base,
-        _ => sign(byte, after),
+        _ => diagnose_sign(byte, after),
     }
 }
 
-fn after_hash(byte: u8) -> SyntaxProblem
-    ensures { result ≡ spec.after_hash byte }
+fn diagnose_after_hash(byte: u8) -> SyntaxProblem
+    ensures { result ≡ spec.diagnose_after_hash byte }
 {
     match byte {
         b'{' => SyntaxProblem::Map,
@@ -164,8 +164,8 @@ fn after_hash(byte: u8) -> SyntaxProblem
 }
 
 /// Diagnoses a sign by itself.
-fn sign(byte: u8, after: &[u8]) -> SyntaxProblem
-    ensures { result ≡ spec.sign byte after.now }
+fn diagnose_sign(byte: u8, after: &[u8]) -> SyntaxProblem
+    ensures { result ≡ spec.diagnose_sign byte after.now }
 {
     match byte {
         b'.' => SyntaxProblem::FullStop,
@@ -175,13 +175,13 @@ fn sign(byte: u8, after: &[u8]) -> SyntaxProblem
         b':' => SyntaxProblem::Colon,
         b'+' => SyntaxProblem::PlusSign,
         _ if begins_variable(byte) => SyntaxProblem::Variable,
-        _ => word(byte, after),
+        _ => diagnose_word(byte, after),
     }
 }
 
 /// Diagnoses a name or a number where none can come, or that is too long.
-fn word(byte: u8, after: &[u8]) -> SyntaxProblem
-    ensures { result ≡ spec.word byte after.now }
+fn diagnose_word(byte: u8, after: &[u8]) -> SyntaxProblem
+    ensures { result ≡ spec.diagnose_word byte after.now }
 {
     if is_lowercase_byte(byte) && name_len(after) >= MAX_CHARACTERS {
         SyntaxProblem::LongName

@@ -2,15 +2,15 @@
 use Rattle.std.specs.Prelude.{ℕ, ◌||◌, ◌==◌, if◌then◌else◌}
 use Rattle.std.specs.Str.{byte}
 use Rattle.script_reasons.specs.declared.lex_state.LexState.{LexState}
-use Rattle.script_reasons.specs.LexStates.{is_quoted, after_byte, level}
+use Rattle.script_reasons.specs.LexStates.{is_quoted, next_quote_state, next_levels}
 
 -- a state after one more byte
 abbrev pub advance : LexState → ℕ → LexState
 advance state b = if is_quoted state.quotes
-    then record state { quotes = after_byte state.quotes b }
+    then record state { quotes = next_quote_state state.quotes b }
     else record {
-      quotes = after_byte state.quotes b;
-      levels = level state.levels b;
+      quotes = next_quote_state state.quotes b;
+      levels = next_levels state.levels b;
       is_open = state.is_open || (b == byte "(");
       is_closed = state.is_closed || (b == byte ")");
     }

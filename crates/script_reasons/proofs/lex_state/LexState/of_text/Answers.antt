@@ -4,7 +4,7 @@ use Rattle.script_reasons.specs.declared.lex_state.LexState.{LexState}
 use Rattle.script_reasons.specs.LexStates.{lex_state_of}
 use Rattle.script_reasons.specs.inside.Advance.{advance}
 use Rattle.script_reasons.proofs.LexStateLaws.{lex_state-push, levels-low}
-use Rattle.script_reasons.proofs.lex_state.LexState.after.Goals as goal
+use Rattle.script_reasons.proofs.lex_state.LexState.of_text.Goals as goal
 
 pub advance-requires : goal.advance-requires
 advance-requires c =
