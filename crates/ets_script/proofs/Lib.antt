@@ -5,7 +5,7 @@ mod AnsweredLines
 mod Progress
 mod ScriptEnds
 mod Places
-mod Recent
+mod NamePlaces
 mod Enrolments
 mod Words
 mod NamePrefixes

@@ -15,7 +15,7 @@ use node_shared::Entry;
 use std::io::Write;
 
 /// Prints the planned answers and the results of the processes, and flushes.
-pub fn print_out<W: Write>(
+pub fn print_results<W: Write>(
     planned: &PlannedAnswers,
     run: &RunResult,
     output: &mut Output<'_, W>,

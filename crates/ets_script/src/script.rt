@@ -24,7 +24,7 @@ pub struct Script<H: KeyHash + Copy + Drop> {
     names: IndexSet<Vec<u8>>,
     node: Node<H>,
     /// The process of the call before.
-    recent: u32,
+    last_caller: u32,
     /// An empty list with the memory of the arguments of a call before.
     arguments: Option<Vec<Term>>,
 }
@@ -53,7 +53,7 @@ impl<H: KeyHash + Copy + Drop> Script<H> {
         Script {
             names: IndexSet::new(alloc),
             node: Node::new(alloc, limits, hasher),
-            recent: 0,
+            last_caller: 0,
             arguments: None,
         }
     }
@@ -127,7 +127,7 @@ impl<H: KeyHash + Copy + Drop> Script<H> {
                 let step = Step::Ask(pid, call);
                 self.step(&step, answer);
                 self.keep_call(step);
-                self.tend();
+                self.run_pending_steps();
             }
             None => answer.set_no_process(),
         }
@@ -232,25 +232,25 @@ impl<H: KeyHash + Copy + Drop> Script<H> {
         ensures pid { result ≡ pid_of self.old name.now }
         ensures same { self.new ≡ self.old }
     {
-        if let Some(pid) = self.recent(name) {
+        if let Some(pid) = self.last_caller_named(name) {
             return Some(pid);
         }
         let pid = self.pid(name);
         if let Some(number) = pid {
-            self.recent = number;
+            self.last_caller = number;
         }
         pid
     }
 
     /// Returns the process of the call before, if this is its name.
     #[inline(always)]
-    fn recent(&self, name: &[u8]) -> Option<u32>
+    fn last_caller_named(&self, name: &[u8]) -> Option<u32>
         ensures { IfSome result (λ p. pid_of self.now name.now ≡ Some p) }
     {
         // The clause of `len` says that names differ.
         let _count = self.names.len();
-        match self.names.get_index(self.recent as usize) {
-            Some(known) if name == known.as_slice() => Some(self.recent),
+        match self.names.get_index(self.last_caller as usize) {
+            Some(last_name) if name == last_name.as_slice() => Some(self.last_caller),
             _ => None,
         }
     }
@@ -304,7 +304,7 @@ impl<H: KeyHash + Copy + Drop> Script<H> {
 
     /// Runs at most two pending growth steps, which no call observes.
     #[inline(always)]
-    fn tend(&mut self)
+    fn run_pending_steps(&mut self)
         ensures { self.new ≡ self.old }
     {
         if matches!(self.node.run_pending(), Ok(true)) {

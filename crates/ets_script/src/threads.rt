@@ -8,7 +8,7 @@ ghost use Rattle.ets_script.specs.Threads.{ThreadsEnd, ThreadsStop};
 ghost use Rattle.ets_script.specs.inside.Processes.{RunsInput, Stops};
 
 use crate::fault::ScriptFault;
-use crate::journal::print_out;
+use crate::journal::print_results;
 use crate::node_settings::NodeSettings;
 use crate::plan::PlannedAnswers;
 use crate::planning::plan_input;
@@ -48,7 +48,7 @@ pub fn run_threads<
     };
     let (planned, run) = run_input(rt, alloc, &mut streams.input, settings)?;
     let mut output = Output::new(&mut bytes, &mut streams.output);
-    print_out(&planned, &run, &mut output)?;
+    print_results(&planned, &run, &mut output)?;
     Ok(())
 }
 

@@ -14,13 +14,13 @@ pub(crate) fn bound_part(pattern: &Term, keypos: Position) -> Option<&Term>
     ensures { option_map data_of (option_copied result) ≡ bound_key keypos (data_of pattern.now) }
 {
     match pattern.element(keypos) {
-        Some(key) => ground_or_none(key),
+        Some(key) => key_if_ground(key),
         None => None,
     }
 }
 
 /// Returns the part if it is ground: it has neither a variable nor `'_'`.
-fn ground_or_none(key: &Term) -> Option<&Term>
+fn key_if_ground(key: &Term) -> Option<&Term>
     ensures { option_map data_of (option_copied result)
         ≡ (if is_ground (data_of key.now) then Some (data_of key.now) else None) }
 {

@@ -87,7 +87,7 @@ impl<L: Ledger> Client<L> {
     {
         let event = Step::Ask(self.share.pid(), call.try_clone(self.alloc)?);
         self.step(rt, shared, event)?;
-        Ok(self.last())
+        Ok(self.last_reply())
     }
 
     /// Ends the process and returns the reply; the record gets both. The reply to later calls is `NoProcess`. Running
@@ -101,7 +101,7 @@ impl<L: Ledger> Client<L> {
     {
         let event = Step::End(self.share.pid());
         self.step(rt, shared, event)?;
-        Ok(self.last())
+        Ok(self.last_reply())
     }
 
     /// Runs a step of the process, and records it with its reply. The journal's copy of the step is made before the
@@ -124,7 +124,7 @@ impl<L: Ledger> Client<L> {
     }
 
     /// Returns the reply of the last entry.
-    fn last(&self) -> &Reply
+    fn last_reply(&self) -> &Reply
         ensures { IsLast self.now.entries result.now }
     {
         &self.entries[self.entries.len() - 1].reply

@@ -105,13 +105,13 @@ fn least_without_client<L: Ledger>(journal: &[Entry], clients: &[Client<L>]) -> 
 {
     let mut least = None;
     for entry in journal {
-        least = lesser_missing(least, entry, clients);
+        least = least_after_entry(least, entry, clients);
     }
     least
 }
 
 /// Returns the lowest such process after one more entry.
-fn lesser_missing<L: Ledger>(
+fn least_after_entry<L: Ledger>(
     least: Option<u32>,
     entry: &Entry,
     clients: &[Client<L>],

@@ -117,7 +117,7 @@ impl Store {
         ensures { RunsExternalCall (external.parse_call bytes.now) pid self.old result self.new }
     {
         let Ok(call) = node_external::read_call(alloc, bytes) else {
-            return self.run_out();
+            return self.refuse_memory();
         };
         match call {
             node_external::ParsedCall::Call(name, args) => self.ask(pid, name, args),
@@ -133,7 +133,7 @@ impl Store {
         ensures { RunsCall text.now (texts.parse_call text.now) pid self.old result self.new }
     {
         let Ok(call) = read_call(alloc, text) else {
-            return self.run_out();
+            return self.refuse_memory();
         };
         match call {
             ParsedCall::Call(name, args) => self.ask(pid, name, args),
@@ -144,8 +144,8 @@ impl Store {
         }
     }
 
-    /// Keeps that memory ran out for a call.
-    fn run_out(&mut self) -> Result<(), CallFault>
+    /// Refuses a call because memory ran out, and keeps this as the reason.
+    fn refuse_memory(&mut self) -> Result<(), CallFault>
         ensures fault { result ≡ Err Memory }
         ensures keeps { self.new ≡ with_refusal refusal.NoMemory self.old }
     {
@@ -158,7 +158,7 @@ impl Store {
         ensures { RunsAsk pid name args self.old result self.new }
     {
         self.step(&Step::Ask(pid, Call::new(name, args.into_vec())))?;
-        self.tend();
+        self.run_pending_steps();
         Ok(())
     }
 
@@ -177,7 +177,7 @@ impl Store {
     }
 
     /// Runs at most two pending growth steps, which no call observes. A step that runs out of memory stays pending.
-    fn tend(&mut self)
+    fn run_pending_steps(&mut self)
         ensures { self.new ≡ self.old }
     {
         if matches!(self.node.run_pending(), Ok(true)) {

@@ -70,7 +70,7 @@ fn remainder(m: Integer, n: Integer) -> Option<Integer>
 }
 
 /// Returns the absolute value of an integer, or `None` if it is out of range.
-pub(crate) fn absolute(x: &Term) -> Option<Term>
+pub(crate) fn absolute_value(x: &Term) -> Option<Term>
     ensures { option_map data_of result ≡ absolute (data_of x.now) }
 {
     match x {

@@ -5,7 +5,9 @@ ghost use Rattle.ets_term.specs.Data.{data_of};
 ghost use Rattle.match_spec.specs.inside.Functions.{function_of, one_argument, two_arguments, strict_connective, short_circuit_connective, apply};
 
 use crate::expression::Connective;
-use crate::expression::arithmetic::{ArithmeticOp, absolute, arithmetic_op_of, eval_arithmetic};
+use crate::expression::arithmetic::{
+    ArithmeticOp, absolute_value, arithmetic_op_of, eval_arithmetic,
+};
 use crate::expression::comparison::{ComparisonOp, compares, comparison_op_of};
 use crate::expression::guards::{GuardKind, boolean, guard_kind_of, is_kind, truth, xor};
 use crate::expression::lists::{list_length, size, tail};
@@ -120,7 +122,7 @@ pub(crate) fn eval_unary(
             Some(b) => Ok(Some(truth(alloc, !b)?)),
             None => Ok(None),
         },
-        Function::Abs => Ok(absolute(x)),
+        Function::Abs => Ok(absolute_value(x)),
         Function::Tl => tail(alloc, x),
         Function::Length => Ok(list_length(x)),
         Function::Size => Ok(size(x)),

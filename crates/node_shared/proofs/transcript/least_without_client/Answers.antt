@@ -10,4 +10,4 @@ loop-entry-preserved g c =
     let i = c.loop-entry.entry-index in
     let item = c.entry-item.result in
     let more : take (i + 1) journal ≡ take i journal ++ item ∷ [] = take_more journal i item c.loop-entry-test.true ∙ ap (λ (e : Entry). take i journal ++ e ∷ []) (sym c.entry-item.is) in
-    subst (λ (entries : List Entry). FindsMissing entries c.args.clients.now c.lesser_missing-least.result) (sym more) (c.lesser_missing-least.ensures (take i journal) c.loop-entry.invariant)
+    subst (λ (entries : List Entry). FindsMissing entries c.args.clients.now c.least_after_entry-least.result) (sym more) (c.least_after_entry-least.ensures (take i journal) c.loop-entry.invariant)

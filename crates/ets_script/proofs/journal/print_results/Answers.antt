@@ -1,7 +1,7 @@
 use Rattle.std.proofs.lemmas.Result.{err_from_is_err_and}
 use Rattle.ets_script.specs.inside.Journal.{out_text}
 use Rattle.ets_script.proofs.Printing.{out-ok, out-err, out-broken}
-use Rattle.ets_script.proofs.journal.print_out.Goals as goal
+use Rattle.ets_script.proofs.journal.print_results.Goals as goal
 
 pub returns-in_err-print_all-clause-err : goal.returns-in_err-print_all-clause-err
 returns-in_err-print_all-clause-err g c =
