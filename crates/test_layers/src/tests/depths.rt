@@ -3,6 +3,7 @@ use super::keep_if_some;
 use ets_term::{Items, Term};
 use std::alloc::Global;
 
+/// The depth of the term.
 const LEVELS: usize = 200_000;
 
 /// Builds the list of one term.
@@ -11,8 +12,8 @@ fn list_of(alloc: Global, term: Term) -> Option<Term> {
     Some(Term::List(keep_if_some(outer.push(term).ok(), outer)?))
 }
 
-/// Builds lists within lists, to this depth.
-pub fn nest(alloc: Global, levels: usize) -> Option<Term> {
+/// Builds lists within lists, to this depth. The innermost list is empty.
+pub fn nested_list(alloc: Global, levels: usize) -> Option<Term> {
     let mut term = Term::List(Items::new(alloc));
     for _ in 1..levels {
         term = list_of(alloc, term)?;
@@ -36,29 +37,31 @@ fn last_of(term: Term) -> Option<Option<Term>> {
     }
 }
 
-/// Takes nested lists apart, the outermost first, and counts them.
-fn unnest(term: Term) -> usize {
-    let mut left = Some(term);
+/// Takes nested lists apart, the outermost first, and counts them, up to `LEVELS`.
+fn count_levels(term: Term) -> usize {
+    let mut rest = Some(term);
     for levels in 0..LEVELS {
-        let Some(list) = left else {
+        let Some(list) = rest else {
             return levels;
         };
         let Some(last) = last_of(list) else {
             return levels;
         };
-        left = last;
+        rest = last;
     }
-    drop(left);
+    drop(rest);
     LEVELS
 }
 
-fn is_too_deep(alloc: Global) -> Option<bool> {
-    let term = nest(alloc, LEVELS)?;
+/// Returns whether a list of depth `LEVELS` is too deep. None means out of memory.
+fn deep_list_is_too_deep(alloc: Global) -> Option<bool> {
+    let term = nested_list(alloc, LEVELS)?;
     let deep = term.is_too_deep();
-    Some(unnest(term) == LEVELS && deep)
+    Some(count_levels(term) == LEVELS && deep)
 }
 
+/// Checks that `is_too_deep` does not recurse through all levels, which would overflow the call stack.
 #[test]
 fn the_depth_is_read_no_further_than_the_limit(rt: HostRuntime) {
-    assert!(rt; is_too_deep(rt.alloc()) == Some(true));
+    assert!(rt; deep_list_is_too_deep(rt.alloc()) == Some(true));
 }

@@ -14,8 +14,15 @@ mod refused;
 mod tombstones;
 mod walks;
 
+/// The most objects that a table may have: more than any test inserts.
+const MAX_OBJECTS: u32 = 1_000_000;
+
+/// The number of buckets at which `grow` no longer doubles them.
+const MAX_BUCKETS: u32 = 4096;
+
+/// Builds a table over plain rows: all slots in one bucket, in the order of insertion.
 fn plain_table(alloc: Global, kind: Kind) -> Walked<PlainRows> {
-    let table = Table::new(alloc, PlainRows::new(alloc), kind, 1, 1_000_000);
+    let table = Table::new(alloc, PlainRows::new(alloc), kind, 1, MAX_OBJECTS);
     Walked::new(alloc, table)
 }
 
@@ -27,17 +34,24 @@ fn one_bucket_table(alloc: Global, kind: Kind) -> Option<Walked<SplitRows<AllSam
         SplitRows::new(alloc, AllSame).ok()?,
         kind,
         1,
-        1_000_000,
+        MAX_OBJECTS,
     );
     Some(Walked::new(alloc, table))
 }
 
+/// Builds a table over split rows, with keys hashed by FNV-1a.
 fn split_table(alloc: Global, kind: Kind) -> Option<Walked<SplitRows<Fnv>>> {
-    let table = Table::new(alloc, SplitRows::new(alloc, Fnv).ok()?, kind, 1, 1_000_000);
+    let table = Table::new(
+        alloc,
+        SplitRows::new(alloc, Fnv).ok()?,
+        kind,
+        1,
+        MAX_OBJECTS,
+    );
     Some(Walked::new(alloc, table))
 }
 
-/// The object `{Key,Value}`.
+/// The object `{Key,Value}` of a call.
 #[derive(Clone, Copy)]
 struct Object(Integer, Integer);
 
@@ -52,14 +66,16 @@ struct Pid(u32);
 /// Builds the object `{Key,Value}`.
 fn build_object(alloc: Global, key: Integer, value: Integer) -> Option<Term> {
     let mut items = Items::new(alloc);
-    Some(Term::Tuple(keep_if_some(push_both(&mut items, key, value), items)?))
+    Some(Term::Tuple(keep_if_some(push_key_and_value(&mut items, key, value), items)?))
 }
 
-fn push_both(items: &mut Items<Term>, key: Integer, value: Integer) -> Option<()> {
+/// Pushes the two elements of an object.
+fn push_key_and_value(items: &mut Items<Term>, key: Integer, value: Integer) -> Option<()> {
     items.push(Term::Int(key)).ok()?;
     items.push(Term::Int(value)).ok()
 }
 
+/// Inserts the object `{Key,Value}`. Returns whether the call succeeded.
 fn insert<R: Rows>(
     alloc: Global,
     table: &mut Walked<R>,
@@ -72,6 +88,7 @@ fn insert<R: Rows>(
     Some(inserted)
 }
 
+/// Deletes all objects of a key.
 fn delete<R: Rows>(table: &mut Walked<R>, key: Integer) {
     let key = Term::Int(key);
     table.delete_key(&key);
@@ -103,11 +120,11 @@ fn is_key(found: Option<&Term>, wanted: Option<Integer>) -> bool {
     }
 }
 
-/// Makes the first unready bucket ready, or doubles the buckets.
+/// Makes the first unready bucket ready, or doubles the buckets if all are ready.
 fn grow<R: Rows>(table: &mut Walked<R>) -> Option<()> {
     if let Some(bucket) = table.first_unready() {
         let _ = table.ready(bucket).ok()?;
-    } else if table.buckets() < 4096 {
+    } else if table.buckets() < MAX_BUCKETS {
         let _ = table.grow().ok()?;
     }
     Some(())

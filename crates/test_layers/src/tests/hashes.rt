@@ -3,16 +3,22 @@ use ets_term::{Atom, Fnv, Integer, KeyHash, Term};
 use std::alloc::Global;
 use std::process::Abort;
 
+/// The hash of no bytes by FNV-1a of 32 bits.
+const OFFSET_BASIS: u32 = 0x811c9dc5;
+
+/// The number by which each byte multiplies the hash.
+const PRIME: u32 = 0x01000193;
+
 /// Computes FNV-1a of 32 bits, as its authors define it.
 fn fnv_1a(bytes: &[u8]) -> u32 {
-    fnv_1a_from(0x811c9dc5, bytes)
+    fnv_1a_from(OFFSET_BASIS, bytes)
 }
 
 /// Continues a hash with further bytes.
 fn fnv_1a_from(hash: u32, bytes: &[u8]) -> u32 {
     let mut hash = hash;
     for byte in bytes {
-        hash = (hash ^ u32::from(*byte)).wrapping_mul(0x01000193);
+        hash = (hash ^ u32::from(*byte)).wrapping_mul(PRIME);
     }
     hash
 }
@@ -20,7 +26,8 @@ fn fnv_1a_from(hash: u32, bytes: &[u8]) -> u32 {
 /// Texts and their hashes, as the authors of FNV-1a publish them.
 const PUBLISHED: [(&str, u32); 3] = [("", 0x811c9dc5), ("a", 0xe40c292c), ("foobar", 0xbf9cf968)];
 
-fn are_hashed(rows: &[(&'static str, u32)]) -> bool {
+/// Returns whether the plain implementation gives each text its published hash.
+fn have_published_hashes(rows: &[(&'static str, u32)]) -> bool {
     for (text, wanted) in rows {
         if fnv_1a(text.as_bytes()) != *wanted {
             return false;
@@ -29,11 +36,13 @@ fn are_hashed(rows: &[(&'static str, u32)]) -> bool {
     true
 }
 
+/// Checks the plain implementation.
 #[test]
 fn published_vectors(rt: HostRuntime) {
-    assert!(rt; are_hashed(&PUBLISHED));
+    assert!(rt; have_published_hashes(&PUBLISHED));
 }
 
+/// Returns the hash of the atom of a text, by the hasher of the crate.
 fn hash_of_an_atom(alloc: Global, text: &str) -> Option<u32> {
     let term = Term::Atom(Atom::new(alloc, text).ok()?);
     let hash = Fnv.hash32(&term);
@@ -41,6 +50,7 @@ fn hash_of_an_atom(alloc: Global, text: &str) -> Option<u32> {
     Some(hash)
 }
 
+/// Returns the hash of an integer, by the hasher of the crate.
 fn hash_of_an_integer(number: Integer) -> u32 {
     let term = Term::Int(number);
     let hash = Fnv.hash32(&term);
@@ -48,13 +58,17 @@ fn hash_of_an_integer(number: Integer) -> u32 {
     hash
 }
 
-/// Returns whether the crate's hash of the atom of each text is that of its encoding: two bytes and the text.
-fn are_hashed_as_atoms(alloc: Global, rows: &[(&'static str, u32)]) -> bool {
+/// The first byte in the encoding of an atom.
+const KIND_OF_ATOM: u8 = 2;
+
+/// Returns whether the crate's hash of the atom of each text is the plain hash of its encoding: a byte for the kind,
+/// the length and the text.
+fn are_hashed_by_encoding(alloc: Global, rows: &[(&'static str, u32)]) -> bool {
     for (text, _) in rows {
         let Ok(length) = u8::try_from(text.len()) else {
             return false;
         };
-        let front = fnv_1a(&[2, length]);
+        let front = fnv_1a(&[KIND_OF_ATOM, length]);
         let whole = fnv_1a_from(front, text.as_bytes());
         if hash_of_an_atom(alloc, *text) != Some(whole) {
             return false;
@@ -63,22 +77,31 @@ fn are_hashed_as_atoms(alloc: Global, rows: &[(&'static str, u32)]) -> bool {
     true
 }
 
+/// Checks the hashes of atoms.
 #[test]
 fn atoms_of_the_published_texts(rt: HostRuntime) {
-    assert!(rt; are_hashed_as_atoms(rt.alloc(), &PUBLISHED));
+    assert!(rt; are_hashed_by_encoding(rt.alloc(), &PUBLISHED));
 }
 
-/// The encodings of 1 and of -2^64-1: a byte for the kind, then 16 with the high one first.
-const ONE: [u8; 17] = [1, 0, 0, 0, 0, 0, 0, 0, 0, 0, 0, 0, 0, 0, 0, 0, 1];
+/// The encoding of the atom `a`.
+const ATOM_A: [u8; 3] = [KIND_OF_ATOM, 1, b'a'];
 
-const BELOW: [u8; 17] = [
+/// The hash of the atom `a`.
+const HASH_OF_A: u32 = 58490007;
+
+/// The encoding of 1: a byte for the kind, then 16 bytes with the high one first.
+const ENCODED_ONE: [u8; 17] = [1, 0, 0, 0, 0, 0, 0, 0, 0, 0, 0, 0, 0, 0, 0, 0, 1];
+
+/// The encoding of -2^64-1, whose two words differ.
+const ENCODED_TWO_WORDS: [u8; 17] = [
     1, 255, 255, 255, 255, 255, 255, 255, 254, 255, 255, 255, 255, 255, 255, 255, 255,
 ];
 
+/// Checks that the hash of an atom and of an integer is the plain hash of its encoding.
 #[test]
 fn runs_over_the_encoding(rt: HostRuntime) {
-    assert!(rt; fnv_1a(&[2, 1, 97]) == 58490007);
-    assert!(rt; hash_of_an_atom(rt.alloc(), "a") == Some(58490007));
-    assert!(rt; hash_of_an_integer(1) == fnv_1a(&ONE));
-    assert!(rt; hash_of_an_integer(-18446744073709551617) == fnv_1a(&BELOW));
+    assert!(rt; fnv_1a(&ATOM_A) == HASH_OF_A);
+    assert!(rt; hash_of_an_atom(rt.alloc(), "a") == Some(HASH_OF_A));
+    assert!(rt; hash_of_an_integer(1) == fnv_1a(&ENCODED_ONE));
+    assert!(rt; hash_of_an_integer(-18446744073709551617) == fnv_1a(&ENCODED_TWO_WORDS));
 }

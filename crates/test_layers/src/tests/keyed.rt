@@ -10,12 +10,14 @@ fn push_pair(alloc: Global, pair: &mut Items<Term>) -> Option<()> {
     pair.push(Term::Int(-18446744073709551617)).ok()
 }
 
-fn pair(alloc: Global) -> Option<Items<Term>> {
+/// Builds the elements of `push_pair`.
+fn build_pair(alloc: Global) -> Option<Items<Term>> {
     let mut pair = Items::new(alloc);
     keep_if_some(push_pair(alloc, &mut pair), pair)
 }
 
-fn binary(alloc: Global) -> Option<Term> {
+/// Builds the binary of the bytes 0 and 255.
+fn build_binary(alloc: Global) -> Option<Term> {
     Some(Term::Binary(Items::from_vec([0, 255].to_vec(alloc).ok()?)))
 }
 
@@ -24,9 +26,9 @@ fn push_terms(alloc: Global, terms: &mut Items<Term>) -> Option<()> {
     push_pair(alloc, terms)?;
     terms.push(Term::Pid(7)).ok()?;
     terms.push(Term::Tid(7)).ok()?;
-    terms.push(Term::Tuple(pair(alloc)?)).ok()?;
-    terms.push(Term::List(pair(alloc)?)).ok()?;
-    terms.push(binary(alloc)?).ok()
+    terms.push(Term::Tuple(build_pair(alloc)?)).ok()?;
+    terms.push(Term::List(build_pair(alloc)?)).ok()?;
+    terms.push(build_binary(alloc)?).ok()
 }
 
 /// Returns whether the terms have these hashes, in order.
@@ -39,7 +41,8 @@ fn are_hashed(hash: Keyed, terms: &[Term], wanted: &[u32]) -> bool {
     terms.len() == wanted.len()
 }
 
-fn hash_to(alloc: Global, seed: u64, wanted: &[u32]) -> Option<bool> {
+/// Returns whether the terms of `push_terms` have these hashes by a seed.
+fn are_hashed_by_seed(alloc: Global, seed: u64, wanted: &[u32]) -> Option<bool> {
     let mut terms = Items::new(alloc);
     let pushed = push_terms(alloc, &mut terms);
     let hashed = are_hashed(Keyed(seed), terms.as_slice(), wanted);
@@ -50,17 +53,18 @@ fn hash_to(alloc: Global, seed: u64, wanted: &[u32]) -> Option<bool> {
 
 /// The hashes of these terms by the least seed: of `a`, -2^64-1, the pid, the identifier, the tuple, the list and the
 /// binary.
-const LEAST: [u32; 7] = [
+const HASHES_BY_LEAST: [u32; 7] = [
     3020293046, 4059663398, 1234998835, 1461041013, 751183608, 4116343985, 1269847963,
 ];
 
 /// The hashes of the same terms by the greatest seed.
-const GREATEST: [u32; 7] = [
+const HASHES_BY_GREATEST: [u32; 7] = [
     3212429134, 1991252696, 160548916, 3176778760, 509562988, 4265502097, 1497524047,
 ];
 
+/// Checks the hashes of a term of each kind by the least and by the greatest seed.
 #[test]
 fn hashes_by_two_seeds(rt: HostRuntime) {
-    assert!(rt; hash_to(rt.alloc(), 0, &LEAST) == Some(true));
-    assert!(rt; hash_to(rt.alloc(), u64::MAX, &GREATEST) == Some(true));
+    assert!(rt; are_hashed_by_seed(rt.alloc(), 0, &HASHES_BY_LEAST) == Some(true));
+    assert!(rt; are_hashed_by_seed(rt.alloc(), u64::MAX, &HASHES_BY_GREATEST) == Some(true));
 }

@@ -1,4 +1,4 @@
-//! Expected values from the rules of the text, row by row.
+//! Texts, and the terms or syntax errors that the rules of the text give them, row by row.
 mod against_reference;
 mod long;
 pub(crate) mod past_limits;
@@ -13,7 +13,7 @@ use std::process::Abort;
 use term_text::TextFault::{self, OutOfRange, Unclosed, Unexpected};
 use term_text::{print_term, read_term_bytes};
 
-/// Prints a term, and how many bytes its text has.
+/// Returns the printed term, a blank, and how many bytes of a text the term took.
 fn print_with_length(alloc: Global, term: &Term, taken: usize) -> Result<String, AllocError> {
     let mut text = String::new(alloc);
     let result = match print_term(alloc, term, &mut text) {
@@ -24,7 +24,7 @@ fn print_with_length(alloc: Global, term: &Term, taken: usize) -> Result<String,
     result
 }
 
-/// Reads a text. Returns the printed term and how many bytes it has, or the syntax error.
+/// Reads a text. Returns the printed term and how many bytes of the text it took, or the syntax error.
 fn result_of(alloc: Global, text: &[u8]) -> Result<String, AllocError> {
     match read_term_bytes(alloc, text) {
         Ok((term, taken)) => {
@@ -36,49 +36,52 @@ fn result_of(alloc: Global, text: &[u8]) -> Result<String, AllocError> {
     }
 }
 
-fn gives(alloc: Global, text: &[u8], wanted: &str) -> Result<bool, AllocError> {
+/// Returns whether a text has this result, as `result_of` spells it.
+fn has_result(alloc: Global, text: &[u8], wanted: &str) -> Result<bool, AllocError> {
     let result = result_of(alloc, text)?;
     let same = result.as_str() == wanted;
     drop(result);
     Ok(same)
 }
 
-/// How many bytes of a text are those of its term.
+/// How many bytes of a text its term took.
 #[derive(Clone, Copy, PartialEq, Eq)]
 pub(crate) struct Bytes(usize);
 
 /// What is read from a text.
 #[derive(Clone, Copy)]
 pub(crate) enum Reading<'a> {
-    /// A term that is printed so.
+    /// A term that is printed as this text.
     Reads(&'a str, Bytes),
+    /// A syntax error with its offset.
     Fails(TextFault),
 }
 
-/// Returns whether this is read from a text.
-fn gives_reading(alloc: Global, text: &[u8], wanted: Reading) -> Result<bool, AllocError> {
+/// Returns whether a text is read as a row says.
+fn has_reading(alloc: Global, text: &[u8], wanted: Reading) -> Result<bool, AllocError> {
     let wanted = match wanted {
         Reads(printed, bytes) => format!(in alloc; "{printed} {}", bytes.0)?,
         Fails(fault) => format!(in alloc; "{fault:?}")?,
     };
-    let same = gives(alloc, text, wanted.as_str());
+    let same = has_result(alloc, text, wanted.as_str());
     drop(wanted);
     same
 }
 
-/// Returns the first text from which something else is read.
+/// Returns the first text that is not read as its row says.
 fn first_mismatch(
     alloc: Global,
     rows: &[(&'static str, Reading)],
 ) -> Result<Option<&'static str>, AllocError> {
     for (text, wanted) in rows {
-        if !gives_reading(alloc, text.as_bytes(), *wanted)? {
+        if !has_reading(alloc, text.as_bytes(), *wanted)? {
             return Ok(Some(*text));
         }
     }
     Ok(None)
 }
 
+/// Texts that begin with a digit, a minus, a letter or a single quote, and blank texts.
 const NUMBERS_AND_ATOMS: [(&str, Reading); 26] = [
     ("007 ", Reads("7", Bytes(3))),
     ("-0", Reads("0", Bytes(2))),
@@ -132,11 +135,13 @@ const NUMBERS_AND_ATOMS: [(&str, Reading); 26] = [
     (" \t\r\n", Fails(Unclosed(4))),
 ];
 
+/// Checks what is read from texts of integers and atoms.
 #[test]
 fn numbers_and_atoms(rt: HostRuntime) {
     assert_eq!(rt; first_mismatch(rt.alloc(), &NUMBERS_AND_ATOMS), Ok(None));
 }
 
+/// Texts that begin with a bracket or a double quote.
 const BRACKETS_AND_STRINGS: [(&str, Reading); 11] = [
     (" {}x", Reads("{}", Bytes(3))),
     ("[a,]", Fails(Unexpected(3))),
@@ -154,11 +159,13 @@ const BRACKETS_AND_STRINGS: [(&str, Reading); 11] = [
     ("\"a\\\"\"", Reads("[97,34]", Bytes(5))),
 ];
 
+/// Checks what is read from texts of tuples, lists and strings.
 #[test]
 fn brackets_and_strings(rt: HostRuntime) {
     assert_eq!(rt; first_mismatch(rt.alloc(), &BRACKETS_AND_STRINGS), Ok(None));
 }
 
+/// Texts that begin with `<` or `#`.
 const BINARIES_PIDS_AND_IDENTIFIERS: [(&str, Reading); 20] = [
     ("<<256>>", Fails(OutOfRange(2))),
     ("<< 1, 2 >>", Reads("<<1,2>>", Bytes(10))),
@@ -182,6 +189,7 @@ const BINARIES_PIDS_AND_IDENTIFIERS: [(&str, Reading); 20] = [
     ("#tid", Fails(Unexpected(1))),
 ];
 
+/// Checks what is read from texts of binaries, pids and identifiers of tables.
 #[test]
 fn binaries_pids_and_identifiers(rt: HostRuntime) {
     assert_eq!(rt;

@@ -13,6 +13,7 @@ mod defaults;
 mod depths;
 mod elements;
 mod refused;
+mod retries;
 mod rows;
 
 /// Returns whether a call has this answer. The atoms `badarg` and `system_limit` are its refusals.
@@ -23,13 +24,14 @@ fn is_answer(outcome: &Result<Term, CounterFault>, wanted: &Term) -> bool {
     }
 }
 
-/// Does so with an outcome that it then drops.
-fn answers(outcome: Result<Term, CounterFault>, wanted: &Term) -> bool {
+/// Returns whether a call has this answer, and drops it.
+fn has_answer(outcome: Result<Term, CounterFault>, wanted: &Term) -> bool {
     let same = is_answer(&outcome, wanted);
     drop(outcome);
     same
 }
 
+/// Returns whether the refusal is this atom. Out of memory is no atom, so it fails a test.
 fn is_refusal(fault: &CounterFault, wanted: &Term) -> bool {
     match fault {
         CounterFault::Badarg => wanted.is_atom("badarg"),

@@ -1,11 +1,12 @@
 // Calls that take no memory: `.ci/refusals` refuses each allocation between two marks.
 use super::*;
 
-/// More bytes than any machine has, so that each request is refused. To `.ci/refusals` such a request marks the begin
-/// or the end of a part that takes no memory.
+/// A number of bytes that no machine has, so that each request is refused. To `.ci/refusals` such a request marks the
+/// begin or the end of a part that takes no memory.
 const MARK: usize = 1 << 60;
 
-fn mark(alloc: Global) -> bool {
+/// Requests `MARK` bytes. Returns whether the request was refused.
+fn request_mark(alloc: Global) -> bool {
     Vec::<u8>::with_capacity(alloc, MARK).is_err()
 }
 
@@ -28,15 +29,15 @@ fn count_traversed<R: Rows>(table: &Walked<R>) -> (usize, usize) {
 fn traverses_and_releases<R: Rows>(table: &mut Walked<R>) -> bool {
     let whole = count_traversed(table) == (3, 3);
     delete(table, 2);
-    let passed = count_traversed(table) == (2, 2) && table.slots() == 3;
+    let skipped = count_traversed(table) == (2, 2) && table.slots() == 3;
     table.release_all(0);
     let still_fixed = table.is_fixed() && table.slots() == 3;
     table.release_all(1);
-    whole && passed && still_fixed && !table.is_fixed() && table.slots() == 2
+    whole && skipped && still_fixed && !table.is_fixed() && table.slots() == 2
 }
 
 /// Inserts the keys 1 to 3, and fixes the table twice for process 0 and once for process 1.
-fn fill<R: Rows>(alloc: Global, table: &mut Walked<R>) -> Option<()> {
+fn insert_and_fix<R: Rows>(alloc: Global, table: &mut Walked<R>) -> Option<()> {
     for key in 1..4u32 {
         let key = Integer::from(key);
         let _ = insert(alloc, table, key, key)?;
@@ -46,32 +47,36 @@ fn fill<R: Rows>(alloc: Global, table: &mut Walked<R>) -> Option<()> {
     table.fix(1).ok()
 }
 
-fn is_free<R: Rows>(alloc: Global, table: &mut Walked<R>) -> Option<bool> {
-    fill(alloc, table)?;
+/// Returns whether a traversal and the releases succeed between two marks. Before them, an insertion gives objects to a
+/// tombstone again.
+fn takes_no_memory<R: Rows>(alloc: Global, table: &mut Walked<R>) -> Option<bool> {
+    insert_and_fix(alloc, table)?;
     delete(table, 3);
     let _ = insert(alloc, table, 3, 3)?;
-    let began = mark(alloc);
+    let began = request_mark(alloc);
     let done = traverses_and_releases(table);
-    let ended = mark(alloc);
+    let ended = request_mark(alloc);
     Some(began && done && ended)
 }
 
-fn is_free_of_plain(alloc: Global) -> Option<bool> {
+/// Returns whether a table over plain rows traverses and releases without memory.
+fn plain_rows_take_no_memory(alloc: Global) -> Option<bool> {
     let mut table = plain_table(alloc, Kind::Bag);
-    let free = is_free(alloc, &mut table);
+    let is_free = takes_no_memory(alloc, &mut table);
     drop(table);
-    free
+    is_free
 }
 
-fn is_free_of_split(alloc: Global) -> Option<bool> {
+/// Returns whether a table over split rows traverses and releases without memory.
+fn split_rows_take_no_memory(alloc: Global) -> Option<bool> {
     let mut table = split_table(alloc, Kind::Set)?;
-    let free = is_free(alloc, &mut table);
+    let is_free = takes_no_memory(alloc, &mut table);
     drop(table);
-    free
+    is_free
 }
 
 #[test]
 fn traversals_and_releases_take_no_memory(rt: HostRuntime) {
-    assert_eq!(rt; is_free_of_plain(rt.alloc()), Some(true));
-    assert_eq!(rt; is_free_of_split(rt.alloc()), Some(true));
+    assert_eq!(rt; plain_rows_take_no_memory(rt.alloc()), Some(true));
+    assert_eq!(rt; split_rows_take_no_memory(rt.alloc()), Some(true));
 }

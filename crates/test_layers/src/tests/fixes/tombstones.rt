@@ -1,3 +1,4 @@
+// Tombstones: what deleted keys leave in a fixed table, call by call.
 use self::Row::{
     Delete, FirstIs, FirstIsEnd, Fix, Insert, IsFixed, IsNotFixed, NextIs, NextIsBadarg, NextIsEnd,
     Release, ReleaseAll,
@@ -12,7 +13,7 @@ struct Slots(usize);
 #[derive(Clone, Copy)]
 struct Objects(usize);
 
-/// A call and its expected answer, or what a table must have.
+/// A call, or what a call must answer, or what a table must have.
 #[derive(Clone, Copy)]
 enum Row {
     Insert(Object),
@@ -34,6 +35,7 @@ enum Row {
     IsNotFixed(Slots, Objects),
 }
 
+/// Returns whether `next` of a key returns the wanted key, or the end of the table if that is None.
 fn has_next<R: Rows>(table: &Walked<R>, key: Integer, wanted: Option<Integer>) -> bool {
     match key_after(table, key) {
         Ok(found) => is_key(found, wanted),
@@ -41,68 +43,79 @@ fn has_next<R: Rows>(table: &Walked<R>, key: Integer, wanted: Option<Integer>) -
     }
 }
 
-fn has<R: Rows>(table: &Walked<R>, slots: Slots, objects: Objects) -> bool {
+/// Returns whether a table has these numbers of slots and objects.
+fn has_sizes<R: Rows>(table: &Walked<R>, slots: Slots, objects: Objects) -> bool {
     table.slots() == slots.0 && table.size() == objects.0
 }
 
-fn changes<R: Rows>(table: &mut Walked<R>, row: Row) -> bool {
+/// Makes the call of a row that deletes or releases. Other rows make no change.
+fn make_call<R: Rows>(table: &mut Walked<R>, row: Row) {
     match row {
         Row::Delete(key) => delete(table, key.0),
         Row::Release(pid) => table.release(pid.0),
         Row::ReleaseAll(pid) => table.release_all(pid.0),
         _ => {}
     }
-    true
 }
 
-fn answers<R: Rows>(table: &Walked<R>, row: Row) -> bool {
+/// Returns whether what a row expects of a table is so. Rows that delete or release expect nothing.
+fn expectation_holds<R: Rows>(table: &Walked<R>, row: Row) -> bool {
     match row {
         Row::FirstIs(key) => is_key(table.first(), Some(key.0)),
         Row::FirstIsEnd => is_key(table.first(), None),
         Row::NextIs(key, next) => has_next(table, key.0, Some(next.0)),
         Row::NextIsEnd(key) => has_next(table, key.0, None),
         Row::NextIsBadarg(key) => key_after(table, key.0).is_err(),
-        Row::IsFixed(slots, objects) => table.is_fixed() && has(table, slots, objects),
-        Row::IsNotFixed(slots, objects) => !table.is_fixed() && has(table, slots, objects),
+        Row::IsFixed(slots, objects) => table.is_fixed() && has_sizes(table, slots, objects),
+        Row::IsNotFixed(slots, objects) => !table.is_fixed() && has_sizes(table, slots, objects),
         _ => true,
     }
 }
 
-fn holds<R: Rows>(alloc: Global, table: &mut Walked<R>, row: Row) -> Option<bool> {
+/// Makes the call of a row, if it is one, and returns whether its answer is the expected one.
+fn row_holds<R: Rows>(alloc: Global, table: &mut Walked<R>, row: Row) -> Option<bool> {
     match row {
         Row::Insert(object) => insert(alloc, table, object.0, object.1),
         Row::Fix(pid) => Some(table.fix(pid.0).is_ok()),
-        _ => Some(changes(table, row) && answers(table, row)),
+        _ => {
+            make_call(table, row);
+            Some(expectation_holds(table, row))
+        }
     }
 }
 
-fn all_hold<R: Rows>(alloc: Global, table: &mut Walked<R>, rows: &[Row]) -> Option<bool> {
+/// Returns whether all rows hold, one after the other. None means out of memory.
+fn all_rows_hold<R: Rows>(alloc: Global, table: &mut Walked<R>, rows: &[Row]) -> Option<bool> {
     for row in rows {
-        if !holds(alloc, table, *row)? {
+        if !row_holds(alloc, table, *row)? {
             return Some(false);
         }
     }
     Some(true)
 }
 
-fn plain_holds(alloc: Global, rows: &[Row]) -> Option<bool> {
+/// Returns whether all rows hold on a set over plain rows.
+fn hold_on_plain_rows(alloc: Global, rows: &[Row]) -> Option<bool> {
     let mut table = plain_table(alloc, Kind::Set);
-    let done = all_hold(alloc, &mut table, rows);
+    let hold = all_rows_hold(alloc, &mut table, rows);
     drop(table);
-    done
+    hold
 }
 
-fn one_bucket_holds(alloc: Global, rows: &[Row]) -> Option<bool> {
+/// Returns whether all rows hold on a set over split rows with one hash for all keys.
+fn hold_in_one_bucket(alloc: Global, rows: &[Row]) -> Option<bool> {
     let mut table = one_bucket_table(alloc, Kind::Set)?;
-    let done = all_hold(alloc, &mut table, rows);
+    let hold = all_rows_hold(alloc, &mut table, rows);
     drop(table);
-    done
+    hold
 }
 
-fn both_hold(alloc: Global, rows: &[Row]) -> Option<bool> {
-    Some(plain_holds(alloc, rows)? && one_bucket_holds(alloc, rows)?)
+/// Returns whether all rows hold on both forms of a set.
+fn hold_on_both_tables(alloc: Global, rows: &[Row]) -> Option<bool> {
+    Some(hold_on_plain_rows(alloc, rows)? && hold_in_one_bucket(alloc, rows)?)
 }
 
+/// Key 1 is deleted from a fixed table, and inserted again.
 const DELETED_KEY_KEEPS_ITS_PLACE: [Row; 11] = [
     Insert(Object(1, 1)),
     Insert(Object(2, 1)),
@@ -117,11 +130,13 @@ const DELETED_KEY_KEEPS_ITS_PLACE: [Row; 11] = [
     NextIsEnd(Key(2)),
 ];
 
+/// Checks that a traversal goes on from a deleted key, and that a new object of the key has the old place.
 #[test]
 fn a_deleted_key_keeps_its_place(rt: HostRuntime) {
-    assert!(rt; both_hold(rt.alloc(), &DELETED_KEY_KEEPS_ITS_PLACE) == Some(true));
+    assert!(rt; hold_on_both_tables(rt.alloc(), &DELETED_KEY_KEEPS_ITS_PLACE) == Some(true));
 }
 
+/// Key 2 is deleted while two processes fix the table, one of them twice.
 const LAST_RELEASE_REMOVES_TOMBSTONES: [Row; 18] = [
     Insert(Object(1, 1)),
     Insert(Object(2, 1)),
@@ -143,11 +158,13 @@ const LAST_RELEASE_REMOVES_TOMBSTONES: [Row; 18] = [
     NextIs(Key(1), Key(3)),
 ];
 
+/// Checks that a tombstone stays until the last of the fixes of two processes is released.
 #[test]
 fn last_release_removes_tombstones(rt: HostRuntime) {
-    assert!(rt; both_hold(rt.alloc(), &LAST_RELEASE_REMOVES_TOMBSTONES) == Some(true));
+    assert!(rt; hold_on_both_tables(rt.alloc(), &LAST_RELEASE_REMOVES_TOMBSTONES) == Some(true));
 }
 
+/// Three processes release all their fixes. One has none.
 const ALL_FIXES_OF_A_PROCESS_END: [Row; 12] = [
     Insert(Object(1, 1)),
     Fix(Pid(7)),
@@ -163,11 +180,13 @@ const ALL_FIXES_OF_A_PROCESS_END: [Row; 12] = [
     IsNotFixed(Slots(0), Objects(0)),
 ];
 
+/// Checks that `release_all` ends all fixes of a process, and no fix of another.
 #[test]
 fn all_fixes_of_a_process_end(rt: HostRuntime) {
-    assert!(rt; both_hold(rt.alloc(), &ALL_FIXES_OF_A_PROCESS_END) == Some(true));
+    assert!(rt; hold_on_both_tables(rt.alloc(), &ALL_FIXES_OF_A_PROCESS_END) == Some(true));
 }
 
+/// Calls on a table without fixes: empty, and then with two keys.
 const A_TABLE_THAT_NOBODY_FIXES: [Row; 16] = [
     FirstIsEnd,
     NextIsBadarg(Key(1)),
@@ -187,7 +206,8 @@ const A_TABLE_THAT_NOBODY_FIXES: [Row; 16] = [
     NextIsEnd(Key(2)),
 ];
 
+/// Checks that a table without fixes keeps no tombstone, and a release of it changes nothing.
 #[test]
 fn a_table_that_nobody_fixes(rt: HostRuntime) {
-    assert!(rt; both_hold(rt.alloc(), &A_TABLE_THAT_NOBODY_FIXES) == Some(true));
+    assert!(rt; hold_on_both_tables(rt.alloc(), &A_TABLE_THAT_NOBODY_FIXES) == Some(true));
 }

@@ -1,9 +1,11 @@
+// Chains: the terms under one key.
 use crate::tests::keep_if_ok;
 use ets_term::{Integer, Term};
 use node_list::Chain;
 use std::alloc::{AllocError, Global};
 use std::process::Abort;
 
+/// Pushes numbers, in this order.
 fn push_numbers(chain: &mut Chain, numbers: &[Integer]) -> Result<(), AllocError> {
     for number in numbers {
         chain.push(Term::Int(*number))?;
@@ -11,11 +13,13 @@ fn push_numbers(chain: &mut Chain, numbers: &[Integer]) -> Result<(), AllocError
     Ok(())
 }
 
+/// Builds the chain of these numbers.
 fn chain_of(alloc: Global, numbers: &[Integer]) -> Result<Chain, AllocError> {
     let mut chain = Chain::new(alloc);
     keep_if_ok(push_numbers(&mut chain, numbers), chain)
 }
 
+/// Returns whether a term is this number.
 pub fn is_number(term: &Term, number: Integer) -> bool {
     match term {
         Term::Int(own) => *own == number,
@@ -24,7 +28,7 @@ pub fn is_number(term: &Term, number: Integer) -> bool {
 }
 
 /// Returns whether the terms are these numbers, in this order.
-pub fn has(terms: &[Term], numbers: &[Integer]) -> bool {
+pub fn are_numbers(terms: &[Term], numbers: &[Integer]) -> bool {
     for (term, number) in terms.iter().zip(numbers.iter()) {
         if !is_number(term, *number) {
             return false;
@@ -33,7 +37,8 @@ pub fn has(terms: &[Term], numbers: &[Integer]) -> bool {
     terms.len() == numbers.len()
 }
 
-fn length(chain: Chain) -> usize {
+/// Returns the length of a chain, and drops it.
+fn length_of(chain: Chain) -> usize {
     let length = chain.len();
     drop(chain);
     length
@@ -41,11 +46,12 @@ fn length(chain: Chain) -> usize {
 
 #[test]
 fn a_chain_may_be_empty(rt: HostRuntime) {
-    assert!(rt; length(Chain::new(rt.alloc())) == 0);
-    assert!(rt; length(Chain::one(rt.alloc(), Term::Int(1))) == 1);
+    assert!(rt; length_of(Chain::new(rt.alloc())) == 0);
+    assert!(rt; length_of(Chain::one(rt.alloc(), Term::Int(1))) == 1);
 }
 
-fn push_all(chain: &mut Chain, count: u32) -> Result<(), AllocError> {
+/// Pushes the numbers below `count`, from 0 on.
+fn push_below(chain: &mut Chain, count: u32) -> Result<(), AllocError> {
     for number in 0..count {
         chain.push(Term::Int(Integer::from(number)))?;
     }
@@ -53,7 +59,7 @@ fn push_all(chain: &mut Chain, count: u32) -> Result<(), AllocError> {
 }
 
 /// Pops the last term. Returns whether it is this number.
-pub fn pops(chain: &mut Chain, number: Integer) -> bool {
+pub fn pops_number(chain: &mut Chain, number: Integer) -> bool {
     match chain.pop() {
         Some(last) => {
             let same = is_number(&last, number);
@@ -64,12 +70,19 @@ pub fn pops(chain: &mut Chain, number: Integer) -> bool {
     }
 }
 
+/// How many terms a chain gets.
+const COUNT: u32 = 5_000;
+
+/// The last of these terms.
+const LAST: Integer = 4_999;
+
 /// Returns whether terms that are pushed are popped, the last first.
 fn pushes_and_pops(chain: &mut Chain) -> Result<bool, AllocError> {
-    push_all(chain, 5_000)?;
-    Ok(chain.len() == 5_000 && pops(chain, 4_999) && pops(chain, 4_998))
+    push_below(chain, COUNT)?;
+    Ok(chain.len() == COUNT as usize && pops_number(chain, LAST) && pops_number(chain, LAST - 1))
 }
 
+/// Returns whether `pushes_and_pops` holds for a new chain.
 fn a_new_chain_pushes_and_pops(alloc: Global) -> Result<bool, AllocError> {
     let mut chain = Chain::new(alloc);
     let done = pushes_and_pops(&mut chain);
@@ -77,6 +90,7 @@ fn a_new_chain_pushes_and_pops(alloc: Global) -> Result<bool, AllocError> {
     done
 }
 
+/// Checks a chain of many terms.
 #[test]
 fn pushed_terms_are_popped(rt: HostRuntime) {
     assert!(rt; a_new_chain_pushes_and_pops(rt.alloc()) == Ok(true));
@@ -90,43 +104,48 @@ fn remove_number(chain: &mut Chain, number: Integer) -> usize {
     count
 }
 
-fn removes(chain: &mut Chain) -> bool {
-    let none = remove_number(chain, 4) == 0;
-    none && remove_number(chain, 1) == 3 && has(chain.as_slice(), &[2, 3])
+/// Returns whether the removal of 4 removes nothing from the chain 1, 2, 1, 3, 1, and the removal of 1 leaves 2 and 3.
+fn removes_three_ones(chain: &mut Chain) -> bool {
+    let removed_none = remove_number(chain, 4) == 0;
+    removed_none && remove_number(chain, 1) == 3 && are_numbers(chain.as_slice(), &[2, 3])
 }
 
-fn replaces(chain: &mut Chain) -> bool {
+/// Replaces the first term of the chain 2, 3 by 7. Returns whether 2 was replaced.
+fn replaces_first(chain: &mut Chain) -> bool {
     if chain.len() != 2 {
         return false;
     }
     let old = chain.replace(0, Term::Int(7));
     let same = is_number(&old, 2);
     drop(old);
-    same && has(chain.as_slice(), &[7, 3])
+    same && are_numbers(chain.as_slice(), &[7, 3])
 }
 
-fn cuts_off(chain: &mut Chain) -> bool {
+/// Returns whether a cut at 3 leaves the chain 7, 3 whole, and a cut at 1 leaves 7.
+fn cuts_off_last(chain: &mut Chain) -> bool {
     chain.truncate(3);
     let whole = chain.len() == 2;
     chain.truncate(1);
-    whole && has(chain.as_slice(), &[7])
+    whole && are_numbers(chain.as_slice(), &[7])
 }
 
-/// Returns whether a chain of 1, 2, 1, 3 and 1 has the right terms after each change.
-fn changes(alloc: Global) -> Result<bool, AllocError> {
+/// Returns whether the chain 1, 2, 1, 3, 1 has the right terms after each change.
+fn changes_are_right(alloc: Global) -> Result<bool, AllocError> {
     let mut chain = chain_of(alloc, &[1, 2, 1, 3, 1])?;
-    let done = removes(&mut chain) && replaces(&mut chain) && cuts_off(&mut chain);
+    let done = removes_three_ones(&mut chain)
+        && replaces_first(&mut chain)
+        && cuts_off_last(&mut chain);
     drop(chain);
     Ok(done)
 }
 
 #[test]
 fn terms_are_removed_replaced_and_cut_off(rt: HostRuntime) {
-    assert!(rt; changes(rt.alloc()) == Ok(true));
+    assert!(rt; changes_are_right(rt.alloc()) == Ok(true));
 }
 
 /// Moves the terms of a chain to the end of a list.
-fn move_behind(terms: &mut Vec<Term>, chain: Chain) -> Result<(), AllocError> {
+fn move_to_end(terms: &mut Vec<Term>, chain: Chain) -> Result<(), AllocError> {
     match terms.reserve(chain.len()) {
         Ok(()) => {
             chain.move_into(terms);
@@ -139,21 +158,24 @@ fn move_behind(terms: &mut Vec<Term>, chain: Chain) -> Result<(), AllocError> {
     }
 }
 
-fn move_two(alloc: Global, terms: &mut Vec<Term>) -> Result<(), AllocError> {
+/// Pushes 1 to a list, and moves the chain 2, 3 to its end.
+fn push_one_and_move(alloc: Global, terms: &mut Vec<Term>) -> Result<(), AllocError> {
     terms.push(Term::Int(1))?;
-    move_behind(terms, chain_of(alloc, &[2, 3])?)
+    move_to_end(terms, chain_of(alloc, &[2, 3])?)
 }
 
-fn moves(alloc: Global) -> Result<bool, AllocError> {
+/// Returns whether the terms of a chain follow those of the list into which they are moved.
+fn chain_moves_to_end(alloc: Global) -> Result<bool, AllocError> {
     let mut terms = Vec::new(alloc);
-    let moved = move_two(alloc, &mut terms);
-    let same = has(terms.as_slice(), &[1, 2, 3]);
+    let moved = push_one_and_move(alloc, &mut terms);
+    let same = are_numbers(terms.as_slice(), &[1, 2, 3]);
     drop(terms);
     moved?;
     Ok(same)
 }
 
+/// Checks that the terms of a chain can be moved into a list.
 #[test]
 fn moves_into_a_list(rt: HostRuntime) {
-    assert!(rt; moves(rt.alloc()) == Ok(true));
+    assert!(rt; chain_moves_to_end(rt.alloc()) == Ok(true));
 }

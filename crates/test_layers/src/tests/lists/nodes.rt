@@ -5,7 +5,7 @@ ghost use Rattle.node_list.specs.Cells.{new_cell, new_item};
 ghost use Rattle.node_list.specs.Places.{IsFresh, HasItem, IsPlaceOf};
 ghost use Rattle.node_list.specs.Changes.{put_cell};
 
-use super::chains::{has, is_number, pops};
+use super::chains::{are_numbers, is_number, pops_number};
 use ets_term::{Integer, Term};
 use node_list::{At, Chain, NodeList, Steps};
 use std::alloc::{AllocError, Global};
@@ -18,7 +18,7 @@ fn search(list: &NodeList, key: u64, term: &Term) -> (Option<At>, u64) {
     (found, steps.count())
 }
 
-/// Does so with a term that it then drops.
+/// Searches as `search` does, for a term that it then drops.
 fn search_for(list: &NodeList, key: u64, term: Term) -> (Option<At>, u64) {
     let found = search(list, key, &term);
     drop(term);
@@ -30,12 +30,14 @@ fn count_visited(list: &NodeList, key: u64) -> u64 {
     search_for(list, key, Term::Pid(0)).1
 }
 
+/// Inserts a dummy with this key. Returns its place.
 fn add_dummy(list: &mut NodeList, key: u64) -> Result<At, AllocError> {
     list.reserve(1)?;
     let head = list.head();
     Ok(list.insert_dummy(head, key))
 }
 
+/// Inserts an item with this key. Its term and its only object are `number`. Returns its place.
 fn add_item(list: &mut NodeList, alloc: Global, key: u64, number: Integer) -> Result<At, AllocError>
     ensures cells { IfOk result (λ at. list.new.cells
         ≡ put_cell (new_cell at key (Some (new_item (Int number) (Int number ∷ [])))) list.old.cells) }
@@ -47,13 +49,16 @@ fn add_item(list: &mut NodeList, alloc: Global, key: u64, number: Integer) -> Re
     Ok(list.insert_item(head, key, Term::Int(number), chain))
 }
 
-/// The split keys of the dummies of the buckets 0 to 3.
+/// The split key of the dummy of bucket 0, which is the head.
 const DUMMY_0: u64 = 0;
 
+/// The split key of the dummy of bucket 1.
 const DUMMY_1: u64 = 4_294_967_296;
 
+/// The split key of the dummy of bucket 2.
 const DUMMY_2: u64 = 2_147_483_648;
 
+/// The split key of the dummy of bucket 3.
 const DUMMY_3: u64 = 6_442_450_944;
 
 /// The split key of an item of hash 3.
@@ -91,7 +96,7 @@ fn first_key_mismatch(list: &NodeList, wanted: &[(u64, Visits)]) -> Option<u64> 
     None
 }
 
-/// Returns whether nodes are in split order.
+/// Returns whether dummies and an item are sorted by their split keys.
 fn has_split_order(
     list: &mut NodeList,
     alloc: Global,
@@ -102,7 +107,7 @@ fn has_split_order(
 }
 
 /// Inserts two items of key 5 and one of key 7. Returns the places of the first two.
-fn add_equal(list: &mut NodeList, alloc: Global) -> Result<(At, At), AllocError> {
+fn add_equal_keys(list: &mut NodeList, alloc: Global) -> Result<(At, At), AllocError> {
     let first = add_item(list, alloc, 5, 1)?;
     let second = add_item(list, alloc, 5, 2)?;
     add_item(list, alloc, 7, 1)?;
@@ -116,7 +121,7 @@ fn second_place(list: &NodeList) -> Option<At> {
 
 /// Returns whether two items of one key are in the order of insertion, and a search counts the nodes that it visits.
 fn finds_equal_keys(list: &mut NodeList, alloc: Global) -> Result<bool, AllocError> {
-    let (first, second) = add_equal(list, alloc)?;
+    let (first, second) = add_equal_keys(list, alloc)?;
     Ok(
         second_place(list) == Some(first)
             && search_for(list, 5, Term::Int(2)) == (Some(second), 3)
@@ -130,7 +135,7 @@ fn is_item(list: &NodeList, at: At, number: Integer) -> bool
     requires { IsPlaceOf at list.now.cells }
 {
     match list.item(at) {
-        Some((term, chain)) => is_number(term, number) && has(chain.as_slice(), &[number]),
+        Some((term, chain)) => is_number(term, number) && are_numbers(chain.as_slice(), &[number]),
         None => false,
     }
 }
@@ -148,17 +153,17 @@ fn reads_item(list: &mut NodeList, alloc: Global) -> Result<bool, AllocError> {
     Ok(list.key(at) == 5 && is_item(list, at, 1) && has_head(list))
 }
 
-/// Returns whether two terms can be pushed to a chain of 1, and one popped.
-fn changes(chain: &mut Chain) -> Result<bool, AllocError> {
+/// Returns whether two terms can be pushed to the chain of 1, and one popped.
+fn pushes_and_pops(chain: &mut Chain) -> Result<bool, AllocError> {
     chain.push(Term::Int(2))?;
     chain.push(Term::Int(3))?;
-    Ok(pops(chain, 3) && has(chain.as_slice(), &[1, 2]))
+    Ok(pops_number(chain, 3) && are_numbers(chain.as_slice(), &[1, 2]))
 }
 
 /// Returns whether the chain of an item can be changed.
 fn changes_chain(list: &mut NodeList, alloc: Global) -> Result<bool, AllocError> {
     let at = add_item(list, alloc, 5, 1)?;
-    changes(list.chain_mut(at))
+    pushes_and_pops(list.chain_mut(at))
 }
 
 /// Unlinks the item at a place. Returns whether it had this number as its term and as its chain.
@@ -167,7 +172,7 @@ fn unlinks(list: &mut NodeList, at: At, number: Integer) -> bool
 {
     let head = list.head();
     let (term, chain) = list.unlink(head, at);
-    let same = is_number(&term, number) && has(chain.as_slice(), &[number]);
+    let same = is_number(&term, number) && are_numbers(chain.as_slice(), &[number]);
     drop(term);
     drop(chain);
     same
@@ -198,7 +203,7 @@ fn first_place_mismatch(list: &NodeList, wanted: &[Option<At>]) -> Option<usize>
 }
 
 /// Inserts a dummy, two items, a dummy and an item. They get the places 1 to 5 in this order, whatever their keys.
-fn add_five(list: &mut NodeList, alloc: Global) -> Result<(), AllocError> {
+fn add_five_nodes(list: &mut NodeList, alloc: Global) -> Result<(), AllocError> {
     add_dummy(list, 8)?;
     add_item(list, alloc, 9, 1)?;
     add_item(list, alloc, 5, 2)?;
@@ -207,15 +212,17 @@ fn add_five(list: &mut NodeList, alloc: Global) -> Result<(), AllocError> {
     Ok(())
 }
 
-/// The places of the items that `add_five` inserts.
+/// The place of the first item that `add_five_nodes` inserts.
 const FIRST_ITEM: Option<At> = Some(2);
 
+/// The place of its second item.
 const SECOND_ITEM: Option<At> = Some(3);
 
+/// The place of its third item.
 const THIRD_ITEM: Option<At> = Some(5);
 
-/// The first item from each place on, after `add_five`: from the head, a dummy, two items, a dummy, an item, and past
-/// the end.
+/// The first item from each place on, after `add_five_nodes`: from the head, a dummy, two items, a dummy, an item, and
+/// past the end.
 const PLACES_OF_FIVE: [Option<At>; 7] = [
     FIRST_ITEM,
     FIRST_ITEM,
@@ -232,7 +239,7 @@ fn finds_places(
     alloc: Global,
     wanted: &[Option<At>],
 ) -> Result<bool, AllocError> {
-    add_five(list, alloc)?;
+    add_five_nodes(list, alloc)?;
     Ok(first_place_mismatch(list, wanted) == None && list.next_item_at(usize::MAX) == None)
 }
 
@@ -268,45 +275,52 @@ fn finds_no_unlinked(
 
 /// Returns whether dummies are not items, and a refused `reserve` changes nothing.
 fn has_dummies_alone(list: &mut NodeList) -> Result<bool, AllocError> {
-    let none = list.next_item_at(0) == None;
+    let head_alone = list.next_item_at(0) == None;
     add_dummy(list, 8)?;
     let dummies = list.next_item_at(0) == None && list.next_item_at(2) == None;
-    let refused = list.reserve(usize::MAX).is_err();
+    let is_refused = list.reserve(usize::MAX).is_err();
     Ok(
-        none && dummies
-            && refused
+        head_alone
+            && dummies
+            && is_refused
             && count_visited(list, 4) == 2
             && count_visited(list, 8) == 2
             && list.len() == 2,
     )
 }
 
-/// Inserts each node at the head, from 2,099 down to 1, so that the slab grows many times.
-fn add_many(list: &mut NodeList, alloc: Global) -> Result<(), AllocError> {
-    for number in 1..2_100 {
-        add_item(list, alloc, 2_100 - number, 1)?;
+/// How many nodes a long list has, the head included.
+const NODES: u64 = 2_100;
+
+/// The greatest key of a long list.
+const LAST_KEY: u64 = 2_099;
+
+/// Inserts an item of each key from `LAST_KEY` down to 1, each after the head, so that the slab grows many times.
+fn add_many_nodes(list: &mut NodeList, alloc: Global) -> Result<(), AllocError> {
+    for number in 1..NODES {
+        add_item(list, alloc, NODES - number, 1)?;
     }
     Ok(())
 }
 
 /// Returns whether nodes are in the order of their keys: each search visits one node more.
-fn reads_many(list: &NodeList) -> bool {
-    for key in 0..2_099 {
+fn has_keys_in_order(list: &NodeList) -> bool {
+    for key in 0..LAST_KEY {
         if count_visited(list, key) != key + 2 {
             return false;
         }
     }
-    count_visited(list, 2_099) == 2_100
+    count_visited(list, LAST_KEY) == NODES
 }
 
 /// Returns whether a list can have many nodes, in order.
-fn has_many(list: &mut NodeList, alloc: Global) -> Result<bool, AllocError> {
-    add_many(list, alloc)?;
-    Ok(list.len() == 2_100 && reads_many(list))
+fn has_many_nodes(list: &mut NodeList, alloc: Global) -> Result<bool, AllocError> {
+    add_many_nodes(list, alloc)?;
+    Ok(list.len() == NODES as usize && has_keys_in_order(list))
 }
 
-/// Returns whether capacity for many nodes can be reserved.
-fn has_much_room(list: &mut NodeList) -> Result<bool, AllocError> {
+/// Returns whether capacity for many nodes can be reserved, without a new node.
+fn reserves_much_room(list: &mut NodeList) -> Result<bool, AllocError> {
     list.reserve(5_000)?;
     list.reserve(100_000)?;
     Ok(list.len() == 1)
@@ -330,7 +344,8 @@ pub enum Trial {
     MuchRoom,
 }
 
-fn passes_on(list: &mut NodeList, alloc: Global, trial: Trial) -> Result<bool, AllocError> {
+/// Returns whether this list, which is new, passes a trial.
+fn list_passes(list: &mut NodeList, alloc: Global, trial: Trial) -> Result<bool, AllocError> {
     match trial {
         Trial::SplitOrder => has_split_order(list, alloc, &SPLIT_ORDER),
         Trial::EqualKeys => finds_equal_keys(list, alloc),
@@ -340,15 +355,15 @@ fn passes_on(list: &mut NodeList, alloc: Global, trial: Trial) -> Result<bool, A
         Trial::PlacesOfItems => finds_places(list, alloc, &PLACES_OF_FIVE),
         Trial::PlacesOfUnlinked => finds_no_unlinked(list, alloc, &PLACE_OF_SECOND),
         Trial::DummiesAlone => has_dummies_alone(list),
-        Trial::ManyNodes => has_many(list, alloc),
-        Trial::MuchRoom => has_much_room(list),
+        Trial::ManyNodes => has_many_nodes(list, alloc),
+        Trial::MuchRoom => reserves_much_room(list),
     }
 }
 
 /// Returns whether a new list passes a trial.
-pub fn passes(alloc: Global, trial: Trial) -> Result<bool, AllocError> {
+pub fn new_list_passes(alloc: Global, trial: Trial) -> Result<bool, AllocError> {
     let mut list = NodeList::new(alloc)?;
-    let passed = passes_on(&mut list, alloc, trial);
+    let passed = list_passes(&mut list, alloc, trial);
     drop(list);
     passed
 }

@@ -1,6 +1,6 @@
 //! The results of the reader, compared with those of the reference, on each prefix of good texts and on texts with one
 //! byte changed.
-use super::gives;
+use super::has_result;
 use super::reference::read_by_rules;
 use std::alloc::{AllocError, Global};
 use std::process::Abort;
@@ -17,13 +17,15 @@ fn reference_result(alloc: Global, text: &[u8]) -> Result<String, AllocError> {
     }
 }
 
-fn is_alike(alloc: Global, text: &[u8]) -> Result<bool, AllocError> {
+/// Returns whether the reader has the result of the reference.
+fn agrees_with_reference(alloc: Global, text: &[u8]) -> Result<bool, AllocError> {
     let wanted = reference_result(alloc, text)?;
-    let alike = gives(alloc, text, wanted.as_str());
+    let agrees = has_result(alloc, text, wanted.as_str());
     drop(wanted);
-    alike
+    agrees
 }
 
+/// Texts whose prefixes are read. The whole text is that of a term.
 const GOOD: [&str; 30] = [
     "0",
     " -170141183460469231731687303715884105728",
@@ -57,6 +59,7 @@ const GOOD: [&str; 30] = [
     "[{k,1},{'K',\"v\"}]",
 ];
 
+/// Texts of terms, of which one byte is changed.
 const CHANGED: [&str; 10] = [
     "-17",
     "ab",
@@ -70,9 +73,10 @@ const CHANGED: [&str; 10] = [
     "#Tid<3>",
 ];
 
-fn prefixes_are_alike(alloc: Global, text: &[u8]) -> Result<bool, AllocError> {
-    for n in 0..=text.len() {
-        if !is_alike(alloc, text.get(..n).unwrap_or(text))? {
+/// Returns whether each prefix of a text is read by the rules.
+fn prefixes_agree(alloc: Global, text: &[u8]) -> Result<bool, AllocError> {
+    for length in 0..=text.len() {
+        if !agrees_with_reference(alloc, text.get(..length).unwrap_or(text))? {
             return Ok(false);
         }
     }
@@ -85,7 +89,7 @@ fn first_prefix_mismatch(
     texts: &[&'static str],
 ) -> Result<Option<&'static str>, AllocError> {
     for text in texts {
-        if !prefixes_are_alike(alloc, text.as_bytes())? {
+        if !prefixes_agree(alloc, text.as_bytes())? {
             return Ok(Some(*text));
         }
     }
@@ -93,41 +97,44 @@ fn first_prefix_mismatch(
 }
 
 #[test]
-fn every_prefix_of_good_texts(rt: HostRuntime) {
+fn prefixes_of_good_texts_are_read_by_the_rules(rt: HostRuntime) {
     assert_eq!(rt; first_prefix_mismatch(rt.alloc(), &GOOD), Ok(None));
 }
 
-fn put_byte(text: &mut [u8], at: usize, b: u8) {
-    if let Some(own) = text.get_mut(at) {
-        *own = b;
+/// Changes the byte at an offset.
+fn set_byte(text: &mut [u8], at: usize, byte: u8) {
+    if let Some(place) = text.get_mut(at) {
+        *place = byte;
     }
 }
 
 /// Returns whether the text is read by the rules with each of the 256 bytes at this offset.
-fn changes_are_alike(alloc: Global, text: &mut [u8], at: usize) -> Result<bool, AllocError> {
-    let own = text.get(at).copied().unwrap_or(0);
-    let mut all = true;
-    for b in 0..=255 {
-        put_byte(text, at, b);
-        all = is_alike(alloc, text)? && all;
+fn changed_bytes_at_agree(alloc: Global, text: &mut [u8], at: usize) -> Result<bool, AllocError> {
+    let original = text.get(at).copied().unwrap_or(0);
+    let mut all_agree = true;
+    for byte in 0..=255 {
+        set_byte(text, at, byte);
+        all_agree = agrees_with_reference(alloc, text)? && all_agree;
     }
-    put_byte(text, at, own);
-    Ok(all)
+    set_byte(text, at, original);
+    Ok(all_agree)
 }
 
-fn all_changes_are_alike(alloc: Global, text: &mut [u8]) -> Result<bool, AllocError> {
-    let mut all = true;
+/// Returns whether the text is read by the rules with each byte at each offset.
+fn changed_bytes_agree(alloc: Global, text: &mut [u8]) -> Result<bool, AllocError> {
+    let mut all_agree = true;
     for at in 0..text.len() {
-        all = changes_are_alike(alloc, text, at)? && all;
+        all_agree = changed_bytes_at_agree(alloc, text, at)? && all_agree;
     }
-    Ok(all)
+    Ok(all_agree)
 }
 
-fn is_alike_changed(alloc: Global, text: &[u8]) -> Result<bool, AllocError> {
+/// Returns whether a text is read by the rules with each one of its bytes changed.
+fn changed_copies_agree(alloc: Global, text: &[u8]) -> Result<bool, AllocError> {
     let mut bytes = text.to_vec(alloc)?;
-    let alike = all_changes_are_alike(alloc, bytes.as_mut_slice());
+    let agrees = changed_bytes_agree(alloc, bytes.as_mut_slice());
     drop(bytes);
-    alike
+    agrees
 }
 
 /// Returns the first text that is not read by the rules when one byte is changed.
@@ -136,7 +143,7 @@ fn first_change_mismatch(
     texts: &[&'static str],
 ) -> Result<Option<&'static str>, AllocError> {
     for text in texts {
-        if !is_alike_changed(alloc, text.as_bytes())? {
+        if !changed_copies_agree(alloc, text.as_bytes())? {
             return Ok(Some(*text));
         }
     }
@@ -144,6 +151,6 @@ fn first_change_mismatch(
 }
 
 #[test]
-fn every_changed_byte(rt: HostRuntime) {
+fn changed_texts_are_read_by_the_rules(rt: HostRuntime) {
     assert_eq!(rt; first_change_mismatch(rt.alloc(), &CHANGED), Ok(None));
 }

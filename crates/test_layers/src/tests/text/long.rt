@@ -1,6 +1,6 @@
 //! Long and deep texts whose terms are known.
 use super::past_limits::long_text;
-use super::writer::writes;
+use super::writer::is_written_as;
 use ets_term::{MAX_DEPTH, Term};
 use std::alloc::{AllocError, Global};
 use term_text::{TextFault, print_term, read_term};
@@ -15,7 +15,7 @@ fn is_printed(alloc: Global, term: &Term, printed: &str) -> Result<bool, AllocEr
     let same = out.as_str() == printed;
     drop(out);
     done?;
-    Ok(same && writes(alloc, term, printed))
+    Ok(same && is_written_as(alloc, term, printed))
 }
 
 /// Returns whether a text is the whole text of a term, and `printed` is how the term is printed and written.
@@ -37,79 +37,106 @@ struct Repeated {
     printed: [&'static str; 3],
 }
 
+/// Strings, which are printed as lists of bytes.
 const STRING: Repeated = Repeated {
     text: ["\"a", "b", "\""],
     printed: ["[97", ",98", "]"],
 };
 
+/// Binaries as strings, which are printed as bytes.
 const BYTES: Repeated = Repeated {
     text: ["<<\"a", "b", "\">>"],
     printed: ["<<97", ",98", ">>"],
 };
 
+/// Tuples of quoted atoms, with blanks that are not printed.
 const TUPLE: Repeated = Repeated {
     text: ["{'A b'", " , 'A b'", "}"],
     printed: ["{'A b'", ",'A b'", "}"],
 };
 
-fn repeat(alloc: Global, parts: [&'static str; 3], count: usize) -> Result<String, AllocError> {
+/// Builds the text of three parts, with the second repeated.
+fn repeated_text(
+    alloc: Global,
+    parts: [&'static str; 3],
+    count: usize,
+) -> Result<String, AllocError> {
     let [front, part, end] = parts;
     long_text(alloc, front, part, count, end)
 }
 
 /// Returns whether the text of these parts is that of a term that is printed as `printed`.
-fn is_printed_so(
+fn repeated_is_printed_as(
     alloc: Global,
     parts: [&'static str; 3],
     count: usize,
     printed: &str,
 ) -> Result<bool, AllocError> {
-    let text = repeat(alloc, parts, count)?;
+    let text = repeated_text(alloc, parts, count)?;
     let whole = is_read_whole(alloc, text.as_str(), printed);
     drop(text);
     whole
 }
 
-fn is_long(alloc: Global, row: Repeated, count: usize) -> Result<bool, AllocError> {
-    let printed = repeat(alloc, row.printed, count)?;
-    let text = is_printed_so(alloc, row.text, count, printed.as_str());
+/// Returns whether a text with a repeated part is read and printed, and what is printed is read and printed the same.
+fn repeated_is_read(alloc: Global, row: Repeated, count: usize) -> Result<bool, AllocError> {
+    let printed = repeated_text(alloc, row.printed, count)?;
+    let text = repeated_is_printed_as(alloc, row.text, count, printed.as_str());
     let again = is_read_whole(alloc, printed.as_str(), printed.as_str());
     drop(printed);
     Ok(text? && again?)
 }
 
-fn is_long_at_each(alloc: Global, row: Repeated, counts: &[usize]) -> Result<bool, AllocError> {
+/// Returns whether the texts of a row are read and printed at each of these lengths.
+fn is_read_at_each_count(
+    alloc: Global,
+    row: Repeated,
+    counts: &[usize],
+) -> Result<bool, AllocError> {
     for count in counts {
-        if !is_long(alloc, row, *count)? {
+        if !repeated_is_read(alloc, row, *count)? {
             return Ok(false);
         }
     }
     Ok(true)
 }
 
+/// Checks long strings, binaries and tuples.
 #[test]
 fn long_texts(rt: HostRuntime) {
-    assert!(rt; is_long_at_each(rt.alloc(), STRING, &COUNTS) == Ok(true));
-    assert!(rt; is_long_at_each(rt.alloc(), BYTES, &COUNTS) == Ok(true));
-    assert!(rt; is_long_at_each(rt.alloc(), TUPLE, &COUNTS) == Ok(true));
+    assert!(rt; is_read_at_each_count(rt.alloc(), STRING, &COUNTS) == Ok(true));
+    assert!(rt; is_read_at_each_count(rt.alloc(), BYTES, &COUNTS) == Ok(true));
+    assert!(rt; is_read_at_each_count(rt.alloc(), TUPLE, &COUNTS) == Ok(true));
 }
 
-/// Builds brackets within brackets, to this depth.
-fn nest(alloc: Global, open: &str, close: &str, levels: usize) -> Result<String, AllocError> {
+/// Builds the text of brackets within brackets, to this depth.
+fn nested_brackets(
+    alloc: Global,
+    open: &str,
+    close: &str,
+    levels: usize,
+) -> Result<String, AllocError> {
     let closing = long_text(alloc, "", close, levels, "")?;
     let text = long_text(alloc, "", open, levels, closing.as_str());
     drop(closing);
     text
 }
 
-fn is_nested(alloc: Global, open: &str, close: &str, levels: usize) -> Result<bool, AllocError> {
-    let text = nest(alloc, open, close, levels)?;
+/// Returns whether brackets of this depth are read, and printed as they were.
+fn brackets_are_read(
+    alloc: Global,
+    open: &str,
+    close: &str,
+    levels: usize,
+) -> Result<bool, AllocError> {
+    let text = nested_brackets(alloc, open, close, levels)?;
     let whole = is_read_whole(alloc, text.as_str(), text.as_str());
     drop(text);
     whole
 }
 
-fn is_refused_as_too_deep(alloc: Global, text: &str) -> bool {
+/// Returns whether a text is refused as too deep at the offset 128, that of the 129th bracket.
+fn is_too_deep_text(alloc: Global, text: &str) -> bool {
     let read = read_term(alloc, text);
     let refused = matches!(&read, Err(TextFault::TooDeep(128)));
     drop(read);
@@ -117,25 +144,26 @@ fn is_refused_as_too_deep(alloc: Global, text: &str) -> bool {
 }
 
 /// Returns whether brackets one level deeper than the limit are refused at the last opening bracket.
-fn is_too_deep(alloc: Global, open: &str, close: &str) -> Result<bool, AllocError> {
-    let text = nest(alloc, open, close, 129)?;
-    let refused = is_refused_as_too_deep(alloc, text.as_str());
+fn brackets_are_too_deep(alloc: Global, open: &str, close: &str) -> Result<bool, AllocError> {
+    let text = nested_brackets(alloc, open, close, MAX_DEPTH + 1)?;
+    let refused = is_too_deep_text(alloc, text.as_str());
     drop(text);
     Ok(refused)
 }
 
 /// Returns whether brackets are read and printed at each depth up to the limit, and refused above it.
-fn are_nested(alloc: Global, open: &str, close: &str) -> Result<bool, AllocError> {
+fn brackets_are_read_to_limit(alloc: Global, open: &str, close: &str) -> Result<bool, AllocError> {
     for levels in 1..=MAX_DEPTH {
-        if !is_nested(alloc, open, close, levels)? {
+        if !brackets_are_read(alloc, open, close, levels)? {
             return Ok(false);
         }
     }
-    is_too_deep(alloc, open, close)
+    brackets_are_too_deep(alloc, open, close)
 }
 
+/// Checks nested lists and tuples of each depth up to one above the limit.
 #[test]
 fn deep_texts(rt: HostRuntime) {
-    assert!(rt; are_nested(rt.alloc(), "[", "]") == Ok(true));
-    assert!(rt; are_nested(rt.alloc(), "{", "}") == Ok(true));
+    assert!(rt; brackets_are_read_to_limit(rt.alloc(), "[", "]") == Ok(true));
+    assert!(rt; brackets_are_read_to_limit(rt.alloc(), "{", "}") == Ok(true));
 }

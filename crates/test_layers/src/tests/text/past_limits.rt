@@ -1,6 +1,6 @@
 //! Texts past the greatest depth of a term, and past the greatest length of an atom.
 use super::Reading::{self, Fails, Reads};
-use super::{Bytes, gives_reading};
+use super::{Bytes, has_reading};
 use crate::tests::keep_if_ok;
 use ets_term::MAX_DEPTH;
 use std::alloc::{AllocError, Global};
@@ -15,7 +15,7 @@ const MAX_LENGTH: usize = 255;
 #[derive(Clone, Copy)]
 struct Start<'a>(&'a str);
 
-/// A part of a text, repeated.
+/// A part of a text, and how often it is repeated.
 #[derive(Clone, Copy)]
 struct Repeat<'a>(&'a str, usize);
 
@@ -26,6 +26,7 @@ struct End<'a>(&'a str);
 /// The parts of a text, and what is read from it.
 type LongRow<'a> = (Start<'a>, Repeat<'a>, End<'a>, Reading<'a>);
 
+/// Texts at a limit and past it. Where two faults are possible, the row says which is found first, and at which offset.
 const LONG: [LongRow<'static>; 9] = [
     (
         Start(""),
@@ -83,6 +84,7 @@ const LONG: [LongRow<'static>; 9] = [
     ),
 ];
 
+/// Pushes a part of a text this often.
 fn push_repeated(text: &mut String, part: &str, count: usize) -> Result<(), AllocError> {
     for _ in 0..count {
         text.push_str(part)?;
@@ -90,7 +92,8 @@ fn push_repeated(text: &mut String, part: &str, count: usize) -> Result<(), Allo
     Ok(())
 }
 
-fn push_long(
+/// Pushes a start, a repeated part, and an end.
+fn push_long_text(
     text: &mut String,
     start: &str,
     part: &str,
@@ -111,68 +114,75 @@ pub fn long_text(
     end: &str,
 ) -> Result<String, AllocError> {
     let mut text = String::new(alloc);
-    keep_if_ok(push_long(&mut text, start, part, count, end), text)
+    keep_if_ok(push_long_text(&mut text, start, part, count, end), text)
 }
 
-fn gives_long(alloc: Global, row: LongRow) -> Result<bool, AllocError> {
+/// Returns whether the text of a row is read as the row says.
+fn long_text_has_reading(alloc: Global, row: LongRow) -> Result<bool, AllocError> {
     let (start, part, end, wanted) = row;
     let text = long_text(alloc, start.0, part.0, part.1, end.0)?;
-    let same = gives_reading(alloc, text.as_bytes(), wanted);
+    let same = has_reading(alloc, text.as_bytes(), wanted);
     drop(text);
     same
 }
 
-/// Returns the index of the first long text from which something else is read.
+/// Returns the index of the first row that is not read as it says.
 fn first_long_mismatch(alloc: Global, rows: &[LongRow]) -> Result<Option<usize>, AllocError> {
     for (i, row) in rows.iter().enumerate() {
-        if !gives_long(alloc, *row)? {
+        if !long_text_has_reading(alloc, *row)? {
             return Ok(Some(i));
         }
     }
     Ok(None)
 }
 
+/// Checks the faults of texts past a limit.
 #[test]
 fn past_the_levels_and_lengths(rt: HostRuntime) {
     assert_eq!(rt; first_long_mismatch(rt.alloc(), &LONG), Ok(None));
 }
 
+/// Returns whether a quoted atom of the greatest length is read, and printed without quotes.
 fn longest_atom_is_read(alloc: Global) -> Result<bool, AllocError> {
     let printed = long_text(alloc, "", "a", MAX_LENGTH, "")?;
     let read = Reads(printed.as_str(), Bytes(MAX_LENGTH + 2));
-    let same = gives_long(alloc, (Start("'"), Repeat("a", MAX_LENGTH), End("'"), read));
+    let same = long_text_has_reading(alloc, (Start("'"), Repeat("a", MAX_LENGTH), End("'"), read));
     drop(printed);
     same
 }
 
+/// Checks that an atom may have 255 characters.
 #[test]
 fn the_longest_atom(rt: HostRuntime) {
     assert!(rt; longest_atom_is_read(rt.alloc()) == Ok(true));
 }
 
-fn deepest_term(alloc: Global) -> Result<String, AllocError> {
+/// Builds the text of lists within lists, as deep as a term may be.
+fn deepest_text(alloc: Global) -> Result<String, AllocError> {
     let closing = long_text(alloc, "", "]", MAX_DEPTH, "")?;
     let text = long_text(alloc, "", "[", MAX_DEPTH, closing.as_str());
     drop(closing);
     text
 }
 
-/// Returns the depth of the term of a text, and how many bytes it has.
-fn depth_of(alloc: Global, text: &[u8]) -> Option<(usize, Bytes)> {
+/// Returns the depth of the term of a text, and how many bytes it takes.
+fn depth_and_bytes_of(alloc: Global, text: &[u8]) -> Option<(usize, Bytes)> {
     let (term, taken) = read_term_bytes(alloc, text).ok()?;
     let depth = term.depth();
     drop(term);
     Some((depth, Bytes(taken)))
 }
 
-fn depth_of_deepest(alloc: Global) -> Option<(usize, Bytes)> {
-    let text = deepest_term(alloc).ok()?;
-    let depth = depth_of(alloc, text.as_bytes());
+/// Returns the depth of the deepest term, and how many bytes its text takes.
+fn depth_and_bytes_of_deepest(alloc: Global) -> Option<(usize, Bytes)> {
+    let text = deepest_text(alloc).ok()?;
+    let depth = depth_and_bytes_of(alloc, text.as_bytes());
     drop(text);
     depth
 }
 
+/// Checks that a term may be as deep as `MAX_DEPTH`.
 #[test]
 fn the_deepest_term(rt: HostRuntime) {
-    assert!(rt; depth_of_deepest(rt.alloc()) == Some((MAX_DEPTH, Bytes(2 * MAX_DEPTH))));
+    assert!(rt; depth_and_bytes_of_deepest(rt.alloc()) == Some((MAX_DEPTH, Bytes(2 * MAX_DEPTH))));
 }

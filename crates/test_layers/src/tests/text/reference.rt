@@ -6,11 +6,19 @@ mod pieces;
 mod printer;
 mod singles;
 
+/// The greatest depth of a term.
+const MAX_LEVELS: usize = 128;
+
+/// The greatest number of characters of an atom.
+const MAX_CHARACTERS: usize = 255;
+
 /// A reader with the state after the bytes that it has read.
 #[derive(Drop)]
 struct Reader<'t> {
     alloc: Global,
+    /// The text that it reads.
     text: &'t [u8],
+    /// The offset of the next byte.
     at: usize,
     /// The printed term.
     out: String,
@@ -25,6 +33,7 @@ struct Reader<'t> {
 }
 
 impl<'t> Reader<'t> {
+    /// Builds a reader at the start of a text.
     fn new(alloc: Global, text: &'t [u8]) -> Reader<'t> {
         Reader {
             alloc,
@@ -38,67 +47,73 @@ impl<'t> Reader<'t> {
         }
     }
 
-    /// Prints a character and passes it. `wanted` and `fresh` are the new state.
-    fn pass(&mut self, sign: u8, wanted: bool, fresh: bool) -> Result<(), TextFault> {
-        self.out.push(sign as char)?;
+    /// Prints a byte of the text and passes it. `wanted` and `fresh` are the new state.
+    fn print_byte(&mut self, byte: u8, wanted: bool, fresh: bool) -> Result<(), TextFault> {
+        self.out.push(byte as char)?;
         self.at = self.at.saturating_add(1);
         self.wanted = wanted;
         self.fresh = fresh;
         Ok(())
     }
 
-    fn closes(&self, sign: u8) -> bool {
-        self.closing.last() == Some(&sign) && (self.fresh || !self.wanted)
+    /// Returns whether a byte closes the last open bracket. No bracket may close after a comma.
+    fn may_close(&self, byte: u8) -> bool {
+        self.closing.last() == Some(&byte) && (self.fresh || !self.wanted)
     }
 
-    fn close(&mut self, sign: u8) -> Result<(), TextFault> {
+    /// Passes a closing bracket.
+    fn close_bracket(&mut self, byte: u8) -> Result<(), TextFault> {
         self.closing.pop();
-        self.pass(sign, false, false)
+        self.print_byte(byte, false, false)
     }
 
-    fn comma(&mut self, sign: u8) -> Result<(), TextFault> {
-        if sign != b',' {
+    /// Passes the comma that must follow a term within brackets.
+    fn pass_comma(&mut self, byte: u8) -> Result<(), TextFault> {
+        if byte != b',' {
             return Err(TextFault::Unexpected(self.at));
         }
-        self.pass(sign, true, false)
+        self.print_byte(byte, true, false)
     }
 
-    fn open(&mut self, sign: u8) -> Result<(), TextFault> {
-        self.closing.push(if sign == b'{' { b'}' } else { b']' })?;
-        self.pass(sign, true, true)
+    /// Passes an opening bracket.
+    fn open_bracket(&mut self, byte: u8) -> Result<(), TextFault> {
+        self.closing.push(if byte == b'{' { b'}' } else { b']' })?;
+        self.print_byte(byte, true, true)
     }
 
-    /// Reads the start of a term.
-    fn begin(&mut self, sign: u8) -> Result<(), TextFault> {
-        if self.closing.len() >= 128 {
+    /// Reads a whole term other than a tuple and a list, or an opening bracket.
+    fn begin_term(&mut self, byte: u8) -> Result<(), TextFault> {
+        if self.closing.len() >= MAX_LEVELS {
             return Err(TextFault::TooDeep(self.at));
         }
-        if sign == b'{' || sign == b'[' {
-            return self.open(sign);
+        if byte == b'{' || byte == b'[' {
+            return self.open_bracket(byte);
         }
         self.wanted = false;
         self.fresh = false;
-        self.single_term(sign)
+        self.read_single_term(byte)
     }
 
-    fn sign(&mut self, sign: u8) -> Result<(), TextFault> {
-        if self.closes(sign) {
-            self.close(sign)
+    /// Reads what begins with the next byte, in the present state: a bracket, a comma or a term.
+    fn read_byte(&mut self, byte: u8) -> Result<(), TextFault> {
+        if self.may_close(byte) {
+            self.close_bracket(byte)
         } else if !self.wanted {
-            self.comma(sign)
-        } else if matches!(sign, b'{' | b'[' | b'-' | b'\'' | b'"' | b'<' | b'#' | b'0'..=b'9' | b'a'..=b'z')
+            self.pass_comma(byte)
+        } else if matches!(byte, b'{' | b'[' | b'-' | b'\'' | b'"' | b'<' | b'#' | b'0'..=b'9' | b'a'..=b'z')
         {
-            self.begin(sign)
+            self.begin_term(byte)
         } else {
             Err(TextFault::Unexpected(self.at))
         }
     }
 
-    fn term(&mut self) -> Result<(), TextFault> {
+    /// Reads a term. Each round of the loop passes at least one byte, so that it returns before the rounds end.
+    fn read_term(&mut self) -> Result<(), TextFault> {
         for _ in 0..=self.text.len() {
             self.skip_blanks();
-            let sign = self.byte()?;
-            self.sign(sign)?;
+            let byte = self.next_byte()?;
+            self.read_byte(byte)?;
             if !self.wanted && self.closing.is_empty() {
                 return Ok(());
             }
@@ -110,7 +125,7 @@ impl<'t> Reader<'t> {
 /// Reads the first term of a text by the rules. Returns its printed text, and how many bytes it has.
 pub fn read_by_rules(alloc: Global, text: &[u8]) -> Result<(String, usize), TextFault> {
     let mut reader = Reader::new(alloc, text);
-    match reader.term() {
+    match reader.read_term() {
         Ok(()) => Ok((reader.out, reader.at)),
         Err(fault) => {
             drop(reader);

@@ -13,7 +13,7 @@ pub(crate) fn read_again(alloc: Global, text: &str) -> Result<(Term, usize), Tex
     read_term(alloc, text)
 }
 
-/// Returns the term of a text.
+/// Reads the term of a text, again if memory runs out. None means a syntax error, or out of memory.
 pub(crate) fn term_again(alloc: Global, text: &str) -> Option<Term> {
     match read_again(alloc, text) {
         Ok((term, _)) => Some(term),
@@ -21,9 +21,10 @@ pub(crate) fn term_again(alloc: Global, text: &str) -> Option<Term> {
     }
 }
 
-/// The text before a printed term.
+/// The text that an output has before a term is printed into it.
 const FRONT: &str = "a front: ";
 
+/// Builds the text `FRONT`, again if memory runs out.
 fn front_again(alloc: Global) -> Option<String> {
     match String::from_str(alloc, FRONT) {
         Ok(text) => Some(text),
@@ -40,14 +41,15 @@ fn prints_again(alloc: Global, term: &Term, text: &mut String) -> bool {
     }
 }
 
-/// Returns whether the term of a text is printed as this text, with the front.
-fn is_same_again(alloc: Global, text: &str, printed: &str) -> Option<bool> {
+/// Returns whether the term of a text is printed after the front as `printed`, at once or again.
+fn is_read_and_printed_again(alloc: Global, text: &str, printed: &str) -> Option<bool> {
     let term = term_again(alloc, text)?;
     let same = is_printed_again(alloc, &term, printed);
     drop(term);
     same
 }
 
+/// Returns whether a term is printed after the front as `printed`, at once or again.
 fn is_printed_again(alloc: Global, term: &Term, printed: &str) -> Option<bool> {
     let mut text = front_again(alloc)?;
     let same = prints_again(alloc, term, &mut text) && text.as_str() == printed;
@@ -55,13 +57,13 @@ fn is_printed_again(alloc: Global, term: &Term, printed: &str) -> Option<bool> {
     Some(same)
 }
 
-/// Returns the first text that is read or printed otherwise.
+/// Returns the first text whose term is not printed as its row says.
 fn first_mismatch_again(
     alloc: Global,
     rows: &[(&'static str, &'static str)],
 ) -> Option<&'static str> {
     for (text, printed) in rows {
-        if is_same_again(alloc, *text, *printed) != Some(true) {
+        if is_read_and_printed_again(alloc, *text, *printed) != Some(true) {
             return Some(*text);
         }
     }

@@ -9,8 +9,11 @@ use term_text::{WriteFault, read_term, write_bytes, write_term};
 /// A writer that takes at most `most` bytes a write, and fails after `left` writes.
 #[derive(Drop)]
 struct FailingWriter {
+    /// The bytes that it has taken so far.
     taken: Vec<u8>,
+    /// How many bytes it takes a write.
     most: usize,
+    /// After how many further writes it fails.
     left: usize,
 }
 
@@ -32,7 +35,7 @@ impl Write for FailingWriter {
     }
 }
 
-/// Returns whether a writer that fails after `left` bytes has this prefix of the text.
+/// Returns whether a writer that fails after `left` bytes has taken this prefix of the text.
 fn leaves_a_prefix(alloc: Global, term: &Term, text: &str, left: usize) -> bool {
     let mut out = FailingWriter {
         taken: Vec::new(alloc),
@@ -48,7 +51,7 @@ fn leaves_a_prefix(alloc: Global, term: &Term, text: &str, left: usize) -> bool 
 }
 
 /// Returns whether a term is written as this text.
-pub fn writes(alloc: Global, term: &Term, text: &str) -> bool {
+pub fn is_written_as(alloc: Global, term: &Term, text: &str) -> bool {
     let mut whole = Vec::new(alloc);
     let written = write_term(term, &mut whole);
     let done = written.is_ok();
@@ -58,6 +61,7 @@ pub fn writes(alloc: Global, term: &Term, text: &str) -> bool {
     done && same
 }
 
+/// Returns whether a writer that fails after each number of bytes, below the length of the text, has this prefix of it.
 fn leaves_each_prefix(alloc: Global, term: &Term, text: &str) -> bool {
     for left in 0..text.len() {
         if !leaves_a_prefix(alloc, term, text, left) {
@@ -67,11 +71,11 @@ fn leaves_each_prefix(alloc: Global, term: &Term, text: &str) -> bool {
     true
 }
 
-/// Returns whether the term of a text is written as this text, and after a fault as a prefix of it.
+/// Returns whether the term of a text is written as this text, and a writer that fails has a prefix of it.
 fn is_written(alloc: Global, text: &str) -> bool {
     match read_term(alloc, text) {
         Ok((term, _)) => {
-            let done = writes(alloc, &term, text) && leaves_each_prefix(alloc, &term, text);
+            let done = is_written_as(alloc, &term, text) && leaves_each_prefix(alloc, &term, text);
             drop(term);
             done
         }
@@ -84,12 +88,15 @@ fn a_fault_leaves_a_prefix_of_the_text(rt: HostRuntime) {
     assert!(rt; is_written(rt.alloc(), "{a,'B',[<0.1.0>,#Tid<2>],<<1,2>>,-3}"));
 }
 
-/// Returns whether 100,000 bytes are written to a writer that takes 1,000 at a time.
+/// How many bytes a writer takes at a time.
+const PART: usize = 1_000;
+
+/// Returns whether 100,000 bytes are written in 100 parts of `PART` bytes.
 fn is_written_in_parts(alloc: Global) -> Result<bool, AllocError> {
     let text = long_text(alloc, "", "0123456789", 10_000, "")?;
     let mut out = FailingWriter {
         taken: Vec::new(alloc),
-        most: 1_000,
+        most: PART,
         left: 100,
     };
     let written = write_bytes(text.as_bytes(), &mut out);
@@ -101,13 +108,14 @@ fn is_written_in_parts(alloc: Global) -> Result<bool, AllocError> {
     Ok(done && whole)
 }
 
+/// Checks a writer that takes a hundredth of the bytes at a time.
 #[test]
 fn a_writer_may_take_a_hundredth(rt: HostRuntime) {
     assert!(rt; is_written_in_parts(rt.alloc()) == Ok(true));
 }
 
-/// Returns whether a writer that takes nothing is a fault.
-fn is_stuck(alloc: Global) -> bool {
+/// Returns whether a writer that takes nothing makes the fault `Zero`.
+fn fault_is_zero(alloc: Global) -> bool {
     let mut stuck = FailingWriter {
         taken: Vec::new(alloc),
         most: 0,
@@ -117,12 +125,12 @@ fn is_stuck(alloc: Global) -> bool {
     let written = write_term(&term, &mut stuck);
     drop(term);
     drop(stuck);
-    let is_stuck = matches!(&written, Err(WriteFault::Zero));
+    let is_zero = matches!(&written, Err(WriteFault::Zero));
     drop(written);
-    is_stuck
+    is_zero
 }
 
 #[test]
 fn a_writer_that_takes_nothing_is_a_fault(rt: HostRuntime) {
-    assert!(rt; is_stuck(rt.alloc()));
+    assert!(rt; fault_is_zero(rt.alloc()));
 }

@@ -1,11 +1,13 @@
 use super::rows::{Call, first_mismatch};
 use super::*;
 
-/// Returns whether operations have the expected answer and leave the expected object.
+/// Returns whether `update_counter` has the expected answer, `expected.0`, and leaves the expected object,
+/// `expected.1`.
 fn counts_in_place(alloc: Global, object: &mut Term, ops: &Ops, expected: (&Term, &Term)) -> bool {
-    answers(update_counter(alloc, object, ops), expected.0) && *object == *expected.1
+    has_answer(update_counter(alloc, object, ops), expected.0) && *object == *expected.1
 }
 
+/// Returns whether `apply_ops` has the expected answer and makes the expected object, or is refused as expected.
 fn counts_on_a_copy(alloc: Global, object: &Term, ops: &Ops, expected: (&Term, &Term)) -> bool {
     match apply_ops(alloc, object, ops) {
         Ok(copied) => {
@@ -17,15 +19,21 @@ fn counts_on_a_copy(alloc: Global, object: &Term, ops: &Ops, expected: (&Term, &
     }
 }
 
-fn counts_both(alloc: Global, object: &Term, ops: &Ops, expected: (&Term, &Term)) -> Option<bool> {
+/// Returns whether both forms of an update have the expected answer and object. None means out of memory.
+fn counts_in_place_and_on_a_copy(
+    alloc: Global,
+    object: &Term,
+    ops: &Ops,
+    expected: (&Term, &Term),
+) -> Option<bool> {
     let mut own = object.try_clone(alloc).ok()?;
     let in_place = counts_in_place(alloc, &mut own, ops, expected);
     drop(own);
     Some(in_place && counts_on_a_copy(alloc, object, ops, expected))
 }
 
-/// Returns whether operations have the expected answer and object, in place and on a copy.
-pub fn counts(
+/// Returns whether operations have the expected answer and object, in place and on a copy. `expected` is the two.
+pub fn counts_as_expected(
     alloc: Global,
     keypos: u32,
     object: &Term,
@@ -34,15 +42,15 @@ pub fn counts(
 ) -> Option<bool> {
     match read_ops(alloc, updates, keypos) {
         Ok(ops) => {
-            let both = counts_both(alloc, object, &ops, expected);
+            let holds = counts_in_place_and_on_a_copy(alloc, object, &ops, expected);
             drop(ops);
-            both
+            holds
         }
         Err(_) => Some(false),
     }
 }
 
-/// The greatest integer is 170141183460469231731687303715884105727.
+/// Operations that succeed. The greatest integer is 170141183460469231731687303715884105727.
 const COUNTED: [&str; 16] = [
     "[{c,5}, update, 3, gives, 8, leaves, {c,8}]",
     "[{c,5}, update, -7, gives, -2, leaves, {c,-2}]",
@@ -62,6 +70,7 @@ const COUNTED: [&str; 16] = [
     "[{c,5,6}, update, [{3,1},{2,-1}], gives, [7,4], leaves, {c,4,7}]",
 ];
 
+/// Checks operations that succeed.
 #[test]
 fn operations_on_counters(rt: HostRuntime) {
     assert_eq!(rt;
@@ -84,6 +93,7 @@ const REFUSED: [&str; 10] = [
     "[{c,5}, update, {3,1}, gives, badarg, leaves, {c,5}]",
 ];
 
+/// Checks operations that are refused, and leave the object as it was.
 #[test]
 fn refused_operations(rt: HostRuntime) {
     assert_eq!(rt;
@@ -99,6 +109,7 @@ const KEY_SECOND: [&str; 3] = [
     "[5, update, {1,1}, gives, badarg, leaves, 5]",
 ];
 
+/// Checks operations on objects whose key is the second element.
 #[test]
 fn operations_with_the_key_second(rt: HostRuntime) {
     assert_eq!(rt;
@@ -147,6 +158,7 @@ const WRONG: [&str; 18] = [
     "a",
 ];
 
+/// Checks that no text of `WRONG` is read as operations.
 #[test]
 fn what_is_no_operation(rt: HostRuntime) {
     assert_eq!(rt; first_valid_update(rt.alloc(), &WRONG), Some(None));

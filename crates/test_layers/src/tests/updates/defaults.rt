@@ -14,12 +14,15 @@ fn is_object(alloc: Global, keypos: u32, default: &Term, key: &Term) -> bool {
     is_made && is_default(default, keypos, key)
 }
 
+/// Returns whether a Default with this key is refused as no object, by both functions.
 fn is_no_object(alloc: Global, keypos: u32, default: &Term, key: &Term) -> bool {
     let fault = with_key(alloc, default, keypos, key).err();
     !is_default(default, keypos, key) && matches!(fault, Some(CounterFault::Badarg))
 }
 
-fn starts_with(
+/// Returns whether `start_counter` has the expected answer and object, or the expected refusal. `object` is a Default
+/// and a key.
+fn starts_with_ops(
     alloc: Global,
     keypos: u32,
     object: (&Term, &Term),
@@ -37,8 +40,8 @@ fn starts_with(
     }
 }
 
-/// Returns whether a Default with a key gives the expected answer and object by these operations.
-pub fn starts(
+/// Returns whether a Default with a key, `object`, gives the expected answer and object by these operations.
+pub fn starts_as_expected(
     alloc: Global,
     keypos: u32,
     object: (&Term, &Term),
@@ -47,7 +50,7 @@ pub fn starts(
 ) -> Option<bool> {
     match read_ops(alloc, updates, keypos) {
         Ok(ops) => {
-            let started = starts_with(alloc, keypos, object, &ops, expected);
+            let started = starts_with_ops(alloc, keypos, object, &ops, expected);
             drop(ops);
             Some(started)
         }
@@ -56,7 +59,7 @@ pub fn starts(
 }
 
 /// Returns whether a Default with a key becomes this object by these element values.
-pub fn writes_default(
+pub fn writes_default_as_expected(
     alloc: Global,
     default: &Term,
     key: &Term,
@@ -64,7 +67,7 @@ pub fn writes_default(
     made: &Term,
 ) -> Option<bool> {
     match read_element_specs(alloc, values, 1) {
-        Ok(specs) => Some(answers(start_with_elements(alloc, default, 1, key, &specs), made)),
+        Ok(specs) => Some(has_answer(start_with_elements(alloc, default, 1, key, &specs), made)),
         Err(_) => Some(false),
     }
 }
@@ -80,6 +83,7 @@ const STARTED: [&str; 7] = [
     "[default, 7, key, h, update, 1, gives, badarg]",
 ];
 
+/// Checks operations on keys that have no object.
 #[test]
 fn counters_begin_at_their_defaults(rt: HostRuntime) {
     assert_eq!(rt;
@@ -96,6 +100,7 @@ const WRITTEN: [&str; 4] = [
     "[default, 7, key, 3, set, {2,9}, gives, badarg]",
 ];
 
+/// Checks element values for keys that have no object.
 #[test]
 fn values_of_a_default(rt: HostRuntime) {
     assert_eq!(rt;
@@ -104,21 +109,21 @@ fn values_of_a_default(rt: HostRuntime) {
     );
 }
 
-/// Returns whether a Default with a key of this text is an object, and whether it is refused.
-fn is_either(alloc: Global, keypos: u32, default: &Term, key: &str) -> Option<(bool, bool)> {
+/// Returns whether a Default with a key of this text is an object, and whether it is refused as none.
+fn object_verdicts(alloc: Global, keypos: u32, default: &Term, key: &str) -> Option<(bool, bool)> {
     let (key, _) = read_term(alloc, key).ok()?;
     let is_object = is_object(alloc, keypos, default, &key);
-    let is_none = is_no_object(alloc, keypos, default, &key);
+    let is_refused = is_no_object(alloc, keypos, default, &key);
     drop(key);
-    Some((is_object, is_none))
+    Some((is_object, is_refused))
 }
 
 /// Returns whether a Default with a key is an object. None means that the functions disagree.
 fn is_object_of(alloc: Global, keypos: u32, default: &str, key: &str) -> Option<bool> {
     let (default, _) = read_term(alloc, default).ok()?;
-    let either = is_either(alloc, keypos, &default, key);
+    let verdicts = object_verdicts(alloc, keypos, &default, key);
     drop(default);
-    match either? {
+    match verdicts? {
         (true, false) => Some(true),
         (false, true) => Some(false),
         _ => None,
@@ -133,6 +138,7 @@ const NO_OBJECTS: [(u32, &str, &str); 4] = [
     (1, "7", "h"),
 ];
 
+/// Returns whether no row makes an object. None means out of memory, or that the functions disagree.
 fn are_no_objects(alloc: Global, rows: &[(u32, &'static str, &'static str)]) -> Option<bool> {
     for (keypos, default, key) in rows {
         if is_object_of(alloc, *keypos, *default, *key)? {
@@ -142,8 +148,9 @@ fn are_no_objects(alloc: Global, rows: &[(u32, &'static str, &'static str)]) -> 
     Some(true)
 }
 
+/// Checks which Defaults are objects with a key.
 #[test]
-fn defaults(rt: HostRuntime) {
+fn defaults_that_are_objects(rt: HostRuntime) {
     assert!(rt; is_object_of(rt.alloc(), 1, "{x}", "h") == Some(true));
     assert!(rt; are_no_objects(rt.alloc(), &NO_OBJECTS) == Some(true));
 }

@@ -1,12 +1,13 @@
 //! Element values about as deep as an object may be.
-use super::elements::writes;
+use super::elements::writes_as_expected;
 use super::*;
-use crate::tests::depths::nest;
+use crate::tests::depths::nested_list;
 use crate::tests::keep_if_some;
 
+/// Pushes the position 2 and a value of this depth.
 fn push_element_value(alloc: Global, items: &mut Items<Term>, levels: usize) -> Option<()> {
     items.push(Term::Int(2)).ok()?;
-    items.push(nest(alloc, levels)?).ok()
+    items.push(nested_list(alloc, levels)?).ok()
 }
 
 /// Builds the element value `{2,Value}` with a value of this depth.
@@ -15,6 +16,7 @@ fn element_value(alloc: Global, levels: usize) -> Option<Term> {
     Some(Term::Tuple(keep_if_some(push_element_value(alloc, &mut items, levels), items)?))
 }
 
+/// Pushes an element value for each depth.
 fn push_element_values(alloc: Global, items: &mut Items<Term>, depths: &[usize]) -> Option<()> {
     for levels in depths {
         items.push(element_value(alloc, *levels)?).ok()?;
@@ -28,7 +30,8 @@ fn element_values(alloc: Global, depths: &[usize]) -> Option<Term> {
     Some(Term::List(keep_if_some(push_element_values(alloc, &mut items, depths), items)?))
 }
 
-/// The depths of values for the second element, and whether they are refused. If not, the last has the greatest depth.
+/// The depths of the values that a list writes as the second element, and whether the list is refused. If it is not,
+/// its last value makes the object as deep as it may be.
 const ROWS: [(&[usize], bool); 5] = [
     (&[MAX_DEPTH], true),
     (&[1, MAX_DEPTH], true),
@@ -37,45 +40,52 @@ const ROWS: [(&[usize], bool); 5] = [
     (&[MAX_DEPTH, MAX_DEPTH - 1], false),
 ];
 
-/// Pushes the object `{2,1}`, `{2,Value}` with a value of the greatest depth, and the atom of a refusal.
-fn push_ends(alloc: Global, ends: &mut Items<Term>) -> Option<()> {
-    ends.push(read_term(alloc, "{2,1}").ok()?.0).ok()?;
-    ends.push(element_value(alloc, MAX_DEPTH - 1)?).ok()?;
-    ends.push(read_term(alloc, "system_limit").ok()?.0).ok()
+/// Pushes the object `{2,1}`, the object `{2,Value}` with the deepest value, and the atom of a refusal.
+fn push_outcomes(alloc: Global, outcomes: &mut Items<Term>) -> Option<()> {
+    outcomes.push(read_term(alloc, "{2,1}").ok()?.0).ok()?;
+    outcomes.push(element_value(alloc, MAX_DEPTH - 1)?).ok()?;
+    outcomes.push(read_term(alloc, "system_limit").ok()?.0).ok()
 }
 
-/// Returns whether an object becomes this one by these element values, and drops them.
-fn makes(alloc: Global, object: &Term, values: Option<Term>, made: &Term) -> Option<bool> {
+/// Returns whether an object becomes `made` by these element values, and drops the values.
+fn values_make(alloc: Global, object: &Term, values: Option<Term>, made: &Term) -> Option<bool> {
     let values = values?;
-    let makes = writes(alloc, object, &values, made);
+    let makes_it = writes_as_expected(alloc, object, &values, made);
     drop(values);
-    makes
+    makes_it
 }
 
-fn all_end(alloc: Global, ends: &[Term], rows: &[(&'static [usize], bool)]) -> Option<bool> {
-    let [object, deepest, refusal] = ends else {
+/// Returns whether each row holds, and a single value of depth `MAX_DEPTH` is refused. The outcomes are those of
+/// `push_outcomes`.
+fn all_rows_hold(
+    alloc: Global,
+    outcomes: &[Term],
+    rows: &[(&'static [usize], bool)],
+) -> Option<bool> {
+    let [object, deepest, refusal] = outcomes else {
         return None;
     };
     for (depths, is_refused) in rows {
         let made = if *is_refused { refusal } else { deepest };
-        if !makes(alloc, object, element_values(alloc, *depths), made)? {
+        if !values_make(alloc, object, element_values(alloc, *depths), made)? {
             return Some(false);
         }
     }
-    makes(alloc, object, element_value(alloc, MAX_DEPTH), refusal)
+    values_make(alloc, object, element_value(alloc, MAX_DEPTH), refusal)
 }
 
-/// Returns whether each list of element values does what its row says, and a too deep value outside a list is refused.
-fn values_end(alloc: Global) -> Option<bool> {
-    let mut ends = Items::new(alloc);
-    let pushed = push_ends(alloc, &mut ends);
-    let ended = all_end(alloc, ends.as_slice(), &ROWS);
-    drop(ends);
+/// Builds the outcomes, and returns whether all rows hold.
+fn deep_value_rows_hold(alloc: Global) -> Option<bool> {
+    let mut outcomes = Items::new(alloc);
+    let pushed = push_outcomes(alloc, &mut outcomes);
+    let hold = all_rows_hold(alloc, outcomes.as_slice(), &ROWS);
+    drop(outcomes);
     pushed?;
-    ended
+    hold
 }
 
+/// Checks that a value is refused if it makes the object deeper than `MAX_DEPTH`.
 #[test]
 fn values_too_deep(rt: HostRuntime) {
-    assert!(rt; values_end(rt.alloc()) == Some(true));
+    assert!(rt; deep_value_rows_hold(rt.alloc()) == Some(true));
 }

@@ -1,7 +1,8 @@
 use super::rows::{Call, first_mismatch};
 use super::*;
 
-/// Returns whether an object becomes this one by element values, or is unchanged if they are refused.
+/// Returns whether `write_elements` makes this object, or is refused as expected and leaves the object as it was,
+/// `before`.
 fn writes_in_place(
     alloc: Global,
     object: &mut Term,
@@ -15,14 +16,22 @@ fn writes_in_place(
     }
 }
 
+/// Returns whether `apply_elements` makes this object, or is refused as expected.
 fn writes_on_a_copy(alloc: Global, object: &Term, values: &Term, made: &Term) -> bool {
     match read_element_specs(alloc, values, 1) {
-        Ok(specs) => answers(apply_elements(alloc, object, &specs), made),
+        Ok(specs) => has_answer(apply_elements(alloc, object, &specs), made),
         Err(_) => false,
     }
 }
 
-fn writes_in_own(alloc: Global, own: &mut Term, values: &Term, before: &Term, made: &Term) -> bool {
+/// Reads element values, and returns whether they write in place as expected.
+fn writes_in_own_object(
+    alloc: Global,
+    own: &mut Term,
+    values: &Term,
+    before: &Term,
+    made: &Term,
+) -> bool {
     match read_element_specs(alloc, values, 1) {
         Ok(specs) => writes_in_place(alloc, own, &specs, before, made),
         Err(_) => false,
@@ -30,9 +39,14 @@ fn writes_in_own(alloc: Global, own: &mut Term, values: &Term, before: &Term, ma
 }
 
 /// Returns whether an object becomes this one by element values, in place and as a copy.
-pub fn writes(alloc: Global, object: &Term, values: &Term, made: &Term) -> Option<bool> {
+pub fn writes_as_expected(
+    alloc: Global,
+    object: &Term,
+    values: &Term,
+    made: &Term,
+) -> Option<bool> {
     let mut own = object.try_clone(alloc).ok()?;
-    let in_place = writes_in_own(alloc, &mut own, values, object, made);
+    let in_place = writes_in_own_object(alloc, &mut own, values, object, made);
     drop(own);
     Some(in_place && writes_on_a_copy(alloc, object, values, made))
 }
@@ -52,6 +66,7 @@ const WRITTEN: [&str; 11] = [
     "[1, set, [], gives, badarg]",
 ];
 
+/// Checks element values that are written, and positions that are refused.
 #[test]
 fn values_of_elements(rt: HostRuntime) {
     assert_eq!(rt;
@@ -97,6 +112,7 @@ const WRONG: [&str; 15] = [
     "2",
 ];
 
+/// Checks that no text of `WRONG` is read as element values.
 #[test]
 fn what_is_no_value(rt: HostRuntime) {
     assert_eq!(rt; first_valid_value(rt.alloc(), &WRONG), Some(None));

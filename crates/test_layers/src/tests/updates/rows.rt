@@ -1,6 +1,6 @@
-use super::counts::counts;
-use super::defaults::{starts, writes_default};
-use super::elements::writes;
+use super::counts::counts_as_expected;
+use super::defaults::{starts_as_expected, writes_default_as_expected};
+use super::elements::writes_as_expected;
 use super::*;
 
 /// The form of a row of text.
@@ -20,26 +20,73 @@ pub enum Call {
     WriteDefault,
 }
 
-fn holds(alloc: Global, call: Call, row: &[Term]) -> Option<bool> {
+/// The labels of a row of `Count`, each with its index.
+pub const COUNT_LABELS: [(usize, &str); 3] = [(1, "update"), (3, "gives"), (5, "leaves")];
+
+/// The labels of a row of `Write`, each with its index.
+pub const WRITE_LABELS: [(usize, &str); 2] = [(1, "set"), (3, "gives")];
+
+/// The labels of a row of `Start`, each with its index.
+const START_LABELS: [(usize, &str); 4] = [(0, "default"), (2, "key"), (4, "update"), (6, "gives")];
+
+/// The labels of a row of `WriteDefault`, each with its index.
+pub const WRITE_DEFAULT_LABELS: [(usize, &str); 4] = [
+    (0, "default"),
+    (2, "key"),
+    (4, "set"),
+    (6, "gives"),
+];
+
+/// Returns whether a row has these labels, so that a misspelt or misplaced one fails the test.
+pub fn has_labels(row: &[Term], labels: &[(usize, &'static str)]) -> bool {
+    for (index, label) in labels {
+        let Some(part) = row.get(*index) else {
+            return false;
+        };
+        if !part.is_atom(*label) {
+            return false;
+        }
+    }
+    true
+}
+
+/// Returns whether a row has the labels of its form.
+fn has_labels_of(call: Call, row: &[Term]) -> bool {
+    match call {
+        Call::Count(_) => has_labels(row, &COUNT_LABELS),
+        Call::Write => has_labels(row, &WRITE_LABELS),
+        Call::Start(_) => has_labels(row, &START_LABELS),
+        Call::WriteDefault => has_labels(row, &WRITE_DEFAULT_LABELS),
+    }
+}
+
+/// Returns whether the call of a row has the answer and makes the object of the row.
+fn row_holds(alloc: Global, call: Call, row: &[Term]) -> Option<bool> {
+    if !has_labels_of(call, row) {
+        return Some(false);
+    }
     match (call, row) {
         (Call::Count(keypos), [object, _, updates, _, answer, _, made]) => {
-            counts(alloc, keypos, object, updates, (answer, made))
+            counts_as_expected(alloc, keypos, object, updates, (answer, made))
         }
-        (Call::Write, [object, _, values, _, made]) => writes(alloc, object, values, made),
+        (Call::Write, [object, _, values, _, made]) => {
+            writes_as_expected(alloc, object, values, made)
+        }
         (Call::Start(keypos), [_, default, _, key, _, updates, _, answer]) => {
-            starts(alloc, keypos, (default, key), updates, answer)
+            starts_as_expected(alloc, keypos, (default, key), updates, answer)
         }
         (Call::WriteDefault, [_, default, _, key, _, values, _, made]) => {
-            writes_default(alloc, default, key, values, made)
+            writes_default_as_expected(alloc, default, key, values, made)
         }
         _ => Some(false),
     }
 }
 
-fn holds_in_text(alloc: Global, call: Call, row: &str) -> Option<bool> {
+/// Returns whether the row of a text holds. None means that the text is not a term, or out of memory.
+fn text_row_holds(alloc: Global, call: Call, row: &str) -> Option<bool> {
     let (row, _) = read_term(alloc, row).ok()?;
     let holds = match &row {
-        Term::List(parts) => holds(alloc, call, parts.as_slice()),
+        Term::List(parts) => row_holds(alloc, call, parts.as_slice()),
         _ => Some(false),
     };
     drop(row);
@@ -53,7 +100,7 @@ pub fn first_mismatch(
     rows: &[&'static str],
 ) -> Option<Option<&'static str>> {
     for row in rows {
-        if !holds_in_text(alloc, call, *row)? {
+        if !text_row_holds(alloc, call, *row)? {
             return Some(Some(*row));
         }
     }

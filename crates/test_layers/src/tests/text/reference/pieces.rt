@@ -2,18 +2,21 @@
 use super::Reader;
 use term_text::TextFault;
 
-pub(super) fn is_name(b: u8) -> bool {
-    matches!(b, b'a'..=b'z' | b'A'..=b'Z' | b'0'..=b'9' | b'_' | b'@')
+/// Returns whether a byte may be in an atom without quotes, after its first.
+pub(super) fn is_name_byte(byte: u8) -> bool {
+    matches!(byte, b'a'..=b'z' | b'A'..=b'Z' | b'0'..=b'9' | b'_' | b'@')
 }
 
 impl Reader<'_> {
-    pub(super) fn byte(&self) -> Result<u8, TextFault> {
+    /// Returns the next byte, without passing it. At the end of the text it is a syntax error.
+    pub(super) fn next_byte(&self) -> Result<u8, TextFault> {
         match self.text.get(self.at) {
             Some(b) => Ok(*b),
             None => Err(TextFault::Unclosed(self.text.len())),
         }
     }
 
+    /// Passes blanks, tabs and ends of lines.
     pub(super) fn skip_blanks(&mut self) {
         for at in self.at..self.text.len() {
             if !matches!(self.text.get(at), Some(b' ' | b'\t' | b'\n' | b'\r')) {
@@ -24,11 +27,11 @@ impl Reader<'_> {
         self.at = self.text.len();
     }
 
-    /// Passes a name. Returns where it begins.
+    /// Passes the bytes of an atom without quotes. Returns the offset of the first.
     pub(super) fn skip_name(&mut self) -> usize {
         let from = self.at;
         for at in from..self.text.len() {
-            if !self.text.get(at).is_some_and(|b| is_name(*b)) {
+            if !self.text.get(at).is_some_and(|b| is_name_byte(*b)) {
                 self.at = at;
                 return from;
             }
@@ -37,7 +40,8 @@ impl Reader<'_> {
         from
     }
 
-    fn digit(&mut self) -> Option<u128> {
+    /// Passes a digit and returns its value, or returns None if the next byte is no digit.
+    fn take_digit(&mut self) -> Option<u128> {
         let digit = self.text.get(self.at)?.wrapping_sub(b'0');
         if digit > 9 {
             return None;
@@ -46,13 +50,13 @@ impl Reader<'_> {
         Some(u128::from(digit))
     }
 
-    /// Reads one digit or more, of a number that begins at `start`.
-    pub(super) fn digits(&mut self, start: usize, limit: u128) -> Result<u128, TextFault> {
-        let _first = self.byte()?;
+    /// Reads one digit or more, up to `limit`, of a number that begins at the offset `start`.
+    pub(super) fn read_digits(&mut self, start: usize, limit: u128) -> Result<u128, TextFault> {
+        let _first = self.next_byte()?;
         let from = self.at;
         let mut n: u128 = 0;
         for _ in from..self.text.len() {
-            if let Some(digit) = self.digit() {
+            if let Some(digit) = self.take_digit() {
                 n = n.saturating_mul(10).saturating_add(digit);
                 if n > limit {
                     return Err(TextFault::OutOfRange(start));
@@ -65,10 +69,10 @@ impl Reader<'_> {
         Ok(n)
     }
 
-    /// Passes the characters that must follow.
-    pub(super) fn signs(&mut self, wanted: &[u8]) -> Result<(), TextFault> {
-        for sign in wanted {
-            if self.byte()? != *sign {
+    /// Passes the bytes that must follow.
+    pub(super) fn pass_bytes(&mut self, wanted: &[u8]) -> Result<(), TextFault> {
+        for byte in wanted {
+            if self.next_byte()? != *byte {
                 return Err(TextFault::Unexpected(self.at));
             }
             self.at = self.at.saturating_add(1);
@@ -76,9 +80,9 @@ impl Reader<'_> {
         Ok(())
     }
 
-    /// Pushes a character between quotes, or fails with `fault` above the limit. Returns whether it is the backslash
-    /// of an escape.
-    fn character(&mut self, b: u8, most: usize, fault: TextFault) -> Result<bool, TextFault> {
+    /// Pushes a character between quotes, or fails with `fault` if `most` were pushed. Returns whether it is the
+    /// backslash of an escape, which is not pushed.
+    fn push_character(&mut self, b: u8, most: usize, fault: TextFault) -> Result<bool, TextFault> {
         if !matches!(b, b' '..=b'~') {
             return Err(TextFault::Unexpected(self.at));
         }
@@ -91,6 +95,7 @@ impl Reader<'_> {
         Ok(b == b'\\')
     }
 
+    /// Pushes the character after a backslash: the quote or a backslash.
     fn push_escaped(&mut self, b: u8, quote: u8) -> Result<(), TextFault> {
         if b != quote && b != b'\\' {
             return Err(TextFault::Unexpected(self.at));
@@ -98,7 +103,8 @@ impl Reader<'_> {
         Ok(self.quoted.push(b)?)
     }
 
-    /// Reads the characters from a quote up to the closing quote, or fails with `fault` above the limit.
+    /// Reads the characters from a quote up to the closing quote into `quoted`, or fails with `fault` if there are more
+    /// than `most`.
     pub(super) fn read_quoted(
         &mut self,
         quote: u8,
@@ -109,7 +115,7 @@ impl Reader<'_> {
         let mut is_escaped = false;
         for _ in self.at..self.text.len() {
             self.at = self.at.saturating_add(1);
-            let b = self.byte()?;
+            let b = self.next_byte()?;
             if is_escaped {
                 self.push_escaped(b, quote)?;
                 is_escaped = false;
@@ -117,7 +123,7 @@ impl Reader<'_> {
                 self.at = self.at.saturating_add(1);
                 return Ok(());
             } else {
-                is_escaped = self.character(b, most, fault)?;
+                is_escaped = self.push_character(b, most, fault)?;
             }
         }
         Err(TextFault::Unclosed(self.text.len()))

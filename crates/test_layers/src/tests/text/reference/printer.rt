@@ -1,7 +1,8 @@
 //! A plain printer of the parts of terms.
-use super::pieces::is_name;
+use super::pieces::is_name_byte;
 use std::alloc::{AllocError, Global};
 
+/// Prints a number.
 pub(super) fn put_number(alloc: Global, out: &mut String, n: u128) -> Result<(), AllocError> {
     let text = format!(in alloc; "{n}")?;
     let pushed = out.push_str(text.as_str());
@@ -20,9 +21,10 @@ pub(super) fn put_numbers(alloc: Global, out: &mut String, bytes: &[u8]) -> Resu
     Ok(())
 }
 
-fn is_plain(text: &[u8]) -> bool {
+/// Returns whether an atom of this text is printed without quotes.
+fn needs_no_quotes(text: &[u8]) -> bool {
     for b in text {
-        if !is_name(*b) {
+        if !is_name_byte(*b) {
             return false;
         }
     }
@@ -40,8 +42,9 @@ fn put_characters(out: &mut String, text: &[u8]) -> Result<(), AllocError> {
     Ok(())
 }
 
+/// Prints an atom, in quotes if it needs them.
 pub(super) fn put_atom(out: &mut String, text: &[u8]) -> Result<(), AllocError> {
-    if is_plain(text) {
+    if needs_no_quotes(text) {
         return put_characters(out, text);
     }
     out.push('\'')?;

@@ -1,44 +1,57 @@
 //! Terms other than tuples and lists in brackets.
-use super::Reader;
 use super::printer::{put_atom, put_number, put_numbers};
+use super::{MAX_CHARACTERS, MAX_LEVELS, Reader};
 use term_text::TextFault;
 
+/// The greatest integer. The least is one further from 0.
+const MAX_INTEGER: u128 = 170141183460469231731687303715884105727;
+
+/// The greatest number of a pid and of an identifier.
+const MAX_U32: u128 = 4294967295;
+
+/// The greatest byte of a binary.
+const MAX_BYTE: u128 = 255;
+
 impl Reader<'_> {
-    /// Reads a term with this first character.
-    pub(super) fn single_term(&mut self, sign: u8) -> Result<(), TextFault> {
-        match sign {
-            b'-' => self.negative(),
-            b'0'..=b'9' => self.number(self.at, 170141183460469231731687303715884105727),
-            b'\'' => self.quoted_atom(),
-            b'"' => self.string(),
-            b'#' => self.identifier(),
-            b'<' => self.pid_or_binary(),
-            _ => self.atom(),
+    /// Reads a term with this first byte.
+    pub(super) fn read_single_term(&mut self, byte: u8) -> Result<(), TextFault> {
+        match byte {
+            b'-' => self.read_negative(),
+            b'0'..=b'9' => self.read_number(self.at, MAX_INTEGER),
+            b'\'' => self.read_quoted_atom(),
+            b'"' => self.read_string(),
+            b'#' => self.read_identifier(),
+            b'<' => self.read_pid_or_binary(),
+            _ => self.read_plain_atom(),
         }
     }
 
-    fn number(&mut self, start: usize, limit: u128) -> Result<(), TextFault> {
-        let n = self.digits(start, limit)?;
+    /// Reads digits, up to `limit`, of a number that begins at the offset `start`, and prints the number.
+    fn read_number(&mut self, start: usize, limit: u128) -> Result<(), TextFault> {
+        let n = self.read_digits(start, limit)?;
         Ok(put_number(self.alloc, &mut self.out, n)?)
     }
 
-    fn negative(&mut self) -> Result<(), TextFault> {
+    /// Reads a minus and digits, and prints the number. The minus of 0 is not printed.
+    fn read_negative(&mut self) -> Result<(), TextFault> {
         let start = self.at;
         self.at = self.at.saturating_add(1);
-        let n = self.digits(start, 170141183460469231731687303715884105728)?;
+        let n = self.read_digits(start, MAX_INTEGER + 1)?;
         if n != 0 {
             self.out.push('-')?;
         }
         Ok(put_number(self.alloc, &mut self.out, n)?)
     }
 
-    fn quoted_atom(&mut self) -> Result<(), TextFault> {
-        self.read_quoted(b'\'', 255, TextFault::AtomTooLong(self.at))?;
+    /// Reads an atom in quotes, and prints it.
+    fn read_quoted_atom(&mut self) -> Result<(), TextFault> {
+        self.read_quoted(b'\'', MAX_CHARACTERS, TextFault::AtomTooLong(self.at))?;
         Ok(put_atom(&mut self.out, self.quoted.as_slice())?)
     }
 
-    fn string(&mut self) -> Result<(), TextFault> {
-        let most = if self.closing.len() < 127 {
+    /// Reads a string, and prints it as a list of bytes. At the greatest depth only the empty string is a term.
+    fn read_string(&mut self) -> Result<(), TextFault> {
+        let most = if self.closing.len() < MAX_LEVELS - 1 {
             self.text.len()
         } else {
             0
@@ -50,33 +63,35 @@ impl Reader<'_> {
         Ok(self.out.push(']')?)
     }
 
-    /// Reads a number of 32 bits between two texts.
-    fn number_between(&mut self, before: &str, after: &str) -> Result<(), TextFault> {
-        self.signs(before.as_bytes())?;
+    /// Reads and prints a number of 32 bits between two texts.
+    fn read_number_between(&mut self, before: &str, after: &str) -> Result<(), TextFault> {
+        self.pass_bytes(before.as_bytes())?;
         self.out.push_str(before)?;
-        self.number(self.at, 4294967295)?;
-        self.signs(after.as_bytes())?;
+        self.read_number(self.at, MAX_U32)?;
+        self.pass_bytes(after.as_bytes())?;
         Ok(self.out.push_str(after)?)
     }
 
-    fn identifier(&mut self) -> Result<(), TextFault> {
-        self.number_between("#Tid<", ">")
+    /// Reads and prints the identifier of a table.
+    fn read_identifier(&mut self) -> Result<(), TextFault> {
+        self.read_number_between("#Tid<", ">")
     }
 
-    fn pid_or_binary(&mut self) -> Result<(), TextFault> {
+    /// Reads what begins with `<`: a binary if `<` follows, else a pid.
+    fn read_pid_or_binary(&mut self) -> Result<(), TextFault> {
         match self.text.get(self.at.saturating_add(1)) {
-            Some(b'<') => self.binary(),
-            _ => self.number_between("<0.", ".0>"),
+            Some(b'<') => self.read_binary(),
+            _ => self.read_number_between("<0.", ".0>"),
         }
     }
 
-    /// Reads bytes with commas between them.
-    fn bytes(&mut self) -> Result<(), TextFault> {
+    /// Reads bytes with commas between them into `quoted`.
+    fn read_bytes(&mut self) -> Result<(), TextFault> {
         for _ in 0..self.text.len() {
-            let n = self.digits(self.at, 255)?;
-            self.quoted.push(n.min(255) as u8)?;
+            let n = self.read_digits(self.at, MAX_BYTE)?;
+            self.quoted.push(n.min(MAX_BYTE) as u8)?;
             self.skip_blanks();
-            if self.byte()? != b',' {
+            if self.next_byte()? != b',' {
                 return Ok(());
             }
             self.at = self.at.saturating_add(1);
@@ -85,30 +100,32 @@ impl Reader<'_> {
         Ok(())
     }
 
-    /// Reads what is between `<<` and `>>`.
-    fn binary_parts(&mut self) -> Result<(), TextFault> {
+    /// Reads what is between `<<` and `>>` into `quoted`.
+    fn read_binary_parts(&mut self) -> Result<(), TextFault> {
         self.quoted.clear();
         self.skip_blanks();
-        match self.byte()? {
+        match self.next_byte()? {
             b'>' => Ok(()),
             b'"' => self.read_quoted(b'"', self.text.len(), TextFault::Memory),
-            _ => self.bytes(),
+            _ => self.read_bytes(),
         }
     }
 
-    fn binary(&mut self) -> Result<(), TextFault> {
+    /// Reads a binary, and prints it as bytes.
+    fn read_binary(&mut self) -> Result<(), TextFault> {
         self.at = self.at.saturating_add(2);
-        self.binary_parts()?;
+        self.read_binary_parts()?;
         self.skip_blanks();
-        self.signs(b">>")?;
+        self.pass_bytes(b">>")?;
         self.out.push_str("<<")?;
         put_numbers(self.alloc, &mut self.out, self.quoted.as_slice())?;
         Ok(self.out.push_str(">>")?)
     }
 
-    fn atom(&mut self) -> Result<(), TextFault> {
+    /// Reads an atom without quotes, and prints it.
+    fn read_plain_atom(&mut self) -> Result<(), TextFault> {
         let from = self.skip_name();
-        if self.at.saturating_sub(from) > 255 {
+        if self.at.saturating_sub(from) > MAX_CHARACTERS {
             return Err(TextFault::AtomTooLong(from));
         }
         match self.text.get(from..self.at) {

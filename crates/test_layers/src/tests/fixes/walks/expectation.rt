@@ -1,0 +1,85 @@
+use crate::tests::keep_if_some;
+use std::alloc::Global;
+
+/// What a table should have during a traversal, while other processes insert and delete. It begins with the lower half
+/// of the keys.
+#[derive(Drop)]
+pub(super) struct Expectation {
+    /// The number of keys, which are the numbers below it.
+    pub(super) keys: u32,
+    /// The values of the objects of each key, added: a value is 1, 2 or 4, and no two objects of a key have the same.
+    values: Vec<u32>,
+    /// Whether each key has had values at all times so far.
+    stable: Vec<bool>,
+    /// Whether the traversal has visited each key.
+    visited: Vec<bool>,
+}
+
+impl Expectation {
+    /// Builds the expectation of a table that has the lower half of the keys, each with the value 1.
+    pub(super) fn new(alloc: Global, keys: u32) -> Option<Expectation> {
+        let mut expectation = Expectation {
+            keys,
+            values: Vec::new(alloc),
+            stable: Vec::new(alloc),
+            visited: Vec::new(alloc),
+        };
+        keep_if_some(expectation.push_keys(), expectation)
+    }
+
+    /// Pushes what is expected of each key at the start.
+    fn push_keys(&mut self) -> Option<()> {
+        for key in 0..self.keys {
+            let is_present = key < self.keys / 2;
+            self.values.push(u32::from(is_present)).ok()?;
+            self.stable.push(is_present).ok()?;
+            self.visited.push(false).ok()?;
+        }
+        Some(())
+    }
+
+    /// Returns the values of a key, or 0 if it has none.
+    pub(super) fn values_of(&self, key: u32) -> u32 {
+        self.values.get(key as usize).copied().unwrap_or(0)
+    }
+
+    /// Changes the values of a key. A key without values is no longer stable.
+    pub(super) fn set_values(&mut self, key: u32, values: u32) {
+        if let Some(own) = self.values.get_mut(key as usize) {
+            *own = values;
+        }
+        if let Some(stable) = self.stable.get_mut(key as usize) {
+            *stable = *stable && values != 0;
+        }
+    }
+
+    /// Marks a key as visited. Returns whether it has values and is visited for the first time.
+    pub(super) fn visit(&mut self, key: u32) -> bool {
+        let is_present = self.values_of(key) != 0;
+        match self.visited.get_mut(key as usize) {
+            Some(visited) => {
+                let is_first = !*visited;
+                *visited = true;
+                is_present && is_first
+            }
+            None => false,
+        }
+    }
+
+    /// Returns how many keys had values at all times, and how many of these the traversal has visited.
+    pub(super) fn count_stable(&self) -> (usize, usize) {
+        let stable = self.stable.iter().filter(|stable| **stable).count();
+        let pairs = self.stable.iter().zip(self.visited.iter());
+        (
+            stable,
+            pairs
+                .filter(|(stable, visited)| **stable && **visited)
+                .count(),
+        )
+    }
+
+    /// Returns how many keys have values.
+    pub(super) fn count_present(&self) -> usize {
+        self.values.iter().filter(|values| **values != 0).count()
+    }
+}

@@ -1,0 +1,119 @@
+// Pseudo-random steps of other processes, and what they change in the expectation.
+use super::expectation::Expectation;
+use crate::tests::fixes::{build_object, delete, grow, insert};
+use bucket_table::Rows;
+use ets_term::Integer;
+use fixed_walk::Walked;
+use std::alloc::Global;
+use table_ops::Kind;
+
+/// How many steps other processes make after each key of a traversal.
+const STEPS_A_KEY: u32 = 10;
+
+/// The factor of Knuth's linear congruential generator of 64 bits.
+const SEED_FACTOR: u64 = 6_364_136_223_846_793_005;
+
+/// The increment of the same generator.
+const SEED_INCREMENT: u64 = 1_442_695_040_888_963_407;
+
+/// Returns the next number of a pseudo-random sequence.
+fn next_seed(seed: u64) -> u64 {
+    seed.wrapping_mul(SEED_FACTOR).wrapping_add(SEED_INCREMENT)
+}
+
+/// Inserts an object of a key. In a set it replaces the values of the key, in a bag it adds to them.
+fn insert_value<R: Rows>(
+    alloc: Global,
+    table: &mut Walked<R>,
+    expectation: &mut Expectation,
+    key: u32,
+    value: u32,
+) -> Option<bool> {
+    let before = if table.kind() == Kind::Set {
+        0
+    } else {
+        expectation.values_of(key)
+    };
+    expectation.set_values(key, before | value);
+    insert(alloc, table, Integer::from(key), Integer::from(value))
+}
+
+/// Deletes one object of a key, if the key has it.
+fn delete_value<R: Rows>(
+    alloc: Global,
+    table: &mut Walked<R>,
+    expectation: &mut Expectation,
+    key: u32,
+    value: u32,
+) -> Option<bool> {
+    expectation.set_values(key, expectation.values_of(key) & !value);
+    let object = build_object(alloc, Integer::from(key), Integer::from(value))?;
+    let deleted = table.delete_object(&object).is_ok();
+    drop(object);
+    Some(deleted)
+}
+
+/// Deletes all objects of a key.
+fn delete_values<R: Rows>(table: &mut Walked<R>, expectation: &mut Expectation, key: u32) -> bool {
+    expectation.set_values(key, 0);
+    delete(table, Integer::from(key));
+    true
+}
+
+/// Deletes all objects of a key and inserts one, so that the key has objects afterwards.
+fn replace_values<R: Rows>(
+    alloc: Global,
+    table: &mut Walked<R>,
+    expectation: &mut Expectation,
+    key: u32,
+    value: u32,
+) -> Option<bool> {
+    delete(table, Integer::from(key));
+    expectation.set_values(key, value);
+    insert(alloc, table, Integer::from(key), Integer::from(value))
+}
+
+/// Runs a step of another process: its key, its value and its kind are from different bits of the seed. Returns whether
+/// it succeeds.
+fn run_other_step<R: Rows>(
+    alloc: Global,
+    table: &mut Walked<R>,
+    expectation: &mut Expectation,
+    seed: u64,
+) -> Option<bool> {
+    let key = ((seed >> 33) as u32)
+        .checked_rem(expectation.keys)
+        .unwrap_or(0);
+    let value = 1u32 << ((seed >> 30) % 3);
+    match (seed >> 20) % 10 {
+        0 | 1 => insert_value(alloc, table, expectation, key, value),
+        2 | 3 => Some(delete_values(table, expectation, key)),
+        4 => delete_value(alloc, table, expectation, key, value),
+        5 | 6 => replace_values(alloc, table, expectation, key, value),
+        7 => {
+            let _ = table.ready((seed >> 52) as u32).ok()?;
+            Some(true)
+        }
+        _ => {
+            grow(table)?;
+            Some(true)
+        }
+    }
+}
+
+/// Runs `STEPS_A_KEY` steps of other processes. Returns the seed after them, or None if one fails.
+pub(super) fn run_other_steps<R: Rows>(
+    alloc: Global,
+    table: &mut Walked<R>,
+    expectation: &mut Expectation,
+    seed: u64,
+) -> Option<u64> {
+    let mut seed = seed;
+    for _ in 0..STEPS_A_KEY {
+        seed = next_seed(seed);
+        if !run_other_step(alloc, table, expectation, seed)? {
+            return None;
+        }
+    }
+    Some(seed)
+}

@@ -1,0 +1,75 @@
+//! The limits of atoms: how many characters, and which.
+use crate::tests::text::past_limits::long_text;
+use ets_term::{Atom, AtomFault};
+use std::alloc::Global;
+use std::process::Abort;
+
+/// Returns whether a copy of an atom has this text.
+fn copy_keeps_text(alloc: Global, atom: &Atom, text: &str) -> Option<bool> {
+    let copy = atom.try_clone(alloc).ok()?;
+    let same = copy.text() == text;
+    drop(copy);
+    Some(same)
+}
+
+/// Returns whether an atom and its copy have its text.
+fn atom_and_copy_keep_text(alloc: Global, text: &str) -> Option<bool> {
+    let made = Atom::new(alloc, text).ok()?;
+    let same = made.text() == text;
+    let copied = copy_keeps_text(alloc, &made, text);
+    drop(made);
+    Some(copied? && same)
+}
+
+/// Returns whether an atom of this number of characters and its copy have its text.
+fn keeps_text_of_length(alloc: Global, count: usize) -> Option<bool> {
+    let text = long_text(alloc, "", "a", count, "").ok()?;
+    let same = atom_and_copy_keep_text(alloc, text.as_str());
+    drop(text);
+    same
+}
+
+/// Returns whether atoms of each of these numbers of characters keep their text.
+fn keep_texts_of_lengths(alloc: Global, counts: &[usize]) -> Option<bool> {
+    for count in counts {
+        if !keeps_text_of_length(alloc, *count)? {
+            return Some(false);
+        }
+    }
+    Some(true)
+}
+
+/// Returns whether an atom of this number of characters is refused as too long.
+fn is_refused_as_too_long(alloc: Global, count: usize) -> Option<bool> {
+    let long = long_text(alloc, "", "a", count, "").ok()?;
+    let fault = Atom::new(alloc, long.as_str()).err();
+    drop(long);
+    Some(matches!(fault, Some(AtomFault::TooLong)))
+}
+
+/// The greatest number of characters of an atom whose text is inline.
+const MAX_INLINE: usize = 22;
+
+/// The greatest number of characters of an atom.
+const MAX_LENGTH: usize = 255;
+
+#[test]
+fn atoms_have_up_to_255_characters(rt: HostRuntime) {
+    let alloc = rt.alloc();
+    assert!(rt;
+        keep_texts_of_lengths(alloc, &[0, MAX_INLINE, MAX_INLINE + 1, MAX_LENGTH]) == Some(true)
+    );
+    assert!(rt; is_refused_as_too_long(alloc, MAX_LENGTH + 1) == Some(true));
+}
+
+/// Returns whether a text is refused because it has a character that is not printable ASCII.
+fn is_refused_as_unprintable(alloc: Global, text: &str) -> bool {
+    matches!(Atom::new(alloc, text).err(), Some(AtomFault::BadCharacter))
+}
+
+#[test]
+fn characters_of_atoms_are_printable(rt: HostRuntime) {
+    assert!(rt;
+        is_refused_as_unprintable(rt.alloc(), "\t") && is_refused_as_unprintable(rt.alloc(), "é")
+    );
+}

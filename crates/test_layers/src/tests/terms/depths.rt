@@ -1,0 +1,114 @@
+//! Depths of terms, and copies of deep and long ones.
+use super::{binary, letter_list, letter_tuple};
+use crate::tests::depths::nested_list;
+use crate::tests::keep_if_some;
+use ets_term::{Integer, Items, MAX_DEPTH, Term};
+use std::alloc::Global;
+use std::process::Abort;
+
+/// Returns whether a term has this depth, and equals its copy.
+fn is_of_depth(alloc: Global, term: &Term, depth: usize) -> Option<bool> {
+    // Calls the two laws of terms once, which do nothing when they run.
+    term.fits();
+    ets_term::laws::hash_writes_encoding(term);
+    let copy = term.try_clone(alloc).ok()?;
+    let same = copy == *term;
+    drop(copy);
+    Some(same && term.depth() == depth)
+}
+
+/// Returns whether a term has this depth and equals its copy, and drops it.
+fn has_depth(alloc: Global, made: Option<Term>, depth: usize) -> Option<bool> {
+    let term = made?;
+    let same = is_of_depth(alloc, &term, depth);
+    drop(term);
+    same
+}
+
+/// Returns whether a tuple and a list of these atoms have this depth.
+fn are_of_depth(alloc: Global, letters: &str, depth: usize) -> Option<bool> {
+    Some(
+        has_depth(alloc, letter_tuple(alloc, letters), depth)?
+            && has_depth(alloc, letter_list(alloc, letters), depth)?,
+    )
+}
+
+/// Pushes an integer and a tuple of two atoms.
+fn push_uneven_items(alloc: Global, parts: &mut Items<Term>) -> Option<()> {
+    parts.push(Term::default()).ok()?;
+    parts.push(letter_tuple(alloc, "ab")?).ok()
+}
+
+/// Builds a list of an integer and a tuple of atoms.
+fn uneven_list(alloc: Global) -> Option<Term> {
+    let mut parts = Items::new(alloc);
+    Some(Term::List(keep_if_some(push_uneven_items(alloc, &mut parts), parts)?))
+}
+
+/// Returns whether the depth of other terms is right: the deepest part decides.
+fn other_terms_are_of_depth(alloc: Global) -> Option<bool> {
+    Some(
+        has_depth(alloc, Some(Term::Int(5)), 1)?
+            && has_depth(alloc, binary(alloc, &[0, 255]), 1)?
+            && has_depth(alloc, uneven_list(alloc), 3)?,
+    )
+}
+
+/// Checks the depths of flat and uneven terms, and their copies.
+#[test]
+fn depths_and_copies(rt: HostRuntime) {
+    let alloc = rt.alloc();
+    assert!(rt; are_of_depth(alloc, "", 1) == Some(true));
+    assert!(rt; are_of_depth(alloc, "ab", 2) == Some(true));
+    assert!(rt; other_terms_are_of_depth(alloc) == Some(true));
+}
+
+/// Returns whether nested lists have this depth, and `is_too_deep` says whether it is above the limit.
+fn nested_list_has_depth(alloc: Global, levels: usize) -> Option<bool> {
+    let term = nested_list(alloc, levels)?;
+    let limit_agrees = term.is_too_deep() == (levels > MAX_DEPTH);
+    Some(has_depth(alloc, Some(term), levels)? && limit_agrees)
+}
+
+/// Returns the first of these depths at which nested lists have another depth.
+fn first_depth_mismatch(alloc: Global, rows: &[usize]) -> Option<Option<usize>> {
+    for levels in rows {
+        if !nested_list_has_depth(alloc, *levels)? {
+            return Some(Some(*levels));
+        }
+    }
+    Some(None)
+}
+
+/// Depths past powers of two, at the limit of 128, and above it.
+const DEPTHS: [usize; 8] = [4, 9, 17, 33, 65, 128, 129, 2000];
+
+/// Checks nested lists of all `DEPTHS`.
+#[test]
+fn deep_terms_are_copied(rt: HostRuntime) {
+    assert!(rt; first_depth_mismatch(rt.alloc(), &DEPTHS) == Some(None));
+}
+
+/// Pushes the numbers below `count`, from 0 on.
+fn push_numbers_below(items: &mut Items<Term>, count: u32) -> Option<()> {
+    for n in 0..count {
+        items.push(Term::Int(Integer::from(n))).ok()?;
+    }
+    Some(())
+}
+
+/// Builds the tuple of the numbers below `count`.
+fn tuple_of_numbers(alloc: Global, count: u32) -> Option<Term> {
+    let mut items = Items::new(alloc);
+    Some(Term::Tuple(keep_if_some(push_numbers_below(&mut items, count), items)?))
+}
+
+/// Returns whether a tuple of 70,000 integers equals its copy.
+fn long_tuple_is_copied(alloc: Global) -> Option<bool> {
+    has_depth(alloc, tuple_of_numbers(alloc, 70_000), 2)
+}
+
+#[test]
+fn long_terms_are_copied(rt: HostRuntime) {
+    assert!(rt; long_tuple_is_copied(rt.alloc()) == Some(true));
+}

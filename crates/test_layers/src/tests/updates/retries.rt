@@ -1,0 +1,71 @@
+// Calls that are made again if memory runs out.
+use super::*;
+
+/// Copies a term, again if memory runs out.
+pub fn clone_again(alloc: Global, term: &Term) -> Option<Term> {
+    match term.try_clone(alloc) {
+        Ok(copy) => Some(copy),
+        Err(_) => term.try_clone(alloc).ok(),
+    }
+}
+
+/// Reads operations, again if memory runs out.
+pub fn read_ops_again(alloc: Global, updates: &Term, keypos: u32) -> Option<Ops> {
+    match read_ops(alloc, updates, keypos) {
+        Ok(ops) => Some(ops),
+        Err(_) => read_ops(alloc, updates, keypos).ok(),
+    }
+}
+
+/// Reads element values of an object whose key is first, again if memory runs out.
+pub fn read_specs_again(alloc: Global, values: &Term) -> Option<ElementSpecs> {
+    match read_element_specs(alloc, values, 1) {
+        Ok(specs) => Some(specs),
+        Err(_) => read_element_specs(alloc, values, 1).ok(),
+    }
+}
+
+/// Returns whether a call ran out of memory.
+pub fn is_refused_memory<T>(outcome: &Result<T, CounterFault>) -> bool {
+    matches!(outcome, Err(CounterFault::Memory))
+}
+
+/// Updates an object by operations, again if they were refused memory and the object is unchanged.
+pub fn update_again(
+    alloc: Global,
+    object: &mut Term,
+    before: &Term,
+    ops: &Ops,
+) -> Result<Term, CounterFault> {
+    let outcome = update_counter(alloc, object, ops);
+    if !is_refused_memory(&outcome) || !(*object == *before) {
+        return outcome;
+    }
+    drop(outcome);
+    update_counter(alloc, object, ops)
+}
+
+/// Applies operations to a copy of an object, again if memory runs out.
+pub fn apply_again(alloc: Global, object: &Term, ops: &Ops) -> Result<(Term, Term), CounterFault> {
+    let outcome = apply_ops(alloc, object, ops);
+    if !is_refused_memory(&outcome) {
+        return outcome;
+    }
+    drop(outcome);
+    apply_ops(alloc, object, ops)
+}
+
+/// Applies operations to a Default whose key is first, again if memory runs out.
+pub fn start_again(
+    alloc: Global,
+    default: &Term,
+    key: &Term,
+    ops: &Ops,
+) -> Result<(Term, Term), CounterFault> {
+    let outcome = start_counter(alloc, default, 1, key, ops);
+    if !is_refused_memory(&outcome) {
+        return outcome;
+    }
+    drop(outcome);
+    start_counter(alloc, default, 1, key, ops)
+}
