@@ -3,13 +3,31 @@ use super::*;
 use crate::tests::plain;
 use crate::tests::random::Random;
 
-/// How many patterns matched, how many match specifications compiled, how many of these gave a result, and how many
-/// answers differed from the plain reading.
+/// How many random objects a test makes.
+const OBJECTS: u32 = 5_000;
+
+/// More patterns than this must match their objects.
+const MIN_MATCHES: u32 = 2_500;
+
+/// More match specifications than this must compile.
+const MIN_COMPILED: u32 = 1_000;
+
+/// Fewer match specifications than this may compile, so that enough are refused.
+const MAX_COMPILED: u32 = 4_000;
+
+/// More match specifications than this must give a result.
+const MIN_RESULTS: u32 = 500;
+
+/// How the answers compare with the plain reading.
 #[derive(Drop)]
 struct Tally {
+    /// How many patterns matched.
     matches: u32,
+    /// How many match specifications compiled.
     compiled: u32,
+    /// How many of these gave a result.
     results: u32,
+    /// How many answers differed from the plain reading.
     mismatches: u32,
 }
 
@@ -23,98 +41,111 @@ fn bindings(alloc: Global, pattern: &Term, object: &Term) -> Option<Option<Term>
 }
 
 impl Tally {
-    fn count(&mut self, same: bool) {
+    /// Counts an answer, which is either the same as the plain reading or a mismatch.
+    fn count_agreement(&mut self, same: bool) {
         if !same {
             self.mismatches = self.mismatches.saturating_add(1);
         }
     }
 
-    fn pattern(&mut self, alloc: Global, pattern: &Term, object: &Term) {
+    /// Compares the bindings of a pattern with the plain reading.
+    fn compare_pattern(&mut self, alloc: Global, pattern: &Term, object: &Term) {
         let found = bindings(alloc, pattern, object);
         self.matches = self
             .matches
             .saturating_add(matches!(found, Some(Some(_))) as u32);
-        self.count(found == Some(plain::bindings(alloc, pattern, object)));
+        self.count_agreement(found == Some(plain::bindings(alloc, pattern, object)));
     }
 
-    fn result(&mut self, alloc: Global, compiled: &Spec, spec: &Term, object: &Term) {
+    /// Compares the result of a match specification with the plain reading.
+    fn compare_result(&mut self, alloc: Global, compiled: &Spec, spec: &Term, object: &Term) {
         let result = compiled.result(alloc, object).ok();
         self.results = self
             .results
             .saturating_add(matches!(result, Some(Some(_))) as u32);
-        self.count(result == Some(plain::result(alloc, spec, object)));
+        self.count_agreement(result == Some(plain::result(alloc, spec, object)));
     }
 
-    fn spec(&mut self, alloc: Global, spec: &Term, object: &Term) {
+    /// Compares with the plain reading whether a match specification compiles, and if so its result.
+    fn compare_spec(&mut self, alloc: Global, spec: &Term, object: &Term) {
         let is_spec = plain::is_spec(alloc, spec);
         match Spec::compile(alloc, spec) {
             Ok(compiled) => {
                 self.compiled = self.compiled.saturating_add(1);
-                self.count(is_spec);
-                self.result(alloc, &compiled, spec, object);
+                self.count_agreement(is_spec);
+                self.compare_result(alloc, &compiled, spec, object);
             }
-            Err(_) => self.count(!is_spec),
+            Err(_) => self.count_agreement(!is_spec),
         }
     }
 
-    fn pattern_of(&mut self, alloc: Global, random: &mut Random, object: &Term) -> Option<()> {
-        self.pattern(alloc, &random.pattern(alloc, object)?, object);
+    /// Compares the bindings of a random pattern of an object with the plain reading.
+    fn compare_random_pattern(
+        &mut self,
+        alloc: Global,
+        random: &mut Random,
+        object: &Term,
+    ) -> Option<()> {
+        self.compare_pattern(alloc, &random.pattern(alloc, object)?, object);
         Some(())
     }
 
-    // Adds a random object with a pattern and a match specification of its own.
-    fn one_more(&mut self, alloc: Global, random: &mut Random) -> Option<()> {
+    /// Adds a random object with a pattern and a match specification of its own.
+    fn add_object(&mut self, alloc: Global, random: &mut Random) -> Option<()> {
         let object = random.object(alloc)?;
-        self.pattern_of(alloc, random, &object)?;
-        self.spec(alloc, &random.spec(alloc, &object)?, &object);
+        self.compare_random_pattern(alloc, random, &object)?;
+        self.compare_spec(alloc, &random.spec(alloc, &object)?, &object);
         Some(())
     }
 
-    fn add(&mut self, alloc: Global, random: &mut Random, objects: u32) -> Option<()> {
+    /// Adds this number of random objects.
+    fn add_objects(&mut self, alloc: Global, random: &mut Random, objects: u32) -> Option<()> {
         for _ in 0..objects {
-            self.one_more(alloc, random)?;
+            self.add_object(alloc, random)?;
         }
         Some(())
     }
 
-    fn is_good(&self) -> bool {
+    /// Returns whether no answer differs, and enough patterns and match specifications match, compile, are refused and
+    /// give results.
+    fn agrees_with_enough(&self) -> bool {
         self.mismatches == 0
-            && self.matches > 2_500
-            && self.compiled > 1_000
-            && self.compiled < 4_000
-            && self.results > 500
+            && self.matches > MIN_MATCHES
+            && self.compiled > MIN_COMPILED
+            && self.compiled < MAX_COMPILED
+            && self.results > MIN_RESULTS
     }
 }
 
-/// Returns whether 5,000 random objects, each with a pattern and a match specification, give no mismatch, and enough of
-/// them match and give results.
-fn agree(alloc: Global, seed: u64) -> bool {
+/// Returns whether `OBJECTS` random objects, each with a pattern and a match specification, give no mismatch, and
+/// enough of them match and give results.
+fn random_terms_agree(alloc: Global, seed: u64) -> bool {
     let mut tally = Tally {
         matches: 0,
         compiled: 0,
         results: 0,
         mismatches: 0,
     };
-    let done = tally.add(alloc, &mut Random::new(seed), 5_000);
-    done == Some(()) && tally.is_good()
+    let done = tally.add_objects(alloc, &mut Random::new(seed), OBJECTS);
+    done == Some(()) && tally.agrees_with_enough()
 }
 
 #[test]
 fn first_quarter_agrees_with_a_plain_reading(rt: HostRuntime) {
-    assert!(rt; agree(rt.alloc(), 11));
+    assert!(rt; random_terms_agree(rt.alloc(), 11));
 }
 
 #[test]
 fn second_quarter_agrees_with_a_plain_reading(rt: HostRuntime) {
-    assert!(rt; agree(rt.alloc(), 12));
+    assert!(rt; random_terms_agree(rt.alloc(), 12));
 }
 
 #[test]
 fn third_quarter_agrees_with_a_plain_reading(rt: HostRuntime) {
-    assert!(rt; agree(rt.alloc(), 13));
+    assert!(rt; random_terms_agree(rt.alloc(), 13));
 }
 
 #[test]
 fn fourth_quarter_agrees_with_a_plain_reading(rt: HostRuntime) {
-    assert!(rt; agree(rt.alloc(), 14));
+    assert!(rt; random_terms_agree(rt.alloc(), 14));
 }

@@ -3,14 +3,15 @@ use super::*;
 use ets_term::Position;
 use term_text::read_term;
 
-fn read(alloc: Global, text: &str) -> Option<Term> {
+/// Returns the term of a text.
+fn term_of(alloc: Global, text: &str) -> Option<Term> {
     Some(read_term(alloc, text).ok()?.0)
 }
 
 /// Returns whether a key is that of a text, or both are missing.
 fn is_key(alloc: Global, found: Option<&Term>, wanted: Option<&'static str>) -> Option<bool> {
     match (found, wanted) {
-        (Some(key), Some(text)) => Some(*key == read(alloc, text)?),
+        (Some(key), Some(text)) => Some(*key == term_of(alloc, text)?),
         (found, wanted) => Some(found.is_none() && wanted.is_none()),
     }
 }
@@ -22,6 +23,7 @@ struct Keypos(Position);
 /// A pattern, the position of the key, and the key that it binds.
 type PatternRow = (&'static str, Keypos, Option<&'static str>);
 
+/// Patterns that bind a key, and patterns that match objects of several keys.
 const PATTERNS: [PatternRow; 11] = [
     ("{7,'_'}", Keypos(1), Some("7")),
     ("{7,'_'}", Keypos(2), None),
@@ -36,12 +38,14 @@ const PATTERNS: [PatternRow; 11] = [
     ("a", Keypos(1), None),
 ];
 
+/// Returns whether a pattern binds the key of its row, or no key if the row has none.
 fn pattern_binds(alloc: Global, row: PatternRow) -> Option<bool> {
     let (text, keypos, wanted) = row;
-    let pattern = Pattern::compile(alloc, &read(alloc, text)?).ok()?;
+    let pattern = Pattern::compile(alloc, &term_of(alloc, text)?).ok()?;
     is_key(alloc, pattern.bound_key(keypos.0), wanted)
 }
 
+/// Returns whether all patterns bind the keys of their rows.
 fn patterns_bind(alloc: Global, rows: &[PatternRow]) -> bool {
     for row in rows {
         if pattern_binds(alloc, *row) != Some(true) {
@@ -59,6 +63,7 @@ fn a_pattern_binds_its_key(rt: HostRuntime) {
 /// A match specification, and the key at position 1 that it binds.
 type SpecRow = (&'static str, Option<&'static str>);
 
+/// Match specifications whose clauses bind one key, and others.
 const SPECS: [SpecRow; 6] = [
     ("[{{7,'_'},[],[1]}]", Some("7")),
     ("[{{7,'_'},[],[1]},{{7,a,b},[],[2]}]", Some("7")),
@@ -68,12 +73,14 @@ const SPECS: [SpecRow; 6] = [
     ("[{{'$1',7},[],[1]}]", None),
 ];
 
+/// Returns whether a match specification binds the key of its row, or no key if the row has none.
 fn spec_binds(alloc: Global, row: SpecRow) -> Option<bool> {
     let (text, wanted) = row;
-    let spec = Spec::compile(alloc, &read(alloc, text)?).ok()?;
+    let spec = Spec::compile(alloc, &term_of(alloc, text)?).ok()?;
     is_key(alloc, spec.bound_key(1), wanted)
 }
 
+/// Returns whether all match specifications bind the keys of their rows.
 fn specs_bind(alloc: Global, rows: &[SpecRow]) -> bool {
     for row in rows {
         if spec_binds(alloc, *row) != Some(true) {

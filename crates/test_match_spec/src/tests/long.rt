@@ -1,27 +1,31 @@
-// Patterns, match specifications and expressions past the sizes at which a lazy body could stop.
+// Patterns and match specifications of thousands of parts, and an expression as deep as it may be.
 use super::*;
-use crate::tests::forms::{atom, one, pair, triple};
+use crate::tests::forms::{atom, one_item, pair, triple};
+
+/// How many variables a long pattern has, and clauses a long match specification.
+const COUNT: u32 = 10_000;
 
 /// The number of the last variable.
 const LAST: u32 = 9_999;
 
-fn variable(alloc: Global, number: u32) -> Option<Term> {
+/// Builds the variable of a number.
+fn variable_atom(alloc: Global, number: u32) -> Option<Term> {
     let text = format!(in alloc; "${number}").ok()?;
     atom(alloc, text.as_str())
 }
 
-/// `{$9999,..,$0}`.
+/// Builds the pattern `{$9999,..,$0}`.
 fn many_variables(alloc: Global) -> Option<Term> {
     let mut variables = Items::new(alloc);
     for n in 0..=LAST {
         variables
-            .push(variable(alloc, LAST.saturating_sub(n))?)
+            .push(variable_atom(alloc, LAST.saturating_sub(n))?)
             .ok()?;
     }
     Some(Term::Tuple(variables))
 }
 
-/// `{9999,..,0}`.
+/// Builds the object `{9999,..,0}`.
 fn many_numbers(alloc: Global) -> Option<Term> {
     let mut numbers = Items::new(alloc);
     for n in 0..=LAST {
@@ -31,21 +35,23 @@ fn many_numbers(alloc: Global) -> Option<Term> {
     Some(Term::Tuple(numbers))
 }
 
-/// Returns whether each value is its index.
-fn are_numbered(values: &[Term]) -> bool {
+/// Returns whether there are `COUNT` values, each its own index.
+fn are_indices(values: &[Term]) -> bool {
     for (i, value) in values.iter().enumerate() {
         if *value != Term::Int(i as Integer) {
             return false;
         }
     }
-    values.len() == 10_000
+    values.len() == COUNT as usize
 }
 
+/// Returns whether the pattern binds the variable of each number to this number.
 fn binds_in_order(alloc: Global, pattern: &Pattern) -> Option<bool> {
     let values = pattern.bindings(alloc, &many_numbers(alloc)?).ok()??;
-    Some(are_numbered(values.as_slice()))
+    Some(are_indices(values.as_slice()))
 }
 
+/// Returns whether a pattern of `COUNT` variables binds them in the order of their numbers.
 fn binds_many_in_order(alloc: Global) -> Option<bool> {
     let pattern = Pattern::compile(alloc, &many_variables(alloc)?).ok()?;
     binds_in_order(alloc, &pattern)
@@ -56,51 +62,60 @@ fn thousands_of_variables_are_bound_in_order(rt: HostRuntime) {
     assert!(rt; binds_many_in_order(rt.alloc()) == Some(true));
 }
 
-/// `[$1]`.
-fn body(alloc: Global) -> Option<Term> {
-    Some(Term::List(one(alloc, atom(alloc, "$1")?)?))
+/// Builds the body `[$1]`.
+fn variable_body(alloc: Global) -> Option<Term> {
+    Some(Term::List(one_item(alloc, atom(alloc, "$1")?)?))
 }
 
 /// Builds a clause that gives the second element of an object with this key.
-fn clause(alloc: Global, key: Integer) -> Option<Term> {
+fn clause_of_key(alloc: Global, key: Integer) -> Option<Term> {
     let pattern = pair(alloc, Term::Int(key), atom(alloc, "$1")?)?;
-    triple(alloc, pattern, Term::List(Items::new(alloc)), body(alloc)?)
+    triple(
+        alloc,
+        pattern,
+        Term::List(Items::new(alloc)),
+        variable_body(alloc)?,
+    )
 }
 
+/// Builds the match specification of a clause for each key below `COUNT`.
 fn many_clauses(alloc: Global) -> Option<Term> {
     let mut clauses = Items::new(alloc);
-    for n in 0..10_000u32 {
-        clauses.push(clause(alloc, Integer::from(n))?).ok()?;
+    for n in 0..COUNT {
+        clauses.push(clause_of_key(alloc, Integer::from(n))?).ok()?;
     }
     Some(Term::List(clauses))
 }
 
-fn gives_itself(alloc: Global, spec: &Spec, n: Integer) -> Option<bool> {
+/// Returns whether the result on the object `{N,N}` is `N`.
+fn result_is_number(alloc: Global, spec: &Spec, n: Integer) -> Option<bool> {
     let object = pair(alloc, Term::Int(n), Term::Int(n))?;
     Some(spec.result(alloc, &object).ok()?? == Term::Int(n))
 }
 
-fn all_give_themselves(alloc: Global, spec: &Spec, numbers: &[Integer]) -> bool {
+/// Returns whether the result on the object `{N,N}` is `N`, for each of these numbers.
+fn results_are_numbers(alloc: Global, spec: &Spec, numbers: &[Integer]) -> bool {
     for n in numbers {
-        if gives_itself(alloc, spec, *n) != Some(true) {
+        if result_is_number(alloc, spec, *n) != Some(true) {
             return false;
         }
     }
     true
 }
 
-fn tries_many(alloc: Global, numbers: &[Integer]) -> Option<bool> {
+/// Returns whether the clauses of each of these keys give their results.
+fn many_clauses_have_results(alloc: Global, numbers: &[Integer]) -> Option<bool> {
     let spec = Spec::compile(alloc, &many_clauses(alloc)?).ok()?;
-    Some(all_give_themselves(alloc, &spec, numbers))
+    Some(results_are_numbers(alloc, &spec, numbers))
 }
 
 #[test]
 fn thousands_of_clauses_are_tried_in_order(rt: HostRuntime) {
     let numbers = [0, 1, 2, 255, 256, 4_096, 8_192, 9_999];
-    assert!(rt; tries_many(rt.alloc(), &numbers) == Some(true));
+    assert!(rt; many_clauses_have_results(rt.alloc(), &numbers) == Some(true));
 }
 
-/// `{+,{+,..{+,2,1}..,1},1}`.
+/// Builds the expression `{+,{+,..{+,2,1}..,1},1}` of this depth, whose value is 2 more.
 fn deep_sum(alloc: Global, levels: usize) -> Option<Term> {
     let mut sum = Term::Int(2);
     for _ in 0..levels {
@@ -111,27 +126,29 @@ fn deep_sum(alloc: Global, levels: usize) -> Option<Term> {
 
 /// Builds the match specification whose result is the value of an expression.
 fn spec_of(alloc: Global, expression: Term) -> Option<Term> {
-    let body = Term::List(one(alloc, expression)?);
+    let body = Term::List(one_item(alloc, expression)?);
     let clause = triple(
         alloc,
         atom(alloc, "_")?,
         Term::List(Items::new(alloc)),
         body,
     )?;
-    Some(Term::List(one(alloc, clause)?))
+    Some(Term::List(one_item(alloc, clause)?))
 }
 
-fn value(alloc: Global, expression: Term) -> Option<Term> {
+/// Returns the value of an expression that has no variables.
+fn value_of_expression(alloc: Global, expression: Term) -> Option<Term> {
     let spec = Spec::compile(alloc, &spec_of(alloc, expression)?).ok()?;
-    spec.result(alloc, &Term::Tuple(one(alloc, Term::Int(1))?))
+    spec.result(alloc, &Term::Tuple(one_item(alloc, Term::Int(1))?))
         .ok()?
 }
 
-fn deep_value(alloc: Global, levels: usize) -> Option<Term> {
-    value(alloc, deep_sum(alloc, levels)?)
+/// Returns the value of a sum of this depth.
+fn value_of_deep_sum(alloc: Global, levels: usize) -> Option<Term> {
+    value_of_expression(alloc, deep_sum(alloc, levels)?)
 }
 
 #[test]
 fn an_expression_128_deep_has_its_value(rt: HostRuntime) {
-    assert!(rt; deep_value(rt.alloc(), 128) == Some(Term::Int(130)));
+    assert!(rt; value_of_deep_sum(rt.alloc(), 128) == Some(Term::Int(130)));
 }

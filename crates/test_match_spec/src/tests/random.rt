@@ -1,7 +1,15 @@
 // Random objects, patterns and match specifications. They are built from pools of terms, which grow by tuples and lists
 // of the terms in them.
 use super::*;
-use crate::tests::forms::{atom, copy, one, triple};
+use crate::tests::forms::{atom, copy, triple};
+
+mod expressions;
+
+/// The factor of Knuth's linear congruential generator of 64 bits.
+const FACTOR: u64 = 6364136223846793005;
+
+/// The increment of the same generator.
+const INCREMENT: u64 = 1442695040888963407;
 
 /// Pseudo-random numbers, the same in each run.
 #[derive(Drop)]
@@ -9,62 +17,52 @@ pub(crate) struct Random {
     state: u64,
 }
 
-fn unary(name: &'static str) -> (&'static str, u64) {
-    (name, 1)
-}
-
-fn binary(name: &'static str) -> (&'static str, u64) {
-    (name, 2)
-}
-
-fn ternary(name: &'static str) -> (&'static str, u64) {
-    (name, 3)
-}
-
 impl Random {
+    /// Builds a generator that starts at a seed.
     pub(crate) fn new(seed: u64) -> Random {
         Random { state: seed }
     }
 
-    fn below(&mut self, n: u64) -> u64 {
-        self.state = self
-            .state
-            .wrapping_mul(6364136223846793005)
-            .wrapping_add(1442695040888963407);
+    /// Draws a number below `n`, by the high bits of the next state.
+    fn random_below(&mut self, n: u64) -> u64 {
+        self.state = self.state.wrapping_mul(FACTOR).wrapping_add(INCREMENT);
         (self.state >> 33).checked_rem(n).unwrap_or(0)
     }
 
-    // Returns a copy of one of the terms.
-    fn one_of(&mut self, alloc: Global, terms: &[Term]) -> Option<Term> {
-        let at = self.below(terms.len() as u64) as usize;
+    /// Returns a copy of one of the terms.
+    fn random_copy(&mut self, alloc: Global, terms: &[Term]) -> Option<Term> {
+        let at = self.random_below(terms.len() as u64) as usize;
         copy(alloc, terms.get(at)?)
     }
 
-    fn some_of(&mut self, alloc: Global, terms: &[Term], most: u64) -> Option<Items<Term>> {
-        let mut some = Items::new(alloc);
-        let count = self.below(most.saturating_add(1));
-        self.push_some(alloc, terms, count, &mut some)?;
-        Some(some)
+    /// Returns up to `most` copies of the terms, drawn one by one.
+    fn random_copies(&mut self, alloc: Global, terms: &[Term], most: u64) -> Option<Items<Term>> {
+        let mut copies = Items::new(alloc);
+        let count = self.random_below(most.saturating_add(1));
+        self.push_random_copies(alloc, terms, count, &mut copies)?;
+        Some(copies)
     }
 
-    fn push_some(
+    /// Pushes `count` copies of the terms, drawn one by one.
+    fn push_random_copies(
         &mut self,
         alloc: Global,
         terms: &[Term],
         count: u64,
-        some: &mut Items<Term>,
+        copies: &mut Items<Term>,
     ) -> Option<()> {
         for _ in 0..count {
-            some.push(self.one_of(alloc, terms)?).ok()?;
+            copies.push(self.random_copy(alloc, terms)?).ok()?;
         }
         Some(())
     }
 
-    fn plain_term(&mut self, alloc: Global) -> Option<Term> {
-        match self.below(10) {
+    /// Draws an atom, an integer, a pid, an identifier or a binary.
+    fn random_plain_term(&mut self, alloc: Global) -> Option<Term> {
+        match self.random_below(10) {
             0 => atom(alloc, "true"),
             1 => atom(alloc, "false"),
-            2 => Some(Term::Int(self.below(3) as Integer)),
+            2 => Some(Term::Int(self.random_below(3) as Integer)),
             3 => Some(Term::Int(Integer::MIN)),
             4 => Some(Term::Int(-2)),
             5 => Some(Term::Int(18446744073709551617)),
@@ -75,22 +73,23 @@ impl Random {
         }
     }
 
-    // Builds a tuple or a list of up to two of the terms.
-    fn tuple_or_list(&mut self, alloc: Global, terms: &[Term]) -> Option<Term> {
-        let inner = self.some_of(alloc, terms, 2)?;
-        if self.below(2) == 0 {
+    /// Builds a tuple or a list of up to two of the terms.
+    fn random_tuple_or_list(&mut self, alloc: Global, terms: &[Term]) -> Option<Term> {
+        let inner = self.random_copies(alloc, terms, 2)?;
+        if self.random_below(2) == 0 {
             Some(Term::Tuple(inner))
         } else {
             Some(Term::List(inner))
         }
     }
 
-    fn push_parts(&mut self, alloc: Global, pool: &mut Vec<Term>) -> Option<()> {
+    /// Pushes four plain terms, and two tuples or lists of the terms in the pool.
+    fn push_terms(&mut self, alloc: Global, pool: &mut Vec<Term>) -> Option<()> {
         for _ in 0..4 {
-            pool.push(self.plain_term(alloc)?).ok()?;
+            pool.push(self.random_plain_term(alloc)?).ok()?;
         }
         for _ in 0..2 {
-            let term = self.tuple_or_list(alloc, pool.as_slice())?;
+            let term = self.random_tuple_or_list(alloc, pool.as_slice())?;
             pool.push(term).ok()?;
         }
         Some(())
@@ -99,36 +98,38 @@ impl Random {
     /// Builds a tuple of up to three elements, some of them tuples and lists.
     pub(crate) fn object(&mut self, alloc: Global) -> Option<Term> {
         let mut pool = Vec::new(alloc);
-        self.push_parts(alloc, &mut pool)?;
-        Some(Term::Tuple(self.some_of(alloc, pool.as_slice(), 3)?))
+        self.push_terms(alloc, &mut pool)?;
+        Some(Term::Tuple(self.random_copies(alloc, pool.as_slice(), 3)?))
     }
 
-    fn hole(&mut self, alloc: Global, term: &Term) -> Option<Term> {
-        match self.below(8) {
+    /// Returns a variable, a plain term, or mostly a copy of a term. `$01` is not a variable.
+    fn variable_or_copy(&mut self, alloc: Global, term: &Term) -> Option<Term> {
+        match self.random_below(8) {
             0 => atom(alloc, "_"),
             1 => atom(alloc, "$0"),
             2 => atom(alloc, "$1"),
             3 => atom(alloc, "$2"),
-            4 => self.plain_term(alloc),
+            4 => self.random_plain_term(alloc),
             5 => atom(alloc, "$01"),
             _ => copy(alloc, term),
         }
     }
 
-    // Builds a part of a pattern: half of the tuples and lists have holes inside.
+    /// Builds a part of a pattern: half of the tuples and lists have variables inside.
     fn pattern_part(&mut self, alloc: Global, term: &Term) -> Option<Term> {
         match term {
-            Term::Tuple(inner) if self.below(2) == 0 => {
-                Some(Term::Tuple(self.inner_holes(alloc, inner.as_slice())?))
+            Term::Tuple(inner) if self.random_below(2) == 0 => {
+                Some(Term::Tuple(self.variables_or_copies(alloc, inner.as_slice())?))
             }
-            Term::List(inner) if self.below(2) == 0 => {
-                Some(Term::List(self.inner_holes(alloc, inner.as_slice())?))
+            Term::List(inner) if self.random_below(2) == 0 => {
+                Some(Term::List(self.variables_or_copies(alloc, inner.as_slice())?))
             }
-            _ => self.hole(alloc, term),
+            _ => self.variable_or_copy(alloc, term),
         }
     }
 
-    fn holes(&mut self, alloc: Global, terms: &[Term]) -> Option<Items<Term>> {
+    /// Builds the parts of a pattern from those of an object.
+    fn pattern_parts(&mut self, alloc: Global, terms: &[Term]) -> Option<Items<Term>> {
         let mut parts = Items::new(alloc);
         for term in terms {
             parts.push(self.pattern_part(alloc, term)?).ok()?;
@@ -136,10 +137,11 @@ impl Random {
         Some(parts)
     }
 
-    fn inner_holes(&mut self, alloc: Global, terms: &[Term]) -> Option<Items<Term>> {
+    /// Builds the items of an inner tuple or list of a pattern.
+    fn variables_or_copies(&mut self, alloc: Global, terms: &[Term]) -> Option<Items<Term>> {
         let mut parts = Items::new(alloc);
         for term in terms {
-            parts.push(self.hole(alloc, term)?).ok()?;
+            parts.push(self.variable_or_copy(alloc, term)?).ok()?;
         }
         Some(parts)
     }
@@ -147,120 +149,25 @@ impl Random {
     /// Builds a pattern: the object with variables and other terms in place of some of its parts.
     pub(crate) fn pattern(&mut self, alloc: Global, object: &Term) -> Option<Term> {
         match object {
-            Term::Tuple(items) if self.below(10) > 0 => {
-                Some(Term::Tuple(self.holes(alloc, items.as_slice())?))
+            Term::Tuple(items) if self.random_below(10) > 0 => {
+                Some(Term::Tuple(self.pattern_parts(alloc, items.as_slice())?))
             }
             _ => atom(alloc, "_"),
         }
     }
 
-    fn leaf(&mut self, alloc: Global) -> Option<Term> {
-        match self.below(12) {
-            0 => atom(alloc, "$0"),
-            1 => atom(alloc, "$1"),
-            2 => atom(alloc, "$_"),
-            3 => atom(alloc, "$$"),
-            4 => atom(alloc, "_"),
-            5 => Some(Term::List(Items::new(alloc))),
-            _ => self.plain_term(alloc),
-        }
-    }
-
-    /// Draws a function, with how many arguments it mostly gets.
-    fn function(&mut self) -> (&'static str, u64) {
-        match self.below(34) {
-            0 => unary("is_atom"),
-            1 => unary("is_integer"),
-            2 => unary("is_number"),
-            3 => unary("is_list"),
-            4 => unary("is_tuple"),
-            5 => unary("is_binary"),
-            6 => unary("is_pid"),
-            7 => unary("is_reference"),
-            8 => unary("not"),
-            9 => unary("abs"),
-            10 => unary("hd"),
-            11 => unary("tl"),
-            12 => unary("length"),
-            13 => unary("size"),
-            14 => binary("xor"),
-            15 => binary("element"),
-            16 => binary("+"),
-            17 => binary("-"),
-            18 => binary("*"),
-            19 => binary("div"),
-            20 => binary("rem"),
-            21 => binary(">"),
-            22 => binary(">="),
-            23 => binary("<"),
-            24 => binary("=<"),
-            25 => binary("=:="),
-            26 => binary("=="),
-            27 => binary("=/="),
-            28 => binary("/="),
-            29 => ternary("and"),
-            30 => binary("or"),
-            31 => ternary("andalso"),
-            32 => binary("orelse"),
-            _ => unary("const"),
-        }
-    }
-
-    // Builds the application of a function, mostly with its number of arguments.
-    fn application(&mut self, alloc: Global, pool: &[Term]) -> Option<Term> {
-        let (name, count) = self.function();
-        let count = if self.below(40) == 0 {
-            self.below(4)
-        } else {
-            count
-        };
-        let mut parts = one(alloc, atom(alloc, name)?)?;
-        self.push_some(alloc, pool, count, &mut parts)?;
-        Some(Term::Tuple(parts))
-    }
-
-    // Builds an expression of those in the pool.
-    fn expression(&mut self, alloc: Global, pool: &[Term]) -> Option<Term> {
-        match self.below(8) {
-            0 => Some(Term::List(self.some_of(alloc, pool, 2)?)),
-            1 => Some(Term::List(one(alloc, self.tuple(alloc, pool, 1)?)?)),
-            2 => Some(Term::Tuple(one(alloc, self.tuple(alloc, pool, 2)?)?)),
-            _ => self.application(alloc, pool),
-        }
-    }
-
-    fn tuple(&mut self, alloc: Global, pool: &[Term], most: u64) -> Option<Term> {
-        Some(Term::Tuple(self.some_of(alloc, pool, most)?))
-    }
-
-    fn push_expressions(&mut self, alloc: Global, pool: &mut Vec<Term>) -> Option<()> {
-        for _ in 0..4 {
-            pool.push(self.leaf(alloc)?).ok()?;
-        }
-        for _ in 0..4 {
-            let expression = self.expression(alloc, pool.as_slice())?;
-            pool.push(expression).ok()?;
-        }
-        Some(())
-    }
-
-    fn expressions(&mut self, alloc: Global, most: u64) -> Option<Term> {
-        let mut pool = Vec::new(alloc);
-        self.push_expressions(alloc, &mut pool)?;
-        Some(Term::List(self.some_of(alloc, pool.as_slice(), most)?))
-    }
-
+    /// Builds a clause with a pattern made from the object, up to one condition, and a body of up to two expressions.
     fn clause(&mut self, alloc: Global, object: &Term) -> Option<Term> {
         let pattern = self.pattern(alloc, object)?;
-        let conditions = self.expressions(alloc, 1)?;
-        let body = self.expressions(alloc, 2)?;
+        let conditions = self.expression_list(alloc, 1)?;
+        let body = self.expression_list(alloc, 2)?;
         triple(alloc, pattern, conditions, body)
     }
 
     /// Builds a match specification of one or two clauses whose patterns are made from the object.
     pub(crate) fn spec(&mut self, alloc: Global, object: &Term) -> Option<Term> {
         let mut clauses = Items::new(alloc);
-        for _ in 0..self.below(2).saturating_add(1) {
+        for _ in 0..self.random_below(2).saturating_add(1) {
             clauses.push(self.clause(alloc, object)?).ok()?;
         }
         Some(Term::List(clauses))

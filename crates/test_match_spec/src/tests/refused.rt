@@ -3,6 +3,7 @@
 use super::*;
 use term_text::{TextFault, read_term};
 
+/// Reads the term of a text, again if memory runs out.
 fn term_again(alloc: Global, text: &str) -> Option<Term> {
     let read = match read_term(alloc, text) {
         Err(TextFault::Memory) => read_term(alloc, text),
@@ -14,6 +15,7 @@ fn term_again(alloc: Global, text: &str) -> Option<Term> {
     }
 }
 
+/// Compiles a pattern, again if memory runs out.
 fn pattern_again(alloc: Global, term: &Term) -> Option<Pattern> {
     match Pattern::compile(alloc, term) {
         Ok(pattern) => Some(pattern),
@@ -21,6 +23,7 @@ fn pattern_again(alloc: Global, term: &Term) -> Option<Pattern> {
     }
 }
 
+/// Compiles a match specification, again if memory runs out.
 fn spec_again(alloc: Global, term: &Term) -> Option<Spec> {
     match Spec::compile(alloc, term) {
         Ok(spec) => Some(spec),
@@ -28,7 +31,7 @@ fn spec_again(alloc: Global, term: &Term) -> Option<Spec> {
     }
 }
 
-/// Returns the bindings by which an object matches, as a list, or the atom `none`.
+/// Returns the bindings by which an object matches, as a list, or the atom `none`. Matches again if memory runs out.
 fn bindings_again(alloc: Global, pattern: &Pattern, object: &Term) -> Option<Term> {
     let bindings = match pattern.bindings(alloc, object) {
         Ok(bindings) => bindings,
@@ -40,7 +43,7 @@ fn bindings_again(alloc: Global, pattern: &Pattern, object: &Term) -> Option<Ter
     }
 }
 
-/// Returns the result of a match specification on an object, or the atom `none`.
+/// Returns the result of a match specification on an object, or the atom `none`. Evaluates again if memory runs out.
 fn result_again(alloc: Global, spec: &Spec, object: &Term) -> Option<Term> {
     let result = match spec.result(alloc, object) {
         Ok(result) => result,
@@ -52,6 +55,7 @@ fn result_again(alloc: Global, spec: &Spec, object: &Term) -> Option<Term> {
     }
 }
 
+/// Returns whether the result on an object is `true`. Evaluates again if memory runs out.
 fn is_true_again(alloc: Global, spec: &Spec, object: &Term) -> Option<bool> {
     match spec.is_true(alloc, object) {
         Ok(is_true) => Some(is_true),
@@ -59,11 +63,13 @@ fn is_true_again(alloc: Global, spec: &Spec, object: &Term) -> Option<bool> {
     }
 }
 
+/// Returns whether the bindings of a pattern are the wanted ones.
 fn has_bindings(alloc: Global, pattern: &Term, object: &Term, wanted: &Term) -> Option<bool> {
     let pattern = pattern_again(alloc, pattern)?;
     Some(bindings_again(alloc, &pattern, object)? == *wanted)
 }
 
+/// Returns whether the result of a match specification is the wanted one, by `result` and by `is_true`.
 fn has_result(alloc: Global, spec: &Term, object: &Term, wanted: &Term) -> Option<bool> {
     let spec = spec_again(alloc, spec)?;
     let is_true = is_true_again(alloc, &spec, object)? == wanted.is_atom("true");
@@ -77,7 +83,8 @@ enum Form {
     Spec,
 }
 
-fn holds(alloc: Global, form: Form, row: &[Term]) -> Option<bool> {
+/// Returns whether a row has its bindings or its result. None means a wrong row or out of memory.
+fn row_holds(alloc: Global, form: Form, row: &[Term]) -> Option<bool> {
     match (form, row) {
         (Form::Pattern, [pattern, object, wanted]) => has_bindings(alloc, pattern, object, wanted),
         (Form::Spec, [spec, object, wanted]) => has_result(alloc, spec, object, wanted),
@@ -85,9 +92,10 @@ fn holds(alloc: Global, form: Form, row: &[Term]) -> Option<bool> {
     }
 }
 
-fn holds_in_text(alloc: Global, form: Form, row: &str) -> Option<bool> {
+/// Returns whether the row of a text holds.
+fn text_row_holds(alloc: Global, form: Form, row: &str) -> Option<bool> {
     match term_again(alloc, row)? {
-        Term::List(parts) => holds(alloc, form, parts.as_slice()),
+        Term::List(parts) => row_holds(alloc, form, parts.as_slice()),
         _ => None,
     }
 }
@@ -95,13 +103,14 @@ fn holds_in_text(alloc: Global, form: Form, row: &str) -> Option<bool> {
 /// Returns the first row that does not hold.
 fn first_mismatch(alloc: Global, rows: &[(Form, &'static str)]) -> Option<&'static str> {
     for (form, row) in rows {
-        if holds_in_text(alloc, *form, *row) != Some(true) {
+        if text_row_holds(alloc, *form, *row) != Some(true) {
             return Some(*row);
         }
     }
     None
 }
 
+/// Patterns and match specifications, each with an object and what it must give.
 const ROWS: [(Form, &str); 10] = [
     (
         Form::Pattern,

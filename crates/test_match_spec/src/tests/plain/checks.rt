@@ -1,19 +1,22 @@
 // Which terms are match specifications.
 use super::*;
-use crate::tests::plain::clauses::elements;
+use crate::tests::plain::clauses::parts_of;
 use crate::tests::plain::functions::{is_kind_test, is_one_of};
-use crate::tests::plain::matching::{Binding, number, push, value_of};
+use crate::tests::plain::matching::{Binding, bound_value, push_binding, variable_number};
 use crate::tests::plain::operations::is_operation;
 
-/// Functions of at least one argument, of one, and of two. The type tests and the operators are elsewhere.
+/// Functions of at least one argument.
 const OF_SOME: [&str; 4] = ["and", "or", "andalso", "orelse"];
 
+/// Functions of one argument, other than the tests of kinds.
 const OF_ONE: [&str; 7] = ["is_number", "not", "abs", "hd", "tl", "length", "size"];
 
+/// Functions of two arguments, other than the arithmetic operators.
 const OF_TWO: [&str; 10] = [
     "xor", "element", ">", ">=", "<", "=<", "=:=", "==", "=/=", "/=",
 ];
 
+/// Returns whether a function of this name takes this number of arguments.
 fn is_function(name: &Term, count: usize) -> bool {
     if is_one_of(name, &OF_SOME) {
         count > 0
@@ -24,11 +27,12 @@ fn is_function(name: &Term, count: usize) -> bool {
     }
 }
 
+/// Returns whether a term is an expression, all of whose variables are bound by the pattern.
 #[cycle(plain_check)]
 fn is_expression(term: &Term, bindings: &[Binding]) -> bool {
     match term {
-        Term::Atom(_) => match number(term) {
-            Some(n) => value_of(n, bindings).is_some(),
+        Term::Atom(_) => match variable_number(term) {
+            Some(n) => bound_value(n, bindings).is_some(),
             None => true,
         },
         Term::List(items) => are_expressions(items.as_slice(), 0, bindings),
@@ -37,6 +41,7 @@ fn is_expression(term: &Term, bindings: &[Binding]) -> bool {
     }
 }
 
+/// Returns whether the terms from the index `start` on are expressions.
 #[cycle(plain_check)]
 fn are_expressions(terms: &[Term], start: usize, bindings: &[Binding]) -> bool {
     for i in start..terms.len() {
@@ -47,6 +52,7 @@ fn are_expressions(terms: &[Term], start: usize, bindings: &[Binding]) -> bool {
     true
 }
 
+/// Returns whether a tuple is an expression: a tuple in a tuple, a constant, or a function with its arguments.
 #[cycle(plain_check)]
 fn is_tuple_expression(items: &[Term], bindings: &[Binding]) -> bool {
     if items.is_empty() {
@@ -65,20 +71,21 @@ fn is_tuple_expression(items: &[Term], bindings: &[Binding]) -> bool {
     }
 }
 
-// Collects the variables of a pattern, each bound to itself.
+/// Collects the variables of a pattern, each bound to itself.
 #[cycle(plain_variables)]
 fn collect_variables(alloc: Global, pattern: &Term, found: &mut Vec<Binding>) {
     match pattern {
         Term::Tuple(items) => collect_all_variables(alloc, items.as_slice(), found),
         Term::List(items) => collect_all_variables(alloc, items.as_slice(), found),
         _ => {
-            if let Some(n) = number(pattern) {
-                let _pushed = push(alloc, n, pattern, found);
+            if let Some(n) = variable_number(pattern) {
+                let _pushed = push_binding(alloc, n, pattern, found);
             }
         }
     }
 }
 
+/// Collects the variables of the parts of a pattern.
 #[cycle(plain_variables)]
 fn collect_all_variables(alloc: Global, parts: &[Term], found: &mut Vec<Binding>) {
     for part in parts {
@@ -86,28 +93,30 @@ fn collect_all_variables(alloc: Global, parts: &[Term], found: &mut Vec<Binding>
     }
 }
 
-fn are_good(conditions: &Term, body: &Term, variables: &[Binding]) -> bool {
-    are_expressions(elements(conditions), 0, variables)
-        && are_expressions(elements(body), 0, variables)
-        && !elements(body).is_empty()
+/// Returns whether a clause has expressions as conditions and as body, with at least one in the body.
+fn are_conditions_and_body(conditions: &Term, body: &Term, variables: &[Binding]) -> bool {
+    are_expressions(parts_of(conditions), 0, variables)
+        && are_expressions(parts_of(body), 0, variables)
+        && !parts_of(body).is_empty()
 }
 
+/// Returns whether a term is a clause: a pattern, conditions and a body.
 fn is_clause(alloc: Global, clause: &Term) -> bool {
-    let [pattern, conditions, body] = elements(clause) else {
+    let [pattern, conditions, body] = parts_of(clause) else {
         return false;
     };
     let mut found = Vec::new(alloc);
     collect_variables(alloc, pattern, &mut found);
     matches!(pattern, Term::Atom(_) | Term::Tuple(_))
-        && are_good(conditions, body, found.as_slice())
+        && are_conditions_and_body(conditions, body, found.as_slice())
 }
 
 /// Returns whether a list of tuples, each with lists after the pattern, is a match specification.
 pub(crate) fn is_spec(alloc: Global, spec: &Term) -> bool {
-    for clause in elements(spec) {
+    for clause in parts_of(spec) {
         if !is_clause(alloc, clause) {
             return false;
         }
     }
-    !elements(spec).is_empty()
+    !parts_of(spec).is_empty()
 }

@@ -1,9 +1,10 @@
 // The result of a match specification on an object.
 use super::*;
-use crate::tests::plain::matching::{Binding, matches};
-use crate::tests::plain::values::value;
+use crate::tests::plain::matching::{Binding, pattern_matches};
+use crate::tests::plain::values::expression_value;
 
-pub(crate) fn elements(term: &Term) -> &[Term] {
+/// Returns the elements of a tuple or the items of a list. Other terms have none.
+pub(crate) fn parts_of(term: &Term) -> &[Term] {
     match term {
         Term::Tuple(items) => items.as_slice(),
         Term::List(items) => items.as_slice(),
@@ -11,49 +12,58 @@ pub(crate) fn elements(term: &Term) -> &[Term] {
     }
 }
 
-fn is_true(alloc: Global, condition: &Term, object: &Term, bindings: &[Binding]) -> bool {
-    match value(alloc, condition, object, bindings) {
+/// Returns whether the value of a condition is `true`. A condition that fails is not.
+fn condition_is_true(alloc: Global, condition: &Term, object: &Term, bindings: &[Binding]) -> bool {
+    match expression_value(alloc, condition, object, bindings) {
         Some(term) => term.is_atom("true"),
         None => false,
     }
 }
 
-fn all_true(alloc: Global, conditions: &[Term], object: &Term, bindings: &[Binding]) -> bool {
+/// Returns whether all conditions of a clause are true.
+fn conditions_are_true(
+    alloc: Global,
+    conditions: &[Term],
+    object: &Term,
+    bindings: &[Binding],
+) -> bool {
     for condition in conditions {
-        if !is_true(alloc, condition, object, bindings) {
+        if !condition_is_true(alloc, condition, object, bindings) {
             return false;
         }
     }
     true
 }
 
-// Returns the last of the values, or None if an expression fails.
+/// Returns the last of the values of a body, or None if an expression fails.
 fn last_value(alloc: Global, body: &[Term], object: &Term, bindings: &[Binding]) -> Option<Term> {
     let mut last = Term::default();
     for expression in body {
-        last = value(alloc, expression, object, bindings)?;
+        last = expression_value(alloc, expression, object, bindings)?;
     }
     Some(last)
 }
 
+/// Returns the result of a clause, or None if its pattern or a condition does not hold. A body that fails gives `EXIT`.
 fn clause_result(alloc: Global, clause: &Term, object: &Term) -> Option<Term> {
-    let [pattern, conditions, body] = elements(clause) else {
+    let [pattern, conditions, body] = parts_of(clause) else {
         return None;
     };
     let mut bindings = Vec::new(alloc);
-    if !matches(alloc, pattern, object, &mut bindings)
-        || !all_true(alloc, elements(conditions), object, bindings.as_slice())
+    if !pattern_matches(alloc, pattern, object, &mut bindings)
+        || !conditions_are_true(alloc, parts_of(conditions), object, bindings.as_slice())
     {
         return None;
     }
-    match last_value(alloc, elements(body), object, bindings.as_slice()) {
+    match last_value(alloc, parts_of(body), object, bindings.as_slice()) {
         Some(last) => Some(last),
         None => atom(alloc, "EXIT"),
     }
 }
 
+/// Returns the result of the first clause that has one.
 pub(crate) fn result(alloc: Global, spec: &Term, object: &Term) -> Option<Term> {
-    for clause in elements(spec) {
+    for clause in parts_of(spec) {
         if let Some(result) = clause_result(alloc, clause, object) {
             return Some(result);
         }

@@ -1,8 +1,9 @@
 // The value of a function, or None if it fails.
 use super::*;
-use crate::tests::plain::operations::{calculate, compare, difference, is_operation};
+use crate::tests::plain::operations::{calculate, compare_terms, difference, is_operation};
 
-pub(crate) fn boolean(term: &Term) -> Option<bool> {
+/// Returns the boolean that a term is, or None.
+pub(crate) fn boolean_of(term: &Term) -> Option<bool> {
     if term.is_atom("true") {
         Some(true)
     } else if term.is_atom("false") {
@@ -12,32 +13,37 @@ pub(crate) fn boolean(term: &Term) -> Option<bool> {
     }
 }
 
+/// Builds the atom of a boolean.
 pub(crate) fn boolean_term(alloc: Global, b: bool) -> Option<Term> {
     atom(alloc, if b { "true" } else { "false" })
 }
 
-pub(crate) fn apply(alloc: Global, name: &Term, arguments: &[Term]) -> Option<Term> {
+/// Returns the value of a function other than `andalso` and `orelse`, or None if it fails.
+pub(crate) fn apply_function(alloc: Global, name: &Term, arguments: &[Term]) -> Option<Term> {
     if name.is_atom("and") || name.is_atom("or") {
-        return boolean_term(alloc, join(arguments, name.is_atom("or"))?);
+        return boolean_term(alloc, join_booleans(arguments, name.is_atom("or"))?);
     }
     match arguments {
-        [x] => one(alloc, name, x),
-        [x, y] => two(alloc, name, x, y),
+        [x] => apply_to_one(alloc, name, x),
+        [x, y] => apply_to_two(alloc, name, x, y),
         _ => None,
     }
 }
 
-fn join(arguments: &[Term], stop: bool) -> Option<bool> {
+/// Returns `stop` if an argument is `stop`, else its opposite: `or` if `stop` is true, `and` if not. None means that an
+/// argument is not a boolean.
+fn join_booleans(arguments: &[Term], stop: bool) -> Option<bool> {
     let mut found = !stop;
     for argument in arguments {
-        if boolean(argument)? == stop {
+        if boolean_of(argument)? == stop {
             found = stop;
         }
     }
     Some(found)
 }
 
-fn kind(term: &Term) -> &'static str {
+/// Returns the name of the test that a term of this kind passes.
+fn kind_test_of(term: &Term) -> &'static str {
     match term {
         Term::Int(_) => "is_integer",
         Term::Atom(_) => "is_atom",
@@ -49,6 +55,7 @@ fn kind(term: &Term) -> &'static str {
     }
 }
 
+/// The tests of the kind of a term.
 const KIND_TESTS: [&str; 7] = [
     "is_integer",
     "is_atom",
@@ -59,6 +66,7 @@ const KIND_TESTS: [&str; 7] = [
     "is_binary",
 ];
 
+/// Returns whether a term is an atom of one of these names.
 pub(crate) fn is_one_of(name: &Term, names: &[&'static str]) -> bool {
     for own in names {
         if name.is_atom(*own) {
@@ -68,31 +76,36 @@ pub(crate) fn is_one_of(name: &Term, names: &[&'static str]) -> bool {
     false
 }
 
+/// Returns whether a name is that of a test of the kind of a term.
 pub(crate) fn is_kind_test(name: &Term) -> bool {
     is_one_of(name, &KIND_TESTS)
 }
 
+/// Makes a term of an integer, if there is one.
 fn integer_term(n: Option<Integer>) -> Option<Term> {
     Some(Term::Int(n?))
 }
 
-fn one(alloc: Global, name: &Term, x: &Term) -> Option<Term> {
+/// Returns the value of a function of one argument.
+fn apply_to_one(alloc: Global, name: &Term, x: &Term) -> Option<Term> {
     if is_kind_test(name) {
-        boolean_term(alloc, name.is_atom(kind(x)))
+        boolean_term(alloc, name.is_atom(kind_test_of(x)))
     } else if name.is_atom("is_number") {
         boolean_term(alloc, matches!(x, Term::Int(_)))
     } else if name.is_atom("not") {
-        boolean_term(alloc, !boolean(x)?)
+        boolean_term(alloc, !boolean_of(x)?)
     } else {
-        measure(alloc, name, x)
+        measure_or_part(alloc, name, x)
     }
 }
 
+/// Returns the absolute value, or None if it overflows.
 fn absolute(n: Integer) -> Option<Integer> {
     if n < 0 { difference(0, n) } else { Some(n) }
 }
 
-fn measure(alloc: Global, name: &Term, x: &Term) -> Option<Term> {
+/// Returns an absolute value, a length, a size, or the head or tail of a list.
+fn measure_or_part(alloc: Global, name: &Term, x: &Term) -> Option<Term> {
     match x {
         Term::Int(n) if name.is_atom("abs") => integer_term(absolute(*n)),
         Term::List(items) if name.is_atom("length") => integer_term(Some(items.len() as Integer)),
@@ -103,18 +116,20 @@ fn measure(alloc: Global, name: &Term, x: &Term) -> Option<Term> {
     }
 }
 
+/// Returns the first item of a list, or the list of the others.
 fn head_or_tail(alloc: Global, name: &Term, items: &[Term]) -> Option<Term> {
     let (first, rest) = items.split_first()?;
     if name.is_atom("hd") {
         copy(alloc, first)
     } else if name.is_atom("tl") {
-        list_of(alloc, rest)
+        list_of_copies(alloc, rest)
     } else {
         None
     }
 }
 
-fn list_of(alloc: Global, terms: &[Term]) -> Option<Term> {
+/// Builds the list of copies of these terms.
+fn list_of_copies(alloc: Global, terms: &[Term]) -> Option<Term> {
     let mut items = Items::new(alloc);
     for term in terms {
         items.push(copy(alloc, term)?).ok()?;
@@ -122,18 +137,20 @@ fn list_of(alloc: Global, terms: &[Term]) -> Option<Term> {
     Some(Term::List(items))
 }
 
-fn two(alloc: Global, name: &Term, x: &Term, y: &Term) -> Option<Term> {
+/// Returns the value of a function of two arguments.
+fn apply_to_two(alloc: Global, name: &Term, x: &Term, y: &Term) -> Option<Term> {
     if name.is_atom("xor") {
-        boolean_term(alloc, boolean(x)? != boolean(y)?)
+        boolean_term(alloc, boolean_of(x)? != boolean_of(y)?)
     } else if name.is_atom("element") {
-        copy(alloc, element(x, y)?)
+        copy(alloc, element_at(x, y)?)
     } else if is_operation(name) {
         integer_term(calculate(name, integer_of(x)?, integer_of(y)?))
     } else {
-        boolean_term(alloc, compare(name, x, y)?)
+        boolean_term(alloc, compare_terms(name, x, y)?)
     }
 }
 
+/// Returns the integer that a term is, or None.
 fn integer_of(term: &Term) -> Option<Integer> {
     match term {
         Term::Int(n) => Some(*n),
@@ -141,7 +158,8 @@ fn integer_of(term: &Term) -> Option<Integer> {
     }
 }
 
-fn element<'t>(position: &Term, term: &'t Term) -> Option<&'t Term> {
+/// Returns the element of a tuple at a position, from 1.
+fn element_at<'t>(position: &Term, term: &'t Term) -> Option<&'t Term> {
     let position = integer_of(position)?;
     let Term::Tuple(items) = term else {
         return None;

@@ -8,7 +8,8 @@ pub(crate) struct Binding {
     pub(crate) value: Term,
 }
 
-pub(crate) fn number(term: &Term) -> Option<u32> {
+/// Returns the number of a variable: the tests have `$0`, `$1` and `$2`.
+pub(crate) fn variable_number(term: &Term) -> Option<u32> {
     for (n, name) in [(0, "$0"), (1, "$1"), (2, "$2")] {
         if term.is_atom(name) {
             return Some(n);
@@ -17,7 +18,8 @@ pub(crate) fn number(term: &Term) -> Option<u32> {
     None
 }
 
-pub(crate) fn value_of(n: u32, bindings: &[Binding]) -> Option<&Term> {
+/// Returns the value to which a variable is bound, if it is bound.
+pub(crate) fn bound_value(n: u32, bindings: &[Binding]) -> Option<&Term> {
     for binding in bindings {
         if binding.number == n {
             return Some(&binding.value);
@@ -26,32 +28,34 @@ pub(crate) fn value_of(n: u32, bindings: &[Binding]) -> Option<&Term> {
     None
 }
 
+/// Returns whether a pattern matches a term, and pushes what it binds.
 #[cycle(plain_match)]
-pub(crate) fn matches(
+pub(crate) fn pattern_matches(
     alloc: Global,
     pattern: &Term,
     term: &Term,
     bindings: &mut Vec<Binding>,
 ) -> bool {
-    if let Some(n) = number(pattern) {
-        return bind(alloc, n, term, bindings);
+    if let Some(n) = variable_number(pattern) {
+        return bind_variable(alloc, n, term, bindings);
     }
     match (pattern, term) {
         (Term::Tuple(parts), Term::Tuple(items)) => {
-            all_match(alloc, parts.as_slice(), items.as_slice(), bindings)
+            parts_match(alloc, parts.as_slice(), items.as_slice(), bindings)
         }
         (Term::List(parts), Term::List(items)) => {
-            all_match(alloc, parts.as_slice(), items.as_slice(), bindings)
+            parts_match(alloc, parts.as_slice(), items.as_slice(), bindings)
         }
         _ => pattern.is_atom("_") || *pattern == *term,
     }
 }
 
+/// Returns whether the parts of a pattern match the items, one by one.
 #[cycle(plain_match)]
-fn all_match(alloc: Global, parts: &[Term], items: &[Term], bindings: &mut Vec<Binding>) -> bool {
+fn parts_match(alloc: Global, parts: &[Term], items: &[Term], bindings: &mut Vec<Binding>) -> bool {
     for i in 0..parts.len() {
         let matched = match (parts.get(i), items.get(i)) {
-            (Some(part), Some(item)) => matches(alloc, part, item, bindings),
+            (Some(part), Some(item)) => pattern_matches(alloc, part, item, bindings),
             _ => false,
         };
         if !matched {
@@ -61,32 +65,40 @@ fn all_match(alloc: Global, parts: &[Term], items: &[Term], bindings: &mut Vec<B
     parts.len() == items.len()
 }
 
-pub(crate) fn push(alloc: Global, n: u32, term: &Term, bindings: &mut Vec<Binding>) -> Option<()> {
+/// Binds a variable to a copy of a term.
+pub(crate) fn push_binding(
+    alloc: Global,
+    n: u32,
+    term: &Term,
+    bindings: &mut Vec<Binding>,
+) -> Option<()> {
     let value = copy(alloc, term)?;
     bindings.push(Binding { number: n, value }).ok()
 }
 
-fn bind(alloc: Global, n: u32, term: &Term, bindings: &mut Vec<Binding>) -> bool {
-    match value_of(n, bindings.as_slice()) {
+/// Returns whether a variable is bound to this term, or binds it if it is not bound.
+fn bind_variable(alloc: Global, n: u32, term: &Term, bindings: &mut Vec<Binding>) -> bool {
+    match bound_value(n, bindings.as_slice()) {
         Some(value) => *value == *term,
-        None => push(alloc, n, term, bindings) == Some(()),
+        None => push_binding(alloc, n, term, bindings) == Some(()),
     }
 }
 
-// Returns the values in the order of the variables.
+/// Returns the values in the order of the variables.
 pub(crate) fn values_in_order(alloc: Global, bindings: &[Binding]) -> Option<Term> {
     let mut values = Items::new(alloc);
     for n in 0..3 {
-        if let Some(value) = value_of(n, bindings) {
+        if let Some(value) = bound_value(n, bindings) {
             values.push(copy(alloc, value)?).ok()?;
         }
     }
     Some(Term::List(values))
 }
 
+/// Returns the values of the variables by which a pattern matches, or None if it does not match.
 pub(crate) fn bindings(alloc: Global, pattern: &Term, object: &Term) -> Option<Term> {
     let mut bindings = Vec::new(alloc);
-    if !matches(alloc, pattern, object, &mut bindings) {
+    if !pattern_matches(alloc, pattern, object, &mut bindings) {
         return None;
     }
     values_in_order(alloc, bindings.as_slice())

@@ -2,13 +2,15 @@
 use super::*;
 use crate::tests::plain::functions::is_one_of;
 
+/// The arithmetic operators.
 const OPERATIONS: [&str; 5] = ["+", "-", "*", "div", "rem"];
 
+/// Returns whether a name is that of an arithmetic operator.
 pub(crate) fn is_operation(name: &Term) -> bool {
     is_one_of(name, &OPERATIONS)
 }
 
-/// A sum that overflows wraps to the other side of its first number.
+/// Returns the sum, or None if it overflows: it then wraps to the other side of its first number.
 fn sum(m: Integer, n: Integer) -> Option<Integer> {
     let sum = m.wrapping_add(n);
     if (sum < m) == (n < 0) {
@@ -18,6 +20,7 @@ fn sum(m: Integer, n: Integer) -> Option<Integer> {
     }
 }
 
+/// Returns the difference, or None if it overflows: it then wraps to the other side of its first number.
 pub(crate) fn difference(m: Integer, n: Integer) -> Option<Integer> {
     let difference = m.wrapping_sub(n);
     if (difference < m) == (n > 0) {
@@ -27,7 +30,7 @@ pub(crate) fn difference(m: Integer, n: Integer) -> Option<Integer> {
     }
 }
 
-/// The quotient of a product that wrapped is not its second number.
+/// Returns the product, or None if it overflows: a quotient of what wrapped is not its second number.
 fn product(m: Integer, n: Integer) -> Option<Integer> {
     let product = m.wrapping_mul(n);
     if m == 0 || product.checked_div(m) == Some(n) {
@@ -37,11 +40,13 @@ fn product(m: Integer, n: Integer) -> Option<Integer> {
     }
 }
 
-/// The remainder by -1 is 0 for every number, also for the least, whose quotient overflows.
+/// Returns the remainder, or None by 0. The remainder by -1 is 0 for every number, also for the least, whose quotient
+/// overflows.
 fn remainder(m: Integer, n: Integer) -> Option<Integer> {
     if n == -1 { Some(0) } else { m.checked_rem(n) }
 }
 
+/// Returns the value of an arithmetic operator, or None if it overflows or divides by 0.
 pub(crate) fn calculate(name: &Term, m: Integer, n: Integer) -> Option<Integer> {
     if name.is_atom("+") {
         sum(m, n)
@@ -56,7 +61,8 @@ pub(crate) fn calculate(name: &Term, m: Integer, n: Integer) -> Option<Integer> 
     }
 }
 
-pub(crate) fn compare(name: &Term, x: &Term, y: &Term) -> Option<bool> {
+/// Returns the value of a comparison, or None if no comparison has this name.
+pub(crate) fn compare_terms(name: &Term, x: &Term, y: &Term) -> Option<bool> {
     if is_one_of(name, &["=:=", "=="]) {
         Some(*x == *y)
     } else if is_one_of(name, &["=/=", "/="]) {

@@ -1,10 +1,11 @@
 // The value of an expression, or None if it fails.
 use super::*;
-use crate::tests::plain::functions::{apply, boolean, boolean_term};
-use crate::tests::plain::matching::{Binding, number, value_of, values_in_order};
+use crate::tests::plain::functions::{apply_function, boolean_of, boolean_term};
+use crate::tests::plain::matching::{Binding, bound_value, values_in_order, variable_number};
 
+/// Returns the value of an expression on an object, or None if it fails.
 #[cycle(plain_value)]
-pub(crate) fn value(
+pub(crate) fn expression_value(
     alloc: Global,
     expression: &Term,
     object: &Term,
@@ -13,7 +14,7 @@ pub(crate) fn value(
     match expression {
         Term::Atom(_) => atom_value(alloc, expression, object, bindings),
         Term::List(items) => {
-            let values = values(alloc, items.as_slice(), 0, object, bindings)?;
+            let values = expression_values(alloc, items.as_slice(), 0, object, bindings)?;
             Some(Term::List(values))
         }
         Term::Tuple(items) => tuple_value(alloc, items.as_slice(), object, bindings),
@@ -21,9 +22,10 @@ pub(crate) fn value(
     }
 }
 
+/// Returns the value of a variable, `$_` or `$$`, or the atom itself.
 fn atom_value(alloc: Global, name: &Term, object: &Term, bindings: &[Binding]) -> Option<Term> {
-    if let Some(n) = number(name) {
-        copy(alloc, value_of(n, bindings)?)
+    if let Some(n) = variable_number(name) {
+        copy(alloc, bound_value(n, bindings)?)
     } else if name.is_atom("$_") {
         copy(alloc, object)
     } else if name.is_atom("$$") {
@@ -33,8 +35,9 @@ fn atom_value(alloc: Global, name: &Term, object: &Term, bindings: &[Binding]) -
     }
 }
 
+/// Returns the values of the expressions from the index `start` on, or None if one fails.
 #[cycle(plain_value)]
-fn values(
+fn expression_values(
     alloc: Global,
     items: &[Term],
     start: usize,
@@ -44,12 +47,13 @@ fn values(
     let mut values = Items::new(alloc);
     for i in start..items.len() {
         values
-            .push(value(alloc, &items[i], object, bindings)?)
+            .push(expression_value(alloc, &items[i], object, bindings)?)
             .ok()?;
     }
     Some(values)
 }
 
+/// Returns the value of a tuple: a tuple in a tuple, a constant, or a function with its arguments.
 #[cycle(plain_value)]
 fn tuple_value(alloc: Global, items: &[Term], object: &Term, bindings: &[Binding]) -> Option<Term> {
     if items.is_empty() {
@@ -57,7 +61,7 @@ fn tuple_value(alloc: Global, items: &[Term], object: &Term, bindings: &[Binding
     }
     match &items[0] {
         Term::Tuple(parts) => {
-            let values = values(alloc, parts.as_slice(), 0, object, bindings)?;
+            let values = expression_values(alloc, parts.as_slice(), 0, object, bindings)?;
             Some(Term::Tuple(values))
         }
         name => {
@@ -67,12 +71,14 @@ fn tuple_value(alloc: Global, items: &[Term], object: &Term, bindings: &[Binding
             if name.is_atom("andalso") || name.is_atom("orelse") {
                 return short_circuit_value(alloc, items, name.is_atom("orelse"), object, bindings);
             }
-            let values = values(alloc, items, 1, object, bindings)?;
-            apply(alloc, name, values.as_slice())
+            let values = expression_values(alloc, items, 1, object, bindings)?;
+            apply_function(alloc, name, values.as_slice())
         }
     }
 }
 
+/// Returns the value of `orelse` if `stop` is true, else of `andalso`. Arguments after the first that is `stop` have no
+/// effect.
 #[cycle(plain_value)]
 fn short_circuit_value(
     alloc: Global,
@@ -82,8 +88,8 @@ fn short_circuit_value(
     bindings: &[Binding],
 ) -> Option<Term> {
     for i in 1..items.len() {
-        let term = value(alloc, &items[i], object, bindings)?;
-        if boolean(&term)? == stop {
+        let term = expression_value(alloc, &items[i], object, bindings)?;
+        if boolean_of(&term)? == stop {
             return boolean_term(alloc, stop);
         }
     }
