@@ -16,7 +16,7 @@ use std::sync::ledger::{Blank, Ledger};
 use std::thread::Threads;
 use std::time::Instant;
 
-/// Lets each call go on at once.
+/// A gate that lets each call go on at once.
 #[derive(Drop)]
 struct Open;
 
@@ -26,19 +26,20 @@ impl Gate for Open {
     fn after(&self, _client: usize, _call: usize) {}
 }
 
-/// Lets a number of clients ask a number of calls each, at once, and times that. Running out of memory, and more than
-/// 4,096 clients, are errors.
-pub(crate) fn crowd<R: Alloc<A = Global> + Clock + Threads + Wait + Sync>(
+/// Times a number of clients, each in a thread, that make a number of calls each at once. Running out of memory, and
+/// more than 4,096 clients, are errors.
+pub(crate) fn time_clients<R: Alloc<A = Global> + Clock + Threads + Wait + Sync>(
     rt: &R,
     clients: u32,
     calls: u32,
 ) -> io::Result<Outcome>
     requires { 0 < clients }
 {
-    share::<Brand, R>(rt, Blank::new(u64::from(clients) + 1), clients, calls)
+    time_shared::<Brand, R>(rt, Blank::new(u64::from(clients) + 1), clients, calls)
 }
 
-fn share<L: Ledger + Send + Sync, R: Alloc<A = Global> + Clock + Threads + Wait + Sync>(
+/// Times the clients on a new shared node. Its ledger has one part more than there are clients.
+fn time_shared<L: Ledger + Send + Sync, R: Alloc<A = Global> + Clock + Threads + Wait + Sync>(
     rt: &R,
     blank: Blank,
     clients: u32,
@@ -54,11 +55,11 @@ fn share<L: Ledger + Send + Sync, R: Alloc<A = Global> + Clock + Threads + Wait 
         ..Limits::usual()
     };
     let shared = Shared::<L, Fnv>::new(rt.alloc(), blank, limits, Fnv);
-    work_together(rt, &shared, clients, calls)
+    time_work(rt, &shared, clients, calls)
 }
 
-/// The jobs are made before the clock runs, and what the clients saw is counted after it.
-fn work_together<L: Ledger + Send + Sync, R: Alloc<A = Global> + Clock + Threads + Wait + Sync>(
+/// Times the jobs of the clients. They are built before the clock runs, and what the clients found is counted after it.
+fn time_work<L: Ledger + Send + Sync, R: Alloc<A = Global> + Clock + Threads + Wait + Sync>(
     rt: &R,
     shared: &Shared<L, Fnv>,
     clients: u32,
@@ -67,16 +68,16 @@ fn work_together<L: Ledger + Send + Sync, R: Alloc<A = Global> + Clock + Threads
     requires { 0 < clients }
 {
     let alloc = rt.alloc();
-    let work = work(rt, alloc, shared, clients, calls)?;
+    let work = build_work(rt, alloc, shared, clients, calls)?;
     let start = Instant::now(rt)?;
     let workers = run_clients(rt, alloc, shared, work, &Open)?;
     let nanoseconds = nanoseconds(start.elapsed(rt)?);
-    let found = found_by(workers.as_slice());
+    let found = count_found(workers.as_slice());
     Ok(Outcome { nanoseconds, found })
 }
 
-/// The clients, with jobs for each, over a table that has all keys.
-fn work<L: Ledger, R: Wait>(
+/// Returns the clients, with jobs for each, over a table that has all keys.
+fn build_work<L: Ledger, R: Wait>(
     rt: &R,
     alloc: Global,
     shared: &Shared<L, Fnv>,
@@ -91,13 +92,13 @@ fn work<L: Ledger, R: Wait>(
     }
     let mut work = Vec::new(alloc);
     for client in clients {
-        let jobs = jobs(alloc, calls, client.pid())?;
+        let jobs = build_jobs(alloc, calls, client.pid())?;
         work.push((client, jobs))?;
     }
     Ok(work)
 }
 
-/// A number of clients.
+/// Returns a number of clients that have joined a node.
 fn join_clients<L: Ledger, R: Wait>(
     rt: &R,
     alloc: Global,
@@ -112,6 +113,7 @@ fn join_clients<L: Ledger, R: Wait>(
     clients_of_seats(rt, alloc, shared, &pids, seats)
 }
 
+/// Returns a client for each seat.
 fn clients_of_seats<L: Ledger, R: Wait>(
     rt: &R,
     alloc: Global,
@@ -123,12 +125,13 @@ fn clients_of_seats<L: Ledger, R: Wait>(
 {
     let mut clients = Vec::new(alloc);
     while let Some(seat) = seats.pop() {
-        clients.push(client(rt, shared, pids.draw(seat))?)?;
+        clients.push(join_client(rt, shared, pids.draw(seat))?)?;
     }
     Ok(clients)
 }
 
-fn client<L: Ledger, R: Wait>(
+/// Joins a client under a drawn pid.
+fn join_client<L: Ledger, R: Wait>(
     rt: &R,
     shared: &Shared<L, Fnv>,
     drawn: Drawn,
@@ -139,7 +142,7 @@ fn client<L: Ledger, R: Wait>(
     }
 }
 
-/// Makes the table, and puts an object of each of the `KEYS` in.
+/// Makes the table, and inserts an object of each of the `KEYS`, each with up to two growth steps.
 fn fill<L: Ledger, R: Wait>(
     rt: &R,
     alloc: Global,
@@ -154,8 +157,8 @@ fn fill<L: Ledger, R: Wait>(
     Ok(())
 }
 
-/// A client's jobs, in an order of its own.
-fn jobs(alloc: Global, calls: u32, pid: u32) -> Result<Vec<Job>, AllocError> {
+/// Builds a client's jobs, in an order of its own.
+fn build_jobs(alloc: Global, calls: u32, pid: u32) -> Result<Vec<Job>, AllocError> {
     let mut jobs = Vec::new(alloc);
     for call in mixture(alloc, calls, u64::from(pid) + 1)? {
         jobs.push(Job::Ask(call))?;
@@ -163,8 +166,8 @@ fn jobs(alloc: Global, calls: u32, pid: u32) -> Result<Vec<Job>, AllocError> {
     Ok(jobs)
 }
 
-/// How many lookups of the clients found an object.
-fn found_by<L: Ledger>(workers: &[Worked<L>]) -> u64 {
+/// Returns how many lookups of the clients found an object.
+fn count_found<L: Ledger>(workers: &[Worked<L>]) -> u64 {
     let mut found: u64 = 0;
     for worker in workers {
         for entry in worker.client.entries() {

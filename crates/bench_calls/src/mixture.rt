@@ -1,60 +1,65 @@
 //! A mixture of calls on a table that has all keys: nine lookups, then an insertion, and so on.
-use crate::calls::{insert, of_key};
+use crate::calls::{call_of_key, insert};
 use crate::order::shuffle;
 use node_core::Call;
 use std::alloc::{AllocError, Global};
 use std::io;
 
-/// How many keys there are.
+/// How many keys the table has.
 pub(crate) const KEYS: u64 = 10_000;
 
-/// A number of calls, in an order of the seed's own.
+/// Builds a number of calls, in the order of this seed.
 pub(crate) fn mixture(alloc: Global, calls: u32, seed: u64) -> Result<Vec<Call>, AllocError> {
     let mut mixture = Vec::new(alloc);
     for (at, k) in shuffle(alloc, u64::from(calls), seed)?.iter().enumerate() {
         let k = k % KEYS;
+        // Every tenth call is an insertion.
         let call = if at % 10 == 9 {
             insert(alloc, k)?
         } else {
-            of_key(alloc, "lookup", k)?
+            call_of_key(alloc, "lookup", k)?
         };
         mixture.push(call)?;
     }
     Ok(mixture)
 }
 
-/// What came of the mixtures of some callers.
+/// How long the calls of all callers took, and what they found.
 #[derive(Clone, Copy)]
 pub(crate) struct Outcome {
+    /// How long all calls took.
     pub(crate) nanoseconds: u64,
     /// How many lookups found an object.
     pub(crate) found: u64,
 }
 
 impl Outcome {
-    /// Prints the nanoseconds of a call, where a number of callers asked a number of calls each.
-    pub(crate) fn show(
+    /// Prints the nanoseconds a call of callers that each made a mixture of this many calls.
+    pub(crate) fn print(
         self,
         rt: &impl Print,
         who: &str,
         callers: u32,
         calls: u32,
     ) -> io::Result<()> {
-        self.show_of(rt, who, callers, calls, calls - calls / 10)
+        // Every tenth call is an insertion, the others are lookups.
+        self.print_mixture(rt, who, callers, calls, calls - calls / 10)
     }
 
-    /// Does so for callers that made lookups alone.
-    pub(crate) fn show_lookups(
+    /// Prints the nanoseconds a call of callers that made lookups alone.
+    pub(crate) fn print_lookups(
         self,
         rt: &impl Print,
         who: &str,
         callers: u32,
         calls: u32,
     ) -> io::Result<()> {
-        self.show_of(rt, who, callers, calls, calls)
+        self.print_mixture(rt, who, callers, calls, calls)
     }
 
-    fn show_of(
+    /// Prints the nanoseconds a call, after a line of warning if not each of the `lookups` of each caller found an
+    /// object.
+    fn print_mixture(
         self,
         rt: &impl Print,
         who: &str,
@@ -65,8 +70,8 @@ impl Outcome {
         if self.found != u64::from(lookups).saturating_mul(u64::from(callers)) {
             println!(rt; "{who} mixture went wrong")?;
         }
-        let all = u64::from(calls).saturating_mul(u64::from(callers)).max(1);
-        let tenths = self.nanoseconds.saturating_mul(10) / all;
+        let all_calls = u64::from(calls).saturating_mul(u64::from(callers)).max(1);
+        let tenths = self.nanoseconds.saturating_mul(10) / all_calls;
         println!(rt; "{who} mixture {}.{}", tenths / 10, tenths % 10)
     }
 }

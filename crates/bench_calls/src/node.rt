@@ -5,26 +5,28 @@ use ets_term::Fnv;
 use node_core::{Call, Limits, Node, Step};
 use std::alloc::{AllocError, Global};
 
-/// The process that asks.
+/// The process that makes the calls.
 const PID: u32 = 0;
 
-pub(crate) fn with_table(alloc: Global) -> Result<Node<Fnv>, AllocError> {
+/// Builds a node whose only process has made the table.
+pub(crate) fn node_with_table(alloc: Global) -> Result<Node<Fnv>, AllocError> {
     let limits = Limits {
         processes: 1,
         tables: 1,
         objects: u32::MAX,
     };
     let mut node = Node::new(alloc, limits, Fnv);
-    begin(alloc, &mut node)?;
+    make_table(alloc, &mut node)?;
     Ok(node)
 }
 
-fn begin(alloc: Global, node: &mut Node<Fnv>) -> Result<(), AllocError> {
+/// Enrols the process, and makes the table.
+fn make_table(alloc: Global, node: &mut Node<Fnv>) -> Result<(), AllocError> {
     run_step(node, Step::Enrol(PID))?;
-    run_step(node, asks(new_table(alloc)?))
+    run_step(node, ask_step(new_table(alloc)?))
 }
 
-/// Does a step, and drops the reply.
+/// Runs a step, and drops the reply.
 fn run_step(node: &mut Node<Fnv>, step: Step) -> Result<(), AllocError> {
     match node.step(&step) {
         Ok(_) => Ok(()),
@@ -32,8 +34,8 @@ fn run_step(node: &mut Node<Fnv>, step: Step) -> Result<(), AllocError> {
     }
 }
 
-/// The step in which the process asks this call.
-pub(crate) fn asks(call: Call) -> Step {
+/// Returns the step in which the process makes this call.
+pub(crate) fn ask_step(call: Call) -> Step {
     Step::Ask(PID, call)
 }
 
@@ -44,39 +46,44 @@ pub(crate) fn grow(node: &mut Node<Fnv>) -> Result<(), AllocError> {
     Ok(())
 }
 
-/// Puts the object of a key in, and does two steps of growth.
-pub(crate) fn put(alloc: Global, node: &mut Node<Fnv>, k: u64) -> Result<(), AllocError> {
-    run_step(node, asks(insert(alloc, k)?))?;
+/// Inserts the object of a key, and runs up to two growth steps.
+pub(crate) fn insert_and_grow(
+    alloc: Global,
+    node: &mut Node<Fnv>,
+    k: u64,
+) -> Result<(), AllocError> {
+    run_step(node, ask_step(insert(alloc, k)?))?;
     grow(node)
 }
 
-/// Puts an object of each of the `KEYS` in.
+/// Inserts an object of each of the `KEYS`.
 pub(crate) fn fill(alloc: Global, node: &mut Node<Fnv>) -> Result<(), AllocError> {
     for k in 0..KEYS {
-        put(alloc, node, k)?;
+        insert_and_grow(alloc, node, k)?;
     }
     Ok(())
 }
 
-/// The steps of a mixture of calls.
+/// Builds the steps of a mixture of calls.
 pub(crate) fn mixture_steps(alloc: Global, calls: u32) -> Result<Vec<Step>, AllocError> {
     let mut steps = Vec::new(alloc);
     for call in mixture(alloc, calls, 1)? {
-        steps.push(asks(call))?;
+        steps.push(ask_step(call))?;
     }
     Ok(steps)
 }
 
-/// Does the steps, and answers how many found an object.
+/// Runs the steps, and returns how many found an object.
 pub(crate) fn ask_all(node: &mut Node<Fnv>, steps: &[Step]) -> Result<u64, AllocError> {
     let mut found: u64 = 0;
     for step in steps {
-        found = found.wrapping_add(u64::from(finds(node, step)?));
+        found = found.wrapping_add(u64::from(finds_object(node, step)?));
     }
     Ok(found)
 }
 
-fn finds(node: &mut Node<Fnv>, step: &Step) -> Result<bool, AllocError> {
+/// Runs a step, and returns whether it found an object.
+fn finds_object(node: &mut Node<Fnv>, step: &Step) -> Result<bool, AllocError> {
     let reply = node.step(step)?;
     Ok(has_found(&reply))
 }

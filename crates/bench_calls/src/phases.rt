@@ -1,18 +1,24 @@
 //! The phases of the life of a table: one step for each key, in an order of the phase's own.
-use crate::calls::{count_up, has_found, insert, is_atom, of_key, write, write_or};
-use crate::node::{asks, grow};
+use crate::calls::{call_of_key, count_up, has_found, insert, is_atom, write, write_or};
+use crate::node::{ask_step, grow};
 use crate::order::shuffle;
 use ets_term::{Fnv, Term};
 use node_core::{Call, Node, Reply, Step};
 use std::alloc::{AllocError, Global};
 
+/// A phase of the life of a table: one step for each key.
 #[derive(Clone, Copy)]
 pub enum Phase {
     Insert,
+    /// Lookups of keys in the table.
     Hit,
+    /// Searches for keys that are not in the table.
     Miss,
+    /// Additions of one to the value of a key.
     Counter,
+    /// Updates of an element.
     Write,
+    /// Updates of an element with a Default.
     WriteOr,
     Delete,
 }
@@ -28,14 +34,17 @@ pub const PHASES: [Phase; 7] = [
     Phase::Delete,
 ];
 
-/// The number of steps of a list.
+/// The number of steps in a list of `Node::run`.
 const LIST: usize = 64;
 
 /// How a step is made: with a reply of its own, over the reply before, or in a list of steps by `Node::run`.
 #[derive(Clone, Copy)]
 pub enum Way {
+    /// `Node::step`.
     Step,
+    /// `Node::step_into`.
     StepInto,
+    /// `Node::run`.
     Run,
 }
 
@@ -51,6 +60,7 @@ impl Way {
 }
 
 impl Phase {
+    /// Returns the name of the phase in a report.
     pub(crate) fn name(self) -> &'static str {
         match self {
             Phase::Insert => "insert",
@@ -63,16 +73,16 @@ impl Phase {
         }
     }
 
-    /// The steps, of a number of keys.
+    /// Builds the steps of the phase on a number of keys.
     pub(crate) fn steps(self, alloc: Global, count: u32) -> Result<Vec<Step>, AllocError> {
         let mut steps = Vec::new(alloc);
         for k in shuffle(alloc, u64::from(count), self.seed())? {
-            steps.push(asks(self.call(alloc, k, count)?))?;
+            steps.push(ask_step(self.call(alloc, k, count)?))?;
         }
         Ok(steps)
     }
 
-    /// Runs the steps, each insertion with two growth steps, and returns the number of right replies.
+    /// Runs the steps, each insertion with up to two growth steps. Returns the number of right replies.
     pub(crate) fn run(
         self,
         way: Way,
@@ -87,64 +97,69 @@ impl Phase {
         }
     }
 
+    /// Runs the steps one by one, each with a reply of its own. Returns the number of right replies.
     fn run_steps(self, node: &mut Node<Fnv>, steps: &[Step]) -> Result<u64, AllocError> {
-        let mut done: u64 = 0;
+        let mut right_count: u64 = 0;
         for step in steps {
-            done = done.wrapping_add(u64::from(self.is_done(node, step)?));
+            right_count = right_count.wrapping_add(u64::from(self.is_step_right(node, step)?));
             if matches!(self, Phase::Insert) {
                 grow(node)?;
             }
         }
-        Ok(done)
+        Ok(right_count)
     }
 
-    /// Runs a step, and returns whether the reply is right.
-    fn is_done(self, node: &mut Node<Fnv>, step: &Step) -> Result<bool, AllocError> {
+    /// Runs a step. Returns whether the reply is right.
+    fn is_step_right(self, node: &mut Node<Fnv>, step: &Step) -> Result<bool, AllocError> {
         let reply = node.step(step)?;
         Ok(self.is_right(&reply))
     }
 
+    /// Runs the steps one by one, each with its reply in place of the one before. Returns the number of right replies.
     fn run_steps_into(
         self,
         node: &mut Node<Fnv>,
         steps: &[Step],
         reply: &mut Reply,
     ) -> Result<u64, AllocError> {
-        let mut done: u64 = 0;
+        let mut right_count: u64 = 0;
         for step in steps {
             node.step_into(step, reply)?;
-            done = done.wrapping_add(u64::from(self.is_right(reply)));
+            right_count = right_count.wrapping_add(u64::from(self.is_right(reply)));
             if matches!(self, Phase::Insert) {
                 grow(node)?;
             }
         }
-        Ok(done)
+        Ok(right_count)
     }
 
+    /// Runs the steps in lists of `LIST`. Returns the number of right replies.
     fn run_lists(self, node: &mut Node<Fnv>, steps: &[Step]) -> Result<u64, AllocError> {
-        let mut done: u64 = 0;
+        let mut right_count: u64 = 0;
         for list in steps.chunks(LIST) {
-            done = done.wrapping_add(self.run_list(node, list)?);
+            right_count = right_count.wrapping_add(self.run_list(node, list)?);
             if matches!(self, Phase::Insert) {
                 for _ in 0..list.len() {
                     grow(node)?;
                 }
             }
         }
-        Ok(done)
+        Ok(right_count)
     }
 
+    /// Runs a list of steps. Returns the number of right replies.
     fn run_list(self, node: &mut Node<Fnv>, list: &[Step]) -> Result<u64, AllocError> {
         let Ok(replies) = node.run(list) else {
             return Err(AllocError);
         };
-        let mut done: u64 = 0;
+        let mut right_count: u64 = 0;
         for reply in replies.as_slice() {
-            done = done.wrapping_add(u64::from(self.is_right(reply)));
+            right_count = right_count.wrapping_add(u64::from(self.is_right(reply)));
         }
-        Ok(done)
+        Ok(right_count)
     }
 
+    /// Returns the seed of the order in which the phase takes the keys.
     fn seed(self) -> u64 {
         match self {
             Phase::Insert => 1,
@@ -157,19 +172,20 @@ impl Phase {
         }
     }
 
-    /// The call of a key. The keys of a miss are not among those of the others.
+    /// Builds the call of a key. The keys of a miss are not among those of the other phases.
     fn call(self, alloc: Global, k: u64, count: u32) -> Result<Call, AllocError> {
         match self {
             Phase::Insert => insert(alloc, k),
-            Phase::Hit => of_key(alloc, "lookup", k),
-            Phase::Miss => of_key(alloc, "member", k.wrapping_add(u64::from(count))),
+            Phase::Hit => call_of_key(alloc, "lookup", k),
+            Phase::Miss => call_of_key(alloc, "member", k.wrapping_add(u64::from(count))),
             Phase::Counter => count_up(alloc, k),
             Phase::Write => write(alloc, k),
             Phase::WriteOr => write_or(alloc, k),
-            Phase::Delete => of_key(alloc, "delete", k),
+            Phase::Delete => call_of_key(alloc, "delete", k),
         }
     }
 
+    /// Returns whether a reply is what the phase expects.
     fn is_right(self, reply: &Reply) -> bool {
         match self {
             Phase::Insert | Phase::Write | Phase::WriteOr | Phase::Delete => is_atom(reply, "true"),

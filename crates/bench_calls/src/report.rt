@@ -1,10 +1,11 @@
 ghost use Rattle.std.specs.Prelude.{◌<◌};
 
-use crate::clients::crowd;
+use crate::clients::time_clients;
 use crate::mixture::Outcome;
-use crate::node::{ask_all, fill, mixture_steps, with_table};
+use crate::node::{ask_all, fill, mixture_steps, node_with_table};
 use crate::phases::{PHASES, Phase, Way};
-use crate::servers::{Load, Plan, serve};
+use crate::plans::{Load, Plan};
+use crate::servers::time_server;
 use crate::walks;
 use ets_term::Fnv;
 use node_core::Node;
@@ -16,13 +17,14 @@ use std::sync::Wait;
 use std::thread::Threads;
 use std::time::{Duration, Instant};
 
-/// Small tables are made again and again, and each figure is the least.
+/// A small table is built again until about this many steps of a phase are timed, and the least time counts.
 const STEPS: u32 = 300_000;
 
-/// As many clients as are checked.
+/// The number of clients, and of callers of a server, whose results are checked.
 const CLIENTS: u32 = 3;
 
-fn repeats(count: u32) -> u32 {
+/// Returns how often a table with a number of objects is built.
+fn repeat_count(count: u32) -> u32 {
     (STEPS / count.max(1)).max(1)
 }
 
@@ -34,8 +36,8 @@ struct PhaseTime {
 }
 
 impl PhaseTime {
-    /// Does the phase once more. Its steps are made before the clock runs.
-    fn turn(
+    /// Runs the phase once more, and keeps the time if it is the least. Its steps are built before the clock runs.
+    fn run_once(
         &mut self,
         rt: &(impl Print + Alloc<A = Global> + Clock),
         way: Way,
@@ -53,27 +55,29 @@ impl PhaseTime {
     }
 }
 
+/// Returns all phases, none of them timed yet.
 fn all_phases(alloc: Global) -> Result<Vec<PhaseTime>, AllocError> {
-    let mut all = Vec::new(alloc);
+    let mut times = Vec::new(alloc);
     for phase in PHASES {
         let best = u64::MAX;
-        all.push(PhaseTime { phase, best })?;
+        times.push(PhaseTime { phase, best })?;
     }
-    Ok(all)
+    Ok(times)
 }
 
-/// Takes a table through all phases.
-fn one_life(
+/// Times all phases of a new table.
+fn time_life(
     rt: &(impl Print + Alloc<A = Global> + Clock),
     way: Way,
     phases: &mut [PhaseTime],
     count: u32,
 ) -> io::Result<()> {
-    let mut node = with_table(rt.alloc())?;
-    live(rt, way, &mut node, phases, count)
+    let mut node = node_with_table(rt.alloc())?;
+    time_phases(rt, way, &mut node, phases, count)
 }
 
-fn live(
+/// Times all phases of a table.
+fn time_phases(
     rt: &(impl Print + Alloc<A = Global> + Clock),
     way: Way,
     node: &mut Node<Fnv>,
@@ -81,20 +85,20 @@ fn live(
     count: u32,
 ) -> io::Result<()> {
     for time in phases {
-        time.turn(rt, way, node, count)?;
+        time.run_once(rt, way, node, count)?;
     }
     Ok(())
 }
 
-/// Prints nanoseconds per step for each phase of a table with a number of objects.
-pub(crate) fn times(
+/// Prints the nanoseconds a step for each phase of a table with a number of objects.
+pub(crate) fn print_times(
     rt: &(impl Print + Alloc<A = Global> + Clock),
     way: Way,
     count: u32,
 ) -> io::Result<()> {
     let mut phases = all_phases(rt.alloc())?;
-    for _turn in 0..repeats(count) {
-        one_life(rt, way, phases.as_mut_slice(), count)?;
+    for _turn in 0..repeat_count(count) {
+        time_life(rt, way, phases.as_mut_slice(), count)?;
     }
     for time in phases.as_slice() {
         let tenths = time.best.saturating_mul(10) / u64::from(count.max(1));
@@ -109,16 +113,17 @@ pub(crate) fn times(
     Ok(())
 }
 
-/// Prints nanoseconds a step of a mixture of steps of one caller.
-pub(crate) fn time_alone(
+/// Prints the nanoseconds a step of a mixture of steps of one caller.
+pub(crate) fn print_alone(
     rt: &(impl Print + Alloc<A = Global> + Clock),
     calls: u32,
 ) -> io::Result<()> {
-    let mut node = with_table(rt.alloc())?;
-    time_mixture(rt, &mut node, calls)
+    let mut node = node_with_table(rt.alloc())?;
+    print_mixture(rt, &mut node, calls)
 }
 
-fn time_mixture(
+/// Prints the nanoseconds a step of a mixture, on a table that it fills first.
+fn print_mixture(
     rt: &(impl Print + Alloc<A = Global> + Clock),
     node: &mut Node<Fnv>,
     calls: u32,
@@ -128,23 +133,23 @@ fn time_mixture(
     let start = Instant::now(rt)?;
     let found = ask_all(node, steps.as_slice())?;
     let nanoseconds = nanoseconds(start.elapsed(rt)?);
-    Outcome { nanoseconds, found }.show(rt, "alone", 1, calls)
+    Outcome { nanoseconds, found }.print(rt, "alone", 1, calls)
 }
 
-/// Prints nanoseconds a call of a number of clients, which ask a number of each at once.
-pub(crate) fn time_crowd<R: Print + Alloc<A = Global> + Clock + Threads + Wait + Sync>(
+/// Prints the nanoseconds a call of a number of clients that make a number of calls each in parallel.
+pub(crate) fn print_clients<R: Print + Alloc<A = Global> + Clock + Threads + Wait + Sync>(
     rt: &R,
     clients: u32,
     calls: u32,
 ) -> io::Result<()>
     requires { 0 < clients }
 {
-    crowd(rt, clients, calls)?.show(rt, "shared", clients, calls)
+    time_clients(rt, clients, calls)?.print(rt, "shared", clients, calls)
 }
 
-/// Prints nanoseconds per call of a number of callers of a server, which make a number of calls each in parallel: with
+/// Prints the nanoseconds a call of a number of callers of a server that make a number of calls each in parallel: with
 /// one lock, and then with a sharded one.
-pub(crate) fn time_servers<R: Print + Alloc<A = Global> + Clock + Threads + Wait + Sync>(
+pub(crate) fn print_servers<R: Print + Alloc<A = Global> + Clock + Threads + Wait + Sync>(
     rt: &R,
     load: Load,
     callers: u32,
@@ -158,39 +163,41 @@ pub(crate) fn time_servers<R: Print + Alloc<A = Global> + Clock + Threads + Wait
             locking,
             calls,
         };
-        show_servers(rt, plan, callers)?;
+        print_server(rt, plan, callers)?;
     }
     Ok(())
 }
 
-fn show_servers<R: Print + Alloc<A = Global> + Clock + Threads + Wait + Sync>(
+/// Prints the nanoseconds a call of the callers of one server.
+fn print_server<R: Print + Alloc<A = Global> + Clock + Threads + Wait + Sync>(
     rt: &R,
     plan: Plan,
     callers: u32,
 ) -> io::Result<()>
     requires { 0 < callers }
 {
-    let outcome = serve(rt, plan, callers)?;
+    let outcome = time_server(rt, plan, callers)?;
     match plan.load {
-        Load::Reads | Load::Lists => outcome.show_lookups(rt, plan.name(), callers, plan.calls),
-        Load::Mixture => outcome.show(rt, plan.name(), callers, plan.calls),
+        Load::Reads | Load::Lists => outcome.print_lookups(rt, plan.name(), callers, plan.calls),
+        Load::Mixture => outcome.print(rt, plan.name(), callers, plan.calls),
     }
 }
 
+/// Returns a duration in nanoseconds.
 pub(crate) fn nanoseconds(spent: Duration) -> u64 {
     u64::try_from(spent.as_nanos()).unwrap_or(u64::MAX)
 }
 
-/// Prints how many steps of each phase, and lookups of some clients, did what they should.
-pub(crate) fn check<R: Print + Alloc<A = Global> + Clock + Threads + Wait + Sync>(
+/// Prints how many steps of each phase, and lookups of clients and callers, did what they should.
+pub(crate) fn print_counts<R: Print + Alloc<A = Global> + Clock + Threads + Wait + Sync>(
     rt: &R,
     count: u32,
 ) -> io::Result<()> {
-    check_phases(rt, Way::Step, count)?;
-    check_phases(rt, Way::StepInto, count)?;
-    check_phases(rt, Way::Run, count)?;
-    walks::check(rt, count)?;
-    let outcome = crowd(rt, CLIENTS, count)?;
+    print_phase_counts(rt, Way::Step, count)?;
+    print_phase_counts(rt, Way::StepInto, count)?;
+    print_phase_counts(rt, Way::Run, count)?;
+    walks::print_counts(rt, count)?;
+    let outcome = time_clients(rt, CLIENTS, count)?;
     println!(rt; "clients found {}", outcome.found)?;
     for locking in [Locking::Single, Locking::Sharded] {
         for load in [Load::Mixture, Load::Reads, Load::Lists] {
@@ -199,19 +206,25 @@ pub(crate) fn check<R: Print + Alloc<A = Global> + Clock + Threads + Wait + Sync
                 locking,
                 calls: count,
             };
-            let outcome = serve(rt, plan, CLIENTS)?;
+            let outcome = time_server(rt, plan, CLIENTS)?;
             println!(rt; "{} found {}", plan.name(), outcome.found)?;
         }
     }
     Ok(())
 }
 
-fn check_phases(rt: &(impl Print + Alloc<A = Global>), way: Way, count: u32) -> io::Result<()> {
-    let mut node = with_table(rt.alloc())?;
-    check_life(rt, way, &mut node, count)
+/// Prints how many steps of each phase of a new table have right replies.
+fn print_phase_counts(
+    rt: &(impl Print + Alloc<A = Global>),
+    way: Way,
+    count: u32,
+) -> io::Result<()> {
+    let mut node = node_with_table(rt.alloc())?;
+    print_life_counts(rt, way, &mut node, count)
 }
 
-fn check_life(
+/// Prints how many steps of each phase of a table have right replies.
+fn print_life_counts(
     rt: &(impl Print + Alloc<A = Global>),
     way: Way,
     node: &mut Node<Fnv>,

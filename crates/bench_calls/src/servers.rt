@@ -1,14 +1,14 @@
-//! Callers of one server, each in a thread of its own: lookups one by one or in lists, or nine lookups to an insertion.
+//! Callers of one server, each in a thread of its own, timed over all their calls.
 ghost use Rattle.std.specs.Prelude.{◌≡◌, ◌<◌, All, vec_len};
 ghost use Rattle.std.specs.Thread.{IsSync};
 
-use crate::calls::{has_found, insert, new_table, of_key};
-use crate::mixture::{KEYS, Outcome, mixture};
-use crate::order::shuffle;
+use crate::calls::{has_found, insert, new_table};
+use crate::mixture::{KEYS, Outcome};
+use crate::plans::{LIST, Plan};
 use crate::report::nanoseconds;
 use ets_term::{Fnv, KeyHash};
 use node_core::{Call, Limits, Reply};
-use node_shared::{Caller, Drawn, HistoryId, Locking, NewHistory, Pids, Seat, Server};
+use node_shared::{Caller, Drawn, HistoryId, NewHistory, Pids, Seat, Server};
 use std::alloc::{AllocError, Global};
 use std::marker::Brand;
 use std::rt::Clock;
@@ -17,67 +17,8 @@ use std::thread::Threads;
 use std::time::Instant;
 use std::{io, thread};
 
-/// The number of lookups of a list.
-const LIST: usize = 16;
-
-/// The calls of each caller: lookups alone, lookups in lists, or the mixture.
-#[derive(Clone, Copy)]
-pub(crate) enum Load {
-    Reads,
-    Lists,
-    Mixture,
-}
-
-impl Load {
-    /// Returns how many calls a caller makes under one hold of the lock.
-    fn hold(self) -> usize {
-        match self {
-            Load::Lists => LIST,
-            Load::Reads | Load::Mixture => 1,
-        }
-    }
-
-    fn calls(self, alloc: Global, calls: u32) -> Result<Vec<Call>, AllocError> {
-        match self {
-            Load::Reads | Load::Lists => lookups(alloc, calls),
-            Load::Mixture => mixture(alloc, calls, 1),
-        }
-    }
-}
-
-fn lookups(alloc: Global, calls: u32) -> Result<Vec<Call>, AllocError> {
-    let mut lookups = Vec::new(alloc);
-    for k in shuffle(alloc, u64::from(calls), 2)? {
-        lookups.push(of_key(alloc, "lookup", k % KEYS)?)?;
-    }
-    Ok(lookups)
-}
-
-/// What each caller does, and which lock the server has.
-#[derive(Clone, Copy)]
-pub(crate) struct Plan {
-    pub(crate) load: Load,
-    pub(crate) locking: Locking,
-    /// The number of calls of each caller.
-    pub(crate) calls: u32,
-}
-
-impl Plan {
-    /// Returns the first word of the line with its figure.
-    pub(crate) fn name(self) -> &'static str {
-        match (self.locking, self.load) {
-            (Locking::Single, Load::Reads) => "server-reads",
-            (Locking::Single, Load::Lists) => "server-lists",
-            (Locking::Single, Load::Mixture) => "server",
-            (Locking::Sharded, Load::Reads) => "server-sharded-reads",
-            (Locking::Sharded, Load::Lists) => "server-sharded-lists",
-            (Locking::Sharded, Load::Mixture) => "server-sharded",
-        }
-    }
-}
-
-/// Times a number of callers.
-pub(crate) fn serve<R: Alloc<A = Global> + Clock + Threads + Wait + Sync>(
+/// Times a number of callers of a new server.
+pub(crate) fn time_server<R: Alloc<A = Global> + Clock + Threads + Wait + Sync>(
     rt: &R,
     plan: Plan,
     callers: u32,
@@ -89,26 +30,25 @@ pub(crate) fn serve<R: Alloc<A = Global> + Clock + Threads + Wait + Sync>(
         ..Limits::usual()
     };
     let history = NewHistory::new(rt.alloc())?;
-    serve_limited::<Brand, R>(rt, history, limits, plan)
+    time_server_within::<Brand, R>(rt, history, limits, plan)
 }
 
-fn serve_limited<B: HistoryId + Send + Sync, R: Alloc<A = Global> + Clock + Threads + Wait + Sync>(
-    rt: &R,
-    history: NewHistory,
-    limits: Limits,
-    plan: Plan,
-) -> io::Result<Outcome>
+/// Times the callers of a server with these limits, one for each process.
+fn time_server_within<
+    B: HistoryId + Send + Sync,
+    R: Alloc<A = Global> + Clock + Threads + Wait + Sync,
+>(rt: &R, history: NewHistory, limits: Limits, plan: Plan) -> io::Result<Outcome>
     requires table { history.word.shared.table_id ≡ B.table }
     requires limits { limits ≡ B.limits }
     requires some { 0 < limits.processes }
 {
     let callers = limits.processes;
     let server = Server::<B, Fnv>::new(rt.alloc(), plan.locking, history, limits, Fnv)?;
-    call_together(rt, &server, plan, callers)
+    time_calls(rt, &server, plan, callers)
 }
 
-/// Makes the calls before the clock runs.
-fn call_together<B: HistoryId + Send + Sync, R: Alloc<A = Global> + Clock + Threads + Wait + Sync>(
+/// Times the calls, which are built before the clock runs.
+fn time_calls<B: HistoryId + Send + Sync, R: Alloc<A = Global> + Clock + Threads + Wait + Sync>(
     rt: &R,
     server: &Server<B, Fnv>,
     plan: Plan,
@@ -116,7 +56,7 @@ fn call_together<B: HistoryId + Send + Sync, R: Alloc<A = Global> + Clock + Thre
 ) -> io::Result<Outcome>
     requires { 0 < callers }
 {
-    let work = work(rt, rt.alloc(), server, plan, callers)?;
+    let work = build_work(rt, rt.alloc(), server, plan, callers)?;
     let start = Instant::now(rt)?;
     let found = call_all(rt, server, work);
     let nanoseconds = nanoseconds(start.elapsed(rt)?);
@@ -124,7 +64,7 @@ fn call_together<B: HistoryId + Send + Sync, R: Alloc<A = Global> + Clock + Thre
 }
 
 /// Returns the callers with their calls and how many they make under one hold, over a table that has all keys.
-fn work<B: HistoryId, R: Wait>(
+fn build_work<B: HistoryId, R: Wait>(
     rt: &R,
     alloc: Global,
     server: &Server<B, Fnv>,
@@ -139,12 +79,13 @@ fn work<B: HistoryId, R: Wait>(
     }
     let mut work = Vec::new(alloc);
     for caller in callers {
-        let calls = plan.load.calls(alloc, plan.calls)?;
-        work.push((caller, calls, plan.load.hold()))?;
+        let calls = plan.load.build_calls(alloc, plan.calls)?;
+        work.push((caller, calls, plan.load.calls_a_hold()))?;
     }
     Ok(work)
 }
 
+/// Returns a number of callers that have joined a server.
 fn join_callers<B: HistoryId, R: Wait>(
     rt: &R,
     alloc: Global,
@@ -159,6 +100,7 @@ fn join_callers<B: HistoryId, R: Wait>(
     callers_of_seats(rt, alloc, server, &pids, seats)
 }
 
+/// Returns a caller for each seat.
 fn callers_of_seats<B: HistoryId, R: Wait>(
     rt: &R,
     alloc: Global,
@@ -170,12 +112,13 @@ fn callers_of_seats<B: HistoryId, R: Wait>(
 {
     let mut callers = Vec::new(alloc);
     while let Some(seat) = seats.pop() {
-        callers.push(caller(rt, server, pids.draw(seat))?)?;
+        callers.push(join_caller(rt, server, pids.draw(seat))?)?;
     }
     Ok(callers)
 }
 
-fn caller<B: HistoryId, R: Wait>(
+/// Joins a caller under a drawn pid.
+fn join_caller<B: HistoryId, R: Wait>(
     rt: &R,
     server: &Server<B, Fnv>,
     drawn: Drawn,
@@ -186,7 +129,7 @@ fn caller<B: HistoryId, R: Wait>(
     }
 }
 
-/// Makes the table, and inserts an object of each of the `KEYS`.
+/// Makes the table, and inserts an object of each of the `KEYS`, each with up to two growth steps.
 fn fill<B: HistoryId, R: Wait>(
     rt: &R,
     alloc: Global,
@@ -201,7 +144,7 @@ fn fill<B: HistoryId, R: Wait>(
     Ok(())
 }
 
-/// Makes the calls of each caller in a thread, and returns how many lookups found an object.
+/// Makes the calls of each caller in a thread. Returns how many lookups found an object.
 fn call_all<
     B: HistoryId + Send + Sync,
     H: KeyHash + Copy + Drop + Send + Sync,
@@ -229,7 +172,8 @@ fn call_all<
     front_found.wrapping_add(back_found)
 }
 
-/// Makes the calls of one caller, and returns how many lookups found an object; after a fault, none.
+/// Makes the calls of one caller, `hold` under one hold of the lock. Returns how many lookups found an object, or 0
+/// after a fault.
 fn call_each<B: HistoryId, H: KeyHash + Copy + Drop, R: Wait>(
     rt: &R,
     server: &Server<B, H>,
@@ -248,7 +192,7 @@ fn call_each<B: HistoryId, H: KeyHash + Copy + Drop, R: Wait>(
     found.unwrap_or(0)
 }
 
-/// Makes calls one by one, each by `read_into` if it only reads, and returns how many lookups found an object.
+/// Makes calls one by one, each by `read_into` if it only reads. Returns how many lookups found an object.
 fn call_in_turn<B: HistoryId, H: KeyHash + Copy + Drop, R: Wait>(
     rt: &R,
     alloc: Global,
@@ -267,7 +211,7 @@ fn call_in_turn<B: HistoryId, H: KeyHash + Copy + Drop, R: Wait>(
     Ok(found)
 }
 
-/// Makes lookups in lists, and returns how many found an object.
+/// Makes lookups in lists of `LIST`. Returns how many found an object.
 fn read_in_lists<B: HistoryId, H: KeyHash + Copy + Drop, R: Wait>(
     rt: &R,
     alloc: Global,
@@ -283,6 +227,7 @@ fn read_in_lists<B: HistoryId, H: KeyHash + Copy + Drop, R: Wait>(
     Ok(found)
 }
 
+/// Returns how many of the replies to lookups have an object.
 fn count_found(replies: &Vec<Option<Reply>>) -> u64 {
     let mut found: u64 = 0;
     for reply in replies.as_slice() {

@@ -1,4 +1,0 @@
-use Rattle.bench_calls.proofs.clients.crowd.Given as goal
-
-abbrev pub ghosts-share : goal.ghosts-share
-ghosts-share g a = record { name = a.blank.name; parts = a.blank.parts }

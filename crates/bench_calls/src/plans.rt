@@ -1,0 +1,71 @@
+//! What the callers of a server do: lookups one by one or in lists, or nine lookups to an insertion.
+use crate::calls::call_of_key;
+use crate::mixture::{KEYS, mixture};
+use crate::order::shuffle;
+use node_core::Call;
+use node_shared::Locking;
+use std::alloc::{AllocError, Global};
+
+/// The number of lookups in a list.
+pub(crate) const LIST: usize = 16;
+
+/// The calls of each caller.
+#[derive(Clone, Copy)]
+pub(crate) enum Load {
+    /// Lookups one by one.
+    Reads,
+    /// Lookups in lists of `LIST`.
+    Lists,
+    /// Nine lookups, then an insertion, and so on.
+    Mixture,
+}
+
+impl Load {
+    /// Returns how many calls a caller makes under one hold of the lock.
+    pub(crate) fn calls_a_hold(self) -> usize {
+        match self {
+            Load::Lists => LIST,
+            Load::Reads | Load::Mixture => 1,
+        }
+    }
+
+    /// Builds the calls of a caller.
+    pub(crate) fn build_calls(self, alloc: Global, calls: u32) -> Result<Vec<Call>, AllocError> {
+        match self {
+            Load::Reads | Load::Lists => build_lookups(alloc, calls),
+            Load::Mixture => mixture(alloc, calls, 1),
+        }
+    }
+}
+
+/// Builds a number of lookups, in the order of seed 2.
+fn build_lookups(alloc: Global, calls: u32) -> Result<Vec<Call>, AllocError> {
+    let mut lookups = Vec::new(alloc);
+    for k in shuffle(alloc, u64::from(calls), 2)? {
+        lookups.push(call_of_key(alloc, "lookup", k % KEYS)?)?;
+    }
+    Ok(lookups)
+}
+
+/// What each caller does, and which lock the server has.
+#[derive(Clone, Copy)]
+pub(crate) struct Plan {
+    pub(crate) load: Load,
+    pub(crate) locking: Locking,
+    /// The number of calls of each caller.
+    pub(crate) calls: u32,
+}
+
+impl Plan {
+    /// Returns the first word of the line with its figure.
+    pub(crate) fn name(self) -> &'static str {
+        match (self.locking, self.load) {
+            (Locking::Single, Load::Reads) => "server-reads",
+            (Locking::Single, Load::Lists) => "server-lists",
+            (Locking::Single, Load::Mixture) => "server",
+            (Locking::Sharded, Load::Reads) => "server-sharded-reads",
+            (Locking::Sharded, Load::Lists) => "server-sharded-lists",
+            (Locking::Sharded, Load::Mixture) => "server-sharded",
+        }
+    }
+}
