@@ -12,6 +12,12 @@ use std::alloc::{AllocError, Global};
 /// The greatest number of items, and of buckets.
 const MAX_COUNT: u64 = 1 << 31;
 
+/// The seed of the order in which items are inserted.
+const INSERT_SEED: u64 = 1;
+
+/// The seed of the order in which items are searched for.
+const FIND_SEED: u64 = 2;
+
 /// Inserts the items `{K,1}`, for each K below `items` in shuffled order, into a list of `buckets` buckets. If `finds`
 /// is not 0, it then searches for each item in another order, and returns how many it found. It returns 0 if `buckets`
 /// is not a power of two, if a number is above 2^31, and if memory runs out.
@@ -42,13 +48,13 @@ fn build_lists(alloc: Global, items: u64, buckets: u64) -> Result<Lists, AllocEr
     requires few_buckets { buckets ≤ 2 ^ 31 }
     ensures { IfOk result (λ l. IsReady l) }
 {
-    let mut lists = with_dummies(alloc, items, buckets)?;
+    let mut lists = build_dummies(alloc, items, buckets)?;
     insert(alloc, &mut lists, items)?;
     Ok(lists)
 }
 
-/// Builds a list of `buckets` buckets without items, with capacity for the items.
-fn with_dummies(alloc: Global, items: u64, buckets: u64) -> Result<Lists, AllocError>
+/// Builds a list of `buckets` buckets, which has only their dummies, with capacity for the items.
+fn build_dummies(alloc: Global, items: u64, buckets: u64) -> Result<Lists, AllocError>
     requires some { 0 < buckets }
     requires power { IsPowerOfTwo buckets }
     requires few_items { items ≤ 2 ^ 31 }
@@ -73,7 +79,7 @@ fn insert(alloc: Global, lists: &mut Lists, items: u64) -> Result<(), AllocError
     let len = order_len(items);
     let mut left = items;
     for i in 0..len {
-        let number = number_at(i, 1, len - 1);
+        let number = number_at(i, INSERT_SEED, len - 1);
         if number < items && left > 0 {
             left -= 1;
             lists.add_item(alloc, Integer::from(number))?;
@@ -82,7 +88,7 @@ fn insert(alloc: Global, lists: &mut Lists, items: u64) -> Result<(), AllocError
     Ok(())
 }
 
-/// Searches for each item, and returns how many it found.
+/// Searches for each item. Returns how many it found.
 fn count_found(lists: &Lists, items: u64) -> u64
     requires ready { IsReady lists.now }
     requires few_items { items ≤ 2 ^ 31 }
@@ -91,7 +97,7 @@ fn count_found(lists: &Lists, items: u64) -> u64
     let mut steps = Steps::new();
     let mut found = 0;
     for i in 0..len {
-        let number = number_at(i, 2, len - 1);
+        let number = number_at(i, FIND_SEED, len - 1);
         if number < items && lists.has_item(Integer::from(number), &mut steps) {
             found += 1;
         }

@@ -10,7 +10,8 @@ pub fn order_len(count: u64) -> u64
 }
 
 /// Returns the number at index `i` of a shuffled order. Each seed has its own multipliers, so that no order follows
-/// another. If `mask` is one less than a power of two, each number up to it occurs once.
+/// another. If `mask` is one less than a power of two, each number up to it occurs once: a multiplication by an odd
+/// number maps the numbers one to one, and so does an exclusive or with a shift. The multipliers are arbitrary.
 pub fn number_at(i: u64, seed: u64, mask: u64) -> u64 {
     let odd = seed.wrapping_mul(0xD6E8_FEB8_6659_FD92) | 1;
     let a = i.wrapping_mul(odd) & mask;

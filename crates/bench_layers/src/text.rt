@@ -1,6 +1,7 @@
 use std::alloc::Global;
 use term_text::{print_term, read_term};
 
+/// The text that is read and printed: a tuple of an atom, an integer, a list and a quoted atom.
 const TEXT: &str = "{key123,456,[1,2,3],'Hello World'}";
 
 /// Reads one text `turns` times. Returns how many bytes it read in all, modulo 2^64, or 0 if memory runs out. Its
