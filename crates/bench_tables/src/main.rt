@@ -36,6 +36,7 @@ fn run<S: Store>(
     }
 }
 
+/// Runs the part that the command line names on the store that it names: by default `check` on the rows.
 fn main(rt: HostRuntime) -> io::Result<()> {
     let mut words = env::args(&rt)?;
     let _program = words.next();

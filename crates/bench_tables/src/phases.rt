@@ -6,8 +6,11 @@ use std::alloc::{AllocError, Global};
 #[derive(Clone, Copy)]
 pub enum Phase {
     Insert,
+    /// Lookups of keys in the table.
     Hit,
+    /// Searches for keys that are not in the table.
     Miss,
+    /// Additions of one to the value of a key.
     Counter,
     Delete,
 }
@@ -22,6 +25,7 @@ pub const PHASES: [Phase; 5] = [
 ];
 
 impl Phase {
+    /// Returns the name of the phase in a report.
     pub(crate) fn name(self) -> &'static str {
         match self {
             Phase::Insert => "insert",
@@ -52,9 +56,9 @@ impl Phase {
     ) -> Result<u64, AllocError> {
         match self {
             Phase::Insert => insert_all(alloc, store, keys),
-            Phase::Hit => Ok(hits(store, keys)),
-            Phase::Miss => Ok(misses(store, keys)),
-            Phase::Counter => count_all(alloc, store, keys),
+            Phase::Hit => Ok(hit_all(store, keys)),
+            Phase::Miss => Ok(miss_all(store, keys)),
+            Phase::Counter => count_up_all(alloc, store, keys),
             Phase::Delete => Ok(delete_all(store, keys)),
         }
     }
@@ -69,6 +73,7 @@ fn absent_keys(alloc: Global, count: u64) -> Result<Vec<u64>, AllocError> {
     Ok(keys)
 }
 
+/// Inserts an object of each key. Returns how many calls did so.
 fn insert_all<S: Store>(alloc: Global, store: &mut S, keys: &[u64]) -> Result<u64, AllocError> {
     let mut done: u64 = 0;
     for key in keys {
@@ -77,7 +82,8 @@ fn insert_all<S: Store>(alloc: Global, store: &mut S, keys: &[u64]) -> Result<u6
     Ok(done)
 }
 
-fn hits<S: Store>(store: &mut S, keys: &[u64]) -> u64 {
+/// Reads the object of each key. Returns how many were there.
+fn hit_all<S: Store>(store: &mut S, keys: &[u64]) -> u64 {
     let mut done: u64 = 0;
     for key in keys {
         done = done.wrapping_add(u64::from(store.hit(*key)));
@@ -85,7 +91,8 @@ fn hits<S: Store>(store: &mut S, keys: &[u64]) -> u64 {
     done
 }
 
-fn misses<S: Store>(store: &mut S, keys: &[u64]) -> u64 {
+/// Searches for each key, none of which is in the table. Returns how many were not there.
+fn miss_all<S: Store>(store: &mut S, keys: &[u64]) -> u64 {
     let mut done: u64 = 0;
     for key in keys {
         done = done.wrapping_add(u64::from(store.miss(*key)));
@@ -93,7 +100,8 @@ fn misses<S: Store>(store: &mut S, keys: &[u64]) -> u64 {
     done
 }
 
-fn count_all<S: Store>(alloc: Global, store: &mut S, keys: &[u64]) -> Result<u64, AllocError> {
+/// Adds one to the value of each key. Returns how many calls did so.
+fn count_up_all<S: Store>(alloc: Global, store: &mut S, keys: &[u64]) -> Result<u64, AllocError> {
     let mut done: u64 = 0;
     for key in keys {
         done = done.wrapping_add(u64::from(store.count_up(alloc, *key)?));
@@ -101,6 +109,7 @@ fn count_all<S: Store>(alloc: Global, store: &mut S, keys: &[u64]) -> Result<u64
     Ok(done)
 }
 
+/// Deletes the object of each key. Returns how many were there.
 fn delete_all<S: Store>(store: &mut S, keys: &[u64]) -> u64 {
     let mut done: u64 = 0;
     for key in keys {

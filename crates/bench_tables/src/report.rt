@@ -5,23 +5,24 @@ use std::rt::{Clock, Files};
 use std::time::{Duration, Instant};
 use std::{fs, io};
 
-/// A small table is built again until about this many calls are made, and the least time counts.
+/// A small table is built again until about this many calls of a phase are timed, and the least time counts.
 const CALLS: u64 = 300_000;
 
+/// Returns how often a table with a number of objects is built.
 fn repeat_count(count: u64) -> u64 {
     (CALLS / count.max(1)).max(1)
 }
 
 /// A phase with its keys, and its least time so far in nanoseconds.
 #[derive(Drop)]
-struct Timed {
+struct TimedPhase {
     phase: Phase,
     keys: Vec<u64>,
     best: u64,
 }
 
-impl Timed {
-    /// Runs the phase once more.
+impl TimedPhase {
+    /// Runs the phase once more, and keeps the time if it is the least.
     fn run<S: Store>(
         &mut self,
         rt: &(impl Print + Alloc<A = Global> + Clock),
@@ -50,22 +51,23 @@ impl Timed {
     }
 }
 
-fn all_phases(alloc: Global, count: u64) -> Result<Vec<Timed>, AllocError> {
-    let mut all = Vec::new(alloc);
+/// Returns all phases with their keys, none of them timed yet.
+fn all_phases(alloc: Global, count: u64) -> Result<Vec<TimedPhase>, AllocError> {
+    let mut phases = Vec::new(alloc);
     for phase in PHASES {
-        all.push(Timed {
+        phases.push(TimedPhase {
             phase,
             keys: phase.keys(alloc, count)?,
             best: u64::MAX,
         })?;
     }
-    Ok(all)
+    Ok(phases)
 }
 
-/// Takes a table through all phases.
-fn one_life<S: Store>(
+/// Times all phases of a new table.
+fn time_life<S: Store>(
     rt: &(impl Print + Alloc<A = Global> + Clock),
-    phases: &mut [Timed],
+    phases: &mut [TimedPhase],
 ) -> io::Result<()> {
     let mut store = S::empty(rt.alloc())?;
     for timed in phases {
@@ -89,7 +91,7 @@ pub(crate) fn print_times<S: Store>(
 ) -> io::Result<()> {
     let mut phases = all_phases(rt.alloc(), count)?;
     for _turn in 0..repeat_count(count) {
-        one_life::<S>(rt, phases.as_mut_slice())?;
+        time_life::<S>(rt, phases.as_mut_slice())?;
     }
     for timed in phases.as_slice() {
         timed.print(rt, S::name())?;
@@ -118,6 +120,7 @@ pub(crate) fn print_longest<S: Store>(
     println!(rt; "{} longest {}", S::name(), longest)
 }
 
+/// Returns a duration in nanoseconds.
 fn nanoseconds(spent: Duration) -> u64 {
     u64::try_from(spent.as_nanos()).unwrap_or(u64::MAX)
 }
@@ -129,7 +132,7 @@ fn build_store<S: Store>(alloc: Global, keys: &[u64]) -> Result<S, AllocError> {
     Ok(store)
 }
 
-/// Prints the bytes an object. It builds tables until there are about 300,000 objects, so that the rounding to whole
+/// Prints the bytes an object. It builds tables until there are about `CALLS` objects, so that the rounding to whole
 /// pages matters little.
 pub(crate) fn print_bytes<S: Store>(
     rt: &(impl Print + Alloc<A = Global> + Files),
@@ -147,6 +150,9 @@ pub(crate) fn print_bytes<S: Store>(
     println!(rt; "{} bytes {}", S::name(), bytes / objects.max(1))
 }
 
+/// The bytes of a page of memory.
+const PAGE: u64 = 4096;
+
 /// Returns the bytes that this program has in memory now, on Linux.
 fn resident_bytes(rt: &(impl Alloc<A = Global> + Files)) -> io::Result<u64> {
     let text = fs::read_to_string(rt, "/proc/self/statm")?;
@@ -154,7 +160,7 @@ fn resident_bytes(rt: &(impl Alloc<A = Global> + Files)) -> io::Result<u64> {
         Some(word) => word.parse().unwrap_or(0),
         None => 0,
     };
-    Ok(pages.saturating_mul(4096))
+    Ok(pages.saturating_mul(PAGE))
 }
 
 /// Prints how many calls of each phase did what they should.

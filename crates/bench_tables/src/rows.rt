@@ -1,5 +1,5 @@
 //! The rows alone, as a table uses them.
-use crate::store::{Store, has_value, is_full, number, object};
+use crate::store::{Store, build_object, has_value, is_full, key_of};
 use bucket_table::{Rows, SlotEntry, SplitRows};
 use ets_term::{Fnv, Items, Term};
 use node_list::Chain;
@@ -15,11 +15,11 @@ impl Store for SplitRows<Fnv> {
     }
 
     fn insert(&mut self, alloc: Global, k: u64) -> Result<bool, AllocError> {
-        let key = number(k);
+        let key = key_of(k);
         let SlotEntry::Vacant(hash) = self.entry(&key) else {
             return Ok(false);
         };
-        let objects = Chain::one(alloc, object(alloc, k)?);
+        let objects = Chain::one(alloc, build_object(alloc, k)?);
         self.put_at(hash, key, objects)?;
         if grow_if_pending(self)? {
             grow_if_pending(self)?;
@@ -28,18 +28,18 @@ impl Store for SplitRows<Fnv> {
     }
 
     fn hit(&mut self, k: u64) -> bool {
-        match self.get(&number(k)) {
+        match self.get(&key_of(k)) {
             Some(objects) => has_value(objects),
             None => false,
         }
     }
 
     fn miss(&mut self, k: u64) -> bool {
-        self.get(&number(k)).is_none()
+        self.get(&key_of(k)).is_none()
     }
 
     fn count_up(&mut self, alloc: Global, k: u64) -> Result<bool, AllocError> {
-        let Some(place) = self.find(&number(k)) else {
+        let Some(place) = self.find(&key_of(k)) else {
             return Ok(false);
         };
         let mut objects = self.replace_at(place, Chain::one(alloc, Term::Int(0)));
@@ -60,7 +60,7 @@ impl Store for SplitRows<Fnv> {
     }
 
     fn delete(&mut self, k: u64) -> bool {
-        self.remove(&number(k)).is_some()
+        self.remove(&key_of(k)).is_some()
     }
 
     fn double(&mut self) -> Result<(), AllocError> {

@@ -32,12 +32,14 @@ pub trait Store: Drop {
     fn double(&mut self) -> Result<(), AllocError>;
 }
 
-pub(crate) fn number(k: u64) -> Term {
+/// Returns the key of a number.
+pub(crate) fn key_of(k: u64) -> Term {
     Term::Int(Integer::from(k))
 }
 
-pub(crate) fn object(alloc: Global, k: u64) -> Result<Term, AllocError> {
-    let fields = vec![in alloc; number(k), Term::Int(1)]?;
+/// Builds the object `{K,1}`.
+pub(crate) fn build_object(alloc: Global, k: u64) -> Result<Term, AllocError> {
+    let fields = vec![in alloc; key_of(k), Term::Int(1)]?;
     Ok(Term::Tuple(Items::from_vec(fields)))
 }
 

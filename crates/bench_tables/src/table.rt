@@ -1,5 +1,5 @@
 //! A whole table: the calls of ets, without a node's names and access.
-use crate::store::{Store, has_value, is_full, number, object};
+use crate::store::{Store, build_object, has_value, is_full, key_of};
 use bucket_table::SplitRows;
 use counters::{Op, Ops};
 use ets_term::Fnv;
@@ -32,7 +32,7 @@ impl Store for Table<SplitRows<Fnv>> {
     }
 
     fn insert(&mut self, alloc: Global, k: u64) -> Result<bool, AllocError> {
-        let objects = [object(alloc, k)?];
+        let objects = [build_object(alloc, k)?];
         if let Err(refusal) = Table::insert(self, &objects) {
             return memory_or_false(refusal);
         }
@@ -43,15 +43,15 @@ impl Store for Table<SplitRows<Fnv>> {
     }
 
     fn hit(&mut self, k: u64) -> bool {
-        has_value(self.lookup(&number(k)))
+        has_value(self.lookup(&key_of(k)))
     }
 
     fn miss(&mut self, k: u64) -> bool {
-        !self.member(&number(k))
+        !self.member(&key_of(k))
     }
 
     fn count_up(&mut self, _alloc: Global, k: u64) -> Result<bool, AllocError> {
-        match self.update_counter(&number(k), &ONE_MORE, None) {
+        match self.update_counter(&key_of(k), &ONE_MORE, None) {
             Ok(_) => Ok(true),
             Err(refusal) => memory_or_false(refusal),
         }
@@ -59,7 +59,7 @@ impl Store for Table<SplitRows<Fnv>> {
 
     fn delete(&mut self, k: u64) -> bool {
         let before = self.size();
-        self.delete_key(&number(k), false);
+        self.delete_key(&key_of(k), false);
         self.size() < before
     }
 
