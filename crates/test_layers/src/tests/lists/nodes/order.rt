@@ -1,0 +1,100 @@
+//! The order of nodes, in short and long lists: by their keys, and items of one key by their insertion.
+use super::{
+    Visits, add_dummy, add_item, count_visited, first_key_mismatch, search_for, second_place,
+};
+use ets_term::Term;
+use node_list::{At, NodeList};
+use std::alloc::{AllocError, Global};
+
+/// The split key of the dummy of bucket 0, which is the head.
+const DUMMY_0: u64 = 0;
+
+/// The split key of the dummy of bucket 1.
+const DUMMY_1: u64 = 4_294_967_296;
+
+/// The split key of the dummy of bucket 2.
+const DUMMY_2: u64 = 2_147_483_648;
+
+/// The split key of the dummy of bucket 3.
+const DUMMY_3: u64 = 6_442_450_944;
+
+/// The split key of an item of hash 3.
+const ITEM_OF_HASH_3: u64 = 6_442_450_945;
+
+/// Inserts the dummies of the buckets 1 to 3, and an item of hash 3, after the dummy of bucket 0.
+fn add_in_split_order(list: &mut NodeList, alloc: Global) -> Result<(), AllocError> {
+    add_dummy(list, DUMMY_1)?;
+    add_item(list, alloc, ITEM_OF_HASH_3, 3)?;
+    add_dummy(list, DUMMY_2)?;
+    add_dummy(list, DUMMY_3)?;
+    Ok(())
+}
+
+/// Split keys in ascending order, and how many nodes a search for each visits. Each key is one node further, and no
+/// node follows the last.
+pub(super) const SPLIT_ORDER: [(u64, Visits); 5] = [
+    (DUMMY_0, Visits(2)),
+    (DUMMY_2, Visits(3)),
+    (DUMMY_1, Visits(4)),
+    (DUMMY_3, Visits(5)),
+    (ITEM_OF_HASH_3, Visits(5)),
+];
+
+/// Returns whether dummies and an item are sorted by their split keys.
+pub(super) fn has_split_order(
+    list: &mut NodeList,
+    alloc: Global,
+    wanted: &[(u64, Visits)],
+) -> Result<bool, AllocError> {
+    add_in_split_order(list, alloc)?;
+    Ok(first_key_mismatch(list, wanted) == None && list.len() == 5)
+}
+
+/// Inserts two items of key 5 and one of key 7. Returns the places of the first two.
+fn add_equal_keys(list: &mut NodeList, alloc: Global) -> Result<(At, At), AllocError> {
+    let first = add_item(list, alloc, 5, 1)?;
+    let second = add_item(list, alloc, 5, 2)?;
+    add_item(list, alloc, 7, 1)?;
+    Ok((first, second))
+}
+
+/// Returns whether two items of one key are in the order of insertion, and a search counts the nodes that it visits.
+pub(super) fn finds_equal_keys(list: &mut NodeList, alloc: Global) -> Result<bool, AllocError> {
+    let (first, second) = add_equal_keys(list, alloc)?;
+    Ok(
+        second_place(list) == Some(first)
+            && search_for(list, 5, Term::Int(2)) == (Some(second), 3)
+            && search_for(list, 5, Term::Int(3)) == (None, 4)
+            && search_for(list, 9, Term::Int(1)) == (None, 4),
+    )
+}
+
+/// How many nodes a long list has, the head included.
+const NODES: u64 = 2_100;
+
+/// The greatest key of a long list.
+const LAST_KEY: u64 = 2_099;
+
+/// Inserts an item of each key from `LAST_KEY` down to 1, each after the head, so that the slab grows many times.
+fn add_many_nodes(list: &mut NodeList, alloc: Global) -> Result<(), AllocError> {
+    for number in 1..NODES {
+        add_item(list, alloc, NODES - number, 1)?;
+    }
+    Ok(())
+}
+
+/// Returns whether nodes are in the order of their keys: each search visits one node more.
+fn has_keys_in_order(list: &NodeList) -> bool {
+    for key in 0..LAST_KEY {
+        if count_visited(list, key) != key + 2 {
+            return false;
+        }
+    }
+    count_visited(list, LAST_KEY) == NODES
+}
+
+/// Returns whether a list can have many nodes, in order.
+pub(super) fn has_many_nodes(list: &mut NodeList, alloc: Global) -> Result<bool, AllocError> {
+    add_many_nodes(list, alloc)?;
+    Ok(list.len() == NODES as usize && has_keys_in_order(list))
+}
