@@ -17,6 +17,7 @@ pub struct Handle {
 }
 
 impl Handle {
+    /// Makes a handle without a store. `take` puts it in the place of the old one.
     fn make_closed(alloc: Global) -> Handle
         ensures { result.pointer.store ≡ None }
     {

@@ -21,6 +21,7 @@ impl<T, A: Allocator> Model for RawBox<T, A> {
 }
 
 impl<T: Drop, A: Allocator> RawBox<T, A> {
+    /// Turns a box into its pointer and its allocator.
     pub(crate) fn from_box(value: Box<T, A>) -> RawBox<T, A>
         ensures { result.value ≡ value.value }
     {
@@ -28,6 +29,7 @@ impl<T: Drop, A: Allocator> RawBox<T, A> {
         RawBox { at, alloc }
     }
 
+    /// Turns the pointer and the allocator back into the box.
     pub(crate) fn into_box(self) -> Box<T, A>
         ensures { result.value ≡ self.value }
     {
@@ -56,6 +58,7 @@ impl Model for StorePtr {
 unsafe impl Send for StorePtr {}
 
 impl StorePtr {
+    /// Forgets the type of the store, so that C can hold the pointer.
     pub(crate) fn from_raw_box(raw_box: RawBox<Store, Global>) -> StorePtr
         ensures { result.store ≡ Some raw_box.value }
     {
@@ -66,6 +69,7 @@ impl StorePtr {
         }
     }
 
+    /// Recalls the type of the store. The pointer must not be null.
     pub(crate) fn into_raw_box(self) -> RawBox<Store, Global>
         requires { IsSome self.store }
         ensures { self.store ≡ Some result.value }
@@ -77,6 +81,7 @@ impl StorePtr {
         }
     }
 
+    /// Makes a null pointer, which leads to no store.
     pub(crate) fn empty(alloc: Global) -> StorePtr
         ensures { result.store ≡ None }
     {

@@ -90,6 +90,7 @@ fn is_true(term: &Term) -> bool
     }
 }
 
+/// Prints the line of a syntax error at this offset.
 #[inline(never)]
 fn print_syntax<W: Write>(at: usize, output: &mut Output<'_, W>) -> Result<(), WriteFault>
     ensures same_writer { HasWriterOf output.old output.new }

@@ -5,6 +5,7 @@ ghost use Rattle.ets_script.specs.Classes as spec;
 
 use term_text::is_character_byte;
 
+/// Checks whether a byte may be on a line outside comments.
 fn is_printable(byte: u8) -> bool
     ensures { result ≡ spec.is_printable byte }
 {

@@ -58,12 +58,14 @@ impl<H: KeyHash + Copy + Drop> Script<H> {
         }
     }
 
+    /// Returns the node on which the script runs.
     pub fn node(&self) -> &Node<H>
         ensures { observable result.now ≡ self.now.node }
     {
         &self.node
     }
 
+    /// Returns the node, and drops the names.
     pub fn into_node(self) -> Node<H>
         ensures { observable result ≡ self.node }
     {

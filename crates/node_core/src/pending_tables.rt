@@ -31,6 +31,7 @@ impl Model for PendingTables {
 }
 
 impl PendingTables {
+    /// Makes an empty queue without a dirty table.
     pub fn new(alloc: Global) -> PendingTables
         ensures { result.ordered ≡ [] }
     {

@@ -184,6 +184,7 @@ fn run_steps<H: KeyHash + Copy + Drop>(
 }
 
 impl Walk {
+    /// Makes a traversal of the keys that it visited, in order.
     fn from_keys(keys: Vec<Term>) -> Walk
         ensures { result.keys ≡ keys.items }
     {

@@ -49,6 +49,7 @@ pub fn last_rule_of_call<R: Rows>(
     }
 }
 
+/// Returns the last rule of a refused call of one argument.
 fn last_rule_of_one<R: Rows>(used: &TableUse<R>, name: CallName) -> Reason
     ensures { result ≡ last_rule_of_known used.now.pid (option_copied used.now.metadata)
         (content_in (option_copied used.now.table)) name (used.now.term.now ∷ []) }
@@ -64,6 +65,7 @@ fn last_rule_of_one<R: Rows>(used: &TableUse<R>, name: CallName) -> Reason
     }
 }
 
+/// Returns the last rule of a refused call of two arguments.
 fn last_rule_of_two<R: Rows>(used: &TableUse<R>, name: CallName, y: &Term) -> Reason
     ensures { result ≡ last_rule_of_known used.now.pid (option_copied used.now.metadata)
         (content_in (option_copied used.now.table)) name (used.now.term.now ∷ y.now ∷ []) }
@@ -92,6 +94,7 @@ fn last_rule_of_two<R: Rows>(used: &TableUse<R>, name: CallName, y: &Term) -> Re
     }
 }
 
+/// Returns the last rule of a refused call of three arguments.
 fn last_rule_of_three<R: Rows>(used: &TableUse<R>, name: CallName, y: &Term, z: &Term) -> Reason
     ensures { result ≡ last_rule_of_known used.now.pid (option_copied used.now.metadata)
         (content_in (option_copied used.now.table)) name (used.now.term.now ∷ y.now ∷ z.now ∷ []) }
@@ -105,6 +108,7 @@ fn last_rule_of_three<R: Rows>(used: &TableUse<R>, name: CallName, y: &Term, z: 
     }
 }
 
+/// Returns the last rule of a refused call of four arguments, of which the last is a default.
 fn last_rule_of_four<R: Rows>(
     used: &TableUse<R>,
     name: CallName,

@@ -33,18 +33,21 @@ pub fn are_specs(keypos: u32, term: &Term) -> bool
     }
 }
 
+/// Checks whether each term is a counter operation that spares the key.
 fn are_all_ops(keypos: u32, terms: &[Term]) -> bool
     ensures { result ≡ list_all (λ term. is_some (op_of_parts keypos (elements term))) terms.now }
 {
     terms.iter().all(|term| is_op(keypos, parts_of(term)))
 }
 
+/// Checks whether each term is an element value that spares the key.
 fn are_all_specs(keypos: u32, terms: &[Term]) -> bool
     ensures { result ≡ list_all (λ term. is_some (spec_of_parts keypos (elements term))) terms.now }
 {
     terms.iter().all(|term| is_spec(keypos, parts_of(term)))
 }
 
+/// Returns the elements of a tuple; none of another term.
 fn parts_of(term: &Term) -> &[Term]
     ensures { result.now ≡ elements term.now }
 {
@@ -54,6 +57,7 @@ fn parts_of(term: &Term) -> &[Term]
     }
 }
 
+/// Checks whether the elements form a counter operation that does not change the key.
 #[tactic(auto, using(crate::proofs::FormLaws::update_forms))]
 fn is_op(keypos: u32, parts: &[Term]) -> bool
     ensures { result ≡ is_some (op_of_parts keypos parts.now) }
@@ -70,6 +74,7 @@ fn is_op(keypos: u32, parts: &[Term]) -> bool
     }
 }
 
+/// Checks whether the elements form an element value that does not change the key.
 fn is_spec(keypos: u32, parts: &[Term]) -> bool
     ensures { result ≡ is_some (spec_of_parts keypos parts.now) }
 {
@@ -89,6 +94,7 @@ fn is_position(keypos: u32, term: &Term) -> bool
     }
 }
 
+/// Checks whether a term is an integer.
 fn is_integer(term: &Term) -> bool
     ensures { result ≡ is_some (integer_of term.now) }
 {

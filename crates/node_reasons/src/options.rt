@@ -17,12 +17,14 @@ pub fn are_options(term: &Term) -> bool
     }
 }
 
+/// Checks whether each term is an option of `new`.
 fn are_all_options(terms: &[Term]) -> bool
     ensures { result ≡ list_all is_option terms.now }
 {
     terms.iter().all(|term| is_option(term))
 }
 
+/// Checks whether a term is an option of `new`: a word, an heir or a pair.
 fn is_option(term: &Term) -> bool
     ensures { result ≡ is_option term.now }
 {
@@ -33,12 +35,14 @@ fn is_option(term: &Term) -> bool
     }
 }
 
+/// Checks whether a word is an option of `new`: a kind, or a word of access.
 fn is_word(word: &str) -> bool
     ensures { result ≡ is_word word.now }
 {
     word == "set" || word == "bag" || word == "duplicate_bag" || is_access_word(word)
 }
 
+/// Checks whether a word is an option of access, `named_table` or `compressed`.
 fn is_access_word(word: &str) -> bool
     ensures { result ≡ is_access_word word.now }
 {
@@ -61,6 +65,7 @@ fn is_heir(elements: &[Term]) -> bool
     }
 }
 
+/// Checks whether the elements form an option that is a pair.
 fn is_plain(elements: &[Term]) -> bool
     ensures { result ≡ is_plain elements.now }
 {
@@ -70,6 +75,7 @@ fn is_plain(elements: &[Term]) -> bool
     }
 }
 
+/// Checks whether a name and its value set `keypos`, or only tune speed.
 fn is_pair(name: &Term, value: &Term) -> bool
     ensures { result ≡ is_pair name.now value.now }
 {
@@ -105,6 +111,7 @@ fn is_tuning(name: &Term, value: &Term) -> bool
     }
 }
 
+/// Checks whether a term is the atom `true` or `false`.
 fn is_boolean(term: &Term) -> bool
     ensures { result ≡ is_boolean term.now }
 {

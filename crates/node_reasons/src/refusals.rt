@@ -26,12 +26,14 @@ pub fn why<H: KeyHash + Copy + Drop>(node: &Node<H>, event: &Step, reply: &Reply
     explain(node, event, reply)
 }
 
+/// Returns the reason by the node's processes and tables.
 fn explain<H: KeyHash + Copy + Drop>(node: &Node<H>, event: &Step, reply: &Reply) -> Option<Reason>
     ensures { result ≡ reason_for node.now.world event.now reply.now }
 {
     reason_for(node.world(), event, reply)
 }
 
+/// Returns the reason for a reply, or `None` if the reply is a value.
 fn reason_for<R: Rows>(world: &World<R>, event: &Step, reply: &Reply) -> Option<Reason>
     ensures { result ≡ reason_for world.now event.now reply.now }
 {
@@ -57,6 +59,7 @@ fn last_rule<R: Rows>(world: &World<R>, event: &Step, limited: bool) -> Reason
     }
 }
 
+/// Returns the last reason of a refused call: first the process, then depths, then the call itself.
 fn last_rule_of_ask<R: Rows>(world: &World<R>, pid: u32, call: &Call, limited: bool) -> Reason
     ensures { result ≡ last_rule_of_ask world.now pid call.now limited }
 {

@@ -87,6 +87,7 @@ pub fn last_rule_of_update_element<R: Rows>(
     used.needs_write(rest)
 }
 
+/// Returns the reason that argument 3 is no position, or else `rest`.
 fn needs_position(position: &Term, rest: Reason) -> Reason
     ensures { result ≡ needs_position (position_of position.now) rest }
 {
@@ -106,6 +107,7 @@ fn needs_key(needed: bool, rest: Reason, objects: &[Term]) -> Reason
     }
 }
 
+/// Checks whether a table has at most one object for each key.
 fn is_set<R: Rows>(table: &Walked<R>) -> bool
     ensures { result ≡ is_set table.now.content.kind }
 {

@@ -37,6 +37,7 @@ impl<B: HistoryId> Model for Caller<B> {
 }
 
 impl<B: HistoryId> Caller<B> {
+    /// Makes the caller of a process, with its part of the history.
     pub(crate) fn of(pid: u32, writer: HistoryWriter<B>, seen: u64) -> Self
         ensures { result ≡ record { own = record { pid = pid; entries = writer }; seen = seen } }
     {
@@ -90,6 +91,7 @@ impl<B: HistoryId> Caller<B> {
         }
     }
 
+    /// Makes calls under one lock, then runs at most `growth` pending steps.
     fn ask_and_grow<H: KeyHash + Copy + Drop>(
         &mut self,
         word: &HistoryWord,
@@ -116,6 +118,7 @@ impl<B: HistoryId> Caller<B> {
         Ok(asked)
     }
 
+    /// Makes the calls in order, until one is refused memory.
     fn ask_each<H: KeyHash + Copy + Drop>(
         &mut self,
         word: &HistoryWord,
@@ -174,6 +177,7 @@ impl<B: HistoryId> Caller<B> {
         }
     }
 
+    /// Answers a call that changes nothing from a node under the lock.
     fn read_on<H: KeyHash + Copy + Drop>(
         &self,
         served: &ServedNode<B, H>,
@@ -208,6 +212,7 @@ impl<B: HistoryId> Caller<B> {
         }
     }
 
+    /// Writes the reply of a call that changes nothing, from a node under the lock. Returns whether it did.
     fn read_into_on<H: KeyHash + Copy + Drop>(
         &self,
         served: &ServedNode<B, H>,
@@ -245,6 +250,7 @@ impl<B: HistoryId> Caller<B> {
         }
     }
 
+    /// Answers each call that changes nothing from one state of a node under the lock.
     fn read_all_on<H: KeyHash + Copy + Drop>(
         &self,
         alloc: Global,
@@ -273,6 +279,7 @@ impl<B: HistoryId> Caller<B> {
         Ok(())
     }
 
+    /// Takes the lock of either kind for one step.
     fn step<H: KeyHash + Copy + Drop, R: Wait>(
         &mut self,
         rt: &R,
@@ -289,6 +296,7 @@ impl<B: HistoryId> Caller<B> {
         }
     }
 
+    /// Runs a step on a node under the lock, and notes how many entries its history has.
     fn step_on<H: KeyHash + Copy + Drop>(
         &mut self,
         word: &HistoryWord,
@@ -307,6 +315,7 @@ impl<B: HistoryId> Caller<B> {
     }
 }
 
+/// Makes the fault of calls that stopped after these replies.
 fn fault_after(replies: Vec<Reply>) -> RunFault
     ensures { result.replies ≡ replies.items }
 {

@@ -81,6 +81,7 @@ impl Drawn {
     }
 }
 
+/// Opens numbers below `n`, and as many seats to draw them.
 fn open_seats(alloc: Global, n: usize) -> Result<(Pids, Vec<Seat>), AllocError>
     requires { n ≤ MAX_PIDS }
     ensures seats { IfOk result (λ opened. (vec_len opened.1 ≡ n)

@@ -65,6 +65,7 @@ impl<B: HistoryId, H: KeyHash + Copy + Drop> Server<B, H> {
         }
     }
 
+    /// Takes the lock of either kind and enrols a process.
     fn join<R: Wait>(&self, rt: &R, pid: u32) -> Result<Caller<B>, BookFault>
         ensures ok { IfOk result (IsEnrolledCaller B.limits pid) }
         ensures start { IfOk result (λ caller. caller.own ≡ enrolled_record pid (Value (Pid pid))) }
@@ -77,6 +78,7 @@ impl<B: HistoryId, H: KeyHash + Copy + Drop> Server<B, H> {
         }
     }
 
+    /// Enrols a process on a node under the lock, and makes its caller.
     fn join_on(&self, served: &mut ServedNode<B, H>, pid: u32) -> Result<Caller<B>, BookFault>
         ensures ok { IfOk result (IsEnrolledCaller B.limits pid) }
         ensures start { IfOk result (λ caller. caller.own ≡ enrolled_record pid (Value (Pid pid))) }

@@ -109,6 +109,7 @@ pub fn keep<L: Ledger, H: KeyHash + Copy + Drop, R: Wait>(
     done
 }
 
+/// Checks whether all limits are equal.
 fn are_same(limits: Limits, own: Limits) -> bool
     ensures { Decides result (limits ≡ own) }
 {

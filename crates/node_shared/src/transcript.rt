@@ -55,6 +55,7 @@ impl<L: Ledger, H: KeyHash + Copy + Drop> Book<L, H> {
     }
 }
 
+/// Compares the journal with the records of the clients.
 fn compare<L: Ledger>(journal: Vec<Entry>, clients: &[Client<L>]) -> Result<Transcript, CloseFault>
     ensures comparison { Compares journal.items clients.now result }
     ensures decision { IsDecided result }
@@ -130,6 +131,7 @@ fn least_after_entry<L: Ledger>(
     }
 }
 
+/// Checks whether one of the clients acts for this process.
 fn has_client<L: Ledger>(pid: u32, clients: &[Client<L>]) -> bool
     ensures { result ≡ has_client pid clients.now }
 {

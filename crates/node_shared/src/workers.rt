@@ -77,6 +77,7 @@ fn run_from<
     Ok(done)
 }
 
+/// Runs the jobs of one client in order, until one is refused memory. Calls `before` and `after` around each.
 fn run_one<L: Ledger, H: KeyHash + Copy + Drop, G: Gate, R: Wait>(
     rt: &R,
     shared: &Shared<L, H>,
@@ -101,6 +102,7 @@ fn run_one<L: Ledger, H: KeyHash + Copy + Drop, G: Gate, R: Wait>(
     Worked { client, left }
 }
 
+/// Runs one job as a step of the client's process.
 fn work<L: Ledger, H: KeyHash + Copy + Drop, R: Wait>(
     rt: &R,
     shared: &Shared<L, H>,

@@ -67,6 +67,7 @@ pub fn term_text(alloc: Global, term: &Term) -> Result<String, AllocError>
     Ok(text)
 }
 
+/// Returns the text of an atom, in quotes if it needs them.
 fn atom_text(alloc: Global, atom: &Atom) -> Result<String, AllocError>
     ensures { IfOk result (λ text. string_bytes text ≡ atom_text atom.now) }
 {

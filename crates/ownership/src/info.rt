@@ -44,6 +44,7 @@ impl InfoItem {
         }
     }
 
+    /// Returns the item that a word names: one of the metadata, or one of the table itself.
     fn of_word(word: &str) -> Option<InfoItem>
         ensures { result ≡ word_item word.now }
     {
@@ -64,6 +65,7 @@ impl InfoItem {
         }
     }
 
+    /// Returns the item of the table itself that a word names.
     fn of_table_word(word: &str) -> Option<InfoItem>
         ensures { result ≡ table_item word.now }
     {
@@ -81,6 +83,7 @@ impl InfoItem {
     }
 }
 
+/// Makes an atom of a text that is short enough for one.
 fn atom(alloc: Global, text: &[u8]) -> Result<Term, AllocError>
     requires { IsAtomText text.now }
     ensures { IfOk result (λ t. t ≡ term.Atom text.now) }
@@ -88,6 +91,7 @@ fn atom(alloc: Global, text: &[u8]) -> Result<Term, AllocError>
     Ok(Term::Atom(Atom::of_bytes(alloc, text)?))
 }
 
+/// Makes the atom `true` or `false`.
 pub fn truth(alloc: Global, value: bool) -> Result<Term, AllocError>
     ensures { IfOk result (λ t. t ≡ truth value) }
 {
@@ -98,6 +102,7 @@ pub fn truth(alloc: Global, value: bool) -> Result<Term, AllocError>
     }
 }
 
+/// Makes the atom that names a protection.
 pub fn protection_term(alloc: Global, protection: Protection) -> Result<Term, AllocError>
     ensures { IfOk result (λ t. t ≡ term.Atom (protection_word protection)) }
 {
@@ -108,6 +113,7 @@ pub fn protection_term(alloc: Global, protection: Protection) -> Result<Term, Al
     }
 }
 
+/// Makes the atom that names a kind of table.
 pub fn kind_term(alloc: Global, kind: Kind) -> Result<Term, AllocError>
     ensures { IfOk result (λ t. t ≡ term.Atom (kind_word kind)) }
 {
@@ -118,6 +124,7 @@ pub fn kind_term(alloc: Global, kind: Kind) -> Result<Term, AllocError>
     }
 }
 
+/// Makes the pid of the heir, or the atom `none`.
 pub fn heir_term(alloc: Global, heir: &Option<Heir>) -> Result<Term, AllocError>
     ensures { IfOk result (λ t. t ≡ heir_term heir.now) }
 {

@@ -6,6 +6,7 @@ ghost use Rattle.script_reasons.specs.Classes as spec;
 
 use term_text::{is_character_byte, is_digit_byte, is_lowercase_byte, is_name_byte};
 
+/// Checks whether a byte is a blank on a line: a space or a tab.
 fn is_gap(byte: u8) -> bool
     ensures { result ≡ spec.is_gap byte }
 {
@@ -26,18 +27,21 @@ pub fn begins_nested_term(byte: u8) -> bool
     begins_atom(byte) || begins_number(byte) || matches!(byte, b'"' | b'[' | b'{' | b'<')
 }
 
+/// Checks whether an atom begins with this byte: a lower-case letter or a quote.
 pub fn begins_atom(byte: u8) -> bool
     ensures { result ≡ spec.begins_atom byte }
 {
     is_lowercase_byte(byte) || byte == b'\''
 }
 
+/// Checks whether an integer begins with this byte: a digit or a minus.
 pub fn begins_number(byte: u8) -> bool
     ensures { result ≡ spec.begins_number byte }
 {
     is_digit_byte(byte) || byte == b'-'
 }
 
+/// Checks whether a variable of Erlang begins with this byte.
 pub fn begins_variable(byte: u8) -> bool
     ensures { result ≡ spec.begins_variable byte }
 {
@@ -51,6 +55,7 @@ pub fn may_begin_term(byte: u8) -> bool
     begins_term(byte) || is_blank(byte)
 }
 
+/// Checks whether the grammar of terms allows this byte first.
 #[tactic(auto, unfolding(term_text::specs::Text::begins_term))]
 fn begins_term(byte: u8) -> bool
     ensures { result ≡ begins_term byte }
@@ -66,6 +71,7 @@ fn begins_term(byte: u8) -> bool
         || is_lowercase_byte(byte)
 }
 
+/// Checks whether the grammar of terms allows this byte between terms.
 #[tactic(auto, unfolding(term_text::specs::Text::is_blank))]
 fn is_blank(byte: u8) -> bool
     ensures { result ≡ is_blank byte }
@@ -95,6 +101,7 @@ pub fn digits_len(text: &[u8]) -> usize
     text.iter().take_while(|byte| is_digit_byte(**byte)).count()
 }
 
+/// Checks whether a text starts with a decimal digit.
 pub fn starts_with_digit(text: &[u8]) -> bool
     ensures { result ≡ begins is_digit text.now }
 {

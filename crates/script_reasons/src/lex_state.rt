@@ -14,6 +14,7 @@ pub enum QuoteState {
 }
 
 impl QuoteState {
+    /// Checks whether the text ends inside quotes.
     pub fn is_quoted(self) -> bool
         ensures { result ≡ spec.is_quoted self }
     {

@@ -73,6 +73,7 @@ pub fn diagnose_in_call(text: &[u8], at: usize) -> SyntaxProblem
     }
 }
 
+/// Diagnoses a line that ends too early.
 fn diagnose_end(state: &LexState) -> SyntaxProblem
     ensures { result ≡ spec.diagnose_end state.now }
 {
@@ -103,6 +104,7 @@ fn diagnose_byte(before: &[u8], byte: u8, after: &[u8]) -> SyntaxProblem
     }
 }
 
+/// Diagnoses a byte inside quotes.
 fn diagnose_in_quotes(state: &LexState, byte: u8) -> SyntaxProblem
     ensures { result ≡ spec.diagnose_in_quotes state.now byte }
 {
@@ -113,6 +115,7 @@ fn diagnose_in_quotes(state: &LexState, byte: u8) -> SyntaxProblem
     }
 }
 
+/// Diagnoses a byte after the parenthesis that ends a call.
 fn diagnose_after_call(byte: u8) -> SyntaxProblem
     ensures { result ≡ spec.diagnose_after_call byte }
 {
@@ -154,6 +157,7 @@ fn diagnose_unexpected_byte(before: &[u8], byte: u8, after: &[u8]) -> SyntaxProb
     }
 }
 
+/// Diagnoses a byte after `#`.
 fn diagnose_after_hash(byte: u8) -> SyntaxProblem
     ensures { result ≡ spec.diagnose_after_hash byte }
 {

@@ -80,6 +80,7 @@ impl<H: KeyHash + Copy + Drop> Node<H> {
     }
 }
 
+/// Checks whether a process may read, or may write, the table with this metadata.
 fn may_access(access: Access, metadata: &Metadata, pid: u32) -> bool
     ensures { result ≡ may_access access metadata.now pid }
 {

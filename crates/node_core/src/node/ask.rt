@@ -127,6 +127,7 @@ fn reads_only(name: CallName, args: &[Term]) -> bool
     }
 }
 
+/// Checks whether an argument of a call has more than 128 levels.
 fn any_too_deep(terms: &[Term]) -> bool
     ensures { result ≡ list_any is_too_deep terms.now }
 {

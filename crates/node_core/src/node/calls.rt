@@ -113,6 +113,7 @@ impl<H: KeyHash + Copy + Drop> Node<H> {
         }
     }
 
+    /// Makes a call of one argument that changes nothing. Returns `None` if the name has no such call.
     #[inline(never)]
     fn read_call_of_one(
         &self,
@@ -132,6 +133,7 @@ impl<H: KeyHash + Copy + Drop> Node<H> {
         }
     }
 
+    /// Makes a call of two arguments that changes nothing. Returns `None` if the name has no such call.
     #[inline(never)]
     fn read_call_of_two(
         &self,
@@ -200,6 +202,7 @@ impl<H: KeyHash + Copy + Drop> Node<H> {
         }
     }
 
+    /// Makes a call of one argument that may change the node.
     #[inline(never)]
     fn change_call_of_one(
         &mut self,
@@ -221,6 +224,7 @@ impl<H: KeyHash + Copy + Drop> Node<H> {
         }
     }
 
+    /// Makes a call of two arguments that may change the node.
     #[inline(never)]
     fn change_call_of_two(
         &mut self,

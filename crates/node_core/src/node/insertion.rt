@@ -12,6 +12,7 @@ use std::slice;
 use table_ops::Refusal;
 
 impl<H: KeyHash + Copy + Drop> Node<H> {
+    /// Inserts an object or a list of objects into the table that a term names.
     pub(crate) fn insert(&mut self, pid: u32, table: &Term, objects: &Term) -> Result<(), Refusal>
         ensures { RefinesReply (writes self.old pid table.now (Insert objects.now))
             self.old (to_reply (λ _. true_reply) result) self.new }
@@ -23,6 +24,7 @@ impl<H: KeyHash + Copy + Drop> Node<H> {
         Ok(())
     }
 
+    /// Inserts objects if none of their keys has an object yet. Returns whether it did.
     pub(crate) fn insert_new(
         &mut self,
         pid: u32,

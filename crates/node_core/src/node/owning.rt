@@ -13,6 +13,7 @@ use std::alloc::Global;
 use table_ops::Refusal;
 
 impl<H: KeyHash + Copy + Drop> Node<H> {
+    /// Passes the table that a term names to another process, with a message.
     pub(crate) fn give_away(
         &mut self,
         pid: u32,
@@ -33,6 +34,7 @@ impl<H: KeyHash + Copy + Drop> Node<H> {
         }
     }
 
+    /// Sets or removes the heir of the table that a term names.
     pub(crate) fn set_options(
         &mut self,
         pid: u32,
@@ -48,12 +50,14 @@ impl<H: KeyHash + Copy + Drop> Node<H> {
         }
     }
 
+    /// Empties the mailbox of the process into a list, oldest message first.
     pub(crate) fn receive(&mut self, pid: u32) -> Result<Reply, Refusal>
         ensures { RefinesReply (Receive self.old pid) self.old result self.new }
     {
         Ok(Reply::Value(Term::List(self.world.receive(pid))))
     }
 
+    /// Finds the table that has a name. Its reply is the identifier, or `undefined`.
     pub(crate) fn whereis(&self, name: &Term) -> Result<Reply, Refusal>
         ensures { RefinesReply (Whereis self.now name.now) self.now result self.now }
     {
@@ -66,6 +70,7 @@ impl<H: KeyHash + Copy + Drop> Node<H> {
         }
     }
 
+    /// Reads one item of the table that a term names. Its reply is `undefined` if there is no such table.
     pub(crate) fn info(&self, table: &Term, item: &Term) -> Result<Reply, Refusal>
         ensures { RefinesReply (Info self.now table.now item.now) self.now result self.now }
     {
@@ -91,6 +96,7 @@ fn can_name(term: &Term) -> bool
     }
 }
 
+/// Makes a reply of a term, or of the atom `undefined`.
 fn value_or_undefined(alloc: Global, value: Option<Term>) -> Reply
     ensures { result ≡ value_or_undefined value }
 {

@@ -11,6 +11,7 @@ use ets_term::{KeyHash, Term};
 use std::alloc::AllocError;
 
 impl<H: KeyHash + Copy + Drop> Node<H> {
+    /// Enrols a process. Its reply is the pid.
     pub(crate) fn enrol(&mut self, pid: u32) -> Result<Reply, AllocError>
         ensures ok { IfOk result (λ r. step self.old (Enrol pid) r self.new) }
         ensures err { OnErr result (self.new ≡ self.old) }
@@ -21,6 +22,7 @@ impl<H: KeyHash + Copy + Drop> Node<H> {
         }
     }
 
+    /// Ends a process. Its tables pass to their heirs or are deleted.
     pub(crate) fn end(&mut self, pid: u32) -> Result<Reply, AllocError>
         ensures ok { IfOk result (λ r. step self.old (End pid) r self.new) }
         ensures err { OnErr result (self.new ≡ self.old) }

@@ -13,6 +13,7 @@ use ets_term::{KeyHash, Term};
 use table_ops::Refusal;
 
 impl<H: KeyHash + Copy + Drop> Node<H> {
+    /// Writes the objects of a key as a list over an earlier reply.
     pub(crate) fn lookup(
         &self,
         pid: u32,
@@ -28,6 +29,7 @@ impl<H: KeyHash + Copy + Drop> Node<H> {
         Ok(())
     }
 
+    /// Checks whether a key has an object.
     pub(crate) fn member(&self, pid: u32, table: &Term, key: &Term) -> Result<bool, Refusal>
         ensures { RefinesReply (reads self.now pid table.now (member_reply key.now))
             self.now (to_reply truth_reply result) self.now }
@@ -36,6 +38,7 @@ impl<H: KeyHash + Copy + Drop> Node<H> {
         Ok(table.member(key))
     }
 
+    /// Returns the element at a position of a key's objects. Refuses a key without objects.
     pub(crate) fn lookup_element(
         &self,
         pid: u32,
@@ -52,6 +55,7 @@ impl<H: KeyHash + Copy + Drop> Node<H> {
         Ok(element)
     }
 
+    /// Returns the element at a position of a key's objects, or the default for a key without objects.
     pub(crate) fn lookup_element_or(
         &self,
         pid: u32,
@@ -70,6 +74,7 @@ impl<H: KeyHash + Copy + Drop> Node<H> {
         Ok(element)
     }
 
+    /// Returns all objects of the table that a term names.
     pub(crate) fn tab2list(&self, pid: u32, table: &Term) -> Result<Reply, Refusal>
         ensures { RefinesReply (reads self.now pid table.now tab2list_reply) self.now result self.now }
     {

@@ -11,6 +11,7 @@ use ets_term::{KeyHash, Term};
 use table_ops::Refusal;
 
 impl<H: KeyHash + Copy + Drop> Node<H> {
+    /// Removes the objects of a key and returns them.
     pub(crate) fn take(&mut self, pid: u32, table: &Term, key: &Term) -> Result<Reply, Refusal>
         ensures { RefinesReply (writes self.old pid table.now (Take key.now)) self.old result self.new }
     {
@@ -21,6 +22,7 @@ impl<H: KeyHash + Copy + Drop> Node<H> {
         Ok(Reply::Value(Term::List(objects)))
     }
 
+    /// Removes the objects of a key.
     pub(crate) fn delete(&mut self, pid: u32, table: &Term, key: &Term) -> Result<(), Refusal>
         ensures { RefinesReply (writes self.old pid table.now (Delete key.now))
             self.old (to_reply (λ _. true_reply) result) self.new }
@@ -32,6 +34,7 @@ impl<H: KeyHash + Copy + Drop> Node<H> {
         Ok(())
     }
 
+    /// Removes every object that is equal to this one.
     pub(crate) fn delete_object(
         &mut self,
         pid: u32,
@@ -48,6 +51,7 @@ impl<H: KeyHash + Copy + Drop> Node<H> {
         Ok(())
     }
 
+    /// Removes every object of the table that a term names.
     pub(crate) fn delete_all_objects(&mut self, pid: u32, table: &Term) -> Result<(), Refusal>
         ensures { RefinesReply (writes self.old pid table.now DeleteAllObjects)
             self.old (to_reply (λ _. true_reply) result) self.new }

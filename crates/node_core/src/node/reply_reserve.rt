@@ -43,6 +43,7 @@ impl<H: KeyHash + Copy + Drop> Node<H> {
         }
     }
 
+    /// Reserves memory for a second copy of a call's reply.
     fn reserve_for_call(
         &self,
         pid: u32,
@@ -60,6 +61,7 @@ impl<H: KeyHash + Copy + Drop> Node<H> {
         }
     }
 
+    /// Reserves memory for a call without arguments: for `receive`, a copy of the mailbox.
     fn reserve_for_none(&self, pid: u32, name: CallName) -> Result<ReplyReserve, AllocError>
         ensures { IfOk result (Suffices self.now (call self.now pid name [])) }
     {
@@ -72,6 +74,7 @@ impl<H: KeyHash + Copy + Drop> Node<H> {
         }
     }
 
+    /// Reserves memory for a call of two arguments: for `take` and `new`, a copy of the reply.
     fn reserve_for_two(
         &self,
         pid: u32,
@@ -168,6 +171,7 @@ fn flat_copy(alloc: Global, reply: &Reply) -> Option<Reply>
     }
 }
 
+/// Copies a term that needs no allocation, or returns `None`.
 fn flat_term(alloc: Global, term: &Term) -> Option<Term>
     ensures { MatchOption result
         (is_flat_term term.now ≡ false) (λ t. (t ≡ term.now) × (is_flat_term term.now ≡ true)) }
@@ -216,6 +220,7 @@ fn fill(alloc: Global, room: Vec<Term>, reply: &Reply) -> Reply
     }
 }
 
+/// Copies terms that need no allocation into reserved capacity.
 fn fill_terms(alloc: Global, room: Vec<Term>, terms: &[Term]) -> Items<Term>
     requires flat { list_all is_flat_term terms.now ≡ true }
     requires room { length terms.now ≤ vec_capacity room }

@@ -19,6 +19,7 @@ use std::alloc::Global;
 use table_ops::Refusal;
 
 impl<H: KeyHash + Copy + Drop> Node<H> {
+    /// Returns the bindings of each object that matches a pattern.
     pub(crate) fn match_bindings(
         &self,
         pid: u32,
@@ -35,6 +36,7 @@ impl<H: KeyHash + Copy + Drop> Node<H> {
         Ok(answers_reply(found?))
     }
 
+    /// Returns each object that matches a pattern.
     pub(crate) fn match_object(
         &self,
         pid: u32,
@@ -51,6 +53,7 @@ impl<H: KeyHash + Copy + Drop> Node<H> {
         Ok(Reply::Value(Term::List(found?)))
     }
 
+    /// Removes each object that matches a pattern.
     pub(crate) fn match_delete(
         &mut self,
         pid: u32,
@@ -68,6 +71,7 @@ impl<H: KeyHash + Copy + Drop> Node<H> {
         Ok(true_reply(alloc))
     }
 
+    /// Returns the result of a match specification for each object that it matches.
     pub(crate) fn select(&self, pid: u32, table: &Term, spec: &Term) -> Result<Reply, Refusal>
         ensures { RefinesReply (reads self.now pid table.now (select_reply spec.now))
             self.now result self.now }
@@ -79,6 +83,7 @@ impl<H: KeyHash + Copy + Drop> Node<H> {
         Ok(answers_reply(found?))
     }
 
+    /// Counts the objects for which a match specification gives `true`.
     pub(crate) fn select_count(&self, pid: u32, table: &Term, spec: &Term) -> Result<Reply, Refusal>
         ensures { RefinesReply (reads self.now pid table.now (select_count_reply spec.now))
             self.now result self.now }
@@ -90,6 +95,7 @@ impl<H: KeyHash + Copy + Drop> Node<H> {
         Ok(count_reply(count?))
     }
 
+    /// Removes the objects for which a match specification gives `true`, and counts them.
     pub(crate) fn select_delete(
         &mut self,
         pid: u32,
@@ -161,6 +167,7 @@ fn delete_chosen<R: Rows>(
     Ok(deleted?)
 }
 
+/// Makes a reply of the results of a search.
 fn answers_reply(found: Items<Term>) -> Reply
     ensures { result ≡ answers_reply (map data_of found) }
 {

@@ -19,6 +19,7 @@ use std::alloc::AllocError;
 use table_ops::{Refusal, Table};
 
 impl<H: KeyHash + Copy + Drop> Node<H> {
+    /// Creates a table with the options that a term lists.
     pub(crate) fn new_call(
         &mut self,
         pid: u32,
@@ -36,6 +37,7 @@ impl<H: KeyHash + Copy + Drop> Node<H> {
         }
     }
 
+    /// Creates an empty table with parsed options. It may have a pending step from now on.
     fn new_table(&mut self, pid: u32, name: &Atom, options: NewOptions) -> Result<Reply, Refusal>
         requires { 1 ≤ options.keypos }
         ensures { RefinesReply (makes self.old pid name.now options) self.old result self.new }
@@ -77,6 +79,7 @@ impl<H: KeyHash + Copy + Drop> Node<H> {
         Ok(Walked::new(self.alloc, table))
     }
 
+    /// Deletes the table that a term names, with its objects.
     pub(crate) fn delete_table(&mut self, pid: u32, table: &Term) -> Result<Reply, Refusal>
         ensures { RefinesReply (DeleteTable self.old pid table.now) self.old result self.new }
     {

@@ -17,6 +17,7 @@ use std::alloc::Global;
 use table_ops::Refusal;
 
 impl<H: KeyHash + Copy + Drop> Node<H> {
+    /// Adds to counters of a key's object and returns the new values.
     pub(crate) fn update_counter(
         &mut self,
         pid: u32,
@@ -38,6 +39,7 @@ impl<H: KeyHash + Copy + Drop> Node<H> {
         Ok(answer)
     }
 
+    /// Sets elements of a key's object. Returns whether an object was written.
     pub(crate) fn update_element(
         &mut self,
         pid: u32,

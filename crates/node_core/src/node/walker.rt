@@ -14,6 +14,7 @@ use ets_term::{KeyHash, Term};
 use std::alloc::Global;
 
 impl<H: KeyHash + Copy + Drop> Node<H> {
+    /// Returns the allocator of the node.
     pub(crate) fn allocator(&self) -> Global {
         self.alloc
     }

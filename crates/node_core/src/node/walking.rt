@@ -16,6 +16,7 @@ use std::alloc::{AllocError, Global};
 use table_ops::Refusal;
 
 impl<H: KeyHash + Copy + Drop> Node<H> {
+    /// Fixes or releases a table, as the flag says.
     pub(crate) fn safe_fixtable(
         &mut self,
         pid: u32,
@@ -33,6 +34,7 @@ impl<H: KeyHash + Copy + Drop> Node<H> {
         Err(Refusal::Badarg)
     }
 
+    /// Adds one fix of the process to a table that it may read.
     fn fix(&mut self, pid: u32, table: &Term) -> Result<Reply, Refusal>
         ensures { RefinesReply (changes self.old pid Read table.now (Fixes pid))
             self.old result self.new }
@@ -45,6 +47,7 @@ impl<H: KeyHash + Copy + Drop> Node<H> {
         Ok(true_reply(alloc))
     }
 
+    /// Gives back one fix of the process on a table that it may read.
     fn release(&mut self, pid: u32, table: &Term) -> Result<Reply, Refusal>
         ensures { RefinesReply (changes self.old pid Read table.now (Releases pid))
             self.old result self.new }
@@ -57,6 +60,7 @@ impl<H: KeyHash + Copy + Drop> Node<H> {
         Ok(true_reply(alloc))
     }
 
+    /// Returns the first key of a table, or the atom that marks its end.
     pub(crate) fn first(&self, pid: u32, table: &Term) -> Result<Reply, Refusal>
         ensures { RefinesReply (reads self.now pid table.now first_reply) self.now result self.now }
     {
@@ -64,6 +68,7 @@ impl<H: KeyHash + Copy + Drop> Node<H> {
         Ok(key_reply(self.alloc, table.first())?)
     }
 
+    /// Returns the key after this one, or the atom that marks the end of a table.
     pub(crate) fn next(&self, pid: u32, table: &Term, key: &Term) -> Result<Reply, Refusal>
         ensures { RefinesReply (reads self.now pid table.now (next_reply key.now)) self.now result self.now }
     {
@@ -72,6 +77,7 @@ impl<H: KeyHash + Copy + Drop> Node<H> {
         Ok(key_reply(self.alloc, found)?)
     }
 
+    /// Returns the first key of a table with its objects.
     pub(crate) fn first_lookup(&self, pid: u32, table: &Term) -> Result<Reply, Refusal>
         ensures { RefinesReply (reads self.now pid table.now first_lookup_reply) self.now result self.now }
     {
@@ -79,6 +85,7 @@ impl<H: KeyHash + Copy + Drop> Node<H> {
         Ok(slot_reply(self.alloc, table.first_lookup())?)
     }
 
+    /// Returns the key after this one with its objects.
     pub(crate) fn next_lookup(&self, pid: u32, table: &Term, key: &Term) -> Result<Reply, Refusal>
         ensures { RefinesReply (reads self.now pid table.now (next_lookup_reply key.now))
             self.now result self.now }

@@ -66,6 +66,7 @@ impl Indices {
     }
 }
 
+/// Checks whether there is a table with this identifier, and a process has fixed it.
 fn is_fixed_at<R: Rows>(tables: &[Option<OwnedTable<R>>], id: u32) -> bool
     ensures { result ≡ is_fixed_at tables.now id }
 {

@@ -40,6 +40,7 @@ pub fn heir_in_setopts(alloc: Global, options: &Term) -> Result<Option<Option<He
     }
 }
 
+/// Parses a term of the list of `setopts`, which must be an heir option. Returns the heir, or `None` for no heir.
 fn parse_heir_option(alloc: Global, option: &Term) -> Result<Option<Heir>, WorldFault>
     ensures { Reads (heir_form (out-Term option.now)) result }
 {
@@ -50,6 +51,7 @@ fn parse_heir_option(alloc: Global, option: &Term) -> Result<Option<Heir>, World
     heir.ok_or(WorldFault::Badarg)
 }
 
+/// Parses a list of heir options. The last one decides; an empty list changes nothing.
 fn parse_last_heir(alloc: Global, options: &[Term]) -> Result<Option<Option<Heir>>, WorldFault>
     ensures { (heir : Option model.Heir) → ReadsHeir (heirs_from heir options.now) heir result }
 {

@@ -12,6 +12,7 @@ use ets_term::Term;
 use std::alloc::Global;
 use table_ops::Kind;
 
+/// Parses the options of `new` in order. A later option overrides an earlier one.
 pub fn read_all(alloc: Global, terms: &[Term]) -> Result<NewOptions, WorldFault>
     ensures value { Reads (options_from default_options terms.now) result }
     ensures keypos { IfOk result (λ options. 1 ≤ options.keypos) }
@@ -64,6 +65,7 @@ impl NewOptions {
         }
     }
 
+    /// Applies one option. Returns `Badarg` if the term is no option.
     fn add(&mut self, alloc: Global, term: &Term) -> Result<(), WorldFault>
         requires { 1 ≤ self.old.keypos }
         ensures value { ReadsOption (option_form (out-Term term.now) self.old) result self.new }
@@ -80,6 +82,7 @@ impl NewOptions {
         Ok(())
     }
 
+    /// Applies an option that is an atom. Returns whether the word is one.
     fn set_word(&mut self, word: &str) -> bool
         requires { 1 ≤ self.old.keypos }
         ensures value { SetsOption (word_option word.now self.old) result self.new }
@@ -97,6 +100,7 @@ impl NewOptions {
         true
     }
 
+    /// Applies an option of access, `named_table` or `compressed`. Returns whether the word is one of these.
     fn set_access(&mut self, word: &str) -> bool
         requires { 1 ≤ self.old.keypos }
         ensures value { SetsOption (access_word word.now self.old) result self.new }
@@ -116,6 +120,7 @@ impl NewOptions {
         true
     }
 
+    /// Applies an option that is a tuple: an heir, or a pair.
     fn add_tuple(&mut self, alloc: Global, elements: &[Term]) -> Result<(), WorldFault>
         requires { 1 ≤ self.old.keypos }
         ensures value { ReadsOption (tuple_option elements.now self.old) result self.new }
@@ -131,6 +136,7 @@ impl NewOptions {
         Ok(())
     }
 
+    /// Applies an option that is a pair. Returns whether the tuple is one.
     fn set_tuple(&mut self, elements: &[Term]) -> bool
         requires { 1 ≤ self.old.keypos }
         ensures value { SetsOption (plain_tuple elements.now self.old) result self.new }
@@ -142,6 +148,7 @@ impl NewOptions {
         }
     }
 
+    /// Applies `{keypos,Pos}`, or accepts a pair that only tunes speed. Returns whether the pair is an option.
     fn set_pair(&mut self, name: &Term, value: &Term) -> bool
         requires { 1 ≤ self.old.keypos }
         ensures value { SetsOption (pair_option name.now value.now self.old) result self.new }

@@ -43,12 +43,14 @@ impl<R: Rows> World<R> {
         Ok(())
     }
 
+    /// Checks whether the process was ever enrolled. It may have ended since.
     fn was_enrolled(&self, pid: u32) -> bool
         ensures { result ≡ is_some (process_at self.now.processes pid) }
     {
         self.processes.contains_key(&pid)
     }
 
+    /// Checks whether the limit of processes is reached. Ended processes count.
     fn has_most_processes(&self) -> bool
         ensures { result ≡ nat_le self.now.most_processes (length self.now.processes) }
     {

@@ -30,6 +30,7 @@ impl<R: Rows> World<R> {
     }
 }
 
+/// Empties the mailbox of a process and returns its messages, oldest first.
 fn take_messages(alloc: Global, processes: &mut IndexMap<u32, Process>, pid: u32) -> Items<Term>
     ensures answer { result ≡ mailbox_of processes.old.entries pid }
     ensures after { processes.new.entries ≡ after_receive processes.old.entries pid }

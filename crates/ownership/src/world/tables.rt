@@ -117,6 +117,7 @@ impl<R: Rows> World<R> {
         options.named && self.whereis(name).is_some()
     }
 
+    /// Checks whether the limit of tables is reached. Deleted tables count.
     fn has_most_tables(&self) -> bool
         ensures full { result ≡ nat_le self.now.most_tables (length self.now.tables) }
         ensures few { result ≡ false → length self.now.tables + 1 < 2 ^ 32 }
