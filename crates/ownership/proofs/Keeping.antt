@@ -22,9 +22,9 @@ use Rattle.ownership.specs.inside.Indices.{IsAmong, AscendsBetween, OwnerIndexCo
 use Rattle.ownership.proofs.Ascending.{between-higher}
 use Rattle.ownership.proofs.MetadataLaws.{metadata-there, all_metadata-same}
 use Rattle.ownership.proofs.Kept.{names-stay, names-none}
-use Rattle.ownership.proofs.Noting.{noted-dirty}
+use Rattle.ownership.proofs.FixedTables.{listed-dirty}
 use Rattle.ownership.proofs.Owning.{same-number, forgets-others}
-use Rattle.ownership.proofs.Settling.{Left, left-over, left-others, idle-stays}
+use Rattle.ownership.proofs.Reassigning.{Left, left-over, left-others, idle-stays}
 
 -- a place changes
 place-set : (tables : Tables) (t : ℕ) (o : Option Table) (u : ℕ) (table : Table) → table_at (set tables t o) u ≡ Some table → ((u ≡ t) × (o ≡ Some table)) ⊎ (table_at tables u ≡ Some table)
@@ -78,31 +78,31 @@ owned-all owned tables p by_owner t table e own = subst (λ q. IsAmong t (owned 
 
 module _ (indices : Indices) (tables : Tables) (kept : IndicesInvariant indices tables) where
   -- more tables are listed under owners
-  pub kept-notes : (new : Indices) → AddsUnderOwners indices new → IndicesInvariant new tables
-  kept-notes new notes = subst (λ (i : Indices). IndicesInvariant i tables) (sym notes.rest) (record {
+  pub kept-adds : (new : Indices) → AddsUnderOwners indices new → IndicesInvariant new tables
+  kept-adds new adds = subst (λ (i : Indices). IndicesInvariant i tables) (sym adds.rest) (record {
     few = kept.few;
     room = kept.room;
     by_name = kept.by_name;
-    by_owner = λ t metadata at. notes.more metadata.owner t (kept.by_owner t metadata at);
-    order = notes.order kept.order;
-    noted = kept.noted;
+    by_owner = λ t metadata at. adds.more metadata.owner t (kept.by_owner t metadata at);
+    order = adds.order kept.order;
+    listed = kept.listed;
   })
 
   -- other tables are listed as fixed
   pub kept-beside : (now : Vec ℕ Global) (next : Option ℕ) → FixedAreListed now.items next tables → length tables ≤ vec_capacity now → IndicesInvariant (record indices { fixed = now; dirty = next }) tables
-  kept-beside now next noted room = record { few = kept.few; room = room; by_name = kept.by_name; by_owner = kept.by_owner; order = kept.order; noted = noted }
+  kept-beside now next listed room = record { few = kept.few; room = room; by_name = kept.by_name; by_owner = kept.by_owner; order = kept.order; listed = listed }
 
   -- a table is marked dirty
   pub kept-mark_dirty : indices.dirty ≡ None → (id : ℕ) → IndicesInvariant (record indices { dirty = Some id }) tables
-  kept-mark_dirty none id = kept-beside indices.fixed (Some id) (noted-dirty indices.fixed.items id tables (subst (λ dirty. FixedAreListed indices.fixed.items dirty tables) none kept.noted)) kept.room
+  kept-mark_dirty none id = kept-beside indices.fixed (Some id) (listed-dirty indices.fixed.items id tables (subst (λ dirty. FixedAreListed indices.fixed.items dirty tables) none kept.listed)) kept.room
 
   -- there is more capacity
   pub kept-room : (new : Indices) → new ≡ record indices { fixed = new.fixed } → new.fixed.items ≡ indices.fixed.items → vec_capacity indices.fixed ≤ vec_capacity new.fixed → IndicesInvariant new tables
-  kept-room new rest items more = subst (λ (i : Indices). IndicesInvariant i tables) (sym rest) (kept-beside new.fixed indices.dirty (subst (λ ids. FixedAreListed ids indices.dirty tables) (sym items) kept.noted) (omega (arith, kept.room, more)))
+  kept-room new rest items more = subst (λ (i : Indices). IndicesInvariant i tables) (sym rest) (kept-beside new.fixed indices.dirty (subst (λ ids. FixedAreListed ids indices.dirty tables) (sym items) kept.listed) (omega (arith, kept.room, more)))
 
   -- the names are as good
   pub kept-named : (new : Indices) → new ≡ record indices { names = new.names } → NameIndexIsExact (get_by_text new.names) (all_metadata tables) → IndicesInvariant new tables
-  kept-named new rest by_name = subst (λ (i : Indices). IndicesInvariant i tables) (sym rest) (record { few = kept.few; room = kept.room; by_name = by_name; by_owner = kept.by_owner; order = kept.order; noted = kept.noted })
+  kept-named new rest by_name = subst (λ (i : Indices). IndicesInvariant i tables) (sym rest) (record { few = kept.few; room = kept.room; by_name = by_name; by_owner = kept.by_owner; order = kept.order; listed = kept.listed })
 
   -- one place changes
   pub kept-set : (new : Indices) → new ≡ record indices { names = new.names } → (t : ℕ) (o : Option Table) → NameIndexIsExact (get_by_text new.names) (all_metadata (set tables t o))
@@ -113,8 +113,8 @@ module _ (indices : Indices) (tables : Tables) (kept : IndicesInvariant indices 
     by_name = by_name;
     by_owner = owners-by (ids_under indices) (set tables t o) (λ u table e. owner u table (place-set tables t o u table e));
     order = kept.order;
-    noted = record {
-      order = between-higher 0 (length tables) (length (set tables t o)) indices.fixed.items (omega (arith, length-set {A = Option Table})) kept.noted.order;
+    listed = record {
+      order = between-higher 0 (length tables) (length (set tables t o)) indices.fixed.items (omega (arith, length-set {A = Option Table})) kept.listed.order;
       each = λ u table e. each u table (place-set tables t o u table e);
     };
   })
@@ -125,15 +125,15 @@ module _ (indices : Indices) (tables : Tables) (kept : IndicesInvariant indices 
 
       each : (u : ℕ) (table : Table) → ((u ≡ t) × (o ≡ Some table)) ⊎ (table_at tables u ≡ Some table) → (indices.dirty ≡ Some u) ⊎ IsAmong u indices.fixed.items ⊎ IsUnfixed table.fixed
       each u table (inl is) = subst (λ i. (indices.dirty ≡ Some i) ⊎ IsAmong i indices.fixed.items ⊎ IsUnfixed table.fixed) (sym is.0) (here table is.1).1
-      each u table (inr there) = kept.noted.each u table there
+      each u table (inr there) = kept.listed.each u table there
 
   -- a place that is written as it is
   pub kept-same : (t : ℕ) (o : Option Table) → table_at tables t ≡ o → IndicesInvariant indices (set tables t o)
   kept-same t o at = subst (λ (ts : Tables). IndicesInvariant indices ts) (sym (ap (set tables t) (sym at) ∙ same-place tables t)) kept
 
   -- a table that keeps its objects and fixes keeps its entries
-  pub noted-same : (t : ℕ) (old new : Table) → table_at tables t ≡ Some old → new.fixed ≡ old.fixed → (indices.dirty ≡ Some t) ⊎ IsAmong t indices.fixed.items ⊎ IsUnfixed new.fixed
-  noted-same t old new at same = by (kept.noted.each t old at)
+  pub listed-same : (t : ℕ) (old new : Table) → table_at tables t ≡ Some old → new.fixed ≡ old.fixed → (indices.dirty ≡ Some t) ⊎ IsAmong t indices.fixed.items ⊎ IsUnfixed new.fixed
+  listed-same t old new at same = by (kept.listed.each t old at)
     where
       by : (indices.dirty ≡ Some t) ⊎ IsAmong t indices.fixed.items ⊎ IsUnfixed old.fixed → (indices.dirty ≡ Some t) ⊎ IsAmong t indices.fixed.items ⊎ IsUnfixed new.fixed
       by (inl is) = inl is
@@ -146,7 +146,7 @@ module _ (indices : Indices) (tables : Tables) (kept : IndicesInvariant indices 
   kept-metadata t None change e same holds own = kept-set indices refl t None (names-none (get_by_text indices.names) tables t e kept.by_name) (λ table is. absurd (cc))
   kept-metadata t (Some old) change e same holds own =
       kept-set indices refl t (Some (change old)) (names-stay (get_by_text indices.names) tables t old (change old) e (same old) kept.by_name)
-      (λ table is. let it = same_Some _ _ is in subst (λ (x : Table). IsAmong t (ids_under indices x.metadata.owner) × ((indices.dirty ≡ Some t) ⊎ IsAmong t indices.fixed.items ⊎ IsUnfixed x.fixed)) it (own old e, noted-same t old (change old) e (holds old)))
+      (λ table is. let it = same_Some _ _ is in subst (λ (x : Table). IsAmong t (ids_under indices x.metadata.owner) × ((indices.dirty ≡ Some t) ⊎ IsAmong t indices.fixed.items ⊎ IsUnfixed x.fixed)) it (own old e, listed-same t old (change old) e (holds old)))
 
   pub kept-passed : (t q : ℕ) → IsAmong t (ids_under indices q) → IndicesInvariant indices (with_changed (with_owner q) tables t)
   kept-passed t q own = kept-metadata t (table_at tables t) (with_owner q) refl (λ table name. refl) (λ table. refl) (λ table e. own)
@@ -165,7 +165,7 @@ module _ (indices : Indices) (tables : Tables) (kept : IndicesInvariant indices 
       → IndicesInvariant indices (set tables t (Some new))
   kept-released p t old new at left same own =
       kept-set indices refl t (Some new) (names-stay (get_by_text indices.names) tables t old new at same kept.by_name)
-      (λ it is. subst (λ (x : Table). IsAmong t (ids_under indices x.metadata.owner) × ((indices.dirty ≡ Some t) ⊎ IsAmong t indices.fixed.items ⊎ IsUnfixed x.fixed)) (same_Some _ _ is) (own, by (kept.noted.each t old at)))
+      (λ it is. subst (λ (x : Table). IsAmong t (ids_under indices x.metadata.owner) × ((indices.dirty ≡ Some t) ⊎ IsAmong t indices.fixed.items ⊎ IsUnfixed x.fixed)) (same_Some _ _ is) (own, by (kept.listed.each t old at)))
     where
       by : (indices.dirty ≡ Some t) ⊎ IsAmong t indices.fixed.items ⊎ IsUnfixed old.fixed → (indices.dirty ≡ Some t) ⊎ IsAmong t indices.fixed.items ⊎ IsUnfixed new.fixed
       by (inl is) = inl is
@@ -181,8 +181,8 @@ module _ (indices : Indices) (tables : Tables) (kept : IndicesInvariant indices 
     by_name = by_name;
     by_owner = owners-by (ids_under indices) (tables ++ Some table ∷ []) (λ u it e. owner u it (place-push tables (Some table) u it e));
     order = kept.order;
-    noted = record {
-      order = between-higher 0 (length tables) (length (tables ++ Some table ∷ [])) indices.fixed.items (omega (arith, length-append {A = Option Table})) kept.noted.order;
+    listed = record {
+      order = between-higher 0 (length tables) (length (tables ++ Some table ∷ [])) indices.fixed.items (omega (arith, length-append {A = Option Table})) kept.listed.order;
       each = λ u it e. each u it (place-push tables (Some table) u it e);
     };
   })
@@ -193,7 +193,7 @@ module _ (indices : Indices) (tables : Tables) (kept : IndicesInvariant indices 
 
       each : (u : ℕ) (it : Table) → ((u ≡ length tables) × (Some table ≡ Some it)) ⊎ (table_at tables u ≡ Some it) → (indices.dirty ≡ Some u) ⊎ IsAmong u indices.fixed.items ⊎ IsUnfixed it.fixed
       each u it (inl is) = inl (last ∙ ap Some (sym is.0))
-      each u it (inr there) = kept.noted.each u it there
+      each u it (inr there) = kept.listed.each u it there
 
 -- a table that is reassigned and not deleted keeps its name, and its owner has it in the index
 pub kept-left : (ps : Processes) (p : ℕ) (indices : Indices) (tables : Tables) → IndicesInvariant indices tables → HeirsOfOwnerAreIndexed indices ps p tables → (t : ℕ) (new : Table) → table_after_exit ps p (table_at tables t) ≡ Some new → IndicesInvariant indices (set tables t (Some new))
@@ -238,5 +238,5 @@ kept-empty indices none nobody no-fixed = record {
   by_name = none-named (get_by_text indices.names) none;
   by_owner = λ t metadata at. absurd (cc);
   order = λ p. subst (AscendsBetween 0 4294967296) (sym (nobody p)) (omega arith);
-  noted = record { order = subst (AscendsBetween 0 0) (sym no-fixed) (omega arith); each = λ t table at. absurd (cc) };
+  listed = record { order = subst (AscendsBetween 0 0) (sym no-fixed) (omega arith); each = λ t table at. absurd (cc) };
 }

@@ -6,9 +6,9 @@ pub mod Kept
 pub mod Posting
 pub mod Ascending
 pub mod Owning
-pub mod Noting
-pub mod Settling
+pub mod FixedTables
+pub mod Reassigning
 pub mod Sent
 pub mod Ending
 pub mod Keeping
-pub mod Settled
+pub mod ReassignedIndices

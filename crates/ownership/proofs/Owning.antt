@@ -43,22 +43,22 @@ module _ (before after : ℕ → Option (Vec ℕ Global)) (owner id : ℕ) (ids 
     order-at false p e a = a p
 
     -- an identifier more under an owner, in a new entry or an old one
-    pub noted : AddsUnder (λ p. ids_in (before p)) (λ p. ids_in (after p))
-    noted = record {
+    pub indexed : AddsUnder (λ p. ids_in (before p)) (λ p. ids_in (after p))
+    indexed = record {
       more = λ p t a. subst (IsAmong t) (sym (now-is p (nat_eq owner p) refl)) (more-at (nat_eq owner p) p t refl a);
       order = λ a p. subst (AscendsBetween 0 4294967296) (sym (now-is p (nat_eq owner p) refl)) (order-at (nat_eq owner p) p refl a);
     }
 
-    pub noted-here : IsAmong id (ids_in (after owner))
-    noted-here = subst (IsAmong id) (sym (now-is owner true (own-number owner))) put.here
+    pub indexed-here : IsAmong id (ids_in (after owner))
+    indexed-here = subst (IsAmong id) (sym (now-is owner true (own-number owner))) put.here
 
   same-at : (b : Bool) (p : ℕ) → nat_eq owner p ≡ b → ids.items ≡ ids_in (before owner) → cond b ids.items (ids_in (before p)) ≡ ids_in (before p)
   same-at true p e s = s ∙ ap (λ q. ids_in (before q)) (same-number owner p e)
   same-at false p e s = refl
 
   -- an entry written back unchanged
-  pub noted-same : ids.items ≡ ids_in (before owner) → AddsUnder (λ p. ids_in (before p)) (λ p. ids_in (after p))
-  noted-same s =
+  pub indexed-same : ids.items ≡ ids_in (before owner) → AddsUnder (λ p. ids_in (before p)) (λ p. ids_in (after p))
+  indexed-same s =
       let same : (p : ℕ) → ids_in (after p) ≡ ids_in (before p) = λ p. now-is p (nat_eq owner p) refl ∙ same-at (nat_eq owner p) p refl s in
       record { more = λ p t a. subst (IsAmong t) (sym (same p)) a; order = λ a p. subst (AscendsBetween 0 4294967296) (sym (same p)) (a p) }
 
@@ -90,29 +90,29 @@ module _ (owner : ℕ) (old new : Indices) (forgets : RemovesOwner owner old new
 pub put-first : (id : ℕ) → InsertsSorted [] id (id ∷ [])
 put-first id = record { here = inl refl; more = λ t a. absurd a; order = λ low high l u b. (l, omega (arith, u)) }
 
-pub notes-same : (indices : Indices) → AddsUnderOwners indices indices
-notes-same indices = record { rest = refl; more = λ p t a. a; order = λ a. a }
+pub adds-same : (indices : Indices) → AddsUnderOwners indices indices
+adds-same indices = record { rest = refl; more = λ p t a. a; order = λ a. a }
 
-pub notes-more : (old mid new : Indices) → AddsUnderOwners old mid → AddsUnderOwners mid new → AddsUnderOwners old new
-notes-more old mid new first next = record {
+pub adds-more : (old mid new : Indices) → AddsUnderOwners old mid → AddsUnderOwners mid new → AddsUnderOwners old new
+adds-more old mid new first next = record {
   rest = next.rest ∙ ap (λ (i : Indices). record i { owned = new.owned }) first.rest;
   more = λ p t a. next.more p t (first.more p t a);
   order = λ a. next.order (first.order a);
 }
 
 -- the result of an insertion, or memory is refused
-pub noted-either : {E : Type 0} (r : Result (Unit {0}) E) (before after : ℕ → Option (Vec ℕ Global)) (owner id : ℕ) (ids : Vec ℕ Global) → ((q : ℕ) → after q ≡ cond (nat_eq owner q) (Some ids) (before q)) → id < 4294967296
+pub indexed-either : {E : Type 0} (r : Result (Unit {0}) E) (before after : ℕ → Option (Vec ℕ Global)) (owner id : ℕ) (ids : Vec ℕ Global) → ((q : ℕ) → after q ≡ cond (nat_eq owner q) (Some ids) (before q)) → id < 4294967296
     → OnOk r (InsertsSorted (ids_in (before owner)) id ids.items) → OnErr r (ids.items ≡ ids_in (before owner)) → AddsUnder (λ p. ids_in (before p)) (λ p. ids_in (after p))
-noted-either (Ok done) before after owner id ids updated below put same = noted before after owner id ids updated put below
-noted-either (Err error) before after owner id ids updated below put same = noted-same before after owner id ids updated same
+indexed-either (Ok done) before after owner id ids updated below put same = indexed before after owner id ids updated put below
+indexed-either (Err error) before after owner id ids updated below put same = indexed-same before after owner id ids updated same
 
 pub inherited-more : (old new : Indices) (processes : Processes) (tables : Tables) (ids rest : List ℕ) (id : ℕ) → AddsUnderOwners old new
     → ((table : Table) (heir : Heir) → table_at tables id ≡ Some table → living_heir processes table.metadata ≡ Some heir → IsAmong id (ids_under new heir.pid))
     → ((t : ℕ) (table : Table) (heir : Heir) → IsAmong t ids → table_at tables t ≡ Some table → living_heir processes table.metadata ≡ Some heir → IsAmong t (id ∷ rest) ⊎ IsAmong t (ids_under old heir.pid))
     → (t : ℕ) (table : Table) (heir : Heir) → IsAmong t ids → table_at tables t ≡ Some table → living_heir processes table.metadata ≡ Some heir → IsAmong t rest ⊎ IsAmong t (ids_under new heir.pid)
-inherited-more old new processes tables ids rest id notes here each t table heir a at lives = by (each t table heir a at lives)
+inherited-more old new processes tables ids rest id adds here each t table heir a at lives = by (each t table heir a at lives)
   where
     by : IsAmong t (id ∷ rest) ⊎ IsAmong t (ids_under old heir.pid) → IsAmong t rest ⊎ IsAmong t (ids_under new heir.pid)
     by (inl (inl same)) = inr (subst (λ i. IsAmong i (ids_under new heir.pid)) (sym same) (here table heir (ap (table_at tables) (sym same) ∙ at) lives))
     by (inl (inr more)) = inl more
-    by (inr found) = inr (notes.more heir.pid t found)
+    by (inr found) = inr (adds.more heir.pid t found)

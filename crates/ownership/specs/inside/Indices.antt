@@ -97,4 +97,4 @@ pub record IndicesInvariant (indices : Indices) (tables : Tables) : Type 0 where
   pub by_name : NameIndexIsExact (get_by_text indices.names) (all_metadata tables)
   pub by_owner : OwnerIndexCovers (ids_under indices) (all_metadata tables)
   pub order : EachAscends (ids_under indices)
-  pub noted : FixedAreListed indices.fixed.items indices.dirty tables
+  pub listed : FixedAreListed indices.fixed.items indices.dirty tables

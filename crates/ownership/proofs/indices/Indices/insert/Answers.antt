@@ -7,7 +7,7 @@ use Rattle.ownership.specs.World.{all_metadata, whereis}
 use Rattle.ownership.specs.inside.Names.{NameIndexIsExact}
 use Rattle.ownership.specs.inside.Indices.{IsAmong, ids_under}
 use Rattle.ownership.proofs.MetadataLaws.{all_metadata-push, length-all_metadata}
-use Rattle.ownership.proofs.Keeping.{kept-notes, kept-room, kept-named, kept-push}
+use Rattle.ownership.proofs.Keeping.{kept-adds, kept-room, kept-named, kept-push}
 use Rattle.ownership.proofs.indices.Indices.insert.Goals as goal
 
 on-err : {E P : Type 0} (r : Result (Unit {0}) E) → P → OnErr r P
@@ -22,13 +22,13 @@ pub returns-in_err-index_owner-clause-err : goal.returns-in_err-index_owner-clau
 returns-in_err-index_owner-clause-err g c =
     let tables = c.args.tables.now in
     let room = kept-room c.mark_dirty.new.self tables c.mark_dirty.ensures.indices c.reserve.new.self c.reserve.ensures.rest c.reserve.ensures.items c.reserve.ensures.capacity in
-    on-err c.from_residual-in_err-index_owner.result (kept-notes c.reserve.new.self tables room c.index_owner.new.self c.index_owner.ensures.owners)
+    on-err c.from_residual-in_err-index_owner.result (kept-adds c.reserve.new.self tables room c.index_owner.new.self c.index_owner.ensures.owners)
 
 pub returns-in_err-index_name-clause-err : goal.returns-in_err-index_name-clause-err
 returns-in_err-index_name-clause-err g c =
     let tables = c.args.tables.now in
     let room = kept-room c.mark_dirty.new.self tables c.mark_dirty.ensures.indices c.reserve.new.self c.reserve.ensures.rest c.reserve.ensures.items c.reserve.ensures.capacity in
-    let owned = kept-notes c.reserve.new.self tables room c.index_owner.new.self c.index_owner.ensures.owners in
+    let owned = kept-adds c.reserve.new.self tables room c.index_owner.new.self c.index_owner.ensures.owners in
     on-err c.from_residual-in_err-index_name.result (kept-named c.index_owner.new.self tables owned c.index_name.new.self c.index_name.ensures.rest (c.in_err-index_name.ensures.err (all_metadata tables) owned.by_name))
 
 pub returns-clause-ok : goal.returns-clause-ok
@@ -37,7 +37,7 @@ returns-clause-ok g c =
     let table = c.args.table.now in
     let now = c.index_owner.new.self in
     let roomy = kept-room c.mark_dirty.new.self tables c.mark_dirty.ensures.indices c.reserve.new.self c.reserve.ensures.rest c.reserve.ensures.items c.reserve.ensures.capacity in
-    let owned = kept-notes c.reserve.new.self tables roomy now c.index_owner.ensures.owners in
+    let owned = kept-adds c.reserve.new.self tables roomy now c.index_owner.ensures.owners in
     let same : now.fixed ≡ c.reserve.new.self.fixed = ap (λ (i : Indices). i.fixed) c.index_owner.ensures.owners.rest in
     let room : length tables + 1 ≤ vec_capacity now.fixed = omega (arith, c.in_ok-reserve.ensures.ok, ap (λ f. vec_capacity f) same) in
     let last : now.dirty ≡ Some (length tables) = ap (λ (i : Indices). i.dirty) c.index_owner.ensures.owners.rest ∙ ap (λ (i : Indices). i.dirty) c.reserve.ensures.rest ∙ c.mark_dirty.ensures.dirty in

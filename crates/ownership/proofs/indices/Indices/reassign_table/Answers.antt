@@ -3,7 +3,7 @@ use Rattle.std.proofs.lemmas.List.{get_or_read}
 use Rattle.ownership.specs.World.{Tables, table_at}
 use Rattle.ownership.specs.End.{table_after_exit}
 use Rattle.ownership.specs.inside.Indices.{IndicesInvariant}
-use Rattle.ownership.proofs.Settling.{written-again}
+use Rattle.ownership.proofs.Reassigning.{written-again}
 use Rattle.ownership.proofs.indices.Indices.reassign_table.Goals as goal
 
 pub returns-clause-after : goal.returns-clause-after

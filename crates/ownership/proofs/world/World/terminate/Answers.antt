@@ -5,17 +5,17 @@ use Rattle.ownership.specs.End.{with_ended, after_exit, living_heir, table_after
 use Rattle.ownership.specs.inside.Ending.{after_transfers, messages_at}
 use Rattle.ownership.specs.inside.Indices.{IsAmong, HeirsAreIndexed, CoversTablesOf, ids_under}
 use Rattle.ownership.proofs.Ending.{all-after-same, posted-lives, heir-same, heir-before, ended-dead, messages-found}
-use Rattle.ownership.proofs.Keeping.{kept-notes, owned-all}
+use Rattle.ownership.proofs.Keeping.{kept-adds, owned-all}
 use Rattle.ownership.proofs.world.World.terminate.Goals as goal
 
 pub invariant_of-self : goal.invariant_of-self
-invariant_of-self g c = kept-notes c.self.inside.indices c.self.inside.tables.items c.self.invariant c.index_heirs.new.self c.index_heirs.ensures.owners
+invariant_of-self g c = kept-adds c.self.inside.indices c.self.inside.tables.items c.self.invariant c.index_heirs.new.self c.index_heirs.ensures.owners
 
 pub invariant_of-self-in_err-post_transfers : goal.invariant_of-self-in_err-post_transfers
-invariant_of-self-in_err-post_transfers g c = kept-notes c.self.inside.indices c.self.inside.tables.items c.self.invariant c.index_heirs.new.self c.index_heirs.ensures.owners
+invariant_of-self-in_err-post_transfers g c = kept-adds c.self.inside.indices c.self.inside.tables.items c.self.invariant c.index_heirs.new.self c.index_heirs.ensures.owners
 
 pub reassign_tables-requires-clause-indices : goal.reassign_tables-requires-clause-indices
-reassign_tables-requires-clause-indices g c = kept-notes c.self.inside.indices c.self.inside.tables.items c.self.invariant c.index_heirs.new.self c.index_heirs.ensures.owners
+reassign_tables-requires-clause-indices g c = kept-adds c.self.inside.indices c.self.inside.tables.items c.self.invariant c.index_heirs.new.self c.index_heirs.ensures.owners
 
 pub reassign_tables-requires-clause-dead : goal.reassign_tables-requires-clause-dead
 reassign_tables-requires-clause-dead g c =

@@ -79,13 +79,13 @@ module _ (ps : Processes) (p : ℕ) (dead : lives ps p ≡ false) where
       let once : table_after_exit ps p (Some table) ≡ Some (without_fixes p table) = rw own refl in
       rw once (rw own (ap (λ f. Some (record table { fixed = f })) (released-twice p table.fixed)))
 
-  pub settled-twice : (o : Option Table) → table_after_exit ps p (table_after_exit ps p o) ≡ table_after_exit ps p o
-  settled-twice None = refl
-  settled-twice (Some table) = twice-at (is_owner table.metadata p) table (living_heir ps table.metadata) refl refl
+  pub reassigned-twice : (o : Option Table) → table_after_exit ps p (table_after_exit ps p o) ≡ table_after_exit ps p o
+  reassigned-twice None = refl
+  reassigned-twice (Some table) = twice-at (is_owner table.metadata p) table (living_heir ps table.metadata) refl refl
 
   -- an idle table of another process needs no visit
-  pub settled-idle : (table : Table) → is_owner table.metadata p ≡ false → IsUnfixed table.fixed → table_after_exit ps p (Some table) ≡ Some table
-  settled-idle table other idle = rw other (ap (λ f. Some (record table { fixed = f })) (idle-stays p table.fixed idle))
+  pub reassigned-idle : (table : Table) → is_owner table.metadata p ≡ false → IsUnfixed table.fixed → table_after_exit ps p (Some table) ≡ Some table
+  reassigned-idle table other idle = rw other (ap (λ f. Some (record table { fixed = f })) (idle-stays p table.fixed idle))
 
 -- ---- lists of tables that are reassigned at places
 module _ (after : Option Table → Option Table) (empty : after None ≡ None) (twice : (o : Option Table) → after (after o) ≡ after o) where
@@ -94,35 +94,35 @@ module _ (after : Option Table → Option Table) (empty : after None ≡ None) (
   map-at (o ∷ tables) zero = ap (λ x. x ∷ map after tables) (twice o)
   map-at (o ∷ tables) (suc t) = ap (λ rest. after o ∷ rest) (map-at tables t)
 
-  pub settled-here : (tables : Tables) (t : ℕ) → IsReassigned after (set tables t (after (table_at tables t))) t
-  settled-here [] t = empty
-  settled-here (o ∷ tables) zero = twice o
-  settled-here (o ∷ tables) (suc t) = settled-here tables t
+  pub reassigned-here : (tables : Tables) (t : ℕ) → IsReassigned after (set tables t (after (table_at tables t))) t
+  reassigned-here [] t = empty
+  reassigned-here (o ∷ tables) zero = twice o
+  reassigned-here (o ∷ tables) (suc t) = reassigned-here tables t
 
-  settled-still : (tables : Tables) (t u : ℕ) → IsReassigned after tables u → (u ≡ t) ⊎ (u ≡ t → ⊥) → IsReassigned after (set tables t (after (table_at tables t))) u
-  settled-still tables t u s (inl same) = subst (IsReassigned after (set tables t (after (table_at tables t)))) (sym same) (settled-here tables t)
-  settled-still tables t u s (inr other) =
+  reassigned-still : (tables : Tables) (t u : ℕ) → IsReassigned after tables u → (u ≡ t) ⊎ (u ≡ t → ⊥) → IsReassigned after (set tables t (after (table_at tables t))) u
+  reassigned-still tables t u s (inl same) = subst (IsReassigned after (set tables t (after (table_at tables t)))) (sym same) (reassigned-here tables t)
+  reassigned-still tables t u s (inr other) =
       let there = get_or-set_other tables t u (after (table_at tables t)) None other in
       ap after there ∙ s ∙ sym there
 
-  pub settled-there : (tables : Tables) (t u : ℕ) → IsReassigned after tables u → IsReassigned after (set tables t (after (table_at tables t))) u
-  settled-there tables t u s = settled-still tables t u s (cases_eq u t)
+  pub reassigned-there : (tables : Tables) (t u : ℕ) → IsReassigned after tables u → IsReassigned after (set tables t (after (table_at tables t))) u
+  reassigned-there tables t u s = reassigned-still tables t u s (cases_eq u t)
 
   -- one more table is reassigned
-  pub settles-more : (ids : List ℕ) (id : ℕ) (old mid new : Tables) → ReassignsTables after ids old mid → new ≡ set mid id (after (table_at mid id)) → ReassignsTables after (ids ++ id ∷ []) old new
-  settles-more ids id old mid new settles is = record {
-    same = ap (map after) is ∙ map-at mid id ∙ settles.same;
+  pub reassigns-more : (ids : List ℕ) (id : ℕ) (old mid new : Tables) → ReassignsTables after ids old mid → new ≡ set mid id (after (table_at mid id)) → ReassignsTables after (ids ++ id ∷ []) old new
+  reassigns-more ids id old mid new reassigns is = record {
+    same = ap (map after) is ∙ map-at mid id ∙ reassigns.same;
     here = λ t a. subst (λ (ts : Tables). IsReassigned after ts t) (sym is) (by t (among-either ids (id ∷ []) t a));
-    there = λ t s. subst (λ (ts : Tables). IsReassigned after ts t) (sym is) (settled-there mid id t (settles.there t s));
+    there = λ t s. subst (λ (ts : Tables). IsReassigned after ts t) (sym is) (reassigned-there mid id t (reassigns.there t s));
   }
     where
       by : (t : ℕ) → IsAmong t ids ⊎ IsAmong t (id ∷ []) → IsReassigned after (set mid id (after (table_at mid id))) t
-      by t (inl among) = settled-there mid id t (settles.here t among)
-      by t (inr (inl same)) = subst (IsReassigned after (set mid id (after (table_at mid id)))) (sym same) (settled-here mid id)
+      by t (inl among) = reassigned-there mid id t (reassigns.here t among)
+      by t (inr (inl same)) = subst (IsReassigned after (set mid id (after (table_at mid id)))) (sym same) (reassigned-here mid id)
       by t (inr (inr none)) = absurd none
 
-pub settles-none : (after : Option Table → Option Table) (tables : Tables) → ReassignsTables after [] tables tables
-settles-none after tables = record { same = refl; here = λ t a. absurd a; there = λ t s. s }
+pub reassigns-none : (after : Option Table → Option Table) (tables : Tables) → ReassignsTables after [] tables tables
+reassigns-none after tables = record { same = refl; here = λ t a. absurd a; there = λ t s. s }
 
 -- a place that is written twice
 pub written-again : (tables : Tables) (t : ℕ) (d o : Option Table) → set (set tables t d) t o ≡ set tables t o
@@ -131,9 +131,9 @@ written-again (x ∷ tables) zero d o = refl
 written-again (x ∷ tables) (suc t) d o = ap (λ rest. x ∷ rest) (written-again tables t d o)
 
 -- if all tables are reassigned, nothing changes
-all-settled : (after : Option Table → Option Table) (tables : Tables) → ((t : ℕ) → IsReassigned after tables t) → map after tables ≡ tables
-all-settled after [] s = refl
-all-settled after (o ∷ tables) s = let here = s 0 in let rest = all-settled after tables (λ t. s (suc t)) in λ i. here i ∷ rest i
+all-reassigned : (after : Option Table → Option Table) (tables : Tables) → ((t : ℕ) → IsReassigned after tables t) → map after tables ≡ tables
+all-reassigned after [] s = refl
+all-reassigned after (o ∷ tables) s = let here = s 0 in let rest = all-reassigned after tables (λ t. s (suc t)) in λ i. here i ∷ rest i
 
 -- ---- the tables after the end of a process
 pub record Left (ps : Processes) (p : ℕ) (o : Option Table) (new : Table) : Type 0 where
@@ -178,33 +178,33 @@ released-idle-at false p f e free =
 pub released-idle : (p : ℕ) (f : TableState) → is_fixed (after_release_all p f).fixes ≡ false → IsUnfixed (after_release_all p f)
 released-idle p f free = released-idle-at (is_fixed (remove f.fixes p)) p f refl free
 
-module _ (ps : Processes) (p : ℕ) (dead : lives ps p ≡ false) (old : Tables) (own fixed : List ℕ) (noted : FixedAreListed fixed None old) (owned : CoversTablesOf own p old) where
-  settled-first : (t : ℕ) (o : Option Table) → table_at old t ≡ o → IsAmong t own ⊎ IsAmong t fixed ⊎ (table_after_exit ps p o ≡ o)
-  settled-first t None e = inr (inr refl)
-  settled-first t (Some table) e = by (is_owner table.metadata p) refl (noted.each t table e)
+module _ (ps : Processes) (p : ℕ) (dead : lives ps p ≡ false) (old : Tables) (own fixed : List ℕ) (listed : FixedAreListed fixed None old) (owned : CoversTablesOf own p old) where
+  reassigned-first : (t : ℕ) (o : Option Table) → table_at old t ≡ o → IsAmong t own ⊎ IsAmong t fixed ⊎ (table_after_exit ps p o ≡ o)
+  reassigned-first t None e = inr (inr refl)
+  reassigned-first t (Some table) e = by (is_owner table.metadata p) refl (listed.each t table e)
     where
       by : (b : Bool) → is_owner table.metadata p ≡ b → (None ≡ Some t) ⊎ IsAmong t fixed ⊎ IsUnfixed table.fixed → IsAmong t own ⊎ IsAmong t fixed ⊎ (table_after_exit ps p (Some table) ≡ Some table)
       by true is n = inl (owned t table e is)
       by false is (inl dirty) = absurd (cc)
       by false is (inr (inl among)) = inr (inl among)
-      by false is (inr (inr idle)) = inr (inr (settled-idle ps p dead table is idle))
+      by false is (inr (inr idle)) = inr (inr (reassigned-idle ps p dead table is idle))
 
   -- to reassign the tables of the process and the listed ones is to reassign all
-  pub settles-all : (new : Tables) → ReassignsTables (table_after_exit ps p) (own ++ fixed) old new → new ≡ map (table_after_exit ps p) old
-  settles-all new settles = sym (all-settled (table_after_exit ps p) new each) ∙ settles.same
+  pub reassigns-all : (new : Tables) → ReassignsTables (table_after_exit ps p) (own ++ fixed) old new → new ≡ map (table_after_exit ps p) old
+  reassigns-all new reassigns = sym (all-reassigned (table_after_exit ps p) new each) ∙ reassigns.same
     where
       by : (t : ℕ) → IsAmong t own ⊎ IsAmong t fixed ⊎ (table_after_exit ps p (table_at old t) ≡ table_at old t) → IsReassigned (table_after_exit ps p) new t
-      by t (inl mine) = settles.here t (among-left own fixed t mine)
-      by t (inr (inl among)) = settles.here t (among-right own fixed t among)
-      by t (inr (inr settled)) = settles.there t settled
+      by t (inl mine) = reassigns.here t (among-left own fixed t mine)
+      by t (inr (inl among)) = reassigns.here t (among-right own fixed t among)
+      by t (inr (inr reassigned)) = reassigns.there t reassigned
 
       each : (t : ℕ) → IsReassigned (table_after_exit ps p) new t
-      each t = by t (settled-first t (table_at old t) refl)
+      each t = by t (reassigned-first t (table_at old t) refl)
 
   -- the entries afterwards
-  pub noted-after : (new : Tables) → new ≡ map (table_after_exit ps p) old → FixedAreListed (filter (is_fixed_at new) fixed) None new
-  noted-after new is = record {
-    order = subst (λ n. AscendsBetween 0 n (filter (is_fixed_at new) fixed)) (sym (ap (λ (ts : Tables). length ts) is ∙ length-map old (table_after_exit ps p))) (between-filter (is_fixed_at new) 0 (length old) fixed noted.order);
+  pub listed-after : (new : Tables) → new ≡ map (table_after_exit ps p) old → FixedAreListed (filter (is_fixed_at new) fixed) None new
+  listed-after new is = record {
+    order = subst (λ n. AscendsBetween 0 n (filter (is_fixed_at new) fixed)) (sym (ap (λ (ts : Tables). length ts) is ∙ length-map old (table_after_exit ps p))) (between-filter (is_fixed_at new) 0 (length old) fixed listed.order);
     each = λ t table there. each t table there (left-over ps p (table_at old t) table (sym (get_or-map (table_after_exit ps p) old t None) ∙ ap (λ ts. table_at ts t) (sym is) ∙ there));
   }
     where
@@ -218,4 +218,4 @@ module _ (ps : Processes) (p : ℕ) (dead : lives ps p ≡ false) (old : Tables)
       by t table was there f (inr (inr idle)) = inr (inr (subst IsUnfixed (sym (f ∙ idle-stays p was.fixed idle)) idle))
 
       each : (t : ℕ) (table : Table) → table_at new t ≡ Some table → Left ps p (table_at old t) table → (None ≡ Some t) ⊎ IsAmong t (filter (is_fixed_at new) fixed) ⊎ IsUnfixed table.fixed
-      each t table there left = by t table left.table there left.fixed (noted.each t left.table left.was)
+      each t table there left = by t table left.table there left.fixed (listed.each t left.table left.was)

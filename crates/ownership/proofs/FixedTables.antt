@@ -13,12 +13,12 @@ pub on-ok : {E : Type 0} {P : Type 0} (r : Result (Unit {0}) E) → IsOk r → O
 on-ok (Ok done) h p = p
 on-ok (Err error) h p = absurd (cc)
 
-module _ (tables : Tables) (ids : List ℕ) (last : ℕ) (table : Table) (at : table_at tables last ≡ Some table) (noted : FixedAreListed ids (Some last) tables) where
+module _ (tables : Tables) (ids : List ℕ) (last : ℕ) (table : Table) (at : table_at tables last ≡ Some table) (listed : FixedAreListed ids (Some last) tables) where
   -- the dirty table is inserted
-  pub noted-put : (new : List ℕ) → InsertsSorted ids last new → FixedAreListed new None tables
-  noted-put new put = record {
-    order = put.order 0 (length tables) (omega arith) (is-there tables last table at) noted.order;
-    each = λ t own there. by t own there (noted.each t own there);
+  pub listed-put : (new : List ℕ) → InsertsSorted ids last new → FixedAreListed new None tables
+  listed-put new put = record {
+    order = put.order 0 (length tables) (omega arith) (is-there tables last table at) listed.order;
+    each = λ t own there. by t own there (listed.each t own there);
   }
     where
       by : (t : ℕ) (own : Table) → table_at tables t ≡ Some own → (Some last ≡ Some t) ⊎ IsAmong t ids ⊎ IsUnfixed own.fixed → (None ≡ Some t) ⊎ IsAmong t new ⊎ IsUnfixed own.fixed
@@ -27,8 +27,8 @@ module _ (tables : Tables) (ids : List ℕ) (last : ℕ) (table : Table) (at : t
       by t own there (inr (inr idle)) = inr (inr idle)
 
   -- or it is idle
-  pub noted-idle : IsUnfixed table.fixed → FixedAreListed ids None tables
-  noted-idle is = record { order = noted.order; each = λ t own there. by t own there (noted.each t own there) }
+  pub listed-idle : IsUnfixed table.fixed → FixedAreListed ids None tables
+  listed-idle is = record { order = listed.order; each = λ t own there. by t own there (listed.each t own there) }
     where
       by : (t : ℕ) (own : Table) → table_at tables t ≡ Some own → (Some last ≡ Some t) ⊎ IsAmong t ids ⊎ IsUnfixed own.fixed → (None ≡ Some t) ⊎ IsAmong t ids ⊎ IsUnfixed own.fixed
       by t own there (inl dirty) =
@@ -38,8 +38,8 @@ module _ (tables : Tables) (ids : List ℕ) (last : ℕ) (table : Table) (at : t
       by t own there (inr (inr idle)) = inr (inr idle)
 
 -- another table is marked dirty
-pub noted-dirty : (ids : List ℕ) (id : ℕ) (tables : Tables) → FixedAreListed ids None tables → FixedAreListed ids (Some id) tables
-noted-dirty ids id tables noted = record { order = noted.order; each = λ t own there. by t own (noted.each t own there) }
+pub listed-dirty : (ids : List ℕ) (id : ℕ) (tables : Tables) → FixedAreListed ids None tables → FixedAreListed ids (Some id) tables
+listed-dirty ids id tables listed = record { order = listed.order; each = λ t own there. by t own (listed.each t own there) }
   where
     by : (t : ℕ) (own : Table) → (None ≡ Some t) ⊎ IsAmong t ids ⊎ IsUnfixed own.fixed → (Some id ≡ Some t) ⊎ IsAmong t ids ⊎ IsUnfixed own.fixed
     by t own (inl dirty) = absurd (cc)
