@@ -1,4 +1,4 @@
 pub mod KnownBytes
 mod Exchanges
-mod Held
+mod BufferedPackets
 mod Progress

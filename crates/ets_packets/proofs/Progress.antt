@@ -21,14 +21,14 @@ use Rattle.ets_packets.proofs.KnownBytes.{between, appends-more, appends-same, c
 abbrev pub passed : Option (List ℕ) → Option (List ℕ) → Option (List ℕ) → Option (List ℕ) → Traffic
 passed before left old new = traffic (between before left) (between old new)
 
--- all replies so far are written, and what is held is a part of a packet
-pub record Progress (start : StoreState) (t : Traffic) (held : List ℕ) (now : StoreState) : Type 0 where
-  pub answered : Answered start t held
+-- all replies so far are written, and the buffer has a part of a packet
+pub record Progress (start : StoreState) (t : Traffic) (buffered : List ℕ) (now : StoreState) : Type 0 where
+  pub answered : Answered start t buffered
   pub end : answered.end ≡ now
-  pub part : IsPart held
+  pub part : IsPart buffered
 
-pub progress-start : (s : StoreState) (left w : Option (List ℕ)) (held : List ℕ) → held ≡ [] → Progress s (passed left left w w) held s
-progress-start s left w held empty = record {
+pub progress-start : (s : StoreState) (left w : Option (List ℕ)) (buffered : List ℕ) → buffered ≡ [] → Progress s (passed left left w w) buffered s
+progress-start s left w buffered empty = record {
   answered = record {
     exchanges = [];
     end = s;
@@ -101,35 +101,35 @@ end-err start now before l m old new h1 h2 n (Err fault) g r z ends =
     subst (Stops start (passed before m old new)) (sym ends.0) (run-truncated start now before l m old new h1 h2 n g r z ends.1)
 
 -- the reader failed
-pub read-stops : (start now : StoreState) (before l m old new : Option (List ℕ)) (held : List ℕ) → Progress start (passed before l old new) held now → Keeps l m → Stops start (passed before m old new) faults.Read
-read-stops start now before l m old new held g kept = (held, answered-kept start before l m old new held g.answered kept, g.part)
+pub read-stops : (start now : StoreState) (before l m old new : Option (List ℕ)) (buffered : List ℕ) → Progress start (passed before l old new) buffered now → Keeps l m → Stops start (passed before m old new) faults.Read
+read-stops start now before l m old new buffered g kept = (buffered, answered-kept start before l m old new buffered g.answered kept, g.part)
 
 -- memory ran out for what was read
-pub memory-stops : (start now : StoreState) (before l m old new : Option (List ℕ)) (held more : List ℕ) → Progress start (passed before l old new) held now → Consumes l m more → Stops start (passed before m old new) faults.Memory
-memory-stops start now before l m old new held more g p = (held ++ more, answered-more start before l m old new held more g.answered p)
+pub memory-stops : (start now : StoreState) (before l m old new : Option (List ℕ)) (buffered more : List ℕ) → Progress start (passed before l old new) buffered now → Consumes l m more → Stops start (passed before m old new) faults.Memory
+memory-stops start now before l m old new buffered more g p = (buffered ++ more, answered-more start before l m old new buffered more g.answered p)
 
-pub refill-stops : (start now : StoreState) (before l m old new : Option (List ℕ)) (held : List ℕ) (fault : RefillFault) → Progress start (passed before l old new) held now → RefillStops (between l m) fault
+pub refill-stops : (start now : StoreState) (before l m old new : Option (List ℕ)) (buffered : List ℕ) (fault : RefillFault) → Progress start (passed before l old new) buffered now → RefillStops (between l m) fault
     → Stops start (passed before m old new) (fault_of fault)
-refill-stops start now before l m old new held refill.Read g kept = read-stops start now before l m old new held g kept
-refill-stops start now before l m old new held refill.Memory g (more, p) = memory-stops start now before l m old new held more g p
+refill-stops start now before l m old new buffered refill.Read g kept = read-stops start now before l m old new buffered g kept
+refill-stops start now before l m old new buffered refill.Memory g (more, p) = memory-stops start now before l m old new buffered more g p
 
 -- or at the start
 pub not-begun : (start : StoreState) (before old : Option (List ℕ)) → Stops start (passed before before old old) faults.Memory
 not-begun start before old =
     ([], record { exchanges = []; end = start; run = refl; consumed = same-known before; written = appends-same old })
 
--- packets that are held are answered after those before
-joined-consumed : (start : StoreState) (before m old w : Option (List ℕ)) (held rest : List ℕ) (fs : List Exchange) (a : Answered start (passed before m old w) held) → held ≡ requests fs ++ rest
+-- the buffered packets are answered after the earlier ones
+joined-consumed : (start : StoreState) (before m old w : Option (List ℕ)) (buffered rest : List ℕ) (fs : List Exchange) (a : Answered start (passed before m old w) buffered) → buffered ≡ requests fs ++ rest
     → Consumes before m (requests (a.exchanges ++ fs) ++ rest)
-joined-consumed start before m old w held rest fs a parts =
+joined-consumed start before m old w buffered rest fs a parts =
     subst (λ (k : List ℕ). Consumes before m k)
     (ap (λ k. requests a.exchanges ++ k) parts ∙ sym (append_assoc (requests a.exchanges) (requests fs) rest) ∙ ap (λ k. k ++ rest) (sym (requests-join a.exchanges fs)))
     a.consumed
 
 -- and the writer failed
-pub write-stops : (start s1 : StoreState) (before m old w1 w2 : Option (List ℕ)) (held p : List ℕ) (g : Answered start (passed before m old w1) held) → g.end ≡ s1 → p ≡ [] → BreaksBuffered (between w1 w2) p held s1
+pub write-stops : (start s1 : StoreState) (before m old w1 w2 : Option (List ℕ)) (buffered p : List ℕ) (g : Answered start (passed before m old w1) buffered) → g.end ≡ s1 → p ≡ [] → BreaksBuffered (between w1 w2) p buffered s1
     → Stops start (passed before m old w2) faults.Write
-write-stops start s1 before m old w1 w2 held p a is none b =
+write-stops start s1 before m old w1 w2 buffered p a is none b =
     let breaks = subst (λ (k : List ℕ). Breaks (between w1 w2) (k ++ replies b.exchanges)) none b.breaks in
     record {
       exchanges = a.exchanges ++ b.exchanges;
@@ -138,29 +138,29 @@ write-stops start s1 before m old w1 w2 held p a is none b =
       sent = replies a.exchanges ++ breaks.sent;
       unsent = breaks.unsent;
       run = run-join a.exchanges b.exchanges start s1 b.end (subst (λ (s : StoreState). Run start a.exchanges s) is a.run) b.run;
-      consumed = joined-consumed start before m old w1 held b.rest b.exchanges a b.parts;
+      consumed = joined-consumed start before m old w1 buffered b.rest b.exchanges a b.parts;
       written = appends-more old w1 w2 (replies a.exchanges) breaks.sent a.written breaks.written;
       parts = replies-join a.exchanges b.exchanges ∙ ap (λ k. replies a.exchanges ++ k) breaks.parts ∙ sym (append_assoc (replies a.exchanges) breaks.sent breaks.unsent);
     }
 
 -- the flush failed after packets were answered
-pub flush-stops : (start s1 s2 : StoreState) (before m old w1 w2 w3 : Option (List ℕ)) (held rest p1 p2 : List ℕ) (is_long : Bool) (g : Answered start (passed before m old w1) held) → g.end ≡ s1 → p1 ≡ []
-    → AnswersBuffered (between w1 w2) p1 p2 held rest s1 s2 is_long → Breaks (between w2 w3) p2 → Stops start (passed before m old w3) faults.Write
-flush-stops start s1 s2 before m old w1 w2 w3 held rest p1 p2 is_long a is none h b =
-    write-stops start s1 before m old w1 w3 held p1 a is none
+pub flush-stops : (start s1 s2 : StoreState) (before m old w1 w2 w3 : Option (List ℕ)) (buffered rest p1 p2 : List ℕ) (is_long : Bool) (g : Answered start (passed before m old w1) buffered) → g.end ≡ s1 → p1 ≡ []
+    → AnswersBuffered (between w1 w2) p1 p2 buffered rest s1 s2 is_long → Breaks (between w2 w3) p2 → Stops start (passed before m old w3) faults.Write
+flush-stops start s1 s2 before m old w1 w2 w3 buffered rest p1 p2 is_long a is none h b =
+    write-stops start s1 before m old w1 w3 buffered p1 a is none
     (record { exchanges = h.exchanges; end = s2; rest = rest; run = h.run; parts = h.parts; breaks = breaks-on w1 w2 w3 (p1 ++ replies h.exchanges) p2 h.adds b })
 
 -- packets were answered, and all replies were written
-pub all-answered : (start s1 s2 : StoreState) (before m old w1 w2 w3 : Option (List ℕ)) (held rest p1 p2 p3 : List ℕ) (is_long : Bool) (g : Answered start (passed before m old w1) held) → g.end ≡ s1 → p1 ≡ []
-    → AnswersBuffered (between w1 w2) p1 p2 held rest s1 s2 is_long → Sends (between w2 w3) p2 p3 → p3 ≡ [] → (a : Answered start (passed before m old w3) rest) × (a.end ≡ s2)
-all-answered start s1 s2 before m old w1 w2 w3 held rest p1 p2 p3 is_long a is none h sent empty =
+pub all-answered : (start s1 s2 : StoreState) (before m old w1 w2 w3 : Option (List ℕ)) (buffered rest p1 p2 p3 : List ℕ) (is_long : Bool) (g : Answered start (passed before m old w1) buffered) → g.end ≡ s1 → p1 ≡ []
+    → AnswersBuffered (between w1 w2) p1 p2 buffered rest s1 s2 is_long → Sends (between w2 w3) p2 p3 → p3 ≡ [] → (a : Answered start (passed before m old w3) rest) × (a.end ≡ s2)
+all-answered start s1 s2 before m old w1 w2 w3 buffered rest p1 p2 p3 is_long a is none h sent empty =
     let whole = sends-on w1 w2 w3 (p1 ++ replies h.exchanges) p2 p3 h.adds sent in
     let all : replies h.exchanges ≡ whole.sent = ap (λ k. k ++ replies h.exchanges) (sym none) ∙ whole.parts ∙ ap (λ k. whole.sent ++ k) empty ∙ append-nil whole.sent in (
       record {
         exchanges = a.exchanges ++ h.exchanges;
         end = s2;
         run = run-join a.exchanges h.exchanges start s1 s2 (subst (λ (s : StoreState). Run start a.exchanges s) is a.run) h.run;
-        consumed = joined-consumed start before m old w1 held rest h.exchanges a h.parts;
+        consumed = joined-consumed start before m old w1 buffered rest h.exchanges a h.parts;
         written = subst (λ (k : List ℕ). Appends old w3 k) (ap (λ k. replies a.exchanges ++ k) (sym all) ∙ sym (replies-join a.exchanges h.exchanges)) (appends-more old w1 w3 (replies a.exchanges) whole.sent a.written whole.written);
       },
       refl,

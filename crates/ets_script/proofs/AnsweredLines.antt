@@ -69,7 +69,7 @@ last-none start s1 s2 n input out answer M lines (silent, same) = (
       (subst (λ (s : ScriptState). ScriptText n M start input out s) (sym same) (no-more n start s1 input out M lines)),
 )
 
--- the bytes held when the input ended are the last line, which has no LF, or none
+-- the bytes in the buffer at the end of the input are the last line, which has no LF, or none
 pub last-lines : (skip : Bool) (start s1 s2 : ScriptState) (n : ℕ) (input out skipped bytes : List ℕ) (answer : Answer) (M : Type 0) → M → ScriptText n ⊥ start input out s1 → PassedOver skip skipped → IsOneLine bytes → length bytes ≤ 65536
     → (skip ≡ true → bytes ≡ []) → AnswersPart skip s1 bytes answer s2 → AreLines M start (input ++ (skipped ++ bytes)) (out ++ printed answer) s2
 last-lines true start s1 s2 n input out skipped bytes answer M m lines passed one short none answers = last-long start s1 s2 n input out skipped bytes answer M m lines passed.0 passed.1 (none refl) answers

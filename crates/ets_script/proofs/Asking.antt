@@ -23,5 +23,5 @@ pub execute-ask-pending : (old mid new after : ScriptState) (said : Command) (na
     → said ≡ ask name word terms → pid_of old name ≡ Some p → call ≡ record { name = word; args = terms } → after ≡ new
     → mid ≡ old → Steps mid (Ask p call) answer new ⊎ Unchanged mid NoMemory answer new
     → Executes said old answer after ⊎ Unchanged old NoMemory answer after
-execute-ask-pending old mid new after said name word terms p call answer is found made same held did =
-    asked old new after said name word terms p call answer is found made same (subst (λ (s : ScriptState). Steps s (Ask p call) answer new ⊎ Unchanged s NoMemory answer new) held did)
+execute-ask-pending old mid new after said name word terms p call answer is found made same buffered did =
+    asked old new after said name word terms p call answer is found made same (subst (λ (s : ScriptState). Steps s (Ask p call) answer new ⊎ Unchanged s NoMemory answer new) buffered did)

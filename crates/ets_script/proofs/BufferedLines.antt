@@ -1,4 +1,4 @@
--- What is held of a script's lines while they are read part by part.
+-- The buffered lines of a script, while they are read part by part.
 use Rattle.std.proofs.Common.{◌≡◌, ℕ, ◌≤◌, ◌<◌, ◌⊎◌, Bool, true, false, List, [], ◌++◌, length, refl, sym, ap, ◌∙◌, subst, Option, inl, inr, append-nil, arith, ◌∷◌}
 use Rattle.std.proofs.lemmas.List.{nil_from_length}
 use Rattle.std.proofs.lemmas.List.Elements.{All-append}
@@ -22,18 +22,18 @@ one-line-of true skipped p = p.0
 pub both-one-line : (xs ys : List ℕ) → IsOneLine xs → IsOneLine ys → IsOneLine (xs ++ ys)
 both-one-line xs ys p q = All-append (λ b. b ≡ 10 → ⊥) xs ys p q
 
-pub one-line-held : (h1 h2 : LineBufferState) → IsOneLine h1.bytes → Waits h1 h2 → IsOneLine h2.bytes
-one-line-held h1 h2 one waits = held waits.kept
+pub one-line-buffered : (h1 h2 : LineBufferState) → IsOneLine h1.bytes → Waits h1 h2 → IsOneLine h2.bytes
+one-line-buffered h1 h2 one waits = buffered waits.kept
   where
-    held : Stays h1 h2 ⊎ IsPassed h1 h2 → IsOneLine h2.bytes
-    held (inl (same, was, is)) = subst IsOneLine (sym same) one
-    held (inr (none, is, long)) = subst IsOneLine (sym none) no-byte
+    buffered : Stays h1 h2 ⊎ IsPassed h1 h2 → IsOneLine h2.bytes
+    buffered (inl (same, was, is)) = subst IsOneLine (sym same) one
+    buffered (inr (none, is, long)) = subst IsOneLine (sym none) no-byte
 
 pub none-or-some : (bytes : List ℕ) → (bytes ≡ []) ⊎ (0 < length bytes)
 none-or-some [] = inl refl
 none-or-some (b ∷ bs) = inr (omega arith)
 
--- what is held when the input has ended
+-- the buffer at the end of the input
 pub record Ended (h : LineBufferState) (left : Option (List ℕ)) : Type 0 where
   pub one_line : IsOneLine h.bytes
   pub short : length h.bytes ≤ 65536
@@ -44,7 +44,7 @@ pub refill-end : (h1 h2 h3 : LineBufferState) (l1 l2 : Option (List ℕ)) (n : �
 refill-end h1 h2 h3 l1 l2 n one waits r zero_read =
     let same : h3.bytes ≡ h2.bytes = r.added ∙ ap (λ k. h2.bytes ++ k) (nil_from_length r.more (r.counted ∙ zero_read)) ∙ append-nil h2.bytes in
     record {
-      one_line = subst IsOneLine (sym same) (one-line-held h1 h2 one waits);
+      one_line = subst IsOneLine (sym same) (one-line-buffered h1 h2 one waits);
       short = subst (λ (k : List ℕ). length k ≤ 65536) (sym same) waits.short;
       skipping = λ skips. same ∙ empty waits.kept (sym r.skipping ∙ skips);
       end = r.end zero_read;

@@ -13,13 +13,13 @@ use Rattle.ets_script.specs.inside.LineBuffers.{IsLineEnd, PassedOver, EndsLine}
 with-line-end : (bytes : List ℕ) (n : ℕ) → IsLineEnd bytes n → take (n + 1) bytes ≡ take n bytes ++ 10 ∷ []
 with-line-end bytes n found = take_more bytes n 0 found.0 ∙ ap (λ x. take n bytes ++ x ∷ []) found.2
 
-bytes-of : (held : List ℕ) (place : ℕ) → IsLineEnd held place → length (take place held) ≡ place
-bytes-of held place found = length-take-le place held (let lt = found.0 in omega arith)
+bytes-of : (buffered : List ℕ) (place : ℕ) → IsLineEnd buffered place → length (take place buffered) ≡ place
+bytes-of buffered place found = length-take-le place buffered (let lt = found.0 in omega arith)
 
 pub no-byte : IsOneLine []
 no-byte k d lt = absurd (omega (arith, lt))
 
--- a line that is held whole
+-- a whole line in the buffer
 pub text-found : (bytes : List ℕ) (skips : Bool) (place n : ℕ) → skips ≡ false → IsLineEnd bytes place → place ≤ 65536 → n ≤ length (take place bytes) → take n (take place bytes) ≡ strip_last 13 (take place bytes)
     → EndsLine bytes skips (place + 1) (text (take n bytes))
 text-found bytes skips place n whole found short le is skipped passed =

@@ -8,7 +8,7 @@ use Rattle.ets_script.specs.Plan.{PlanState, line_plan, lines_plan}
 use Rattle.ets_script.specs.inside.LineBuffers.{LineBufferState, rest_of, Refills, PassedOver, EndsLine, Stays, IsPassed, Waits}
 use Rattle.ets_script.specs.inside.PlanCodes.{LimitedPlanState}
 use Rattle.ets_script.specs.inside.Planning.{with_line, with_lines, last_line, AreWhole, PlansAll}
-use Rattle.ets_script.proofs.KnownBytes.{nothing-held, read-more, taken-front, the_none, unheld}
+use Rattle.ets_script.proofs.KnownBytes.{nothing-buffered, read-more, taken-front, the_none, consumes-buffered}
 use Rattle.ets_script.proofs.BufferedLines.{weaker-line, none-or-some, one-line-of, both-one-line, Ended}
 
 -- a line after lines
@@ -32,23 +32,23 @@ all-whole input [] none = none
 all-whole input (first ∷ lines) (front, rest, parts, whole, more) = (front, rest, parts, weaker-line front first ⊥ (rest ≡ []) (λ z. absurd z) whole, all-whole rest lines more)
 
 -- the lines so far; of a line that is too long a part was passed over
-pub record Planning (start : LimitedPlanState) (before : Option (List ℕ)) (held : LineBufferState) (left : Option (List ℕ)) (now : LimitedPlanState) : Type 0 where
+pub record Planning (start : LimitedPlanState) (before : Option (List ℕ)) (buffered : LineBufferState) (left : Option (List ℕ)) (now : LimitedPlanState) : Type 0 where
   pub input : List ℕ
   pub skipped : List ℕ
   pub lines : List Line
   pub whole : AreWhole input lines
-  pub passed : PassedOver held.is_skipping skipped
-  pub consumed : Consumes before (rest_of held left) (input ++ skipped)
+  pub passed : PassedOver buffered.is_skipping skipped
+  pub consumed : Consumes before (rest_of buffered left) (input ++ skipped)
   pub planned : now ≡ with_lines lines start
 
-pub planning-start : (s : LimitedPlanState) (held : LineBufferState) (left : Option (List ℕ)) → held.bytes ≡ [] → held.is_skipping ≡ false → Planning s left held left s
-planning-start s held left empty whole = record {
+pub planning-start : (s : LimitedPlanState) (buffered : LineBufferState) (left : Option (List ℕ)) → buffered.bytes ≡ [] → buffered.is_skipping ≡ false → Planning s left buffered left s
+planning-start s buffered left empty whole = record {
   input = [];
   skipped = [];
   lines = [];
   whole = refl;
   passed = subst (λ (b : Bool). PassedOver b the_none) (sym whole) refl;
-  consumed = subst (λ (l : Option (List ℕ)). Consumes left l []) (sym (ap (λ k. prepend_known k left) empty ∙ nothing-held left)) (same-known left);
+  consumed = subst (λ (l : Option (List ℕ)). Consumes left l []) (sym (ap (λ k. prepend_known k left) empty ∙ nothing-buffered left)) (same-known left);
   planned = refl;
 }
 
@@ -58,7 +58,7 @@ planned-then start s1 s2 lines line p q = q ∙ ap (λ (s : LimitedPlanState). w
 -- a line was added, and an LF ended it
 pub planning-line : (start s1 s2 : LimitedPlanState) (before : Option (List ℕ)) (h1 h2 : LineBufferState) (left : Option (List ℕ)) (n : ℕ) (line : Line) → Planning start before h1 left s1 → EndsLine h1.bytes h1.is_skipping n line
     → s2 ≡ with_line line s1 → h2.bytes ≡ drop n h1.bytes → h2.is_skipping ≡ false → Planning start before h2 left s2
-planning-line start s1 s2 before h1 h2 left n line g ends plans held whole =
+planning-line start s1 s2 before h1 h2 left n line g ends plans buffered whole =
     let bytes = g.skipped ++ take n h1.bytes in
     record {
       input = g.input ++ bytes;
@@ -67,7 +67,7 @@ planning-line start s1 s2 before h1 h2 left n line g ends plans held whole =
       whole = then-whole g.input bytes g.lines line g.whole (ends g.skipped g.passed);
       passed = subst (λ (b : Bool). PassedOver b the_none) (sym whole) refl;
       consumed = subst (λ (k : List ℕ). Consumes before (rest_of h2 left) k) (append_assoc g.input g.skipped (take n h1.bytes) ∙ sym (append-nil (g.input ++ bytes)))
-          (subst (λ (k : List ℕ). Consumes before (prepend_known k left) ((g.input ++ g.skipped) ++ take n h1.bytes)) (sym held) (taken-front before (g.input ++ g.skipped) h1.bytes n left g.consumed));
+          (subst (λ (k : List ℕ). Consumes before (prepend_known k left) ((g.input ++ g.skipped) ++ take n h1.bytes)) (sym buffered) (taken-front before (g.input ++ g.skipped) h1.bytes n left g.consumed));
       planned = planned-then start s1 s2 g.lines line g.planned plans;
     }
 
@@ -94,7 +94,7 @@ planning-wait start now before h1 h2 left g one waits = kept waits.kept
           (both-one-line g.skipped h1.bytes (one-line-of h1.is_skipping g.skipped g.passed) one, enough long);
       consumed = subst (λ (k : List ℕ). Consumes before (prepend_known k left) (g.input ++ (g.skipped ++ h1.bytes))) (sym none)
           (subst (λ (k : List ℕ). Consumes before (prepend_known the_none left) k) (append_assoc g.input g.skipped h1.bytes)
-          (subst (λ (l : Option (List ℕ)). Consumes before l ((g.input ++ g.skipped) ++ h1.bytes)) (sym (nothing-held left)) (unheld before left (g.input ++ g.skipped) h1.bytes g.consumed)));
+          (subst (λ (l : Option (List ℕ)). Consumes before l ((g.input ++ g.skipped) ++ h1.bytes)) (sym (nothing-buffered left)) (consumes-buffered before left (g.input ++ g.skipped) h1.bytes g.consumed)));
       planned = g.planned;
     }
       where
@@ -117,12 +117,12 @@ planning-read start s1 s2 before h1 h2 h3 l1 l2 n progress same one waits r =
       planned = same ∙ g.planned;
     }
 
--- the bytes held when the input ended were added as the last line, which has no LF, or were none
+-- the bytes in the buffer at the end of the input were added as the last line, which has no LF, or were none
 pub planning-end : (start s1 s2 : LimitedPlanState) (before : Option (List ℕ)) (h : LineBufferState) (left : Option (List ℕ)) → Planning start before h left s1 → Ended h left → s2 ≡ with_line (last_line h.is_skipping h.bytes) s1 → PlansAll start (between before left) s2
 planning-end start s1 s2 before h left g e last =
     let input = g.input ++ (g.skipped ++ h.bytes) in
     let cut = cut_so h.is_skipping g.passed e.skipping last in
-    (input, cut.0, subst (λ (k : List ℕ). Consumes before left k) (append_assoc g.input g.skipped h.bytes) (unheld before left (g.input ++ g.skipped) h.bytes g.consumed), e.end, cut.1, cut.2)
+    (input, cut.0, subst (λ (k : List ℕ). Consumes before left k) (append_assoc g.input g.skipped h.bytes) (consumes-buffered before left (g.input ++ g.skipped) h.bytes g.consumed), e.end, cut.1, cut.2)
   where
     Cut : Type 0
     Cut = (lines : List Line) × IsCutInto (g.input ++ (g.skipped ++ h.bytes)) lines × (s2 ≡ with_lines lines start)

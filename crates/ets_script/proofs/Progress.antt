@@ -8,35 +8,35 @@ use Rattle.ets_script.specs.Replies.{printed}
 use Rattle.ets_script.specs.Script.{ScriptState, AnswersLine, AreWholeLines}
 use Rattle.ets_script.specs.inside.LineBuffers.{LineBufferState, rest_of, Refills, PassedOver, EndsLine, Stays, IsPassed, Waits}
 use Rattle.ets_script.specs.declared.answer.Answer.{Answer}
-use Rattle.ets_script.proofs.KnownBytes.{nothing-held, read-more, taken-front, the_none, unheld}
+use Rattle.ets_script.proofs.KnownBytes.{nothing-buffered, read-more, taken-front, the_none, consumes-buffered}
 use Rattle.ets_script.proofs.BufferedLines.{both-one-line, one-line-of}
 use Rattle.ets_script.proofs.AnsweredLines.{then-line}
 
 -- the lines so far and their answers, of which some still wait; of a line that is too long a part was passed over
-pub record Progress (start : ScriptState) (before old : Option (List ℕ)) (held : LineBufferState) (left : Option (List ℕ)) (pending : List ℕ) (new : Option (List ℕ)) (now : ScriptState) : Type 0 where
+pub record Progress (start : ScriptState) (before old : Option (List ℕ)) (buffered : LineBufferState) (left : Option (List ℕ)) (pending : List ℕ) (new : Option (List ℕ)) (now : ScriptState) : Type 0 where
   pub input : List ℕ
   pub out : List ℕ
   pub skipped : List ℕ
   pub lines : AreWholeLines start input out now
-  pub passed : PassedOver held.is_skipping skipped
-  pub consumed : Consumes before (rest_of held left) (input ++ skipped)
+  pub passed : PassedOver buffered.is_skipping skipped
+  pub consumed : Consumes before (rest_of buffered left) (input ++ skipped)
   pub sent : Sends (between old new) out pending
 
-pub progress-start : (s : ScriptState) (held : LineBufferState) (left : Option (List ℕ)) (pending : List ℕ) (w : Option (List ℕ)) → pending ≡ [] → held.bytes ≡ [] → held.is_skipping ≡ false → Progress s left w held left pending w s
-progress-start s held left pending w none empty whole = record {
+pub progress-start : (s : ScriptState) (buffered : LineBufferState) (left : Option (List ℕ)) (pending : List ℕ) (w : Option (List ℕ)) → pending ≡ [] → buffered.bytes ≡ [] → buffered.is_skipping ≡ false → Progress s left w buffered left pending w s
+progress-start s buffered left pending w none empty whole = record {
   input = [];
   out = [];
   skipped = [];
   lines = (0, (refl, refl, refl));
   passed = subst (λ (b : Bool). PassedOver b the_none) (sym whole) refl;
-  consumed = subst (λ (l : Option (List ℕ)). Consumes left l []) (sym (ap (λ k. prepend_known k left) empty ∙ nothing-held left)) (same-known left);
+  consumed = subst (λ (l : Option (List ℕ)). Consumes left l []) (sym (ap (λ k. prepend_known k left) empty ∙ nothing-buffered left)) (same-known left);
   sent = subst (λ (p : List ℕ). Sends (between w w) [] p) (sym none) (sends-none w []);
 }
 
 -- a line was answered, and an LF ended it
 pub progress-line : (start s1 s2 : ScriptState) (before old w1 w2 : Option (List ℕ)) (h1 h2 : LineBufferState) (left : Option (List ℕ)) (p1 p2 : List ℕ) (n : ℕ) (line : Line) (answer : Answer) → Progress start before old h1 left p1 w1 s1
     → EndsLine h1.bytes h1.is_skipping n line → AnswersLine s1 line answer s2 → Sends (between w1 w2) (p1 ++ printed answer) p2 → h2.bytes ≡ drop n h1.bytes → h2.is_skipping ≡ false → Progress start before old h2 left p2 w2 s2
-progress-line start s1 s2 before old w1 w2 h1 h2 left p1 p2 n line answer g ends answers sent held whole =
+progress-line start s1 s2 before old w1 w2 h1 h2 left p1 p2 n line answer g ends answers sent buffered whole =
     let bytes = g.skipped ++ take n h1.bytes in
     record {
       input = g.input ++ bytes;
@@ -45,7 +45,7 @@ progress-line start s1 s2 before old w1 w2 h1 h2 left p1 p2 n line answer g ends
       lines = (suc g.lines.0, then-line g.lines.0 start s1 s2 g.input g.out bytes (printed answer) ⊥ g.lines.1 (record { line = line; answer = answer; is_line = ends g.skipped g.passed; answers = answers; prints = refl }));
       passed = subst (λ (b : Bool). PassedOver b the_none) (sym whole) refl;
       consumed = subst (λ (k : List ℕ). Consumes before (rest_of h2 left) k) (append_assoc g.input g.skipped (take n h1.bytes) ∙ sym (append-nil (g.input ++ bytes)))
-          (subst (λ (k : List ℕ). Consumes before (prepend_known k left) ((g.input ++ g.skipped) ++ take n h1.bytes)) (sym held) (taken-front before (g.input ++ g.skipped) h1.bytes n left g.consumed));
+          (subst (λ (k : List ℕ). Consumes before (prepend_known k left) ((g.input ++ g.skipped) ++ take n h1.bytes)) (sym buffered) (taken-front before (g.input ++ g.skipped) h1.bytes n left g.consumed));
       sent = sends-more old w1 w2 g.out p1 (printed answer) p2 g.sent sent;
     }
 
@@ -73,7 +73,7 @@ progress-wait start now before old w h1 h2 left p g one waits = kept waits.kept
           (both-one-line g.skipped h1.bytes (one-line-of h1.is_skipping g.skipped g.passed) one, enough long);
       consumed = subst (λ (k : List ℕ). Consumes before (prepend_known k left) (g.input ++ (g.skipped ++ h1.bytes))) (sym none)
           (subst (λ (k : List ℕ). Consumes before (prepend_known the_none left) k) (append_assoc g.input g.skipped h1.bytes)
-          (subst (λ (l : Option (List ℕ)). Consumes before l ((g.input ++ g.skipped) ++ h1.bytes)) (sym (nothing-held left)) (unheld before left (g.input ++ g.skipped) h1.bytes g.consumed)));
+          (subst (λ (l : Option (List ℕ)). Consumes before l ((g.input ++ g.skipped) ++ h1.bytes)) (sym (nothing-buffered left)) (consumes-buffered before left (g.input ++ g.skipped) h1.bytes g.consumed)));
       sent = g.sent;
     }
       where

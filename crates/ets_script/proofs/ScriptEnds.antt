@@ -15,9 +15,9 @@ use Rattle.ets_script.specs.inside.Answered.{AnswersPart, EndsAll, BreaksAtEnd}
 use Rattle.ets_script.specs.declared.answer.Answer.{Answer}
 use Rattle.ets_script.specs.declared.fault.ScriptFault.{ScriptFault}
 use Rattle.ets_script.specs.declared.fault.ScriptFault.TheVariants as faults
-use Rattle.ets_script.proofs.KnownBytes.{taken-front, the_none, unheld}
+use Rattle.ets_script.proofs.KnownBytes.{taken-front, the_none, consumes-buffered}
 use Rattle.ets_script.proofs.AnsweredLines.{last-lines, no-more, none-is, then-line}
-use Rattle.ets_script.proofs.BufferedLines.{Ended, both-one-line, one-line-held, one-line-of, weaker-line}
+use Rattle.ets_script.proofs.BufferedLines.{Ended, both-one-line, one-line-buffered, one-line-of, weaker-line}
 use Rattle.ets_script.proofs.Progress.{Progress, progress-flush, progress-wait}
 
 -- the writer failed at the answer to a line
@@ -32,7 +32,7 @@ broken-line start s1 s2 before old w1 w2 h1 left p1 n line answer g ends answers
       b.sent,
       b.unsent,
       s2,
-      subst (λ (k : List ℕ). Consumes before left (k ++ drop n h1.bytes)) (append_assoc g.input g.skipped (take n h1.bytes)) (unheld before left ((g.input ++ g.skipped) ++ take n h1.bytes) (drop n h1.bytes) taken),
+      subst (λ (k : List ℕ). Consumes before left (k ++ drop n h1.bytes)) (append_assoc g.input g.skipped (take n h1.bytes)) (consumes-buffered before left ((g.input ++ g.skipped) ++ take n h1.bytes) (drop n h1.bytes) taken),
       b.written,
       (
         suc g.lines.0,
@@ -52,7 +52,7 @@ flush-broken start now before old w1 w2 h left p g broken =
       b.sent,
       b.unsent,
       now,
-      subst (λ (k : List ℕ). Consumes before left k) (append_assoc g.input g.skipped h.bytes) (unheld before left (g.input ++ g.skipped) h.bytes g.consumed),
+      subst (λ (k : List ℕ). Consumes before left k) (append_assoc g.input g.skipped h.bytes) (consumes-buffered before left (g.input ++ g.skipped) h.bytes g.consumed),
       b.written,
       (g.lines.0, subst (λ (k : List ℕ). ScriptText g.lines.0 M start g.input k now) b.parts (no-more g.lines.0 start now g.input g.out M g.lines.1)),
     )
@@ -65,7 +65,7 @@ read-failed start now before old w h l1 l2 p g none one kept =
       g.skipped ++ h.bytes,
       g.out,
       now,
-      kept-left before l1 l2 (g.input ++ (g.skipped ++ h.bytes)) (subst (λ (k : List ℕ). Consumes before l1 k) (append_assoc g.input g.skipped h.bytes) (unheld before l1 (g.input ++ g.skipped) h.bytes g.consumed)) kept,
+      kept-left before l1 l2 (g.input ++ (g.skipped ++ h.bytes)) (subst (λ (k : List ℕ). Consumes before l1 k) (append_assoc g.input g.skipped h.bytes) (consumes-buffered before l1 (g.input ++ g.skipped) h.bytes g.consumed)) kept,
       both-one-line g.skipped h.bytes (one-line-of h.is_skipping g.skipped g.passed) one,
       subst (λ (k : List ℕ). Appends old w k) (sym (all.parts ∙ append-nil all.sent)) all.written,
       g.lines,
@@ -76,7 +76,7 @@ pub script-completes : (start s1 s2 : ScriptState) (before old w1 w2 : Option (L
 script-completes start s1 s2 before old w1 w2 h left p g e all = (
   g.input ++ (g.skipped ++ h.bytes),
   g.out ++ printed all.answer,
-  subst (λ (k : List ℕ). Consumes before left k) (append_assoc g.input g.skipped h.bytes) (unheld before left (g.input ++ g.skipped) h.bytes g.consumed),
+  subst (λ (k : List ℕ). Consumes before left k) (append_assoc g.input g.skipped h.bytes) (consumes-buffered before left (g.input ++ g.skipped) h.bytes g.consumed),
   e.end,
   subst (λ (k : List ℕ). Appends old w2 k) (sym (append_assoc g.sent.sent p (printed all.answer)) ∙ ap (λ k. k ++ printed all.answer) (sym g.sent.parts)) (appends-more old w1 w2 g.sent.sent (p ++ printed all.answer) g.sent.written all.written),
   last-lines h.is_skipping start s1 s2 g.lines.0 g.input g.out g.skipped h.bytes all.answer ⊤ tt g.lines.1 g.passed e.one_line e.short e.skipping all.answers,
@@ -92,7 +92,7 @@ end-broken start s1 s2 before old w1 w2 h left p g e all =
       b.sent,
       b.unsent,
       s2,
-      subst (λ (k : List ℕ). Consumes before left k) (append_assoc g.input g.skipped h.bytes ∙ sym (append-nil (g.input ++ (g.skipped ++ h.bytes)))) (unheld before left (g.input ++ g.skipped) h.bytes g.consumed),
+      subst (λ (k : List ℕ). Consumes before left k) (append_assoc g.input g.skipped h.bytes ∙ sym (append-nil (g.input ++ (g.skipped ++ h.bytes)))) (consumes-buffered before left (g.input ++ g.skipped) h.bytes g.consumed),
       b.written,
       subst (λ (k : List ℕ). AreLines M start (g.input ++ (g.skipped ++ h.bytes)) k s2) b.parts
           (last-lines h.is_skipping start s1 s2 g.lines.0 g.input g.out g.skipped h.bytes all.answer M (none-is, e.end) g.lines.1 g.passed e.one_line e.short e.skipping all.answers),
@@ -105,7 +105,7 @@ not-begun start before old = (same-known before, appends-same old)
 pub read-broken : (start now : ScriptState) (before old w1 w2 : Option (List ℕ)) (h1 h2 : LineBufferState) (l1 l2 : Option (List ℕ)) (p1 p2 : List ℕ) → Progress start before old h1 l1 p1 w1 now → IsOneLine h1.bytes
     → Sends (between w1 w2) p1 p2 → p2 ≡ [] → Waits h1 h2 → Keeps l1 l2 → Stops start (traffic (between before l2) (between old w2)) faults.Read
 read-broken start now before old w1 w2 h1 h2 l1 l2 p1 p2 g one sent none waits kept =
-    read-failed start now before old w2 h2 l1 l2 p2 (progress-wait start now before old w2 h1 h2 l1 p2 (progress-flush start now before old w1 w2 h1 l1 p1 p2 g sent) one waits) none (one-line-held h1 h2 one waits) kept
+    read-failed start now before old w2 h2 l1 l2 p2 (progress-wait start now before old w2 h1 h2 l1 p2 (progress-flush start now before old w1 w2 h1 l1 p1 p2 g sent) one waits) none (one-line-buffered h1 h2 one waits) kept
 
 -- the last answer was printed, and the buffer is written
 pub end-ok : {T E : Type 0} (r : Result T E) (h : LineBufferState) (s1 s2 : ScriptState) (p1 p2 p3 : List ℕ) (w1 w2 w3 : Option (List ℕ)) (answer : Answer) → AnswersPart h.is_skipping s1 h.bytes answer s2 → Sends (between w1 w2) (p1 ++ printed answer) p2

@@ -1,11 +1,11 @@
 use Rattle.std.proofs.Common.{length}
 use Rattle.ets_packets.specs.Output.{HasWriterOf, buffered_bytes}
-use Rattle.ets_packets.proofs.Held.{Going}
+use Rattle.ets_packets.proofs.BufferedPackets.{HasAnswered}
 use Rattle.ets_packets.proofs.run.answer_buffered.Given as goal
 
 abbrev pub invariant-loop-len : goal.invariant-loop-len
 invariant-loop-len g l =
-    Going (g.W.Write.contents l.initial.output.writer.now) (g.W.Write.contents l.output.writer.now) (buffered_bytes l.initial.output) (buffered_bytes l.output) l.initial.buffer l.buffer l.initial.server.store l.server.store
+    HasAnswered (g.W.Write.contents l.initial.output.writer.now) (g.W.Write.contents l.output.writer.now) (buffered_bytes l.initial.output) (buffered_bytes l.output) l.initial.buffer l.buffer l.initial.server.store l.server.store
     × HasWriterOf l.initial.output l.output
 
 abbrev pub decreases-loop-len : goal.decreases-loop-len

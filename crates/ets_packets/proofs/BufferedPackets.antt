@@ -13,15 +13,15 @@ use Rattle.ets_packets.specs.Output.{Sends, Breaks}
 use Rattle.ets_packets.proofs.Exchanges.{one, run-join, run-one, requests-one, replies-one}
 use Rattle.ets_packets.proofs.KnownBytes.{between, sends-more, sends-none, breaks-more}
 
--- of the bytes held, some packets are answered, and these bytes are left
-pub record Going (old new : Option (List ℕ)) (before after held rest : List ℕ) (start now : StoreState) : Type 0 where
+-- of the buffered bytes, some packets are answered, and `rest` is left
+pub record HasAnswered (old new : Option (List ℕ)) (before after buffered rest : List ℕ) (start now : StoreState) : Type 0 where
   pub exchanges : List Exchange
   pub run : Run start exchanges now
-  pub parts : held ≡ requests exchanges ++ rest
+  pub parts : buffered ≡ requests exchanges ++ rest
   pub adds : Sends (between old new) (before ++ replies exchanges) after
 
-pub going-start : (w : Option (List ℕ)) (before held : List ℕ) (s : StoreState) → Going w w before before held held s s
-going-start w before held s = record {
+pub buffered-start : (w : Option (List ℕ)) (before buffered : List ℕ) (s : StoreState) → HasAnswered w w before before buffered buffered s s
+buffered-start w before buffered s = record {
   exchanges = [];
   run = refl;
   parts = refl;
@@ -39,9 +39,9 @@ body-few rest len f =
     let is = ap length (between_is rest 4 (len + 4)) in
     omega (arith, within, few, is, length-drop 4 (take (len + 4) rest), length-take-le (len + 4) rest within)
 
-after-packet : (held rest : List ℕ) (es : List Exchange) (len : ℕ) (reply : PacketReply) → held ≡ requests es ++ rest → BeginsWith rest len
-    → held ≡ requests (es ++ one (slice_range rest 4 (len + 4)) reply) ++ drop (len + 4) rest
-after-packet held rest es len reply p f =
+after-packet : (buffered rest : List ℕ) (es : List Exchange) (len : ℕ) (reply : PacketReply) → buffered ≡ requests es ++ rest → BeginsWith rest len
+    → buffered ≡ requests (es ++ one (slice_range rest 4 (len + 4)) reply) ++ drop (len + 4) rest
+after-packet buffered rest es len reply p f =
     let body = slice_range rest 4 (len + 4) in
     p
     ∙ ap (λ k. requests es ++ k) (sym (packet-front rest len f))
@@ -52,35 +52,35 @@ more-replies : (before : List ℕ) (es : List Exchange) (body : List ℕ) (reply
     → (before ++ replies es) ++ packet (reply_body reply) ≡ before ++ replies (es ++ one body reply)
 more-replies before es body reply = append_assoc before (replies es) (packet (reply_body reply)) ∙ ap (λ k. before ++ k) (sym (replies-one es body reply))
 
-pub going-packet : (old w1 w2 : Option (List ℕ)) (before p1 p2 held rest : List ℕ) (start s1 s2 : StoreState) (len : ℕ) → Going old w1 before p1 held rest start s1 → BeginsWith rest len
-    → AnswersPacket (between w1 w2) p1 p2 (slice_range rest 4 (len + 4)) s1 s2 → Going old w2 before p2 held (drop (len + 4) rest) start s2
-going-packet old w1 w2 before p1 p2 held rest start s1 s2 len g f a =
+pub buffered-packet : (old w1 w2 : Option (List ℕ)) (before p1 p2 buffered rest : List ℕ) (start s1 s2 : StoreState) (len : ℕ) → HasAnswered old w1 before p1 buffered rest start s1 → BeginsWith rest len
+    → AnswersPacket (between w1 w2) p1 p2 (slice_range rest 4 (len + 4)) s1 s2 → HasAnswered old w2 before p2 buffered (drop (len + 4) rest) start s2
+buffered-packet old w1 w2 before p1 p2 buffered rest start s1 s2 len g f a =
     let body = slice_range rest 4 (len + 4) in
     record {
       exchanges = g.exchanges ++ one body a.reply;
       run = run-join g.exchanges (one body a.reply) start s1 s2 g.run (run-one body a.reply s1 s2 a.answers (body-few rest len f) a.fits);
-      parts = after-packet held rest g.exchanges len a.reply g.parts f;
+      parts = after-packet buffered rest g.exchanges len a.reply g.parts f;
       adds = subst (λ (k : List ℕ). Sends (between old w2) k p2) (more-replies before g.exchanges body a.reply)
           (sends-more old w1 w2 (before ++ replies g.exchanges) p1 (packet (reply_body a.reply)) p2 g.adds a.adds);
     }
 
-pub going-broken : (old w1 w2 : Option (List ℕ)) (before p1 held rest : List ℕ) (start s1 s2 : StoreState) (len : ℕ) → Going old w1 before p1 held rest start s1 → BeginsWith rest len
-    → BreaksPacket (between w1 w2) p1 (slice_range rest 4 (len + 4)) s1 s2 → BreaksBuffered (between old w2) before held start
-going-broken old w1 w2 before p1 held rest start s1 s2 len g f a =
+pub buffered-broken : (old w1 w2 : Option (List ℕ)) (before p1 buffered rest : List ℕ) (start s1 s2 : StoreState) (len : ℕ) → HasAnswered old w1 before p1 buffered rest start s1 → BeginsWith rest len
+    → BreaksPacket (between w1 w2) p1 (slice_range rest 4 (len + 4)) s1 s2 → BreaksBuffered (between old w2) before buffered start
+buffered-broken old w1 w2 before p1 buffered rest start s1 s2 len g f a =
     let body = slice_range rest 4 (len + 4) in
     record {
       exchanges = g.exchanges ++ one body a.reply;
       end = s2;
       rest = drop (len + 4) rest;
       run = run-join g.exchanges (one body a.reply) start s1 s2 g.run (run-one body a.reply s1 s2 a.answers (body-few rest len f) a.fits);
-      parts = after-packet held rest g.exchanges len a.reply g.parts f;
+      parts = after-packet buffered rest g.exchanges len a.reply g.parts f;
       breaks = subst (λ (k : List ℕ). Breaks (between old w2) k) (more-replies before g.exchanges body a.reply)
           (breaks-more old w1 w2 (before ++ replies g.exchanges) p1 (packet (reply_body a.reply)) g.adds a.breaks);
     }
 
-pub going-end : (old new : Option (List ℕ)) (before after held rest : List ℕ) (start now : StoreState) (is_long : Bool) → Going old new before after held rest start now → IsRest is_long rest
-    → AnswersBuffered (between old new) before after held rest start now is_long
-going-end old new before after held rest start now is_long g is = record {
+pub buffered-end : (old new : Option (List ℕ)) (before after buffered rest : List ℕ) (start now : StoreState) (is_long : Bool) → HasAnswered old new before after buffered rest start now → IsRest is_long rest
+    → AnswersBuffered (between old new) before after buffered rest start now is_long
+buffered-end old new before after buffered rest start now is_long g is = record {
   exchanges = g.exchanges;
   run = g.run;
   parts = g.parts;
