@@ -35,7 +35,7 @@ use node_text::{CLOSED, NO_MEMORY, Store, VALUE};
 use std::alloc::Global;
 
 /// Opens a new store in a handle. The limits are the number of processes ever spawned, of tables ever made, and of
-/// objects in one table. A store that the handle held is freed. `NO_MEMORY` changes nothing.
+/// objects in one table. Frees an earlier store of the handle. `NO_MEMORY` changes nothing.
 #[unsafe(no_mangle)]
 pub extern "C" fn yoyoash_open(
     alloc: Global,
@@ -194,7 +194,7 @@ pub extern "C" fn yoyoash_why(
     status
 }
 
-/// Closes a handle, and frees the store that it held, if any.
+/// Closes a handle and frees its store, if any.
 #[unsafe(no_mangle)]
 pub extern "C" fn yoyoash_close(alloc: Global, handle: &mut Handle)
     ensures { handle.new.pointer.store ≡ None }

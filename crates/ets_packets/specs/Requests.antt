@@ -1,4 +1,4 @@
--- What the body of a packet asks: a kind of one byte, a process number of four, and the rest.
+-- The request in the body of a packet: a kind of one byte, a process number of four, and the rest.
 use Rattle.std.specs.Prelude.{ℕ, List, length, drop, slice_index, Bool, ◌==◌, nat_lt, if◌then◌else◌}
 use Rattle.ets_packets.specs.Packets.{number_at}
 use Rattle.ets_packets.specs.declared.request.Request.{Request}

@@ -11,7 +11,7 @@
 //! which is written before the next read, and when it has 65,536 bytes. This buffer with its writer is `Output`, which
 //! also takes the answers of scripts.
 //!
-//! *Limits.* The body of a packet has at most 16,777,216 bytes. A reader is asked at most 2^64 - 1 times. A term whose
+//! *Limits.* The body of a packet has at most 16,777,216 bytes. A reader is called at most 2^64 - 1 times. A term whose
 //! reply would have 2^32 bytes or more is left out, with status 7.
 #![tactic(auto)]
 

@@ -1,10 +1,10 @@
-//! What the body of a packet asks.
+//! The request in the body of a packet.
 ghost use Rattle.std.specs.Prelude.{◌≡◌};
 ghost use Rattle.ets_packets.specs.Requests as spec;
 
 use crate::number::number_at;
 
-/// What the body of a packet asks.
+/// The request in the body of a packet.
 #[derive(Clone, Copy)]
 pub(crate) enum Request {
     /// Spawns the process with this number.
@@ -20,7 +20,7 @@ pub(crate) enum Request {
 /// The number of bytes before those of a call.
 pub(crate) const CALL_START: usize = 5;
 
-/// Returns what the body of a packet asks.
+/// Parses the body of a packet.
 pub(crate) fn parse_request(body: &[u8]) -> Request
     ensures { result ≡ spec.parse_request body.now }
 {

@@ -1,4 +1,4 @@
--- A line that asks a call, after which pending steps change nothing that is seen.
+-- A line that makes a call. The pending steps after it change nothing observable.
 use Rattle.std.proofs.Common.{◌≡◌, ◌⊎◌, ℕ, List, Option, Some, inl, inr, subst, sym}
 use Rattle.ets_term.specs.declared.term.Term.{Term}
 use Rattle.node_core.specs.declared.step.Call.{Call}

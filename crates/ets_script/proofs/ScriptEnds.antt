@@ -57,7 +57,7 @@ flush-broken start now before old w1 w2 h left p g broken =
       (g.lines.0, subst (λ (k : List ℕ). ScriptText g.lines.0 M start g.input k now) b.parts (no-more g.lines.0 start now g.input g.out M g.lines.1)),
     )
 
--- the reader failed after all that waited had gone out
+-- the reader failed after the buffered output was written
 pub read-failed : (start now : ScriptState) (before old w : Option (List ℕ)) (h : LineBufferState) (l1 l2 : Option (List ℕ)) (p : List ℕ) → Progress start before old h l1 p w now → p ≡ [] → IsOneLine h.bytes → Keeps l1 l2 → Stops start (traffic (between before l2) (between old w)) faults.Read
 read-failed start now before old w h l1 l2 p g none one kept =
     let all = subst (λ (k : List ℕ). Sends (between old w) g.out k) none g.sent in (
@@ -98,7 +98,7 @@ end-broken start s1 s2 before old w1 w2 h left p g e all =
           (last-lines h.is_skipping start s1 s2 g.lines.0 g.input g.out g.skipped h.bytes all.answer M (none-is, e.end) g.lines.1 g.passed e.one_line e.short e.skipping all.answers),
     )
 
--- a script that had no memory to begin with
+-- a script that ran out of memory at its start
 pub not-begun : (start : ScriptState) (before old : Option (List ℕ)) → Stops start (traffic (between before before) (between old old)) faults.Memory
 not-begun start before old = (same-known before, appends-same old)
 

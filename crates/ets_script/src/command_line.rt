@@ -43,7 +43,7 @@ pub fn settings<S: AsStr>(alloc: Global, words: &[S]) -> Result<Settings, Error>
     Ok(settings_of(&matches))
 }
 
-/// Returns what a command line asks, as `settings` does, with more options: the limits of processes and of tables,
+/// Parses a command line as `settings` does, with more options: the limits of processes and of tables,
 /// `--why`, `--external` and `--version`. Refuses `--why` together with `--threads`, and `--external` together with
 /// either or with `--hash same`.
 pub fn request<S: AsStr>(alloc: Global, words: &[S]) -> Result<Request, Error>
@@ -80,7 +80,7 @@ fn conflict_words(request: &Request) -> &'static str {
     }
 }
 
-/// Returns what a command line asks, each option by itself.
+/// Parses a command line, each option by itself.
 fn parse_request<S: AsStr>(alloc: Global, words: &[S]) -> Result<Request, Error>
     ensures { Parses (map S.text words.entry.now) result }
 {

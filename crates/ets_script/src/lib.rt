@@ -12,7 +12,7 @@
 //! *Mechanism.* Bytes are read in pieces. A line is found by `memchr`, parsed once from left to right, executed, and
 //! answered into a buffer, which is written before the next read.
 //!
-//! *Limits.* A line has at most 65,536 bytes; a longer one is reported and passed over. A reader is asked at most
+//! *Limits.* A line has at most 65,536 bytes; a longer one is reported and passed over. A reader is called at most
 //! 1,000,000,000 times.
 #![tactic(auto)]
 

@@ -72,7 +72,7 @@ fn usual_request(settings: &Settings) -> Request
     }
 }
 
-/// Does what `answer_input` does, with the limits of the options; or answers packets, if an option asks for it.
+/// Does what `answer_input` does, with the limits of the options; or answers packets, if an option says so.
 pub fn answer_request<T: Threads + Wait + Sync, R: Read, W: Write, E: Write>(
     rt: &T,
     alloc: Global,
@@ -147,7 +147,7 @@ fn answer_lines<R: Read, W: Write, E: Write>(
     report(end, errors)
 }
 
-/// Runs a script line by line, and reports why lines were refused if an option asks for it.
+/// Runs a script line by line, and reports why lines were refused if an option says so.
 fn run_lines<H: KeyHash + Copy + Drop, R: Read, W: Write, E: Write>(
     alloc: Global,
     request: &Request,

@@ -1,4 +1,4 @@
--- Pids, and the references that stand for table identifiers.
+-- Pids, and the references that encode table identifiers.
 use Rattle.std.specs.Prelude.{ℕ, ◌+◌, ◌-◌, ◌*◌, List, length, slice_index, slice_range, Ok, Err, Bool, true, false, ◌==◌, ◌&&◌, nat_lt, codes}
 use Rattle.std.specs.List.{list_all}
 use Rattle.std.specs.Str.{bytes_eq}

@@ -39,20 +39,20 @@ replies_to p (s ∷ steps) (r ∷ replies) =
     if is_step_of p s then r ∷ replies_to p steps replies else replies_to p steps replies
 replies_to p _ _ = []
 
--- steps that the others hand in, each with its turn: the index of the key after which it runs
+-- steps that the others add, each with its turn: the index of the key after which it runs
 abbrev pub Given : Type 0
 Given = List (ℕ × Step)
 
 abbrev pub steps_at : ℕ → Given → List Step
 steps_at turn given = map (λ g. g.1) (filter (λ g. g.0 == turn) given)
 
--- the others are given a key: it is appended to the keys, and steps of its turn to those handed in
+-- the others get a key: it is appended to the keys, and steps of its turn to the added ones
 abbrev pub AddsTurn : List Term → Given → Term → List Term → Given → Type 0
 AddsTurn keys given key new_keys new_given =
     (new_keys ≡ keys ++ key ∷ [])
     × ((steps : List Step) × (new_given ≡ given ++ map (λ s. (length keys, s)) steps))
 
--- a key that came, and that the others are not given
+-- a key that the traversal found, and that the others do not get
 abbrev pub IsUnseenKey : List Reply → Type 0
 IsUnseenKey unseen =
     (key : Term) × (unseen ≡ Value key ∷ []) × (is_atom (codes "$end_of_table") key ≡ false)
@@ -74,7 +74,7 @@ module _ (p t : ℕ) where
   abbrev pub next : Term → Step
   next key = table_call (codes "next") (key ∷ [])
 
-  -- from a turn on, for each key, the steps handed in for its turn, in order, and then next of the key
+  -- from a turn on, for each key, the steps that the others add in its turn, in order, and then next of the key
   abbrev pub turns : Given → ℕ → List Term → List Step
   turns given turn [] = []
   turns given turn (key ∷ keys) = steps_at turn given ++ next key ∷ turns given (suc turn) keys
@@ -128,7 +128,7 @@ module _ (p t : ℕ) where
     stretch run = observable_states run.fixed run.done run.replies last run.walk_done
 
     -- The run reached the end, with the table fixed all the time. No key comes twice, and each key that has objects in
-    -- every state comes. No step handed in is the process's own.
+    -- every state comes. No step of the others is the process's own.
     pub record IsComplete (limit : ℕ) (run : WovenRun) : Type 0 where
       pub none_left : run.left ≡ []
       pub end : run.unseen ≡ key_reply None ∷ []

@@ -12,20 +12,20 @@ use ets_term::{Items, KeyHash, Term};
 use fixed_walk::FixFault;
 use std::alloc::AllocError;
 
-/// What others do during a traversal. It keeps the keys that it was given, and the steps that it handed in. A traversal
-/// starts with none of both.
+/// What others do during a traversal. It keeps the keys of the traversal so far, and the steps that the others add. Both
+/// are empty at the start.
 pub trait Others {
     /// The keys so far.
     ghost keys: { Self → List term.Term };
 
-    /// The steps handed in so far, each with its turn: the index, from 0, of the key after which it runs.
+    /// The steps added so far, each with its turn: the index, from 0, of the key after which it runs.
     ghost steps: { Self → List (ℕ × event.Step) };
 
     /// Returns the keys so far, in the order of the traversal.
     fn seen(&self) -> &[Term]
         ensures { result.now ≡ keys self.now };
 
-    /// Returns the steps handed in so far, each with its turn.
+    /// Returns the steps added so far, each with its turn.
     fn given(&self) -> &[(usize, Step)]
         ensures { result.now ≡ steps self.now };
 
@@ -52,10 +52,10 @@ pub enum WalkFault {
     /// The process does not live, the table does not exist, or the process may not read it: at the start, or since a
     /// step of others. A table that is created anew under the name is another table.
     Lost,
-    /// The others handed in a step of the traversing process itself: it enrols, ends, or makes a call. The steps before
-    /// it were run; it and those after it were not.
+    /// The others added a step of the traversing process itself: it enrols, ends, or makes a call. The steps before it
+    /// were run; it and those after it were not.
     OwnStep,
-    /// The traversal reached one key more than the limit. The others are not given this key.
+    /// The traversal reached one key more than the limit. The others do not get this key.
     LimitReached,
     /// Out of memory: in a call of the traversal, in a step, or in the others.
     Memory,
@@ -78,13 +78,13 @@ impl From<FixFault> for WalkFault {
 }
 
 /// Traverses a table for a process, which fixes it for that time (stdlib manual, ets:safe_fixtable/2): `first`, and
-/// then, after each key, the steps that the others hand in, in order, and `next` of the key. `table`, an identifier or
+/// then, after each key, the steps that the others add, in order, and `next` of the key. `table`, an identifier or
 /// a name, is looked up once, at the start. `limit` may be any number; with 0 an empty table can be traversed.
 ///
 /// `Ok` says that the traversal reached the end: no key comes twice, each key that has objects all the time comes, each
-/// step handed in was run, and the fix is released, which takes no memory. `WalkFault` says when a traversal is refused
-/// or stops. The others are given the keys that the traversal reached, in order, and no other. No bucket changes but by
-/// the steps handed in.
+/// step of the others was run, and the fix is released, which takes no memory. `WalkFault` says when a traversal is refused
+/// or stops. The others get the keys that the traversal reached, in order, and no other. Only the steps of the others
+/// change buckets.
 pub fn walk_among<H: KeyHash + Copy + Drop, O: Others>(
     node: &mut Node<H>,
     pid: u32,
@@ -164,7 +164,7 @@ fn walk_turn<H: KeyHash + Copy + Drop, O: Others>(
     Ok(found)
 }
 
-/// Runs the steps handed in, in order, until one is the process's own.
+/// Runs the steps of the others in order, until one is the process's own.
 fn run_steps<H: KeyHash + Copy + Drop>(
     node: &mut Node<H>,
     pid: u32,

@@ -83,7 +83,7 @@ module _ (old : State) where
     delete_table-explained term =
         used-explained old p Write no_further_rule (λ found. gives true_reply (record old { world = without_table old.world found.0 })) (λ found. gives-explained None true_reply (record old { world = without_table old.world found.0 }) (inl refl)) term
 
-  -- ---- what is asked of the world
+  -- ---- calls on processes and tables
   abbrev ReasonExplainsWorld : {X : Type 0} → Option Reason → (X → Reply) → Outcome (Result X WorldFault) World → Type 0
   ReasonExplainsWorld {X = X} v answer outcome = (r : Result X WorldFault) (new : World) (reply : Reply) → outcome r new → WorldResultToReply answer r reply → ReasonExplains v reply
 

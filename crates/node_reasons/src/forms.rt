@@ -33,14 +33,14 @@ pub fn are_specs(keypos: u32, term: &Term) -> bool
     }
 }
 
-/// Checks whether each term is a counter operation that spares the key.
+/// Checks whether each term is a counter operation that does not change the key.
 fn are_all_ops(keypos: u32, terms: &[Term]) -> bool
     ensures { result ≡ list_all (λ term. is_some (op_of_parts keypos (elements term))) terms.now }
 {
     terms.iter().all(|term| is_op(keypos, parts_of(term)))
 }
 
-/// Checks whether each term is an element value that spares the key.
+/// Checks whether each term is an element value that does not change the key.
 fn are_all_specs(keypos: u32, terms: &[Term]) -> bool
     ensures { result ≡ list_all (λ term. is_some (spec_of_parts keypos (elements term))) terms.now }
 {

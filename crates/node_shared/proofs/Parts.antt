@@ -64,7 +64,7 @@ part-other p journal entries i at d lt so_far other =
     ∙ so_far
 
 -- ---- the least that is missing
--- a process with entries among these and one more has some among these, or the one
+-- a process with an entry in the longer journal has one in the shorter, or the last entry is its own
 more-entries : (q : ℕ) (journal : List Entry) (e : Entry) → has_entries q (journal ++ e ∷ []) ≡ true → (has_entries q journal ≡ true) ⊎ (is_step_of q e.step ≡ true)
 more-entries q journal e h = by (has_entries q journal) (is_step_of q e.step) refl refl (sym (list_any-append (is_entry_of q) journal (e ∷ [])) ∙ h)
   where

@@ -26,7 +26,7 @@ abbrev pub JoinRefusesWith : (Reply → Type 0) → JoinFault → Type 0
 JoinRefusesWith allowed (join.Refused r back) = allowed r
 JoinRefusesWith allowed (join.Memory back) = Unit {0}
 
--- the fault hands this number back
+-- the fault returns this number
 abbrev pub HandsBack : Drawn → JoinFault → Type 0
 HandsBack drawn (join.Refused r back) = (is_value r ≡ false) × (back ≡ drawn)
 HandsBack drawn (join.Memory back) = back ≡ drawn

@@ -296,7 +296,7 @@ impl<B: HistoryId> Caller<B> {
         }
     }
 
-    /// Runs a step on a node under the lock, and notes how many entries its history has.
+    /// Runs a step on a node under the lock, and keeps the number of entries of its history.
     fn step_on<H: KeyHash + Copy + Drop>(
         &mut self,
         word: &HistoryWord,

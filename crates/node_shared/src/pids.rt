@@ -38,7 +38,7 @@ pub struct Drawn {
 /// Why no numbers can be drawn.
 #[derive(Debug, Drop)]
 pub enum PidsFault {
-    /// More than `MAX_PIDS` were asked for.
+    /// More numbers than `MAX_PIDS`.
     TooMany,
     /// Out of memory.
     Memory,

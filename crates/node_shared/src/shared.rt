@@ -24,7 +24,7 @@ pub struct Shared<L: Ledger, H: KeyHash + Copy + Drop> {
     pub(crate) book: Mutex<Book<L, H>>,
 }
 
-/// Why no client is created. The number that was drawn is handed back.
+/// Why no client is created. It returns the number that was drawn.
 #[derive(Drop)]
 pub enum JoinFault {
     /// The node refused to enrol the number: `SystemLimit`, or `Badarg` for a number that was enrolled before.

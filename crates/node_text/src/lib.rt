@@ -10,7 +10,7 @@
 //! *Weakness.* What is found at the fault of a text is a guess at what the author meant.
 //!
 //! *Mechanism.* A store keeps the last reply, and the reason of the last refusal in a few machine words. It makes the
-//! reason's text when it is asked for. A step writes its reply over the reply before the last, and uses its memory again.
+//! reason's text on demand. A step writes its reply over the reply before the last, and uses its memory again.
 //!
 //! *Limits.* The tuple of a call counts as one of the 128 levels that a text may have, so an argument may have 127; in a
 //! term the list of the arguments counts too, so an argument may have 126.

@@ -41,12 +41,12 @@ module _ (old new : State) (reply : Reply) (t : ℕ) (rule : CallRule) (quiet : 
   abbrev ToReply : Option Table → Type 0
   ToReply o = gives (option_map_or (λ _. ok_reply) o Badarg) (observable old) reply (observable new)
 
-  told-at : (o : Option Table) → table_at old.world.tables t ≡ o → Grown o → ToReply (option_map observable_table o)
-  told-at None at h = (h.0, ap observable h.1)
-  told-at (Some table) at h = let q = quiet table.fixed h.0 h.1 in (q.0, ap observable h.2 ∙ same-observable old t table h.0 at q.1)
+  grown-reply : (o : Option Table) → table_at old.world.tables t ≡ o → Grown o → ToReply (option_map observable_table o)
+  grown-reply None at h = (h.0, ap observable h.1)
+  grown-reply (Some table) at h = let q = quiet table.fixed h.0 h.1 in (q.0, ap observable h.2 ∙ same-observable old t table h.0 at q.1)
 
   unobservable : in_table old t rule reply new → gives (growth_reply (observable old) t) (observable old) reply (observable new)
-  unobservable h = subst ToReply (sym (at-observable old.world.tables t)) (told-at (table_at old.world.tables t) refl h)
+  unobservable h = subst ToReply (sym (at-observable old.world.tables t)) (grown-reply (table_at old.world.tables t) refl h)
 
 pub grown-observable : (old new : State) (reply : Reply) (t : ℕ) → in_table old t Grows reply new → step (observable old) (Grow t) reply (observable new)
 grown-observable old new reply t = unobservable old new reply t Grows (λ f g h. (h.0, ap observable_fixed h.3))

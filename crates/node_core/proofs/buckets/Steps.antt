@@ -13,8 +13,8 @@ use Rattle.node_core.proofs.buckets.Observable.{buckets-follow, grown-observable
 use Rattle.node_core.proofs.calls.EachCall.{step-lawful, step-follows}
 
 -- any step but growing and readying, of which only the observable state is known
-told-buckets : (old new : State) (event : Step) (reply : Reply) → step old event reply new → KeepsBuckets old new × HasFirstBuckets old new
-told-buckets old new event reply h = buckets-follow old new (step-follows old new event reply h)
+step-buckets : (old new : State) (event : Step) (reply : Reply) → step old event reply new → KeepsBuckets old new × HasFirstBuckets old new
+step-buckets old new event reply h = buckets-follow old new (step-follows old new event reply h)
 
 pub done-observable : (old new : State) (event : Step) (reply : Reply) → StepsWithBuckets old event reply new → step (observable old) event reply (observable new)
 done-observable old new (Enrol p) reply h = (step-lawful old (Enrol p)).observable reply new h
@@ -24,9 +24,9 @@ done-observable old new (Grow t) reply h = grown-observable old new reply t h
 done-observable old new (Ready t bucket) reply h = readied-observable old new reply t bucket h
 
 pub done-buckets : (old new : State) (event : Step) (reply : Reply) → StepsWithBuckets old event reply new → step_on_buckets old event reply new
-done-buckets old new (Enrol p) reply h = told-buckets old new (Enrol p) reply h
-done-buckets old new (End p) reply h = told-buckets old new (End p) reply h
-done-buckets old new (Ask p asked) reply h = told-buckets old new (Ask p asked) reply h
+done-buckets old new (Enrol p) reply h = step-buckets old new (Enrol p) reply h
+done-buckets old new (End p) reply h = step-buckets old new (End p) reply h
+done-buckets old new (Ask p asked) reply h = step-buckets old new (Ask p asked) reply h
 done-buckets old new (Grow t) reply h = h
 done-buckets old new (Ready t bucket) reply h = h
 

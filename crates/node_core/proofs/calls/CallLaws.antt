@@ -59,7 +59,7 @@ world-flat answer flat (Err fault.SystemLimit) reply e = ap is_flat e
 world-flat answer flat (Err fault.NoProcess) reply e = ap is_flat e
 world-flat answer flat (Err fault.Memory) reply e = absurd e
 
--- ---- what `info` and `whereis` tell
+-- ---- the replies of `info` and `whereis`
 abbrev wheres : State → List ℕ → Reply
 wheres s text = value_or_undefined (option_map_or (λ t. Some (Tid t)) (whereis s.world.tables text) None)
 
@@ -75,17 +75,17 @@ item-observable item.Kind t table = refl
 item-observable item.Keypos t table = refl
 item-observable item.Fixed t table = refl
 
-told-of : (i : InfoItem) (t : ℕ) (o : Option Table)
+info-value : (i : InfoItem) (t : ℕ) (o : Option Table)
     → option_map_or (λ table. Some (info_of i t table)) (option_map observable_table o) None ≡ option_map_or (λ table. Some (info_of i t table)) o None
-told-of i t None = refl
-told-of i t (Some table) = ap Some (item-observable i t table)
+info-value i t None = refl
+info-value i t (Some table) = ap Some (item-observable i t table)
 
-told-observable : (w : World) (i : InfoItem) (o : Option ℕ)
+info-observable : (w : World) (i : InfoItem) (o : Option ℕ)
     → option_and_then (info_at i (observable_world w)) o ≡ option_and_then (info_at i w) o
-told-observable w i None = refl
-told-observable w i (Some t) =
+info-observable w i None = refl
+info-observable w i (Some t) =
     ap (λ o. option_map_or (λ table. Some (info_of i t table)) o None) (at-observable w.tables t)
-    ∙ told-of i t (table_at w.tables t)
+    ∙ info-value i t (table_at w.tables t)
 
 abbrev informs : State → Term → InfoItem → Reply
 informs s term i = value_or_undefined (option_and_then (info_at i s.world) (resolve s.world.tables term))
@@ -93,7 +93,7 @@ informs s term i = value_or_undefined (option_and_then (info_at i s.world) (reso
 informs-observable : (s : State) (term : Term) (i : InfoItem) → informs (observable s) term i ≡ informs s term i
 informs-observable s term i =
     ap (λ o. value_or_undefined (option_and_then (info_at i (observable_world s.world)) o)) (resolve-observable s.world.tables term)
-    ∙ ap value_or_undefined (told-observable s.world i (resolve s.world.tables term))
+    ∙ ap value_or_undefined (info-observable s.world i (resolve s.world.tables term))
 
 -- ---- forms of calls
 module _ (own : ℕ → Bool) (needs : Bool) (old : State) where

@@ -12,7 +12,7 @@ use Rattle.ownership.specs.World.{Table, Tables, table_at, resolve}
 use Rattle.ownership.proofs.MetadataLaws.{fixed-same}
 use Rattle.node_core.specs.declared.node.access.Access.{Access}
 use Rattle.node_core.specs.declared.step.Reply.{Reply}
-use Rattle.node_core.specs.declared.step.Reply.TheVariants as told
+use Rattle.node_core.specs.declared.step.Reply.TheVariants as variants
 use Rattle.node_core.specs.State.{State}
 use Rattle.node_core.specs.Access.{may_access, allowed, usable, with_table, changes, CallRule, replies}
 use Rattle.node_core.specs.inside.Lending.{with_usable}
@@ -43,7 +43,7 @@ module _ (old : State) (p : ℕ) (access : Access) (term : Term) (was f : TableS
 
   -- what `changes` says of the table that is found
   abbrev Found : CallRule → Option (ℕ × Table) → Outcome Reply State
-  Found rule o reply new = MatchOption o (gives told.Badarg old reply new) (λ found. (fixed : TableState) × rule found.1.fixed reply fixed × (new ≡ with_table old found.0 fixed))
+  Found rule o reply new = MatchOption o (gives variants.Badarg old reply new) (λ found. (fixed : TableState) × rule found.1.fixed reply fixed × (new ≡ with_table old found.0 fixed))
 
   changed_at : (rule : CallRule) (reply : Reply) (o : Option (ℕ × Table)) → Some was ≡ option_map (λ found. found.1.fixed) o → rule was reply f → Found rule o reply (after o)
   changed_at rule reply None e h = cc
@@ -56,11 +56,11 @@ module _ (old : State) (p : ℕ) (access : Access) (term : Term) (was f : TableS
       ap (λ g. with_table old found.0 g) is ∙ ap (λ ts. record old { world = record old.world { tables = ts } }) (fixed-same old.world.tables found.0 found.1 (usable-there old.world.tables access p term found u).at)
 
   module _ (there : Some was ≡ option_map (λ found. found.1.fixed) (usable access old.world.tables p term)) where
-    -- the table that was lent is left by the rule of the call
+    -- the rule of the call changes the borrowed table
     pub changed : (rule : CallRule) (reply : Reply) → rule was reply f → changes old p access term rule reply (with_usable old access p term f)
     changed rule reply h = changed_at rule reply (usable access old.world.tables p term) there h
 
-    -- it is left as it was
+    -- or nothing changes
     pub unchanged : f ≡ was → with_usable old access p term f ≡ old
     unchanged same = same_at (usable access old.world.tables p term) refl there same
 
@@ -71,6 +71,6 @@ module _ (old : State) (p : ℕ) (access : Access) (term : Term) (was f : TableS
     -- the change is refused, and so is the call
     pub changed-err : {X : Type 0} (answer : X → Reply) (change : TableState → Change X TableState) (refusal : Refusal) → RefinesChange (change was) was (Err refusal) f
         → called.RefinesReply (changes old p access term (replies answer change)) old (Err refusal) (with_usable old access p term f)
-    changed-err answer change Badarg h = changed (replies answer change) told.Badarg (Err Badarg, h, refl)
-    changed-err answer change SystemLimit h = changed (replies answer change) told.SystemLimit (Err SystemLimit, h, refl)
+    changed-err answer change Badarg h = changed (replies answer change) variants.Badarg (Err Badarg, h, refl)
+    changed-err answer change SystemLimit h = changed (replies answer change) variants.SystemLimit (Err SystemLimit, h, refl)
     changed-err answer change Memory h = unchanged h

@@ -25,7 +25,7 @@ Enrols old new p known full r =
     MatchBool known ((r ≡ Err fault.Badarg) × (new ≡ old)) (MatchBool full ((r ≡ Err fault.SystemLimit) × (new ≡ old)) ((r ≡ Ok tt) × (new ≡ after_enrol old p)))
 
 no-value : (answer r : Reply) → r ≡ answer → is_value answer ≡ false → is_value r ≡ true → ⊥
-no-value answer r told refused granted = let both : true ≡ false = sym granted ∙ ap is_value told ∙ refused in cc
+no-value answer r is refused granted = let both : true ≡ false = sym granted ∙ ap is_value is ∙ refused in cc
 
 -- one that is let in is one more, and there was a place for it
 pub enrolled : (old new : State) (p : ℕ) (r : Reply) → is_value r ≡ true → step old (Enrol p) r new
@@ -34,8 +34,8 @@ enrolled old new p r granted h = by (is_some (process_at old.world.processes p))
   where
     by : (known full : Bool) → nat_le old.world.most_processes (length old.world.processes) ≡ full → (x : Result (Unit {0}) WorldFault) → Enrols old.world new.world p known full x
         → WorldResultToReply (λ _. Value (Pid p)) x r → (length new.world.processes ≡ length old.world.processes + 1) × (length old.world.processes < old.world.most_processes)
-    by true full f x a b = let told : r ≡ Badarg = rw a.0 at b in absurd (no-value Badarg r told refl granted)
-    by false true f x a b = let told : r ≡ SystemLimit = rw a.0 at b in absurd (no-value SystemLimit r told refl granted)
+    by true full f x a b = let is : r ≡ Badarg = rw a.0 at b in absurd (no-value Badarg r is refl granted)
+    by false true f x a b = let is : r ≡ SystemLimit = rw a.0 at b in absurd (no-value SystemLimit r is refl granted)
     by false false f x a b =
         let more : length new.world.processes ≡ length (after_enrol old.world p).processes = ap (λ (w : World). length w.processes) a.1 in
         (more ∙ length-append old.world.processes ((p, record { lives = true; mailbox = [] }) ∷ []), leb-false old.world.most_processes (length old.world.processes) f)
@@ -53,6 +53,6 @@ not-enrolled old new p r refused h kept =
     by true full x a b e = same a.1 e
     by false true x a b e = same a.1 e
     by false false x a b e =
-        let told : r ≡ Value (Pid p) = rw a.0 at b in
-        let both : true ≡ false = ap is_value (sym told) ∙ refused in
+        let is : r ≡ Value (Pid p) = rw a.0 at b in
+        let both : true ≡ false = ap is_value (sym is) ∙ refused in
         absurd (cc)

@@ -65,12 +65,12 @@ count-flat : (n : ℕ) → is_flat (count_reply n) ≡ true
 unfolding out-Term denote.Hole.Carrier.out
 count-flat n = refl
 
-told-flat : {X : Type 0} (answer : X → Reply) → ((x : X) → is_flat (answer x) ≡ true)
+reply-flat : {X : Type 0} (answer : X → Reply) → ((x : X) → is_flat (answer x) ≡ true)
     → (r : Result X Refusal) (reply : Reply) → ChangeResultToReply answer r reply → is_flat reply ≡ true
-told-flat answer flat (Ok x) reply e = ap is_flat e ∙ flat x
-told-flat answer flat (Err Badarg) reply e = ap is_flat e
-told-flat answer flat (Err SystemLimit) reply e = ap is_flat e
-told-flat answer flat (Err Memory) reply e = absurd e
+reply-flat answer flat (Ok x) reply e = ap is_flat e ∙ flat x
+reply-flat answer flat (Err Badarg) reply e = ap is_flat e
+reply-flat answer flat (Err SystemLimit) reply e = ap is_flat e
+reply-flat answer flat (Err Memory) reply e = absurd e
 
 fix-flat : (r : Result (Unit {0}) FixFault) (reply : Reply) → FixResultToReply r reply → is_flat reply ≡ true
 fix-flat (Ok done) reply e = ap is_flat e ∙ true-flat
@@ -137,7 +137,7 @@ module _ (own : ℕ → Bool) where
     replied answer change flat lawful = record {
       unobservable = λ old new reply h. (h.0, lawful.unobservable old new h.0 h.1, h.2);
       preserves = λ old new reply h. lawful.preserves old new h.0 (comes-of answer (change old) old new h.0 reply h.1 h.2);
-      flat = λ n old new reply h. told-flat answer (flat n) h.0 reply h.2;
+      flat = λ n old new reply h. reply-flat answer (flat n) h.0 reply h.2;
     }
 
     -- ---- insertion

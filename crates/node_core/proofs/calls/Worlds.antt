@@ -15,29 +15,29 @@ use Rattle.node_core.specs.Access.{asks}
 use Rattle.node_core.specs.inside.Refusals as called
 
 module _ {X : Type 0} (old : State) (answer : X → Reply) (outcome : Outcome (Result X WorldFault) World) (w : World) where
-  pub asked-ok : (x : X) → world.RefinesWorld outcome old.world (Ok x) w → asks old answer outcome (answer x) (record old { world = w })
-  asked-ok x h = (Ok x, h, refl, refl)
+  pub asks-world-ok : (x : X) → world.RefinesWorld outcome old.world (Ok x) w → asks old answer outcome (answer x) (record old { world = w })
+  asks-world-ok x h = (Ok x, h, refl, refl)
 
-  pub asked-err : (fault : WorldFault) → world.RefinesWorld outcome old.world (Err fault) w → called.RefinesReply (asks old answer outcome) old (called.refusal_of fault) (record old { world = w })
-  asked-err Badarg h = (Err Badarg, h, refl, refl)
-  asked-err SystemLimit h = (Err SystemLimit, h, refl, refl)
-  asked-err NoProcess h = (Err NoProcess, h, refl, refl)
-  asked-err Memory h = ap (λ v. record old { world = v }) h
+  pub asks-world-err : (fault : WorldFault) → world.RefinesWorld outcome old.world (Err fault) w → called.RefinesReply (asks old answer outcome) old (called.refusal_of fault) (record old { world = w })
+  asks-world-err Badarg h = (Err Badarg, h, refl, refl)
+  asks-world-err SystemLimit h = (Err SystemLimit, h, refl, refl)
+  asks-world-err NoProcess h = (Err NoProcess, h, refl, refl)
+  asks-world-err Memory h = ap (λ v. record old { world = v }) h
 
 -- the reply for the result of a calling method
-pub told-ok : (outcome : Outcome Reply State) (old new : State) (r : Result Reply Refusal) (told : Result Reply AllocError) → called.RefinesReply outcome old r new → called.RefusalToReply r told → IfOk told (λ reply. outcome reply new)
-told-ok outcome old new (Ok reply) (Ok answer) c e = subst (λ a. outcome a new) (sym e) c
-told-ok outcome old new (Err refusal.Badarg) (Ok answer) c e = subst (λ a. outcome a new) (sym e) c
-told-ok outcome old new (Err refusal.SystemLimit) (Ok answer) c e = subst (λ a. outcome a new) (sym e) c
-told-ok outcome old new (Err refusal.Memory) (Ok answer) c e = absurd e
-told-ok outcome old new r (Err error) c e = tt
+pub reply-ok : (outcome : Outcome Reply State) (old new : State) (r : Result Reply Refusal) (replied : Result Reply AllocError) → called.RefinesReply outcome old r new → called.RefusalToReply r replied → IfOk replied (λ reply. outcome reply new)
+reply-ok outcome old new (Ok reply) (Ok answer) c e = subst (λ a. outcome a new) (sym e) c
+reply-ok outcome old new (Err refusal.Badarg) (Ok answer) c e = subst (λ a. outcome a new) (sym e) c
+reply-ok outcome old new (Err refusal.SystemLimit) (Ok answer) c e = subst (λ a. outcome a new) (sym e) c
+reply-ok outcome old new (Err refusal.Memory) (Ok answer) c e = absurd e
+reply-ok outcome old new r (Err error) c e = tt
 
-pub told-err : (outcome : Outcome Reply State) (old new : State) (r : Result Reply Refusal) (told : Result Reply AllocError) → called.RefinesReply outcome old r new → called.RefusalToReply r told → OnErr told (new ≡ old)
-told-err outcome old new r (Ok answer) c e = tt
-told-err outcome old new (Err refusal.Memory) (Err error) c e = c
-told-err outcome old new (Ok reply) (Err error) c e = absurd e
-told-err outcome old new (Err refusal.Badarg) (Err error) c e = absurd e
-told-err outcome old new (Err refusal.SystemLimit) (Err error) c e = absurd e
+pub reply-err : (outcome : Outcome Reply State) (old new : State) (r : Result Reply Refusal) (replied : Result Reply AllocError) → called.RefinesReply outcome old r new → called.RefusalToReply r replied → OnErr replied (new ≡ old)
+reply-err outcome old new r (Ok answer) c e = tt
+reply-err outcome old new (Err refusal.Memory) (Err error) c e = c
+reply-err outcome old new (Ok reply) (Err error) c e = absurd e
+reply-err outcome old new (Err refusal.Badarg) (Err error) c e = absurd e
+reply-err outcome old new (Err refusal.SystemLimit) (Err error) c e = absurd e
 
 -- the same of a method that writes its reply
 pub written-ok : {E : Type 0} (P : Reply → Type 0) (reply : Reply) (r : Result (Unit {0}) E) → IfOk (called.to_reply (λ _. reply) r) P → OnOk r (P reply)

@@ -83,7 +83,7 @@ module _ (own : ℕ → Bool) where
     pub follows-same : Follows ts ts
     follows-same = record { long = omega arith; came = λ t table at. stayed ts t table table at (stays-same table) }
 
-    -- what is written at a place is what stood there, or a table that stays
+    -- what is written at a place is the old table there, or a change of it that `Stays` allows
     abbrev Written : Option Table → Option Table → Type 0
     Written before o = (table : Table) → o ≡ Some table → (was : Table) × (before ≡ Some was) × Stays was table
 

@@ -60,9 +60,9 @@ pub preserves-without : (own : ℕ → Bool) (which : Which) (old : TableState) 
 preserves-without own which old =
     preserves-content own old (after_delete which old) refl (delete-keeps which old) (dropped-free (is_fixed old.fixes) which old.content.slots)
 
--- ---- held slots go once nobody fixes the table
-abbrev without_held : TableState → TableState
-without_held table = record table { content = record table.content { slots = purged table.content.slots } }
+-- ---- a purge removes the tombstones once no process fixes the table
+abbrev without_tombstones : TableState → TableState
+without_tombstones table = record table { content = record table.content { slots = purged table.content.slots } }
 
 either-observable : (b : Bool) (f g : TableState) → cond b (observable_fixed f) (observable_fixed g) ≡ observable_fixed (cond b f g)
 either-observable true f g = refl
@@ -73,19 +73,19 @@ either-has Q true f g a b = a
 either-has Q false f g a b = b
 
 module _ (table : TableState) where
-  settled-observable : without_tombstones_if_unfixed (observable_fixed table) ≡ observable_fixed (without_tombstones_if_unfixed table)
-  settled-observable = either-observable (is_fixed table.fixes) table (without_held table)
+  purged-observable : without_tombstones_if_unfixed (observable_fixed table) ≡ observable_fixed (without_tombstones_if_unfixed table)
+  purged-observable = either-observable (is_fixed table.fixes) table (without_tombstones table)
 
-  settled-buckets : (without_tombstones_if_unfixed table).buckets ≡ table.buckets
-  settled-buckets =
-      either-has (λ f. f.buckets ≡ table.buckets) (is_fixed table.fixes) table (without_held table) refl refl
+  purged-buckets : (without_tombstones_if_unfixed table).buckets ≡ table.buckets
+  purged-buckets =
+      either-has (λ f. f.buckets ≡ table.buckets) (is_fixed table.fixes) table (without_tombstones table) refl refl
 
-  pub settled-fixes : (without_tombstones_if_unfixed table).fixes ≡ table.fixes
-  settled-fixes = either-has (λ f. f.fixes ≡ table.fixes) (is_fixed table.fixes) table (without_held table) refl refl
+  pub purged-fixes : (without_tombstones_if_unfixed table).fixes ≡ table.fixes
+  purged-fixes = either-has (λ f. f.fixes ≡ table.fixes) (is_fixed table.fixes) table (without_tombstones table) refl refl
 
-  settled-free : StaysFree table.content.slots (without_tombstones_if_unfixed table).content.slots
-  settled-free =
-      either-has (λ f. StaysFree table.content.slots f.content.slots) (is_fixed table.fixes) table (without_held table) (λ free. free) (purged-free table.content.slots)
+  purged-or-fixed-free : StaysFree table.content.slots (without_tombstones_if_unfixed table).content.slots
+  purged-or-fixed-free =
+      either-has (λ f. StaysFree table.content.slots f.content.slots) (is_fixed table.fixes) table (without_tombstones table) (λ free. free) (purged-free table.content.slots)
 
 -- ---- a process fixes and releases the table
 module _ (p : ℕ) where
@@ -113,24 +113,24 @@ module _ (p : ℕ) where
     abbrev with_fixes : ℕ → TableState
     with_fixes n = record old { fixes = with_count old.fixes p n }
 
-    settled-preserves : (n : ℕ) → KeepsKeys old (without_tombstones_if_unfixed (with_fixes n)) → Preserves (λ w. p == w) old (without_tombstones_if_unfixed (with_fixes n))
-    settled-preserves n keys = record {
-      buckets = settled-buckets (with_fixes n);
+    purged-preserves : (n : ℕ) → KeepsKeys old (without_tombstones_if_unfixed (with_fixes n)) → Preserves (λ w. p == w) old (without_tombstones_if_unfixed (with_fixes n))
+    purged-preserves n keys = record {
+      buckets = purged-buckets (with_fixes n);
       keys = keys;
-      ends = settled-free (with_fixes n);
+      ends = purged-or-fixed-free (with_fixes n);
       fixes =
-          λ w other. ap (λ (m : FixCounts). fix_count m w) (settled-fixes (with_fixes n))
+          λ w other. ap (λ (m : FixCounts). fix_count m w) (purged-fixes (with_fixes n))
           ∙ other-count old.fixes p w n other;
     }
 
     pub released-observable : after_release p (observable_fixed old) ≡ observable_fixed (after_release p old)
-    released-observable = settled-observable (with_fixes (fix_count old.fixes p - 1))
+    released-observable = purged-observable (with_fixes (fix_count old.fixes p - 1))
 
     pub released-preserves : Preserves (λ w. p == w) old (after_release p old)
-    released-preserves = settled-preserves (fix_count old.fixes p - 1) (release-keeps p old)
+    released-preserves = purged-preserves (fix_count old.fixes p - 1) (release-keeps p old)
 
     pub all_released-observable : after_release_all p (observable_fixed old) ≡ observable_fixed (after_release_all p old)
-    all_released-observable = settled-observable (with_fixes 0)
+    all_released-observable = purged-observable (with_fixes 0)
 
     pub all_released-preserves : Preserves (λ w. p == w) old (after_release_all p old)
-    all_released-preserves = settled-preserves 0 (release_all-keeps p old)
+    all_released-preserves = purged-preserves 0 (release_all-keeps p old)

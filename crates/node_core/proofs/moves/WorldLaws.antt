@@ -105,7 +105,7 @@ module _ (P : World → Type 0) (old : World) (same : P old) where
         subst₂ (λ (found : Option ℕ) (count : ℕ). Lawful Term (tables.New old p name options fixed) (Makes (observable_world old) found count (observable_fixed fixed)))
         (sym (whereis-observable old.tables name)) (sym (length-observable old.tables)) (made fixed after)
 
-  -- ---- tables change hands
+  -- ---- tables pass to another owner
   module _ (p t : ℕ) where
     module _ (q : ℕ) (gift : Term) where
       abbrev Gives : World → Metadata → Outcome (Result (Unit {0}) WorldFault) World

@@ -147,8 +147,8 @@ fewer-due t table slots h =
 purged-short : (slots : List Slot) → length (purged slots) ≤ length slots
 purged-short slots = omega (arith, length-filter (λ (slot : Slot). has_objects slot.1) slots, count_by-le-length (λ (slot : Slot). has_objects slot.1) slots)
 
-settled-due : (t : ℕ) (table : TableState) → is_some (pending_of t (without_tombstones_if_unfixed table)) ≡ true → is_some (pending_of t table) ≡ true
-settled-due t table = by (is_fixed table.fixes)
+purged-due : (t : ℕ) (table : TableState) → is_some (pending_of t (without_tombstones_if_unfixed table)) ≡ true → is_some (pending_of t table) ≡ true
+purged-due t table = by (is_fixed table.fixes)
   where
     by : (fixed : Bool) → is_some (pending_of t (if fixed then table else record table { content = record table.content { slots = purged table.content.slots } })) ≡ true → is_some (pending_of t table) ≡ true
     by true h = h
@@ -160,8 +160,8 @@ after-due processes p t (Some table) h = by (is_owner table.metadata p) (living_
   where
     by : (own : Bool) (heir : Option Heir) → due_in t (if own then option_map (λ heir. with_owner heir.pid (without_fixes p table)) heir else Some (without_fixes p table)) ≡ true → is_some (pending_of t table.fixed) ≡ true
     by true None e = cc
-    by true (Some heir) e = settled-due t (record table.fixed { fixes = with_count table.fixed.fixes p 0 }) e
-    by false heir e = settled-due t (record table.fixed { fixes = with_count table.fixed.fixes p 0 }) e
+    by true (Some heir) e = purged-due t (record table.fixed { fixes = with_count table.fixed.fixes p 0 }) e
+    by false heir e = purged-due t (record table.fixed { fixes = with_count table.fixed.fixes p 0 }) e
 
 -- a process ends
 pub ended : (tables : Tables) (index : PendingTablesState) (processes : Processes) (p : ℕ) → TracksPending tables index → TracksPending (map (table_after_exit processes p) tables) index

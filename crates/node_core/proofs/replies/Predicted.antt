@@ -65,17 +65,17 @@ SufficesForName old p found args r = IfOk r (Suffices old (refuse_none old found
 unnamed-suffices : (old : State) (p : ℕ) (args : List Term) → Suffices old (refuse_none old None Badarg (λ name. call old p name args)) Nothing
 unnamed-suffices old p args reply new h = inl (ap is_flat h.0)
 
-pub asked-suffices : (old : State) (p : ℕ) (asked : Call) (r : Result ReplyReserve AllocError) → SufficesForName old p (call_name asked.name) asked.args r → IfOk r (Suffices old (StepsWithBuckets old (Ask p asked)))
-asked-suffices old p asked (Ok spare) h =
+pub ask-suffices : (old : State) (p : ℕ) (asked : Call) (r : Result ReplyReserve AllocError) → SufficesForName old p (call_name asked.name) asked.args r → IfOk r (Suffices old (StepsWithBuckets old (Ask p asked)))
+ask-suffices old p asked (Ok spare) h =
     refused-suffices old (not (lives old.world.processes p)) NoProcess (refuse old (list_any is_too_deep asked.args) SystemLimit (call_by_text old p asked.name asked.args)) spare refl
     (refused-suffices old (list_any is_too_deep asked.args) SystemLimit (call_by_text old p asked.name asked.args) spare refl h)
-asked-suffices old p asked (Err error) h = h
+ask-suffices old p asked (Err error) h = h
 
 pub named-suffices : (old : State) (p : ℕ) (asked : Call) (name : CallName) (r : Result ReplyReserve AllocError) → Some name ≡ call_name asked.name → IfOk r (Suffices old (call old p name asked.args)) → IfOk r (Suffices old (StepsWithBuckets old (Ask p asked)))
-named-suffices old p asked name r is h = asked-suffices old p asked r (subst (λ found. SufficesForName old p found asked.args r) is h)
+named-suffices old p asked name r is h = ask-suffices old p asked r (subst (λ found. SufficesForName old p found asked.args r) is h)
 
 pub other-suffices : (old : State) (p : ℕ) (asked : Call) → None ≡ call_name asked.name → Suffices old (StepsWithBuckets old (Ask p asked)) Nothing
-other-suffices old p asked is = asked-suffices old p asked (Ok Nothing) (subst (λ found. SufficesForName old p found asked.args (Ok Nothing)) is (unnamed-suffices old p asked.args))
+other-suffices old p asked is = ask-suffices old p asked (Ok Nothing) (subst (λ found. SufficesForName old p found asked.args (Ok Nothing)) is (unnamed-suffices old p asked.args))
 
 pub quiet-suffices : (old : State) (p : ℕ) (name : CallName) (args : List Term) → may_need_copy name ≡ false → TakesNoMemory old (call old p name args)
 quiet-suffices old p name args quiet reply new h = ((call-lawful p false old name args (λ may. sym quiet ∙ may)).lawful reply new h).quiet refl

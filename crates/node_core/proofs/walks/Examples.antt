@@ -54,11 +54,11 @@ shallow-one = search (rules, the_lemmas)
 first : step old asks_first (Value one) old
 first = rw (shallow-tid, out-tid) (refl, refl)
 
-told : option_map_or key_reply (next_key ((one, Tuple (one ∷ []) ∷ []) ∷ []) one) Badarg ≡ key_reply None
-told = ap (λ (b : Bool). option_map_or key_reply (option_map first_key (cond b (Some []) None)) Badarg) (same-refl one)
+last-reply : option_map_or key_reply (next_key ((one, Tuple (one ∷ []) ∷ []) ∷ []) one) Badarg ≡ key_reply None
+last-reply = ap (λ (b : Bool). option_map_or key_reply (option_map first_key (cond b (Some []) None)) Badarg) (same-refl one)
 
 next : step old asks_next (key_reply None) old
-next = rw (shallow-tid, shallow-one, out-tid) (sym told, refl)
+next = rw (shallow-tid, shallow-one, out-tid) (sym last-reply, refl)
 
 abbrev done : run old (asks_first ∷ asks_next ∷ []) (Value one ∷ key_reply None ∷ []) old
 done = (old, first, (old, next, refl))

@@ -110,7 +110,7 @@ module _ (p t : ℕ) where
       pub fixes : Has new
       pub place : (key : Term) → HasPlace key old → HasPlace key new
       pub there : exists_in t new ≡ true → exists_in t old ≡ true
-      pub held : exists_in t new ≡ true → StaysFixed t (states old steps replies new done)
+      pub stays_fixed : exists_in t new ≡ true → StaysFixed t (states old steps replies new done)
 
     has-then : (old mid : State) → t < length old.world.tables → Has old → Kept old mid → Has mid
     has-then old mid within has kept here = let was = kept.there within here in was.1 ∙ has was.0
@@ -130,7 +130,7 @@ module _ (p t : ℕ) where
       fixes = subst Has (sym h) has;
       place = λ key had. subst (HasPlace key) (sym h) had;
       there = λ here. was here;
-      held = λ here. (fixed-in p t n old (has (was here)), tt);
+      stays_fixed = λ here. (fixed-in p t n old (has (was here)), tt);
     }
       where
         was : exists_in t new ≡ true → exists_in t old ≡ true
@@ -144,7 +144,7 @@ module _ (p t : ℕ) where
           fixes = rest.fixes;
           place = λ key had. rest.place key (place-then old mid s r h.1 within has kept key had);
           there = λ here. let before = kept.there within (rest.there here) in before.0;
-          held = λ here. (fixed-before old mid within has kept (rest.there here), rest.held here);
+          stays_fixed = λ here. (fixed-before old mid within has kept (rest.there here), rest.stays_fixed here);
         }
     others-ran old [] (r ∷ replies) new h all within has = absurd h
     others-ran old (s ∷ steps) [] new h all within has = absurd h

@@ -48,7 +48,7 @@ use Rattle.node_core.specs.inside.Refusals.{walk_fault_of}
 use Rattle.node_core.specs.inside.Walker.{exists_in, CanContinue, call_of, FindsKey, FixesTable, UnfixesTable}
 use Rattle.node_core.proofs.buckets.ObservableTables.{at-observable}
 use Rattle.node_core.proofs.buckets.Steps.{done-observable, done-buckets}
-use Rattle.node_core.proofs.moves.Preserves.{own-count, settled-fixes}
+use Rattle.node_core.proofs.moves.Preserves.{own-count, purged-fixes}
 
 -- ---- what a walk finds in the slots
 or-left : (a b : Bool) → a ≡ true → (a || b) ≡ true
@@ -122,9 +122,9 @@ module _ (kind : Kind) (keypos : ℕ) where
   next-found [] c k are e = cc
   next-found (s ∷ ss) c k are e = behind-by (same c s.0) s ss c k are.1 (next-found ss c k are.1) e
 
-  told-found : (asked : Option Term) (ss : List Slot) (k : Term) → AreSlots kind keypos ss → walk_answer asked ss ≡ Some (Some k) → IsGood k × HasSlot ss k
-  told-found None ss k are e = let is : first_key ss ≡ Some k = cc in first-found ss k are is
-  told-found (Some c) ss k are e = next-found ss c k are e
+  answer-found : (asked : Option Term) (ss : List Slot) (k : Term) → AreSlots kind keypos ss → walk_answer asked ss ≡ Some (Some k) → IsGood k × HasSlot ss k
+  answer-found None ss k are e = let is : first_key ss ≡ Some k = cc in first-found ss k are is
+  answer-found (Some c) ss k are e = next-found ss c k are e
 
 -- a key that has a slot has slots after it
 slot-by : (b : Bool) (s : Slot) (ss : List Slot) (c : Term) → same c s.0 ≡ b → (list_any (same c) (keys_of ss) ≡ true → slots_behind ss c ≡ None → ⊥) → (b || list_any (same c) (keys_of ss)) ≡ true → cond b (Some ss) (slots_behind ss c) ≡ None → ⊥
@@ -193,8 +193,8 @@ module _ (p t : ℕ) where
         ap (λ o. option_and_then (λ u. option_and_then (allowed Read p u) (table_at s.world.tables u)) (option_map (λ _. t) o)) at
         ∙ (ap (λ o. option_and_then (allowed Read p t) o) at ∙ ap (λ (b : Bool). cond b (Some (t, table)) None) readable)
 
-    asked-done : (name : List ℕ) (args : List Term) (r : Reply) (new : State) → list_any is_too_deep args ≡ false → call_by_text s p name args r new → step s (Ask p (record { name = name; args = args })) r new
-    asked-done name args r new shallow h =
+    ask-done : (name : List ℕ) (args : List Term) (r : Reply) (new : State) → list_any is_too_deep args ≡ false → call_by_text s p name args r new → step s (Ask p (record { name = name; args = args })) r new
+    ask-done name args r new shallow h =
         subst (λ (b : Bool). MatchBool (not b) (gives NoProcess s r new) (MatchBool (list_any is_too_deep args) (gives SystemLimit s r new) (call_by_text s p name args r new))) (sym living)
         (subst (λ (b : Bool). MatchBool b (gives SystemLimit s r new) (call_by_text s p name args r new)) (sym shallow) h)
 
@@ -204,12 +204,12 @@ module _ (p t : ℕ) where
     first-done : (found : Option Term) → walk_answer None slots ≡ Some found → step s (first p t) (key_reply found) s
     first-done found e =
         let is : first_key slots ≡ found = cc in
-        asked-done (codes "first") (Tid t ∷ []) (key_reply found) s shallow-one
+        ask-done (codes "first") (Tid t ∷ []) (key_reply found) s shallow-one
         (subst (λ o. MatchOption o (gives Badarg s (key_reply found) s) (λ found2. gives (first_reply found2.1.fixed) s (key_reply found) s)) (sym usable-own) (ap key_reply (sym is), refl))
 
     next-done : (key : Term) (found : Option Term) → is_too_deep key ≡ false → walk_answer (Some key) slots ≡ Some found → step s (next p t key) (key_reply found) s
     next-done key found shallow e =
-        asked-done (codes "next") (Tid t ∷ key ∷ []) (key_reply found) s (shallow-two key shallow)
+        ask-done (codes "next") (Tid t ∷ key ∷ []) (key_reply found) s (shallow-two key shallow)
         (subst (λ o. MatchOption o (gives Badarg s (key_reply found) s) (λ found2. gives (next_reply key found2.1.fixed) s (key_reply found) s)) (sym usable-own) (sym (ap (λ o. option_map_or key_reply o Badarg) e), refl))
 
     call-done : (asked found : Option Term) → MatchOption asked (Unit {0}) (λ key. is_too_deep key ≡ false) → walk_answer asked slots ≡ Some found → step s (call_of p t asked) (key_reply found) s
@@ -233,14 +233,14 @@ module _ (p t : ℕ) where
 
     fix-done : (f : TableState) → IncrementsFix p table.fixed (Ok tt) f → step s (fix p t) true_reply (with_table s t f)
     fix-done f h =
-        asked-done (codes "safe_fixtable") (Tid t ∷ Atom (codes "true") ∷ []) true_reply (with_table s t f) (shallow-two (Atom (codes "true")) (shallow-atom (codes "true")))
+        ask-done (codes "safe_fixtable") (Tid t ∷ Atom (codes "true") ∷ []) true_reply (with_table s t f) (shallow-two (Atom (codes "true")) (shallow-atom (codes "true")))
         (subst (λ (b : Bool). MatchBool b (changes s p Read (Tid t) (Fixes p) true_reply (with_table s t f)) (
         MatchBool (is_atom (codes "false") (Atom (codes "true"))) (changes s p Read (Tid t) (Releases p) true_reply (with_table s t f)) (gives Badarg s true_reply (with_table s t f)))) (sym true-atom)
         (changed (Fixes p) f (Ok tt, h, refl)))
 
     release-done : (f : TableState) → f ≡ after_release p table.fixed → step s (release p t) true_reply (with_table s t f)
     release-done f h =
-        asked-done (codes "safe_fixtable") (Tid t ∷ Atom (codes "false") ∷ []) true_reply (with_table s t f) (shallow-two (Atom (codes "false")) (shallow-atom (codes "false")))
+        ask-done (codes "safe_fixtable") (Tid t ∷ Atom (codes "false") ∷ []) true_reply (with_table s t f) (shallow-two (Atom (codes "false")) (shallow-atom (codes "false")))
         (subst (λ (b : Bool). MatchBool b (changes s p Read (Tid t) (Fixes p) true_reply (with_table s t f)) (
         MatchBool (is_atom (codes "false") (Atom (codes "false"))) (changes s p Read (Tid t) (Releases p) true_reply (with_table s t f)) (gives Badarg s true_reply (with_table s t f)))) (sym false-true)
         (subst (λ (b : Bool). MatchBool b (changes s p Read (Tid t) (Releases p) true_reply (with_table s t f)) (gives Badarg s true_reply (with_table s t f))) (sym false-atom)
@@ -271,43 +271,43 @@ module _ (p t : ℕ) where
   slots-free kind keypos [] are = tt
   slots-free kind keypos (s ∷ ss) are = (are.0.key, slots-free kind keypos ss are.1)
 
-  -- the table that was lent, and what is known of it
-  record Lent (s : State) (was : TableState) : Type 0 where
+  -- the borrowed table: its identifier, its owner's access and its content
+  record Borrowed (s : State) (was : TableState) : Type 0 where
     table : Table
     at : table_at s.world.tables t ≡ Some table
     is : was ≡ table.fixed
     living : lives s.world.processes p ≡ true
     readable : may_read table.metadata p ≡ true
 
-  lent-at : (s : State) (was : TableState) (o : Option Table) → table_at s.world.tables t ≡ o → Some was ≡ option_map (λ table. table.fixed) o → lives s.world.processes p ≡ true → option_map_or (λ table. may_read table.metadata p) o false ≡ true → Lent s was
-  lent-at s was None at e living readable = absurd (cc)
-  lent-at s was (Some table) at e living readable = record { table = table; at = at; is = cc; living = living; readable = readable }
+  borrowed-at : (s : State) (was : TableState) (o : Option Table) → table_at s.world.tables t ≡ o → Some was ≡ option_map (λ table. table.fixed) o → lives s.world.processes p ≡ true → option_map_or (λ table. may_read table.metadata p) o false ≡ true → Borrowed s was
+  borrowed-at s was None at e living readable = absurd (cc)
+  borrowed-at s was (Some table) at e living readable = record { table = table; at = at; is = cc; living = living; readable = readable }
 
-  lent : (s : State) (was : TableState) → Some was ≡ option_map (λ table. table.fixed) (table_at s.world.tables t) → can_read p t s ≡ true → Lent s was
-  lent s was e h =
+  borrowed : (s : State) (was : TableState) → Some was ≡ option_map (λ table. table.fixed) (table_at s.world.tables t) → can_read p t s ≡ true → Borrowed s was
+  borrowed s was e h =
       let parts = both-true (lives s.world.processes p) (has_access may_read s.world.tables p t) h in
-      lent-at s was (table_at s.world.tables t) refl e parts.0 parts.1
+      borrowed-at s was (table_at s.world.tables t) refl e parts.0 parts.1
 
-  not-lent-at : (o : Option Table) → option_map (λ table. table.fixed) o ≡ None → option_map_or (λ table. may_read table.metadata p) o false ≡ false
-  not-lent-at None e = refl
-  not-lent-at (Some table) e = absurd (cc)
+  not-borrowed-at : (o : Option Table) → option_map (λ table. table.fixed) o ≡ None → option_map_or (λ table. may_read table.metadata p) o false ≡ false
+  not-borrowed-at None e = refl
+  not-borrowed-at (Some table) e = absurd (cc)
 
   and-false : (a b : Bool) → b ≡ false → (a && b) ≡ false
   and-false true b h = h
   and-false false b h = refl
 
   -- there is no table
-  pub not-lent : (s : State) → None ≡ option_map (λ table. table.fixed) (table_at s.world.tables t) → can_read p t s ≡ false
-  not-lent s e = and-false (lives s.world.processes p) (has_access may_read s.world.tables p t) (not-lent-at (table_at s.world.tables t) (sym e))
+  pub not-borrowed : (s : State) → None ≡ option_map (λ table. table.fixed) (table_at s.world.tables t) → can_read p t s ≡ false
+  not-borrowed s e = and-false (lives s.world.processes p) (has_access may_read s.world.tables p t) (not-borrowed-at (table_at s.world.tables t) (sym e))
 
   same-after : (s : State) (f : TableState) (table : Table) → table_at s.world.tables t ≡ Some table → f ≡ table.fixed → with_table s t f ≡ s
   same-after s f table at e =
       ap (λ g. with_table s t g) e ∙ ap (λ ts. record s { world = record s.world { tables = ts } }) (fixed-same s.world.tables t table at)
 
   module _ (s : State) (was f : TableState) (there : Some was ≡ option_map (λ table. table.fixed) (table_at s.world.tables t)) (can : can_read p t s ≡ true) where
-    pub held : IncrementsFix p was (Ok tt) f → IsContent was.content → FixesTable p t (observable s) (Ok tt) (observable (with_table s t f))
-    held h is =
-        let l = lent s was there can in
+    pub fix-refines : IncrementsFix p was (Ok tt) f → IsContent was.content → FixesTable p t (observable s) (Ok tt) (observable (with_table s t f))
+    fix-refines h is =
+        let l = borrowed s was there can in
         let once : IncrementsFix p l.table.fixed (Ok tt) f = subst (λ g. IncrementsFix p g (Ok tt) f) l.is h in (
           done-observable s (with_table s t f) (fix p t) true_reply (fix-done s l.table l.at l.living l.readable f once),
           count-after s f l.table l.at ∙ (ap (λ (g : TableState). fix_count g.fixes p) once.1 ∙ (own-count l.table.fixed.fixes p (fix_count l.table.fixed.fixes p + 1) ∙ (more (fix_count l.table.fixed.fixes p) ∙ ap suc (sym (count-before s l.table l.at))))),
@@ -317,49 +317,49 @@ module _ (p t : ℕ) where
         more : (n : ℕ) → n + 1 ≡ suc n
         more n = omega arith
 
-    held-most : IncrementsFix p was (Err fixing.SystemLimit) f → FixesTable p t (observable s) (Err fault.SystemLimit) (observable (with_table s t f))
-    held-most h =
-        let l = lent s was there can in
+    fix-limit : IncrementsFix p was (Err fixing.SystemLimit) f → FixesTable p t (observable s) (Err fault.SystemLimit) (observable (with_table s t f))
+    fix-limit h =
+        let l = borrowed s was there can in
         (can_read-observable s ∙ can, count-before s l.table l.at ∙ (ap (λ (g : TableState). fix_count g.fixes p) (sym l.is) ∙ h.0), ap observable (same-after s f l.table l.at (h.1 ∙ l.is)))
 
-    held-not : IncrementsFix p was (Err fixing.Memory) f → FixesTable p t (observable s) (Err fault.Memory) (observable (with_table s t f))
-    held-not h =
-        let l = lent s was there can in
+    fix-memory : IncrementsFix p was (Err fixing.Memory) f → FixesTable p t (observable s) (Err fault.Memory) (observable (with_table s t f))
+    fix-memory h =
+        let l = borrowed s was there can in
         let few : fixes_in p t (observable s) < max_fixes = subst (λ n. n < max_fixes) (sym (count-before s l.table l.at ∙ ap (λ (g : TableState). fix_count g.fixes p) (sym l.is))) h.0 in
         (can_read-observable s ∙ can, few, ap observable (same-after s f l.table l.at (h.1 ∙ l.is)))
 
-    pub held-refused : (why : FixFault) → IncrementsFix p was (Err why) f → FixesTable p t (observable s) (Err (walk_fault_of why)) (observable (with_table s t f))
-    held-refused fixing.SystemLimit h = held-most h
-    held-refused fixing.Memory h = held-not h
+    pub fix-refused : (why : FixFault) → IncrementsFix p was (Err why) f → FixesTable p t (observable s) (Err (walk_fault_of why)) (observable (with_table s t f))
+    fix-refused fixing.SystemLimit h = fix-limit h
+    fix-refused fixing.Memory h = fix-memory h
 
-    pub held-buckets : IncrementsFix p was (Ok tt) f → step_on_buckets s (fix p t) true_reply (with_table s t f)
-    held-buckets h =
-        let l = lent s was there can in
+    pub fix-buckets : IncrementsFix p was (Ok tt) f → step_on_buckets s (fix p t) true_reply (with_table s t f)
+    fix-buckets h =
+        let l = borrowed s was there can in
         let once : IncrementsFix p l.table.fixed (Ok tt) f = subst (λ g. IncrementsFix p g (Ok tt) f) l.is h in
         done-buckets s (with_table s t f) (fix p t) true_reply (fix-done s l.table l.at l.living l.readable f once)
 
-    held-same : f ≡ was → with_table s t f ≡ s
-    held-same same = let l = lent s was there can in same-after s f l.table l.at (same ∙ l.is)
+    fix-unchanged : f ≡ was → with_table s t f ≡ s
+    fix-unchanged same = let l = borrowed s was there can in same-after s f l.table l.at (same ∙ l.is)
 
-    pub held-refused-buckets : (why : FixFault) → IncrementsFix p was (Err why) f → with_table s t f ≡ s
-    held-refused-buckets fixing.SystemLimit h = held-same h.1
-    held-refused-buckets fixing.Memory h = held-same h.1
+    pub fix-refused-unchanged : (why : FixFault) → IncrementsFix p was (Err why) f → with_table s t f ≡ s
+    fix-refused-unchanged fixing.SystemLimit h = fix-unchanged h.1
+    fix-refused-unchanged fixing.Memory h = fix-unchanged h.1
 
     pub let-go-buckets : f ≡ after_release p was → step_on_buckets s (release p t) true_reply (with_table s t f)
     let-go-buckets h =
-        let l = lent s was there can in
+        let l = borrowed s was there can in
         let once : f ≡ after_release p l.table.fixed = h ∙ ap (after_release p) l.is in
         done-buckets s (with_table s t f) (release p t) true_reply (release-done s l.table l.at l.living l.readable f once)
 
     pub let-go : f ≡ after_release p was → UnfixesTable p t (observable s) true (observable (with_table s t f))
     let-go h =
-        let l = lent s was there can in
+        let l = borrowed s was there can in
         let once : f ≡ after_release p l.table.fixed = h ∙ ap (after_release p) l.is in (
           can_read-observable s ∙ can,
           done-observable s (with_table s t f) (release p t) true_reply (release-done s l.table l.at l.living l.readable f once),
           λ n e.
               count-after s f l.table l.at ∙ (ap (λ (g : TableState). fix_count g.fixes p) once
-              ∙ (ap (λ m. fix_count m p) (settled-fixes (record l.table.fixed { fixes = with_count l.table.fixed.fixes p (fix_count l.table.fixed.fixes p - 1) }))
+              ∙ (ap (λ m. fix_count m p) (purged-fixes (record l.table.fixed { fixes = with_count l.table.fixed.fixes p (fix_count l.table.fixed.fixes p - 1) }))
               ∙ (own-count l.table.fixed.fixes p (fix_count l.table.fixed.fixes p - 1) ∙ less n (fix_count l.table.fixed.fixes p) (sym (count-before s l.table l.at) ∙ e)))),
         )
       where
@@ -372,30 +372,30 @@ module _ (p t : ℕ) where
   can-shallow s (Some key) h = h.shallow
 
   module _ (s : State) (was : TableState) (there : Some was ≡ option_map (λ table. table.fixed) (table_at s.world.tables t)) (can : can_read p t s ≡ true) (is : IsContent was.content) where
-    lent-slots : was.content.slots ≡ slots_in t (observable s)
-    lent-slots = let l = lent s was there can in ap (λ (g : TableState). g.content.slots) l.is ∙ (sym (ap (λ o. option_map_or (λ table. table.fixed.content.slots) o []) l.at) ∙ sym (slots-observable s))
+    borrowed-slots : was.content.slots ≡ slots_in t (observable s)
+    borrowed-slots = let l = borrowed s was there can in ap (λ (g : TableState). g.content.slots) l.is ∙ (sym (ap (λ o. option_map_or (λ table. table.fixed.content.slots) o []) l.at) ∙ sym (slots-observable s))
 
     goes-on : (asked found : Option Term) → walk_answer asked was.content.slots ≡ Some found → CanContinue t (observable s) found
     goes-on asked None e = tt
     goes-on asked (Some key) e =
-        let good = told-found was.content.kind was.content.keypos asked was.content.slots key is.slots e in
-        record { slot = λ here. subst (λ (ss : List Slot). HasSlot ss key) lent-slots good.1; shallow = good.0.0; no_end = good.0.1 }
+        let good = answer-found was.content.kind was.content.keypos asked was.content.slots key is.slots e in
+        record { slot = λ here. subst (λ (ss : List Slot). HasSlot ss key) borrowed-slots good.1; shallow = good.0.0; no_end = good.0.1 }
 
     pub finds : (asked found : Option Term) → CanContinue t (observable s) asked → walk_answer asked was.content.slots ≡ Some found → FindsKey p t asked (observable s) (Ok found)
     finds asked found can_go e =
-        let l = lent s was there can in
-        let told : walk_answer asked l.table.fixed.content.slots ≡ Some found = subst (λ (g : TableState). walk_answer asked g.content.slots ≡ Some found) l.is e in
-        (can_read-observable s ∙ can, call-observable asked found (call-done s l.table l.at l.living l.readable asked found (can-shallow (observable s) asked can_go) told), goes-on asked found e)
+        let l = borrowed s was there can in
+        let answer : walk_answer asked l.table.fixed.content.slots ≡ Some found = subst (λ (g : TableState). walk_answer asked g.content.slots ≡ Some found) l.is e in
+        (can_read-observable s ∙ can, call-observable asked found (call-done s l.table l.at l.living l.readable asked found (can-shallow (observable s) asked can_go) answer), goes-on asked found e)
       where
         call-observable : (asked found : Option Term) → step s (call_of p t asked) (key_reply found) s → step (observable s) (call_of p t asked) (key_reply found) (observable s)
         call-observable None found h = done-observable s s (first p t) (key_reply found) h
         call-observable (Some key) found h = done-observable s s (next p t key) (key_reply found) h
 
     there-observable : exists_in t (observable s) ≡ true
-    there-observable = let l = lent s was there can in ap is_some (at-observable s.world.tables t ∙ ap (option_map observable_table) l.at)
+    there-observable = let l = borrowed s was there can in ap is_some (at-observable s.world.tables t ∙ ap (option_map observable_table) l.at)
 
     -- the key that was found has a slot
     pub not-missing : (key : Term) → CanContinue t (observable s) (Some key) → next_key was.content.slots key ≡ None → ⊥
     not-missing key h e =
-        let has : HasSlot was.content.slots key = subst (λ (ss : List Slot). HasSlot ss key) (sym lent-slots) (h.slot there-observable) in
+        let has : HasSlot was.content.slots key = subst (λ (ss : List Slot). HasSlot ss key) (sym borrowed-slots) (h.slot there-observable) in
         has-behind was.content.slots key has (behind-none (slots_behind was.content.slots key) e)

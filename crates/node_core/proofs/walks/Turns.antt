@@ -73,9 +73,9 @@ module _ (p t : ℕ) where
   fixed-append a b c [] ys [] qs h k = subst (λ (s : State). RunsFixed p t s ys qs c) h.0 k
   fixed-append a b c (x ∷ xs) ys (r ∷ rs) qs h k =
       let ran = h.0 in
-      let held = h.1 in
-      let rest = fixed-append ran.0 b c xs ys rs qs (ran.3, held.1) k in
-      ((ran.0, ran.1, ran.2, rest.0), (held.0, rest.1))
+      let stays = h.1 in
+      let rest = fixed-append ran.0 b c xs ys rs qs (ran.3, stays.1) k in
+      ((ran.0, ran.1, ran.2, rest.0), (stays.0, rest.1))
   fixed-append a b c [] ys (r ∷ rs) qs h k = absurd h.0
   fixed-append a b c (x ∷ xs) ys [] qs h k = absurd h.0
 
@@ -140,8 +140,8 @@ module _ (p t : ℕ) where
 
     -- ---- the walk stops when some steps of others have been done
     module _ (keys : List Term) (given : Given) (found : Option Term) (now : State) (st : WalkSoFar p t old keys given found now) where
-      abbrev told : List Reply
-      told = st.before ++ key_reply found ∷ []
+      abbrev all_replies : List Reply
+      all_replies = st.before ++ key_reply found ∷ []
 
       abbrev so_far : List Step
       so_far = walk p t keys given
@@ -157,15 +157,15 @@ module _ (p t : ℕ) where
           fixed = st.fixed;
           done = so_far ++ xs;
           left = left;
-          replies = told ++ replies;
+          replies = all_replies ++ replies;
           unseen = unseen;
           fix_done = st.fix_done;
-          walk_done = run-on-buckets-append st.fixed now mid so_far xs told replies st.walk_done.0 ran;
+          walk_done = run-on-buckets-append st.fixed now mid so_far xs all_replies replies st.walk_done.0 ran;
           order = order;
           turns = turns;
           own = (own_left, own ∙ ap (λ ys. ys ++ own_left) (sym (own-further p t keys given xs st.others others)));
           replied =
-              replied-append p (observable st.fixed) (observable now) so_far xs told replies (run-observable st.fixed now so_far told st.walk_done.0)
+              replied-append p (observable st.fixed) (observable now) so_far xs all_replies replies (run-observable st.fixed now so_far all_replies st.walk_done.0)
               ∙ (ap₂ (λ (rs qs : List Reply). rs ++ qs) st.replied (none-replied p (observable now) (observable mid) xs replies (run-observable now mid xs replies ran) others)
               ∙ (append-none (map value keys ++ key_reply found ∷ []) ∙ is));
         }
@@ -199,8 +199,8 @@ module _ (p t : ℕ) where
       turns-more : AreTurns keys' given'
       turns-more = subst (λ (m : ℕ). AllByRecursion (λ g. g.0 < m) given') (sym (length-more keys key)) (more-turns given (length keys) steps st.turns)
 
-      all-told : map value keys ++ Value key ∷ [] ≡ map value keys' ++ []
-      all-told = sym (map-append value keys (key ∷ [])) ∙ sym (append-none (map value keys'))
+      all-replied : map value keys ++ Value key ∷ [] ≡ map value keys' ++ []
+      all-replied = sym (map-append value keys (key ∷ [])) ∙ sym (append-none (map value keys'))
 
       own-more : walk p t keys' [] ≡ walk p t keys [] ++ next p t key ∷ []
       own-more = walk-more p t keys key [] [] tt
@@ -246,7 +246,7 @@ module _ (p t : ℕ) where
 
         module _ (mid : State) (replies : List Reply) (ran : run_on_buckets now xs replies mid) (others : AllByRecursion (λ s. is_step_of p s ≡ false) xs) where
           abbrev to_step : WovenRun p t old keys' given' mid
-          to_step = stopped-run keys given (Some key) now st xs replies mid ran others keys' given' (left ++ next p t key ∷ []) (next p t key ∷ []) [] order own-more turns-more all-told
+          to_step = stopped-run keys given (Some key) now st xs replies mid ran others keys' given' (left ++ next p t key ∷ []) (next p t key ∷ []) [] order own-more turns-more all-replied
 
           pub stopped : (why : WalkFault) (limit : ℕ) → StoppedAtStep p why (drop n pairs) → WalkStopped p t old limit keys' given' why mid
           stopped why limit at =
@@ -260,7 +260,7 @@ module _ (p t : ℕ) where
         abbrev to_next : WovenRun p t old keys' given' mid
         to_next =
             stopped-run keys given (Some key) now st steps replies mid ran others keys' given' (next p t key ∷ []) (next p t key ∷ []) []
-            (walk-more p t keys key given steps st.turns ∙ sym (append_assoc (walk p t keys given) steps (next p t key ∷ []))) own-more turns-more all-told
+            (walk-more p t keys key given steps st.turns ∙ sym (append_assoc (walk p t keys given) steps (next p t key ∷ []))) own-more turns-more all-replied
 
         -- the next key is not found
         pub not-found : (why : WalkFault) (limit : ℕ) → FindsKey p t (Some key) (observable mid) (Err why) → WalkStopped p t old limit keys' given' why mid
@@ -274,7 +274,7 @@ module _ (p t : ℕ) where
           sound = st.sound;
           walk_done = subst₂ (λ (xs : List Step) (rs : List Reply). RunsFixed p t st.fixed xs rs mid) (sym (walk-more p t keys key given steps st.turns)) (sym (append_assoc R replies (key_reply found ∷ [])))
               (fixed-append st.fixed now mid (walk p t keys given) (steps ++ next p t key ∷ []) R (replies ++ key_reply found ∷ []) st.walk_done
-              (fixed-append now mid mid steps (next p t key ∷ []) replies (key_reply found ∷ []) (ran, steps-held) (called (Some key) found mid made.fixes finds)));
+              (fixed-append now mid mid steps (next p t key ∷ []) replies (key_reply found ∷ []) (ran, steps-stay-fixed) (called (Some key) found mid made.fixes finds)));
           replied =
               ap₂ (λ (xs : List Step) (rs : List Reply). replies_to p xs rs) (walk-more p t keys key given steps st.turns) (append_assoc R replies (key_reply found ∷ []))
               ∙ (replied-append p (observable st.fixed) (observable now) (walk p t keys given) (steps ++ next p t key ∷ []) R (replies ++ key_reply found ∷ []) so_far_observable
@@ -295,7 +295,7 @@ module _ (p t : ℕ) where
             so_far_observable : run (observable st.fixed) (walk p t keys given) R (observable now)
             so_far_observable = let done = st.walk_done in run-observable st.fixed now (walk p t keys given) R done.0
 
-            steps-held : StaysFixed t (observable_states now steps replies mid ran)
-            steps-held =
+            steps-stay-fixed : StaysFixed t (observable_states now steps replies mid ran)
+            steps-stay-fixed =
                 subst (λ (xs : List State). StaysFixed t xs) (states-observable now mid steps replies ran)
-                (made.held (readable-there p t (observable mid) finds.0))
+                (made.stays_fixed (readable-there p t (observable mid) finds.0))

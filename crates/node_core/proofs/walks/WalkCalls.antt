@@ -55,19 +55,19 @@ next-free : (ss : List Slot) (c k : Term) → HasNoEnd ss → next_key ss c ≡ 
 next-free [] c k free e = cc
 next-free (s ∷ ss) c k free e = next-at (same c s.0) s ss c k free.1 (next-free ss c k free.1) e
 
-asked-at : (b : Bool) (s : Slot) (ss : List Slot) (c : Term) (o : Option Term) → same c s.0 ≡ b → is_end s.0 ≡ false → (option_map first_key (slots_behind ss c) ≡ Some o → is_end c ≡ false)
+next_key-free-at : (b : Bool) (s : Slot) (ss : List Slot) (c : Term) (o : Option Term) → same c s.0 ≡ b → is_end s.0 ≡ false → (option_map first_key (slots_behind ss c) ≡ Some o → is_end c ≡ false)
     → option_map first_key (cond b (Some ss) (slots_behind ss c)) ≡ Some o → is_end c ≡ false
-asked-at true s ss c o hit own rest e = ap is_end (same-exact c s.0 hit) ∙ own
-asked-at false s ss c o hit own rest e = rest e
+next_key-free-at true s ss c o hit own rest e = ap is_end (same-exact c s.0 hit) ∙ own
+next_key-free-at false s ss c o hit own rest e = rest e
 
 -- a key that has a next one is in the table
-pub asked-free : (ss : List Slot) (c : Term) (o : Option Term) → HasNoEnd ss → next_key ss c ≡ Some o → is_end c ≡ false
-asked-free [] c o free e = cc
-asked-free (s ∷ ss) c o free e = asked-at (same c s.0) s ss c o refl free.0 (asked-free ss c o free.1) e
+pub next_key-free : (ss : List Slot) (c : Term) (o : Option Term) → HasNoEnd ss → next_key ss c ≡ Some o → is_end c ≡ false
+next_key-free [] c o free e = cc
+next_key-free (s ∷ ss) c o free e = next_key-free-at (same c s.0) s ss c o refl free.0 (next_key-free ss c o free.1) e
 
-told-free : (asked : Option Term) (ss : List Slot) (k : Term) → HasNoEnd ss → walk_answer asked ss ≡ Some (Some k) → is_end k ≡ false
-told-free None ss k free e = let is : first_key ss ≡ Some k = cc in first-free ss k free is
-told-free (Some c) ss k free e = next-free ss c k free e
+answer-free : (asked : Option Term) (ss : List Slot) (k : Term) → HasNoEnd ss → walk_answer asked ss ≡ Some (Some k) → is_end k ≡ false
+answer-free None ss k free e = let is : first_key ss ≡ Some k = cc in first-free ss k free is
+answer-free (Some c) ss k free e = next-free ss c k free e
 
 -- ---- a call that reads the table
 named-at : (ts : Tables) (access : Access) (p : ℕ) (u : ℕ) (o : Option Table) (found : ℕ × Table) → option_and_then (allowed access p u) o ≡ Some found → u ≡ found.0
@@ -95,32 +95,32 @@ read-at old new q t term answer r table (Some found) e is at h =
     inl (h.0 ∙ ap (λ (x : Table). answer x.fixed) same)
 
 -- the slot whose key a call of a walk replies: the first, or the next of a key
-abbrev pub slot_told : Option Term → List Slot → Option (Option Slot)
-slot_told None slots = Some (first_slot slots)
-slot_told (Some key) slots = next_slot slots key
+abbrev pub slot_answer : Option Term → List Slot → Option (Option Slot)
+slot_answer None slots = Some (first_slot slots)
+slot_answer (Some key) slots = next_slot slots key
 
 -- the reply to a call of a walk, with the objects or without
-abbrev pub told_reply : Bool → Option Term → List Slot → Reply
-told_reply false asked slots = option_map_or key_reply (walk_answer asked slots) Badarg
-told_reply true asked slots = option_map_or slot_reply (slot_told asked slots) Badarg
+abbrev pub answer_reply : Bool → Option Term → List Slot → Reply
+answer_reply false asked slots = option_map_or key_reply (walk_answer asked slots) Badarg
+answer_reply true asked slots = option_map_or slot_reply (slot_answer asked slots) Badarg
 
--- the reply to a call of a walk: what the slots tell, or a refusal
+-- the reply to a call of a walk: that of the slots, or a refusal
 abbrev pub Replies : Bool → Option Term → List Slot → Reply → Type 0
-Replies objects asked slots r = (told_reply objects asked slots ≡ r) ⊎ ((x : Term) → r ≡ Value x → ⊥)
+Replies objects asked slots r = (answer_reply objects asked slots ≡ r) ⊎ ((x : Term) → r ≡ Value x → ⊥)
 
 refused : (objects : Bool) (asked : Option Term) (slots : List Slot) (r : Reply) → r ≡ Badarg → Replies objects asked slots r
 refused objects asked slots r e = inr (λ x v. cc)
 
-replied : (objects : Bool) (asked : Option Term) (slots : List Slot) (r : Reply) → (r ≡ told_reply objects asked slots) ⊎ (r ≡ Badarg) → Replies objects asked slots r
+replied : (objects : Bool) (asked : Option Term) (slots : List Slot) (r : Reply) → (r ≡ answer_reply objects asked slots) ⊎ (r ≡ Badarg) → Replies objects asked slots r
 replied objects asked slots r (inl e) = inl (sym e)
 replied objects asked slots r (inr e) = refused objects asked slots r e
 
 module _ (old new : State) (q t : ℕ) (r : Reply) (table : Table) (at : table_at old.world.tables t ≡ Some table) where
-  reading-replies : (term : Term) (answer : TableState → Reply) (objects : Bool) (call : Option Term) → answer table.fixed ≡ told_reply objects call table.fixed.content.slots → is_table old t term ≡ true → reads old q term answer r new
+  reading-replies : (term : Term) (answer : TableState → Reply) (objects : Bool) (call : Option Term) → answer table.fixed ≡ answer_reply objects call table.fixed.content.slots → is_table old t term ≡ true → reads old q term answer r new
       → Replies objects call table.fixed.content.slots r
   reading-replies term answer objects call own here h = replied objects call table.fixed.content.slots r (by (read-at old new q t term answer r table (usable Read old.world.tables q term) refl here at h))
     where
-      by : (r ≡ answer table.fixed) ⊎ (r ≡ Badarg) → (r ≡ told_reply objects call table.fixed.content.slots) ⊎ (r ≡ Badarg)
+      by : (r ≡ answer table.fixed) ⊎ (r ≡ Badarg) → (r ≡ answer_reply objects call table.fixed.content.slots) ⊎ (r ≡ Badarg)
       by (inl e) = inl (e ∙ own)
       by (inr e) = inr e
 
@@ -135,7 +135,7 @@ module _ (old new : State) (q t : ℕ) (r : Reply) (table : Table) (at : table_a
   is-here true found asked e = refl
   is-here false found asked e = absurd (cc)
 
-  reads-walk : (term : Term) (answer : TableState → Reply) (found asked : Option Term × Bool) → answer table.fixed ≡ told_reply found.1 found.0 table.fixed.content.slots
+  reads-walk : (term : Term) (answer : TableState → Reply) (found asked : Option Term × Bool) → answer table.fixed ≡ answer_reply found.1 found.0 table.fixed.content.slots
       → cond (is_table old t term) (Some found) None ≡ Some asked → reads old q term answer r new → Replies asked.1 asked.0 table.fixed.content.slots r
   reads-walk term answer found asked own e h =
       on-table (is_table old t term) found asked e (reading-replies term answer found.1 found.0 own (is-here (is_table old t term) found asked e) h)
@@ -185,55 +185,55 @@ tuple-is : (ts : List Term) → is_end (Tuple ts) ≡ false
 tuple-is ts = search (rules, the_lemmas)
 
 -- the key of the slot that is returned
-told-key : (asked : Option Term) (slots : List Slot) (found : Option Slot) → slot_told asked slots ≡ Some found → walk_answer asked slots ≡ Some (key_in found)
-told-key None slots found e = let is : first_slot slots ≡ found = cc in ap Some (sym (first-key slots) ∙ ap key_in is)
-told-key (Some key) slots found e = next-key-is slots key found e
+answer-key : (asked : Option Term) (slots : List Slot) (found : Option Slot) → slot_answer asked slots ≡ Some found → walk_answer asked slots ≡ Some (key_in found)
+answer-key None slots found e = let is : first_slot slots ≡ found = cc in ap Some (sym (first-key slots) ∙ ap key_in is)
+answer-key (Some key) slots found e = next-key-is slots key found e
 
-end-told : (asked : Option Term) (slots : List Slot) (o : Option (Option Term)) → walk_answer asked slots ≡ o → HasNoEnd slots → option_map_or key_reply o Badarg ≡ key_reply None → o ≡ Some None
-end-told asked slots None e free h = cc
-end-told asked slots (Some None) e free h = refl
-end-told asked slots (Some (Some k)) e free h =
+end-replied : (asked : Option Term) (slots : List Slot) (o : Option (Option Term)) → walk_answer asked slots ≡ o → HasNoEnd slots → option_map_or key_reply o Badarg ≡ key_reply None → o ≡ Some None
+end-replied asked slots None e free h = cc
+end-replied asked slots (Some None) e free h = refl
+end-replied asked slots (Some (Some k)) e free h =
     let is : k ≡ Atom (codes "$end_of_table") = cc in
-    absurd (true≢false (sym (ap is_end is ∙ end-is) ∙ told-free asked slots k free e))
+    absurd (true≢false (sym (ap is_end is ∙ end-is) ∙ answer-free asked slots k free e))
 
-no-slot-told : (o : Option (Option Slot)) → option_map_or slot_reply o Badarg ≡ key_reply None → o ≡ Some None
-no-slot-told None h = cc
-no-slot-told (Some None) h = refl
-no-slot-told (Some (Some slot)) h =
+no-slot-replied : (o : Option (Option Slot)) → option_map_or slot_reply o Badarg ≡ key_reply None → o ≡ Some None
+no-slot-replied None h = cc
+no-slot-replied (Some None) h = refl
+no-slot-replied (Some (Some slot)) h =
     let is : key_and_objects slot ≡ Atom (codes "$end_of_table") = cc in
     absurd (true≢false (sym (ap is_end is ∙ end-is) ∙ tuple-is (slot.0 ∷ list_term slot.1 ∷ [])))
 
-end-of : (objects : Bool) (asked : Option Term) (slots : List Slot) → HasNoEnd slots → told_reply objects asked slots ≡ key_reply None → walk_answer asked slots ≡ Some None
-end-of false asked slots free h = end-told asked slots (walk_answer asked slots) refl free h
-end-of true asked slots free h = told-key asked slots None (no-slot-told (slot_told asked slots) h)
+end-of : (objects : Bool) (asked : Option Term) (slots : List Slot) → HasNoEnd slots → answer_reply objects asked slots ≡ key_reply None → walk_answer asked slots ≡ Some None
+end-of false asked slots free h = end-replied asked slots (walk_answer asked slots) refl free h
+end-of true asked slots free h = answer-key asked slots None (no-slot-replied (slot_answer asked slots) h)
 
 pub tells-end : (objects : Bool) (asked : Option Term) (slots : List Slot) (r : Reply) → HasNoEnd slots → Replies objects asked slots r → r ≡ key_reply None → walk_answer asked slots ≡ Some None
 tells-end objects asked slots r free (inl h) e = end-of objects asked slots free (h ∙ e)
 tells-end objects asked slots r free (inr h) e = absurd (h (Atom (codes "$end_of_table")) e)
 
-key-told : (o : Option (Option Term)) (key : Term) → is_end key ≡ false → option_map_or key_reply o Badarg ≡ Value key → o ≡ Some (Some key)
-key-told None key free h = cc
-key-told (Some None) key free h =
+key-replied : (o : Option (Option Term)) (key : Term) → is_end key ≡ false → option_map_or key_reply o Badarg ≡ Value key → o ≡ Some (Some key)
+key-replied None key free h = cc
+key-replied (Some None) key free h =
     let is : Atom (codes "$end_of_table") ≡ key = cc in
     absurd (true≢false (sym end-is ∙ (ap is_end is ∙ free)))
-key-told (Some (Some k)) key free h = let is : k ≡ key = cc in ap (λ (t : Term). Some (Some t)) is
+key-replied (Some (Some k)) key free h = let is : k ≡ key = cc in ap (λ (t : Term). Some (Some t)) is
 
-slot-told : (o : Option (Option Slot)) (key : Term) (objects : List Term) → option_map_or slot_reply o Badarg ≡ Value (key_and_objects (key, objects)) → (slot : Slot) × (o ≡ Some (Some slot)) × (slot.0 ≡ key)
-slot-told None key objects h = cc
-slot-told (Some None) key objects h =
+slot-replied : (o : Option (Option Slot)) (key : Term) (objects : List Term) → option_map_or slot_reply o Badarg ≡ Value (key_and_objects (key, objects)) → (slot : Slot) × (o ≡ Some (Some slot)) × (slot.0 ≡ key)
+slot-replied None key objects h = cc
+slot-replied (Some None) key objects h =
     let is : Atom (codes "$end_of_table") ≡ key_and_objects (key, objects) = cc in
     absurd (true≢false (sym end-is ∙ (ap is_end is ∙ tuple-is (key ∷ list_term objects ∷ []))))
-slot-told (Some (Some slot)) key objects h =
+slot-replied (Some (Some slot)) key objects h =
     let is : key_and_objects slot ≡ key_and_objects (key, objects) = cc in
     let parts : slot.0 ∷ list_term slot.1 ∷ [] ≡ key ∷ list_term objects ∷ [] = sym (elements-Tuple (slot.0 ∷ list_term slot.1 ∷ [])) ∙ ap elements is ∙ elements-Tuple (key ∷ list_term objects ∷ []) in
     let own : slot.0 ≡ key = cc in
     (slot, refl, own)
 
-key-of : (objects : Bool) (asked : Option Term) (slots : List Slot) (r : Reply) (key : Term) → is_end key ≡ false → told_reply objects asked slots ≡ r → IsKey objects key r → walk_answer asked slots ≡ Some (Some key)
-key-of false asked slots r key free h e = key-told (walk_answer asked slots) key free (h ∙ e)
+key-of : (objects : Bool) (asked : Option Term) (slots : List Slot) (r : Reply) (key : Term) → is_end key ≡ false → answer_reply objects asked slots ≡ r → IsKey objects key r → walk_answer asked slots ≡ Some (Some key)
+key-of false asked slots r key free h e = key-replied (walk_answer asked slots) key free (h ∙ e)
 key-of true asked slots r key free h e =
-    let found = slot-told (slot_told asked slots) key e.0 (h ∙ e.1) in
-    told-key asked slots (Some found.0) found.1 ∙ ap (λ (k : Term). Some (Some k)) found.2
+    let found = slot-replied (slot_answer asked slots) key e.0 (h ∙ e.1) in
+    answer-key asked slots (Some found.0) found.1 ∙ ap (λ (k : Term). Some (Some k)) found.2
 
 is-value : (objects : Bool) (key : Term) (r : Reply) → IsKey objects key r → (x : Term) × (r ≡ Value x)
 is-value false key r e = (key, e)

@@ -1,4 +1,4 @@
--- The end of a walk, as its functions tell it.
+-- The end of a walk, from the contracts of its functions.
 use Rattle.std.proofs.Common.{◌≡◌, ◌⊎◌, inl, inr, ℕ, Bool, true, false, List, [], ◌∷◌, ◌++◌, Option, None, Some, Result, Ok, Err, refl, sym, subst, ◌∙◌, filter}
 use Rattle.std.specs.Prelude.{MatchOption}
 use Rattle.std.specs.Bool.{MatchBool}
@@ -19,7 +19,7 @@ use Rattle.node_core.specs.laws.Walk.{states, Walks, IsWholeOverStates}
 use Rattle.node_core.specs.Woven.{is_step_of, Given, release, walk, fixes_in, WovenRun, IsComplete, StopReason, RefusesFix, EndsWithRelease, IsNotBegun, WalksAmong}
 use Rattle.node_core.specs.inside.Walker.{FixesTable, UnfixesTable, FixOnBuckets, UnfixOnBuckets, FixIsDone, HasFix, WalkSoFar, WalkResult}
 use Rattle.node_core.proofs.buckets.Runs.{run-observable, states-observable}
-use Rattle.node_core.proofs.walks.Answering.{readable-there, walks-told}
+use Rattle.node_core.proofs.walks.Answering.{readable-there, walks-replied}
 use Rattle.node_core.proofs.walks.Turns.{append-none}
 use Rattle.node_core.proofs.walks.Weaving.{own-walk}
 use Rattle.node_core.proofs.walks.WholeWalks.{walks-whole}
@@ -47,19 +47,19 @@ module _ (p t : ℕ) where
     same-states : states (observable st.fixed) (walk p t keys given) replies (observable now) ran_observable ≡ observable_states st.fixed (walk p t keys given) replies now ran
     same-states = states-observable st.fixed now (walk p t keys given) replies ran
 
-    held : StaysFixed t (observable_states st.fixed (walk p t keys given) replies now ran)
-    held = st.walk_done.1
+    stays-fixed : StaysFixed t (observable_states st.fixed (walk p t keys given) replies now ran)
+    stays-fixed = st.walk_done.1
 
-    held_observable : StaysFixed t (states (observable st.fixed) (walk p t keys given) replies (observable now) ran_observable)
-    held_observable = subst (λ (xs : List State). StaysFixed t xs) (sym same-states) held
+    stays_fixed_observable : StaysFixed t (states (observable st.fixed) (walk p t keys given) replies (observable now) ran_observable)
+    stays_fixed_observable = subst (λ (xs : List State). StaysFixed t xs) (sym same-states) stays-fixed
 
     answers : Walks p t None keys (observable st.fixed) (walk p t keys given) replies (observable now) ran_observable
-    answers = walks-told p t keys given st.others (observable st.fixed) (observable now) replies ran_observable st.replied held_observable
+    answers = walks-replied p t keys given st.others (observable st.fixed) (observable now) replies ran_observable st.replied stays_fixed_observable
 
     whole : IsWholeOverStates t (observable_states st.fixed (walk p t keys given) replies now ran) keys
     whole =
         subst (λ (xs : List State). IsWholeOverStates t xs keys) same-states
-        (walks-whole (observable st.fixed) (walk p t keys given) replies (observable now) ran_observable p t keys st.sound held_observable answers)
+        (walks-whole (observable st.fixed) (walk p t keys given) replies (observable now) ran_observable p t keys st.sound stays_fixed_observable answers)
 
     abbrev to_the_end : WovenRun p t old keys given now
     to_the_end = record {
@@ -110,7 +110,7 @@ module _ (p t : ℕ) where
               none_left = refl;
               end = refl;
               readable = st.readable;
-              stays_fixed = held-all st;
+              stays_fixed = stays-fixed-all st;
               whole = whole old now keys given st;
               others = st.others;
               few = end.1;
@@ -119,8 +119,8 @@ module _ (p t : ℕ) where
           ),
         )
       where
-        held-all : (st : WalkSoFar p t old keys given None now) → StaysFixed t (observable_states st.fixed (walk p t keys given) (replies old now keys given st) now (ran old now keys given st))
-        held-all st = held old now keys given st
+        stays-fixed-all : (st : WalkSoFar p t old keys given None now) → StaysFixed t (observable_states st.fixed (walk p t keys given) (replies old now keys given st) now (ran old now keys given st))
+        stays-fixed-all st = stays-fixed old now keys given st
     walked-among was now fixes (Err why) b ends go on =
         let h = ends old fixes in
         stops why (inr (now, h.run, h.reason, released old now new b h.fixes go on))

@@ -1,4 +1,4 @@
--- The turn of a key, as its functions tell it.
+-- The turn of a key, from the contracts of its functions.
 use Rattle.std.proofs.Common.{◌≡◌, ℕ, true, false, List, [], ◌∷◌, ◌++◌, Option, Some, Result, Ok, Err, OnOk, OnErr, refl, sym, subst, subst₂, ap, ap₂, ◌∙◌, ◌-◌, length, take, drop, arith, true≢false}
 use Rattle.std.specs.List.{AllByRecursion}
 use Rattle.std.specs.Result.{is_err}
@@ -24,7 +24,7 @@ pub on-refused : {E P : Type 0} (r : Result (Unit {0}) E) → true ≡ is_err r 
 on-refused (Ok done) e h = absurd (true≢false e)
 on-refused (Err error) e h = h
 
--- ---- what was handed in last
+-- ---- the steps added last
 drop-all : (xs ys : Given) → drop (length xs) (xs ++ ys) ≡ ys
 drop-all [] ys = refl
 drop-all (x ∷ xs) ys = drop-all xs ys
@@ -37,8 +37,8 @@ sliced before now given given' e f =
 
 module _ (p t : ℕ) (now : State) (keys : List Term) (given : Given) (key : Term) (keys' : List Term) (given' : Given) where
   -- the others do not get the key
-  pub turn-untold : keys' ≡ keys → given' ≡ given → TurnResult p t keys given key now keys' given' (Err fault.Memory) now
-  turn-untold e f = λ old st limit. subst₂ (λ ks gs. WalkStopped p t old limit ks gs fault.Memory now) (sym e) (sym f) (stopped-here p t old keys given key now limit st)
+  pub turn-out-of-memory : keys' ≡ keys → given' ≡ given → TurnResult p t keys given key now keys' given' (Err fault.Memory) now
+  turn-out-of-memory e f = λ old st limit. subst₂ (λ ks gs. WalkStopped p t old limit ks gs fault.Memory now) (sym e) (sym f) (stopped-here p t old keys given key now limit st)
 
   module _ (adds : AddsTurn keys given key keys' given') (mid : State) where
     abbrev steps : List Step

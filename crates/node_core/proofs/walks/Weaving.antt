@@ -1,4 +1,4 @@
--- The steps of a walk, woven with those handed in: one turn more, and the walker's own among them.
+-- The steps of a walk, interleaved with the steps of others: one turn more, and the walker's own among them.
 use Rattle.std.proofs.Common.{◌≡◌, ℕ, suc, ◌+◌, ◌<◌, ◌==◌, Bool, true, false, cond, List, [], ◌∷◌, ◌++◌, refl, sym, subst, ap, ap₂, ◌∙◌, length, map, filter, arith, append_assoc}
 use Rattle.std.specs.List.{AllByRecursion}
 use Rattle.std.proofs.lemmas.Bool.Decides.{nat_tests}
@@ -7,7 +7,7 @@ use Rattle.ets_term.specs.declared.term.Term.{Term}
 use Rattle.node_core.specs.declared.step.Step.{Step}
 use Rattle.node_core.specs.Woven.{is_step_of, Given, steps_at, first, next, turns, walk}
 
--- the steps of one turn, as they are handed in
+-- the steps of one turn, each with the turn's index
 abbrev pub paired : ℕ → List Step → Given
 paired n steps = map (λ s. (n, s)) steps
 
@@ -38,7 +38,7 @@ other-turn : (a n : ℕ) (steps : List Step) → a < n → steps_at a (paired n 
 other-turn a n [] h = refl
 other-turn a n (s ∷ steps) h = pass-by (paired n steps) a (n, s) (number-above a n h) ∙ other-turn a n steps h
 
--- no step of a turn that is to come was handed in
+-- the others have added no step of a later turn
 none-yet : (n : ℕ) (given : Given) → AllByRecursion (λ g. g.0 < n) given → steps_at n given ≡ []
 none-yet n [] h = refl
 none-yet n (g ∷ given) h = pass-by given n g (number-below g.0 n h.0) ∙ none-yet n given h.1
@@ -112,7 +112,7 @@ module _ (p t : ℕ) where
   own-further keys given xs h k =
       filter-append (is_step_of p) (walk p t keys given) xs ∙ (ap₂ (λ ys zs. ys ++ zs) (own-walk keys given h) (none-own xs k) ∙ append-none (walk p t keys []))
 
-  -- ---- what holds of all steps handed in still does
+  -- ---- what held of all added steps still holds
   pub more-others : (given : Given) (n : ℕ) (steps : List Step) → AllByRecursion (λ g. is_step_of p g.1 ≡ false) given → AllByRecursion (λ s. is_step_of p s ≡ false) steps → AllByRecursion (λ g. is_step_of p g.1 ≡ false) (given ++ paired n steps)
   more-others [] n [] h k = tt
   more-others [] n (s ∷ steps) h k = (k.0, more-others [] n steps h k.1)

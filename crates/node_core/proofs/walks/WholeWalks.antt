@@ -25,7 +25,7 @@ use Rattle.fixed_walk.proofs.ChangeLaws.{is_end}
 use Rattle.node_core.proofs.moves.Reached.{distinct-none}
 use Rattle.node_core.proofs.buckets.Observable.{stays-there}
 use Rattle.node_core.proofs.calls.EachCall.{step-follows}
-use Rattle.node_core.proofs.walks.WalkCalls.{Replies, asked-free, step-replies, tells-end, tells-key}
+use Rattle.node_core.proofs.walks.WalkCalls.{Replies, next_key-free, step-replies, tells-end, tells-key}
 
 -- a table that is there and fixed
 record IsThere (t : ℕ) (s : State) : Type 0 where
@@ -73,11 +73,11 @@ record Walked (p t : ℕ) (call : Option Term) (keys : List Term) (old : State) 
   free : AllByRecursion HasNoEnd moments
   present : (key : Term) → AllByRecursion (λ s. is_present (slots_in t s) key ≡ true) stretch → AllByRecursion (λ slots. is_present slots key ≡ true) moments
 
--- the key that is asked for next has a slot at some moment
-asked_key : (key : Term) (moments : List (List Slot)) (keys : List Term) → IsWalk (Some key) moments keys → AllByRecursion HasNoEnd moments → is_end key ≡ false
-asked_key key [] keys walk free = absurd walk
-asked_key key (m ∷ moments) [] walk free = asked-free m key None free.0 walk.0
-asked_key key (m ∷ moments) (k ∷ keys) walk free = asked-free m key (Some k) free.0 walk.0
+-- the key of the following call of next has a slot at some moment
+next_key-present : (key : Term) (moments : List (List Slot)) (keys : List Term) → IsWalk (Some key) moments keys → AllByRecursion HasNoEnd moments → is_end key ≡ false
+next_key-present key [] keys walk free = absurd walk
+next_key-present key (m ∷ moments) [] walk free = next_key-free m key None free.0 walk.0
+next_key-present key (m ∷ moments) (k ∷ keys) walk free = next_key-free m key (Some k) free.0 walk.0
 
 module _ (p t : ℕ) (old mid : State) (s : Step) (r : Reply) (steps : List Step) (stretch : List State) (done : step old s r mid) (distinct : HasDistinctKeys (slots_in t old)) (free : HasNoEnd (slots_in t old))
     (is : IsThere t old) (sub : IsSubsequence (keys_of (slots_in t old)) (keys_of (slots_in t mid))) (Further : Option Term → List Term → Type 0)
@@ -107,10 +107,10 @@ module _ (p t : ℕ) (old mid : State) (s : Step) (r : Reply) (steps : List Step
 
   -- it is one that answers a key
   answers : (call : Option Term) (objects : Bool) (key : Term) (keys : List Term) → walk_step old p t s ≡ Some (call, objects) → IsKey objects key r → Walked p t (Some key) keys mid stretch → Walked p t call (key ∷ keys) old (old ∷ stretch)
-  answers call objects key keys e told w = record {
+  answers call objects key keys e replied w = record {
     moments = slots_in t old ∷ w.moments;
     kept = (distinct, sub-same (keys_of (slots_in t old)), sooner (slots_in t old) (slots_in t mid) w.moments distinct sub w.kept);
-    walk = (tells-key objects call (slots_in t old) r key (asked_key key w.moments keys w.walk w.free) (replies call objects e) told, w.walk);
+    walk = (tells-key objects call (slots_in t old) r key (next_key-present key w.moments keys w.walk w.free) (replies call objects e) replied, w.walk);
     free = (free, w.free);
     present = λ k all. (all.0, w.present k all.1);
   }

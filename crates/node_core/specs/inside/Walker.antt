@@ -28,7 +28,7 @@ use Rattle.node_core.specs.Woven.{is_step_of, replies_to, Given, fix, release, f
 abbrev pub exists_in : ℕ → State → Bool
 exists_in t s = is_some (table_at s.world.tables t)
 
--- each step handed in has the index of one of these keys
+-- each step of the others has the index of one of these keys
 abbrev pub AreTurns : List Term → Given → Type 0
 AreTurns keys given = AllByRecursion (λ g. g.0 < length keys) given
 
@@ -143,7 +143,7 @@ module _ (p t : ℕ) where
   WalkResult limit was keys given (Err why) now =
       (old : State) → FixIsDone old was → WalkStopped old limit keys given why now
 
--- the steps handed in are done in order, none of them of this process: all, or those before one that is its own or ran
+-- the steps of the others run in order, none of them of this process: all, or those before one that is its own or ran
 -- out of memory
 abbrev pub steps_of : Given → List Step
 steps_of given = map (λ g. g.1) given

@@ -33,8 +33,8 @@ states old (s ∷ steps) [] new done = absurd done
 abbrev pub is_table : State → ℕ → Term → Bool
 is_table s t term = option_map_or (λ u. u == t) (resolve s.world.tables term) false
 
--- what a call asks of the table for a traversal: None is first, Some is next of this key; with it, whether it asks for
--- the objects too; the outer None is any other call
+-- what a call reads of the table for a traversal: None is first, Some is next of this key; with it, whether it also
+-- reads the objects; the outer None is any other call
 abbrev pub walk_call : State → ℕ → CallName → List Term → Option (Option Term × Bool)
 walk_call s t name.First (term ∷ []) = if is_table s t term then Some (None, false) else None
 walk_call s t name.FirstLookup (term ∷ []) = if is_table s t term then Some (None, true) else None
@@ -50,7 +50,7 @@ walk_step s p t (Ask q call) =
     else None
 walk_step s p t _ = None
 
--- the reply is this key, or, if the call asks for the objects too, the key with some objects
+-- the reply is this key, or, if the call also reads the objects, the key with some objects
 abbrev pub IsKey : Bool → Term → Reply → Type 0
 IsKey false key r = r ≡ Value key
 IsKey true key r = (objects : List Term) × (r ≡ Value (key_and_objects (key, objects)))

@@ -20,7 +20,7 @@ use Rattle.node_reasons.specs.declared.reason.Reason.{Reason}
 use Rattle.node_reasons.specs.Reasons.{argument, rule_of_access}
 use Rattle.node_reasons.specs.inside.Forms.{are_options}
 
--- this reason is the one, if there is one
+-- if there is a reason, it is this one
 abbrev pub NamesReason : Option Reason → Reason → Type 0
 NamesReason None named = Unit {0}
 NamesReason (Some reason) named = named ≡ reason

@@ -6,7 +6,7 @@ use Rattle.node_core.proofs.walk.walk_fixed.Given as goal
 -- the traversal is as the turns so far left it, and each gave a key
 abbrev pub invariant-loop-at : goal.invariant-loop-at
 invariant-loop-at g l = record {
-  told : g.O.Others.keys l.others ≡ l.keys.items;
+  keys_are : g.O.Others.keys l.others ≡ l.keys.items;
   count : vec_len l.keys ≡ l._at;
   so_far : (old : State) → FixIsDone l.pid l.id old l.fn.node → WalkSoFar l.pid l.id old l.keys.items (g.O.Others.steps l.others) l.found l.node;
 }

@@ -1,18 +1,18 @@
 use Rattle.std.proofs.Common.{refl, subst, Ok, Err, length, drop}
 use Rattle.std.proofs.lemmas.Result.{err_from_is_err_and}
 use Rattle.node_core.specs.inside.Walker.{RunsOthers}
-use Rattle.node_core.proofs.walks.WalkParts.{on-done, on-refused, sliced, turn-untold, turn-stopped, goes-further, turn-unfound, turn-done}
+use Rattle.node_core.proofs.walks.WalkParts.{on-done, on-refused, sliced, turn-out-of-memory, turn-stopped, goes-further, turn-unfound, turn-done}
 use Rattle.node_core.proofs.walk.walk_turn.Goals as goal
 
 pub returns-then-is_err-clause-turn : goal.returns-then-is_err-clause-turn
 returns-then-is_err-clause-turn g c =
     let keys = g.O.Others.keys c.args.others.now in
     let given = g.O.Others.steps c.args.others.now in
-    turn-untold c.args.pid c.args.id c.args.node.now keys given c.args.key keys given refl refl
+    turn-out-of-memory c.args.pid c.args.id c.args.node.now keys given c.args.key keys given refl refl
 
 pub returns-then-is_err-2-clause-turn : goal.returns-then-is_err-2-clause-turn
 returns-then-is_err-2-clause-turn g c =
-    turn-untold c.args.pid c.args.id c.args.node.now (g.O.Others.keys c.args.others.now) (g.O.Others.steps c.args.others.now) c.args.key (g.O.Others.keys c.between.new.self) (g.O.Others.steps c.between.new.self)
+    turn-out-of-memory c.args.pid c.args.id c.args.node.now (g.O.Others.keys c.args.others.now) (g.O.Others.steps c.args.others.now) c.args.key (g.O.Others.keys c.between.new.self) (g.O.Others.steps c.between.new.self)
     (on-refused c.between.result c.if-is_err-2.ensures.value c.between.ensures.err_keys) (on-refused c.between.result c.if-is_err-2.ensures.value c.between.ensures.err_steps)
 
 pub returns-in_err-run_steps-clause-turn : goal.returns-in_err-run_steps-clause-turn

@@ -5,7 +5,7 @@ use Rattle.node_core.specs.Calls.{call}
 use Rattle.node_core.specs.Machine.{step}
 use Rattle.node_core.specs.inside.Refusals.{RefusesEarly, to_reply}
 use Rattle.node_core.proofs.calls.ReadCalls.{asks-ok, not-refused}
-use Rattle.node_core.proofs.calls.Worlds.{told-ok, written-ok}
+use Rattle.node_core.proofs.calls.Worlds.{reply-ok, written-ok}
 use Rattle.node_core.proofs.node.Node.ask.Goals as goal
 
 pub returns-clause-ok : goal.returns-clause-ok
@@ -20,5 +20,5 @@ returns-clause-ok g c =
     (subst (λ args. RefusesEarly old c.args.pid args c.refuse_early.result c.args.reply.now c.refuse_early.new.reply) c.as_slice-args.ensures c.refuse_early.ensures) c.if-refuse_early.false)
     done
     (subst (λ args. IfOk done (λ r. call old c.args.pid c.in-Some.name args r new)) c.as_slice-args.ensures
-    (told-ok (call old c.args.pid c.in-Some.name c.as_slice-args.result.now) old new
+    (reply-ok (call old c.args.pid c.in-Some.name c.as_slice-args.result.now) old new
     (to_reply (λ _. c.make_call-result.new.reply) c.make_call-result.result) done c.make_call-result.ensures c.write_refusal.ensures)))

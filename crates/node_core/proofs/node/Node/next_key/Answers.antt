@@ -23,8 +23,8 @@ returns-in-None-found g c =
     let now : can_read c.args.pid c.args.id c.args.self.now ≡ true = search rules in
     let can : can_read c.args.pid c.args.id s ≡ true = subst (λ (s : State). can_read c.args.pid c.args.id s ≡ true) (sym c.self.view_is) now in
     let asks : CanContinue c.args.id (observable s) (option_copied c.args.last) = subst (λ (s : State). CanContinue c.args.id (observable s) (option_copied c.args.last)) (sym c.self.view_is) c.requires in
-    let told : walk_answer (option_copied c.args.last) c.in-Some.table.now.content.slots ≡ Some None = elim c.match-last.branch [ in-None w ↦ search rules | in-Some-last+in-Ok w ↦ search rules ] in
-    rw (← c.self.view_is) (finds c.args.pid c.args.id s c.in-Some.table.now c.in-Some.ensures can c.reveal_invariant.ensures.content (option_copied c.args.last) None asks told)
+    let answer : walk_answer (option_copied c.args.last) c.in-Some.table.now.content.slots ≡ Some None = elim c.match-last.branch [ in-None w ↦ search rules | in-Some-last+in-Ok w ↦ search rules ] in
+    rw (← c.self.view_is) (finds c.args.pid c.args.id s c.in-Some.table.now c.in-Some.ensures can c.reveal_invariant.ensures.content (option_copied c.args.last) None asks answer)
 
 pub returns-in-Ok-try_clone : goal.returns-in-Ok-try_clone
 returns-in-Ok-try_clone g c =
@@ -32,5 +32,5 @@ returns-in-Ok-try_clone g c =
     let now : can_read c.args.pid c.args.id c.args.self.now ≡ true = search rules in
     let can : can_read c.args.pid c.args.id s ≡ true = subst (λ (s : State). can_read c.args.pid c.args.id s ≡ true) (sym c.self.view_is) now in
     let asks : CanContinue c.args.id (observable s) (option_copied c.args.last) = subst (λ (s : State). CanContinue c.args.id (observable s) (option_copied c.args.last)) (sym c.self.view_is) c.requires in
-    let told : walk_answer (option_copied c.args.last) c.in-Some.table.now.content.slots ≡ Some (Some c.in-Ok-try_clone.key) = elim c.match-last.branch [ in-None w ↦ search rules | in-Some-last+in-Ok w ↦ search rules ] in
-    rw (← c.self.view_is) (finds c.args.pid c.args.id s c.in-Some.table.now c.in-Some.ensures can c.reveal_invariant.ensures.content (option_copied c.args.last) (Some c.in-Ok-try_clone.key) asks told)
+    let answer : walk_answer (option_copied c.args.last) c.in-Some.table.now.content.slots ≡ Some (Some c.in-Ok-try_clone.key) = elim c.match-last.branch [ in-None w ↦ search rules | in-Some-last+in-Ok w ↦ search rules ] in
+    rw (← c.self.view_is) (finds c.args.pid c.args.id s c.in-Some.table.now c.in-Some.ensures can c.reveal_invariant.ensures.content (option_copied c.args.last) (Some c.in-Ok-try_clone.key) asks answer)

@@ -4,7 +4,7 @@ use Rattle.node_core.specs.Calls.{call}
 use Rattle.node_core.specs.Reads.{reads_only}
 use Rattle.node_core.specs.inside.Refusals.{RefusesEarly, to_reply}
 use Rattle.node_core.proofs.calls.ReadCalls.{refusal-reads, reply-reads, refused, not-refused}
-use Rattle.node_core.proofs.calls.Worlds.{told-ok}
+use Rattle.node_core.proofs.calls.Worlds.{reply-ok}
 use Rattle.node_core.proofs.node.Node.read_into.Goals as goal
 
 pub returns-then-refuse_early-clause-ok : goal.returns-then-refuse_early-clause-ok
@@ -26,5 +26,5 @@ returns-in-Ok-clause-ok g c =
     (not-refused c.args.self.now c.args.pid c.args.call.now.args c.args.reply.now c.refuse_early.new.reply c.refuse_early.result
     (subst (λ args. RefusesEarly c.args.self.now c.args.pid args c.refuse_early.result c.args.reply.now c.refuse_early.new.reply) c.as_slice-args.ensures c.refuse_early.ensures) c.if-refuse_early.false)
     (subst (λ args. call c.args.self.now c.args.pid c.in-Some.name args reply c.args.self.now) c.as_slice-args.ensures
-    (told-ok (call c.args.self.now c.args.pid c.in-Some.name c.as_slice-args.result.now) c.args.self.now c.args.self.now
+    (reply-ok (call c.args.self.now c.args.pid c.in-Some.name c.as_slice-args.result.now) c.args.self.now c.args.self.now
     (to_reply (λ _. c.read_call.new.reply) c.in-Some-read_call.result) (Ok reply) c.in-Some-read_call.ensures.1 c.in-Ok.ensures))
