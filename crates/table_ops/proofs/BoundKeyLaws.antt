@@ -72,27 +72,27 @@ module _ (choose : Term → Bool) where
   chosen-under key [] d q = refl
   chosen-under key (s ∷ ss) d q = chosen-at (same key s.0) key s ss refl d.0 q (chosen-under key ss d.1 q.1)
 
-  notes-none : (ss : List Slot) → AllByRecursion (λ (s : Slot). chosen_count choose s.1 ≡ 0) ss → plan_of choose ss ≡ []
-  notes-none [] a = refl
-  notes-none (s ∷ ss) a = ap (λ n. planned_then (nat_lt 0 n) s choose (plan_of choose ss)) a.0 ∙ notes-none ss a.1
+  plan-none : (ss : List Slot) → AllByRecursion (λ (s : Slot). chosen_count choose s.1 ≡ 0) ss → plan_of choose ss ≡ []
+  plan-none [] a = refl
+  plan-none (s ∷ ss) a = ap (λ n. planned_then (nat_lt 0 n) s choose (plan_of choose ss)) a.0 ∙ plan-none ss a.1
 
-  note-over : (b : Bool) (key : Term) (s : Slot) → key ≡ s.0 → planned_then b s choose [] ≡ (if b then (Some key, unmatched choose s.1) ∷ [] else [])
-  note-over true key s e = λ i. (Some (sym e i), unmatched choose s.1) ∷ []
-  note-over false key s e = refl
+  plan-single : (b : Bool) (key : Term) (s : Slot) → key ≡ s.0 → planned_then b s choose [] ≡ (if b then (Some key, unmatched choose s.1) ∷ [] else [])
+  plan-single true key s e = λ i. (Some (sym e i), unmatched choose s.1) ∷ []
+  plan-single false key s e = refl
 
-  notes-at : (b : Bool) (key : Term) (c : List Term) (s : Slot) (ss : List Slot) → same key s.0 ≡ b → AllByRecursion (λ y. same s.0 y ≡ false) (keys_of ss) → MatchesOnlyKey choose (Some key) (s ∷ ss) → cond b (Some s.1) (objects_of ss key) ≡ Some c
+  plan-at : (b : Bool) (key : Term) (c : List Term) (s : Slot) (ss : List Slot) → same key s.0 ≡ b → AllByRecursion (λ y. same s.0 y ≡ false) (keys_of ss) → MatchesOnlyKey choose (Some key) (s ∷ ss) → cond b (Some s.1) (objects_of ss key) ≡ Some c
       → (objects_of ss key ≡ Some c → plan_of choose ss ≡ planned choose (key, c)) → plan_of choose (s ∷ ss) ≡ planned choose (key, c)
-  notes-at true key c s ss e d q h ih =
+  plan-at true key c s ss e d q h ih =
       let has : s.1 ≡ c = cc in
-      ap (planned_then (nat_lt 0 (chosen_count choose s.1)) s choose) (notes-none ss (all-apart choose key s.0 ss e d q.1))
-      ∙ note-over (nat_lt 0 (chosen_count choose s.1)) key s (same-exact key s.0 e) ∙ ap (λ (os : List Term). planned choose (key, os)) has
-  notes-at false key c s ss e d q h ih = ap (λ n. planned_then (nat_lt 0 n) s choose (plan_of choose ss)) (q.0 e) ∙ ih h
+      ap (planned_then (nat_lt 0 (chosen_count choose s.1)) s choose) (plan-none ss (all-apart choose key s.0 ss e d q.1))
+      ∙ plan-single (nat_lt 0 (chosen_count choose s.1)) key s (same-exact key s.0 e) ∙ ap (λ (os : List Term). planned choose (key, os)) has
+  plan-at false key c s ss e d q h ih = ap (λ n. planned_then (nat_lt 0 n) s choose (plan_of choose ss)) (q.0 e) ∙ ih h
 
   -- the plan for the key's slot is the plan for all
-  pub notes-under : (key : Term) (c : List Term) (ss : List Slot) → HasDistinctKeys ss → MatchesOnlyKey choose (Some key) ss → objects_of ss key ≡ Some c → plan_of choose ss ≡ planned choose (key, c)
+  pub plan-under : (key : Term) (c : List Term) (ss : List Slot) → HasDistinctKeys ss → MatchesOnlyKey choose (Some key) ss → objects_of ss key ≡ Some c → plan_of choose ss ≡ planned choose (key, c)
   unfolding IsDistinct
-  notes-under key c [] d q h = cc
-  notes-under key c (s ∷ ss) d q h = notes-at (same key s.0) key c s ss refl d.0 q h (notes-under key c ss d.1 q.1)
+  plan-under key c [] d q h = cc
+  plan-under key c (s ∷ ss) d q h = plan-at (same key s.0) key c s ss refl d.0 q h (plan-under key c ss d.1 q.1)
 
   absent-at : (b : Bool) (key : Term) (s : Slot) (ss : List Slot) → same key s.0 ≡ b → MatchesOnlyKey choose (Some key) (s ∷ ss) → cond b (Some s.1) (objects_of ss key) ≡ None → (objects_of ss key ≡ None → AllByRecursion (λ (s : Slot). chosen_count choose s.1 ≡ 0) ss) → AllByRecursion (λ (s : Slot). chosen_count choose s.1 ≡ 0) (s ∷ ss)
   absent-at true key s ss e q h ih = cc
@@ -102,8 +102,8 @@ module _ (choose : Term → Bool) where
   absent key [] q h = tt
   absent key (s ∷ ss) q h = absent-at (same key s.0) key s ss refl q h (absent key ss q.1)
 
-  pub notes-absent : (key : Term) (ss : List Slot) → MatchesOnlyKey choose (Some key) ss → objects_of ss key ≡ None → plan_of choose ss ≡ []
-  notes-absent key ss q h = notes-none ss (absent key ss q h)
+  pub plan-absent : (key : Term) (ss : List Slot) → MatchesOnlyKey choose (Some key) ss → objects_of ss key ≡ None → plan_of choose ss ≡ []
+  plan-absent key ss q h = plan-none ss (absent key ss q h)
 
   pub chosen-absent : (key : Term) (ss : List Slot) → MatchesOnlyKey choose (Some key) ss → objects_of ss key ≡ None → chosen_count choose (all_objects ss) ≡ 0
   chosen-absent key ss q h = chosen-none ss (absent key ss q h)

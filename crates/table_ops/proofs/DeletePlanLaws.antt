@@ -61,9 +61,9 @@ module _ (choose : Term → Bool) where
   then-append true s ns ms = refl
   then-append false s ns ms = refl
 
-  notes-append : (ss ts : List Slot) → plan_of choose (ss ++ ts) ≡ plan_of choose ss ++ plan_of choose ts
-  notes-append [] ts = refl
-  notes-append (s ∷ ss) ts = ap (planned_then (nat_lt 0 (chosen_count choose s.1)) s choose) (notes-append ss ts) ∙ then-append (nat_lt 0 (chosen_count choose s.1)) s (plan_of choose ss) (plan_of choose ts)
+  plan-append : (ss ts : List Slot) → plan_of choose (ss ++ ts) ≡ plan_of choose ss ++ plan_of choose ts
+  plan-append [] ts = refl
+  plan-append (s ∷ ss) ts = ap (planned_then (nat_lt 0 (chosen_count choose s.1)) s choose) (plan-append ss ts) ∙ then-append (nat_lt 0 (chosen_count choose s.1)) s (plan_of choose ss) (plan_of choose ts)
 
   take-slot : (ss : List Slot) (i : ℕ) (s : Slot) → slice_get ss i ≡ Some s → take (suc i) ss ≡ take i ss ++ s ∷ []
   take-slot [] i s h = cc
@@ -71,14 +71,14 @@ module _ (choose : Term → Bool) where
   take-slot (x ∷ xs) (suc i) s h = ap (λ l. x ∷ l) (take-slot xs i s h)
 
   -- one more slot
-  pub notes-next : (ss : List Slot) (i : ℕ) (s : Slot) → slice_get ss i ≡ Some s → plan_of choose (take (i + 1) ss) ≡ plan_of choose (take i ss) ++ planned choose s
-  notes-next ss i s h =
+  pub plan-next : (ss : List Slot) (i : ℕ) (s : Slot) → slice_get ss i ≡ Some s → plan_of choose (take (i + 1) ss) ≡ plan_of choose (take i ss) ++ planned choose s
+  plan-next ss i s h =
       let next : i + 1 ≡ suc i = omega arith in
-      ap (λ n. plan_of choose (take n ss)) next ∙ ap (plan_of choose) (take-slot ss i s h) ∙ notes-append (take i ss) (s ∷ [])
+      ap (λ n. plan_of choose (take n ss)) next ∙ ap (plan_of choose) (take-slot ss i s h) ∙ plan-append (take i ss) (s ∷ [])
 
-pub noted-append : (f : ℕ → Option Term) (xs ys : List SlotDelete) → planned_at f (xs ++ ys) ≡ planned_at f xs ++ planned_at f ys
-noted-append f [] ys = refl
-noted-append f (x ∷ xs) ys = ap (λ l. (f x.place, x.kept) ∷ l) (noted-append f xs ys)
+pub planned-append : (f : ℕ → Option Term) (xs ys : List SlotDelete) → planned_at f (xs ++ ys) ≡ planned_at f xs ++ planned_at f ys
+planned-append f [] ys = refl
+planned-append f (x ∷ xs) ys = ap (λ l. (f x.place, x.kept) ∷ l) (planned-append f xs ys)
 
 -- the last slot of a plan is changed first
 pub thin-append : (hold : Bool) (ns : List PlannedSlot) (m : PlannedSlot) (slots : List Slot) → after_plan hold (ns ++ m ∷ []) slots ≡ after_plan hold ns (with_kept hold m.0 m.1 slots)
@@ -147,9 +147,9 @@ order-thin hold slots m [] d a l = tt
 order-thin hold slots m (n ∷ ns) d a l = (a.0, all-thin hold slots m n ns d l.0 a.1 l.1, order-thin hold slots m ns d a.2 l.1)
 
 -- the slots before a changed slot keep their places
-pub noted-same : (f g : ℕ → Option Term) (slots : List Slot) (m : Option Term) (ms : List SlotDelete) → ((other : ℕ) → IsBefore slots (f other) m → g other ≡ f other) → AllByRecursion (λ n. IsBefore slots n.0 m) (planned_at f ms) → planned_at g ms ≡ planned_at f ms
-noted-same f g slots m [] same' a = refl
-noted-same f g slots m (x ∷ ms) same' a = λ i. (same' x.place a.0 i, x.kept) ∷ noted-same f g slots m ms same' a.1 i
+pub planned-same : (f g : ℕ → Option Term) (slots : List Slot) (m : Option Term) (ms : List SlotDelete) → ((other : ℕ) → IsBefore slots (f other) m → g other ≡ f other) → AllByRecursion (λ n. IsBefore slots n.0 m) (planned_at f ms) → planned_at g ms ≡ planned_at f ms
+planned-same f g slots m [] same' a = refl
+planned-same f g slots m (x ∷ ms) same' a = λ i. (same' x.place a.0 i, x.kept) ∷ planned-same f g slots m ms same' a.1 i
 
 module _ (choose : Term → Bool) where
   -- slots of different keys
@@ -174,9 +174,9 @@ module _ (choose : Term → Bool) where
   all-then P false s ns h a = a
 
   -- the slots of a plan exist
-  notes-all : (P : Option Term → Type 0) (ss : List Slot) → AllByRecursion (λ k. P (Some k)) (keys_of ss) → AllByRecursion (λ (n : PlannedSlot). P n.0) (plan_of choose ss)
-  notes-all P [] a = tt
-  notes-all P (s ∷ ss) a = all-then P (nat_lt 0 (chosen_count choose s.1)) s (plan_of choose ss) a.0 (notes-all P ss a.1)
+  plan-all : (P : Option Term → Type 0) (ss : List Slot) → AllByRecursion (λ k. P (Some k)) (keys_of ss) → AllByRecursion (λ (n : PlannedSlot). P n.0) (plan_of choose ss)
+  plan-all P [] a = tt
+  plan-all P (s ∷ ss) a = all-then P (nat_lt 0 (chosen_count choose s.1)) s (plan_of choose ss) a.0 (plan-all P ss a.1)
 
   all-map : (P Q : Term → Type 0) (ks : List Term) → ((k : Term) → P k → Q k) → AllByRecursion P ks → AllByRecursion Q ks
   all-map P Q [] f a = tt
@@ -210,7 +210,7 @@ module _ (choose : Term → Bool) where
   drops hold [] d = refl
   drops hold (s ∷ ss) d =
       drops-at (nat_lt 0 (chosen_count choose s.1)) hold s ss (plan_of choose ss) refl
-      (notes-all (Apart s.0) ss (all-map (λ k. same s.0 k ≡ false) (λ k. same k s.0 ≡ false) (keys_of ss) (λ k e. turned s.0 k e) d.0)) (drops hold ss d.1)
+      (plan-all (Apart s.0) ss (all-map (λ k. same s.0 k ≡ false) (λ k. same k s.0 ≡ false) (keys_of ss) (λ k e. turned s.0 k e) d.0)) (drops hold ss d.1)
 
   later-key : (b : Bool) (x : Slot) (ss : List Slot) (k : Term) → is_some (objects_of ss k) ≡ true → is_some (cond b (Some x.1) (objects_of ss k)) ≡ true
   later-key true x ss k h = refl
@@ -246,8 +246,8 @@ module _ (choose : Term → Bool) where
   in-order [] d = tt
   in-order (s ∷ ss) d =
       order-at (nat_lt 0 (chosen_count choose s.1)) s ss (plan_of choose ss)
-      (notes-all (λ o. IsBefore (s ∷ ss) (Some s.0) o) ss (all-map (λ k. is_some (objects_of ss k) ≡ true) (λ k. ComesBefore (s ∷ ss) s.0 k) (keys_of ss) (λ k h. behind-first s ss k h) (keys-found ss)))
-      (order-behind s ss (plan_of choose ss) (notes-all (Apart s.0) ss (all-map (λ k. same s.0 k ≡ false) (λ k. same k s.0 ≡ false) (keys_of ss) (λ k e. turned s.0 k e) d.0)) (in-order ss d.1))
+      (plan-all (λ o. IsBefore (s ∷ ss) (Some s.0) o) ss (all-map (λ k. is_some (objects_of ss k) ≡ true) (λ k. ComesBefore (s ∷ ss) s.0 k) (keys_of ss) (λ k h. behind-first s ss k h) (keys-found ss)))
+      (order-behind s ss (plan_of choose ss) (plan-all (Apart s.0) ss (all-map (λ k. same s.0 k ≡ false) (λ k. same k s.0 ≡ false) (keys_of ss) (λ k e. turned s.0 k e) d.0)) (in-order ss d.1))
 
   left-count : (b : Bool) (k : Term) (l : List Term) (D : List Slot) → (b ≡ false → length l ≡ 0) → object_count (cond b ((k, l) ∷ D) D) ≡ length l + object_count D
   left-count true k l D h = refl

@@ -35,22 +35,22 @@ stays hold s l D e =
     (ap (λ (b : Bool). cond b (s ∷ D) D) (or-either hold (has_objects s.1)))
 
 -- slots of other keys lose no object
-abbrev pub Spares : Which → Term → List Slot → Type 0
-Spares which key slots = AllByRecursion (λ slot. same key slot.0 ≡ false → remaining which slot ≡ slot.1) slots
+abbrev pub KeepsOthers : Which → Term → List Slot → Type 0
+KeepsOthers which key slots = AllByRecursion (λ slot. same key slot.0 ≡ false → remaining which slot ≡ slot.1) slots
 
-apart-all : (which : Which) (key own : Term) (ss : List Slot) → same key own ≡ true → AllByRecursion (λ y. same own y ≡ false) (keys_of ss) → Spares which key ss → AllByRecursion (λ slot. remaining which slot ≡ slot.1) ss
+apart-all : (which : Which) (key own : Term) (ss : List Slot) → same key own ≡ true → AllByRecursion (λ y. same own y ≡ false) (keys_of ss) → KeepsOthers which key ss → AllByRecursion (λ slot. remaining which slot ≡ slot.1) ss
 apart-all which key own [] e d sp = tt
 apart-all which key own (s ∷ ss) e d sp = (sp.0 (ap (λ t. same t s.0) (same-exact key own e) ∙ d.0), apart-all which key own ss e d.1 sp.1)
 
-spared : (hold : Bool) (which : Which) (ss : List Slot) → AllByRecursion (λ slot. remaining which slot ≡ slot.1) ss → after_drop hold which ss ≡ ss
-spared hold which [] h = refl
-spared hold which (s ∷ ss) h = stays hold s (remaining which s) (after_drop hold which ss) h.0 ∙ ap (λ l. s ∷ l) (spared hold which ss h.1)
+drop-unchanged : (hold : Bool) (which : Which) (ss : List Slot) → AllByRecursion (λ slot. remaining which slot ≡ slot.1) ss → after_drop hold which ss ≡ ss
+drop-unchanged hold which [] h = refl
+drop-unchanged hold which (s ∷ ss) h = stays hold s (remaining which s) (after_drop hold which ss) h.0 ∙ ap (λ l. s ∷ l) (drop-unchanged hold which ss h.1)
 
 cond-cons : (b : Bool) (s : Slot) (x y : List Slot) → cond b (s ∷ x) (s ∷ y) ≡ s ∷ cond b x y
 cond-cons true s x y = refl
 cond-cons false s x y = refl
 
-thinned-at : (b : Bool) (hold : Bool) (which : Which) (s : Slot) (ss : List Slot) (key : Term) (c : List Term) → same key s.0 ≡ b → AllByRecursion (λ y. same s.0 y ≡ false) (keys_of ss) → Spares which key (s ∷ ss)
+thinned-at : (b : Bool) (hold : Bool) (which : Which) (s : Slot) (ss : List Slot) (key : Term) (c : List Term) → same key s.0 ≡ b → AllByRecursion (λ y. same s.0 y ≡ false) (keys_of ss) → KeepsOthers which key (s ∷ ss)
     → (objects_of ss key ≡ Some c → after_drop hold which ss ≡ after_removal hold ss key c (remaining which (key, c))) → cond b (Some s.1) (objects_of ss key) ≡ Some c
     → cond (hold || has_objects (remaining which s) || not (has_objects s.1)) ((s.0, remaining which s) ∷ after_drop hold which ss) (after_drop hold which ss)
     ≡ cond (hold || has_objects (remaining which (key, c)) || not (has_objects c)) (cond b ((s.0, remaining which (key, c)) ∷ ss) (s ∷ with_objects ss key (remaining which (key, c)))) (cond b ss (s ∷ without ss key))
@@ -58,29 +58,29 @@ thinned-at true hold which s ss key c e d sp rest h =
     let has : s.1 ≡ c = cc in
     let is : s ≡ (key, c) = λ i. (sym (same-exact key s.0 e) i, has i) in
     let l : remaining which s ≡ remaining which (key, c) = ap (remaining which) is in
-    let D : after_drop hold which ss ≡ ss = spared hold which ss (apart-all which key s.0 ss e d sp.1) in
+    let D : after_drop hold which ss ≡ ss = drop-unchanged hold which ss (apart-all which key s.0 ss e d sp.1) in
     λ i. cond (hold || has_objects (l i) || not (has_objects (has i))) ((s.0, l i) ∷ D i) (D i)
 thinned-at false hold which s ss key c e d sp rest h =
     stays hold s (remaining which s) (after_drop hold which ss) (sp.0 e) ∙ ap (λ l. s ∷ l) (rest h)
     ∙ sym (cond-cons (hold || has_objects (remaining which (key, c)) || not (has_objects c)) s (with_objects ss key (remaining which (key, c))) (without ss key))
 
-pub one-thinned : (hold : Bool) (which : Which) (slots : List Slot) (key : Term) (c : List Term) → IsDistinct same (keys_of slots) → Spares which key slots → objects_of slots key ≡ Some c
+pub one-thinned : (hold : Bool) (which : Which) (slots : List Slot) (key : Term) (c : List Term) → IsDistinct same (keys_of slots) → KeepsOthers which key slots → objects_of slots key ≡ Some c
     → after_drop hold which slots ≡ after_removal hold slots key c (remaining which (key, c))
 unfolding IsDistinct
 one-thinned hold which [] key c d sp h = cc
 one-thinned hold which (s ∷ ss) key c d sp h = thinned-at (same key s.0) hold which s ss key c refl d.0 sp (one-thinned hold which ss key c d.1 sp.1) h
 
-none-at : (b : Bool) (which : Which) (key : Term) (s : Slot) (ss : List Slot) → same key s.0 ≡ b → Spares which key (s ∷ ss) → (objects_of ss key ≡ None → AllByRecursion (λ slot. remaining which slot ≡ slot.1) ss) → cond b (Some s.1) (objects_of ss key) ≡ None → AllByRecursion (λ slot. remaining which slot ≡ slot.1) (s ∷ ss)
+none-at : (b : Bool) (which : Which) (key : Term) (s : Slot) (ss : List Slot) → same key s.0 ≡ b → KeepsOthers which key (s ∷ ss) → (objects_of ss key ≡ None → AllByRecursion (λ slot. remaining which slot ≡ slot.1) ss) → cond b (Some s.1) (objects_of ss key) ≡ None → AllByRecursion (λ slot. remaining which slot ≡ slot.1) (s ∷ ss)
 none-at true which key s ss e sp rest h = cc
 none-at false which key s ss e sp rest h = (sp.0 e, rest h)
 
-none-spared : (which : Which) (slots : List Slot) (key : Term) → Spares which key slots → objects_of slots key ≡ None → AllByRecursion (λ slot. remaining which slot ≡ slot.1) slots
-none-spared which [] key sp h = tt
-none-spared which (s ∷ ss) key sp h = none-at (same key s.0) which key s ss refl sp (none-spared which ss key sp.1) h
+drop-absent : (which : Which) (slots : List Slot) (key : Term) → KeepsOthers which key slots → objects_of slots key ≡ None → AllByRecursion (λ slot. remaining which slot ≡ slot.1) slots
+drop-absent which [] key sp h = tt
+drop-absent which (s ∷ ss) key sp h = none-at (same key s.0) which key s ss refl sp (drop-absent which ss key sp.1) h
 
 -- if the key has no slot nothing is removed
-pub none-dropped : (hold : Bool) (which : Which) (slots : List Slot) (key : Term) → Spares which key slots → objects_of slots key ≡ None → after_drop hold which slots ≡ slots
-none-dropped hold which slots key sp h = spared hold which slots (none-spared which slots key sp h)
+pub none-dropped : (hold : Bool) (which : Which) (slots : List Slot) (key : Term) → KeepsOthers which key slots → objects_of slots key ≡ None → after_drop hold which slots ≡ slots
+none-dropped hold which slots key sp h = drop-unchanged hold which slots (drop-absent which slots key sp h)
 
 -- a test with one result for all objects
 keeps-all : (b : Bool) (os : List Term) → b ≡ false → filter (λ o. not b) os ≡ os
@@ -93,9 +93,9 @@ keeps-none false os e = absurd (true≢false (sym e))
 keeps-none true [] e = refl
 keeps-none true (o ∷ os) e = keeps-none true os e
 
-pub spares-key : (key : Term) (slots : List Slot) → Spares (has_key key) key slots
-spares-key key [] = tt
-spares-key key (s ∷ ss) = (λ e. keeps-all (same key s.0) s.1 e, spares-key key ss)
+pub keeps-others-key : (key : Term) (slots : List Slot) → KeepsOthers (has_key key) key slots
+keeps-others-key key [] = tt
+keeps-others-key key (s ∷ ss) = (λ e. keeps-all (same key s.0) s.1 e, keeps-others-key key ss)
 
 pub left-key : (key : Term) (c : List Term) → remaining (has_key key) (key, c) ≡ []
 left-key key c = keeps-none (same key key) c (same-refl key)
@@ -117,9 +117,9 @@ others-stay keypos object key own [] its apart st = refl
 others-stay keypos object key own (o ∷ os) its apart st =
     keeps-one (same o object) o (filter (λ x. not (same x object)) os) os (other-at (same o object) keypos object key own o its apart st.0 refl) (others-stay keypos object key own os its apart st.1)
 
-pub spares-object : (kind : Kind) (keypos : ℕ) (object key : Term) (slots : List Slot) → key_of keypos object ≡ Some key → AreSlots kind keypos slots → Spares (equal_to object) key slots
-spares-object kind keypos object key [] its a = tt
-spares-object kind keypos object key (s ∷ ss) its a = (λ e. others-stay keypos object key s.0 s.1 its e a.0.stored, spares-object kind keypos object key ss its a.1)
+pub keeps-others-object : (kind : Kind) (keypos : ℕ) (object key : Term) (slots : List Slot) → key_of keypos object ≡ Some key → AreSlots kind keypos slots → KeepsOthers (equal_to object) key slots
+keeps-others-object kind keypos object key [] its a = tt
+keeps-others-object kind keypos object key (s ∷ ss) its a = (λ e. others-stay keypos object key s.0 s.1 its e a.0.stored, keeps-others-object kind keypos object key ss its a.1)
 
 -- the number of objects
 thinned-count-at : (b : Bool) (slots : List Slot) (key : Term) (c l : List Term) → objects_of slots key ≡ Some c → (b ≡ false → length l ≡ 0) → object_count (cond b (with_objects slots key l) (without slots key)) + length c ≡ object_count slots + length l
@@ -191,9 +191,9 @@ each-left : (os : List Term) → filter (λ o. not true) os ≡ []
 each-left [] = refl
 each-left (o ∷ os) = each-left os
 
-held-one : (s : Slot) (os : List Term) (D : List Slot) → s.1 ≡ os → cond (not (has_objects os)) ((s.0, []) ∷ D) D ≡ cond (not (has_objects os)) (s ∷ D) D
-held-one s [] D e = λ i. (s.0, sym e i) ∷ D
-held-one s (o ∷ os) D e = refl
+tombstone-one : (s : Slot) (os : List Term) (D : List Slot) → s.1 ≡ os → cond (not (has_objects os)) ((s.0, []) ∷ D) D ≡ cond (not (has_objects os)) (s ∷ D) D
+tombstone-one s [] D e = λ i. (s.0, sym e i) ∷ D
+tombstone-one s (o ∷ os) D e = refl
 
 pub dropped-each : (hold : Bool) (slots : List Slot) → after_drop hold every_object slots ≡ cleared hold slots
 dropped-each true [] = refl
@@ -201,7 +201,7 @@ dropped-each true (s ∷ ss) = λ i. (s.0, each-left s.1 i) ∷ dropped-each tru
 dropped-each false [] = refl
 dropped-each false (s ∷ ss) =
     (λ i. cond (has_objects (each-left s.1 i) || not (has_objects s.1)) ((s.0, each-left s.1 i) ∷ dropped-each false ss i) (dropped-each false ss i))
-    ∙ held-one s s.1 (cleared false ss) refl
+    ∙ tombstone-one s s.1 (cleared false ss) refl
 
 pub nothing-left : (hold : Bool) (slots : List Slot) → object_count (after_drop hold every_object slots) ≡ 0
 nothing-left true [] = refl
@@ -219,7 +219,7 @@ pub key-taken : (hold : Bool) (old new : List Slot) (o : Option Term) (key : Ter
 key-taken hold old new o key c d is own t =
     let had = own-in old o key c is own in
     of-key o (λ k. new ≡ after_removal hold old k c []) key t is
-    ∙ sym (one-thinned hold (has_key key) old key c d (spares-key key old) had ∙ ap (after_removal hold old key c) (left-key key c))
+    ∙ sym (one-thinned hold (has_key key) old key c d (keeps-others-key key old) had ∙ ap (after_removal hold old key c) (left-key key c))
 
 pub taken-count : (hold : Bool) (old new : List Slot) (o : Option Term) (key : Term) (c : List Term) → o ≡ Some key → objects_in old o ≡ Some c → ForKey o (λ k. new ≡ after_removal hold old k c []) → object_count new + length c ≡ object_count old
 taken-count hold old new o key c is own t =
@@ -230,7 +230,7 @@ taken-count hold old new o key c is own t =
 pub objects-deleted : (hold : Bool) (old new : List Slot) (o : Option Term) (key : Term) (n : ℕ) → HasDistinctKeys old → o ≡ Some key → ForKey o (λ k. DeletesObjects hold old k n new) → new ≡ after_drop hold (has_key key) old
 objects-deleted hold old new o key n d is t =
     let h = of-key o (λ k. DeletesObjects hold old k n new) key t is in
-    h.now ∙ sym (one-thinned hold (has_key key) old key h.objects d (spares-key key old) h.had ∙ ap (after_removal hold old key h.objects) (left-key key h.objects))
+    h.now ∙ sym (one-thinned hold (has_key key) old key h.objects d (keeps-others-key key old) h.had ∙ ap (after_removal hold old key h.objects) (left-key key h.objects))
 
 pub deleted-count : (hold : Bool) (old new : List Slot) (o : Option Term) (key : Term) (n : ℕ) → o ≡ Some key → ForKey o (λ k. DeletesObjects hold old k n new) → object_count new + n ≡ object_count old
 deleted-count hold old new o key n is t =
@@ -241,7 +241,7 @@ deleted-count hold old new o key n is t =
 pub object-taken : (hold : Bool) (kind : Kind) (keypos : ℕ) (old new : List Slot) (o : Option Term) (key object : Term) (n : ℕ) → HasDistinctKeys old → AreSlots kind keypos old → key_of keypos object ≡ Some key → o ≡ Some key → ForKey o (λ k. RemovesObject hold old k object n new) → new ≡ after_drop hold (equal_to object) old
 object-taken hold kind keypos old new o key object n d a its is t =
     let h = of-key o (λ k. RemovesObject hold old k object n new) key t is in
-    h.now ∙ sym (one-thinned hold (equal_to object) old key h.objects d (spares-object kind keypos object key old its a) h.had)
+    h.now ∙ sym (one-thinned hold (equal_to object) old key h.objects d (keeps-others-object kind keypos object key old its a) h.had)
 
 pub object-count : (hold : Bool) (old new : List Slot) (o : Option Term) (key object : Term) (n : ℕ) → o ≡ Some key → ForKey o (λ k. RemovesObject hold old k object n new) → object_count new + n ≡ object_count old
 object-count hold old new o key object n is t =
@@ -261,13 +261,13 @@ not-zero : (n : ℕ) → (suc n == 0) ≡ false
 not-zero n = grind (arith, nat_tests)
 
 -- a chain is empty if its slot is a tombstone
-empty-held : (c : List Term) → (length c == 0) ≡ not (has_objects c)
-empty-held [] = refl
-empty-held (x ∷ xs) = not-zero (length xs)
+tombstone-empty : (c : List Term) → (length c == 0) ≡ not (has_objects c)
+tombstone-empty [] = refl
+tombstone-empty (x ∷ xs) = not-zero (length xs)
 
 pub thins-at : (b : Bool) (hold : Bool) (old new : List Slot) (key : Term) (c l : List Term) → (hold || has_objects l || (length c == 0)) ≡ b → new ≡ cond b (with_objects old key l) (without old key) → new ≡ after_removal hold old key c l
 thins-at b hold old new key c l e h =
-    h ∙ ap (λ (t : Bool). cond t (with_objects old key l) (without old key)) (sym e ∙ ap (λ (t : Bool). hold || has_objects l || t) (empty-held c))
+    h ∙ ap (λ (t : Bool). cond t (with_objects old key l) (without old key)) (sym e ∙ ap (λ (t : Bool). hold || has_objects l || t) (tombstone-empty c))
 
 -- an object is removed from the slot of a key, with the test that the code makes
 pub thins : (b : Bool) (hold : Bool) (old new : List Slot) (key object : Term) (c l : List Term) (n : ℕ) → objects_of old key ≡ Some c → l ≡ all_but object c → length l + n ≡ length c → (hold || has_objects l || (length c == 0)) ≡ b → new ≡ cond b (with_objects old key l) (without old key) → RemovesObject hold old key object n new

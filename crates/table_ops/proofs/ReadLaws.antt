@@ -41,13 +41,13 @@ elements-none position (o ∷ os) zero object h g = let is : o ≡ object = cc i
 elements-none position (o ∷ os) (suc i) object h g = none-rest (element_at position o) (elements_at position os) (elements-none position os i object h g)
 
 -- one of the objects has no such element
-pub told-none : (position : ℕ) (objects : List Term) (i : ℕ) (object : Term) → slice_get objects i ≡ Some object → element_at position object ≡ None → lookup_element Bag position objects ≡ None
-told-none position [] i object h g = cc
-told-none position (o ∷ os) i object h g = ap (option_map list_term) (elements-none position (o ∷ os) i object h g)
+pub lookup_element-none : (position : ℕ) (objects : List Term) (i : ℕ) (object : Term) → slice_get objects i ≡ Some object → element_at position object ≡ None → lookup_element Bag position objects ≡ None
+lookup_element-none position [] i object h g = cc
+lookup_element-none position (o ∷ os) i object h g = ap (option_map list_term) (elements-none position (o ∷ os) i object h g)
 
-pub told-all : (position : ℕ) (objects : List Term) (es : List Term) → 0 < length objects → elements_at position objects ≡ Some es → lookup_element Bag position objects ≡ Some (list_term es)
-told-all position [] es some h = absurd (omega (arith, some))
-told-all position (o ∷ os) es some h = ap (option_map list_term) h
+pub lookup_element-all : (position : ℕ) (objects : List Term) (es : List Term) → 0 < length objects → elements_at position objects ≡ Some es → lookup_element Bag position objects ≡ Some (list_term es)
+lookup_element-all position [] es some h = absurd (omega (arith, some))
+lookup_element-all position (o ∷ os) es some h = ap (option_map list_term) h
 
 objects-more : (slots : List Slot) (i : ℕ) (s : Slot) → slice_get slots i ≡ Some s → all_objects (take (suc i) slots) ≡ all_objects (take i slots) ++ s.1
 objects-more [] i s h = cc

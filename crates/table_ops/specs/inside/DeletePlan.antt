@@ -51,7 +51,7 @@ planned choose slot =
     if nat_lt 0 (chosen_count choose slot.1) then (Some slot.0, unmatched choose slot.1) ∷ [] else []
 
 abbrev pub planned_then : Bool → Slot → (Term → Bool) → List PlannedSlot → List PlannedSlot
-planned_then some slot choose notes = if some then (Some slot.0, unmatched choose slot.1) ∷ notes else notes
+planned_then some slot choose plan = if some then (Some slot.0, unmatched choose slot.1) ∷ plan else plan
 
 -- the plan for all slots
 abbrev pub plan_of : (Term → Bool) → List Slot → List PlannedSlot
@@ -72,7 +72,7 @@ with_kept hold (Some key) kept slots =
 -- the slots after a plan is executed, the last slot first
 abbrev pub after_plan : Bool → List PlannedSlot → List Slot → List Slot
 after_plan hold [] slots = slots
-after_plan hold (n ∷ notes) slots = with_kept hold n.0 n.1 (after_plan hold notes slots)
+after_plan hold (n ∷ plan) slots = with_kept hold n.0 n.1 (after_plan hold plan slots)
 
 abbrev pub IsBefore : List Slot → Option Term → Option Term → Type 0
 IsBefore slots None second = ⊥
@@ -87,5 +87,5 @@ KeepsPlacesBefore slots old new place =
 -- the slots of a plan exist and are in the order of the table
 abbrev pub AreInOrder : List Slot → List PlannedSlot → Type 0
 AreInOrder slots [] = Unit {0}
-AreInOrder slots (n ∷ notes) =
-    (is_some n.0 ≡ true) × AllByRecursion (λ m. IsBefore slots n.0 m.0) notes × AreInOrder slots notes
+AreInOrder slots (n ∷ plan) =
+    (is_some n.0 ≡ true) × AllByRecursion (λ m. IsBefore slots n.0 m.0) plan × AreInOrder slots plan

@@ -59,9 +59,9 @@ impl<R: Rows> TableRows<R> {
         ensures keeps { ChangesSlotsOnly R.readiness self.old self.new }
     {
         let mut objects = self.rows.replace_at(place, Chain::new(self.alloc));
-        let was_held = objects.len() == 0;
+        let was_tombstone = objects.len() == 0;
         let count = objects.remove_all(object);
-        if slot_stays(hold, was_held, objects.as_slice()) {
+        if slot_stays(hold, was_tombstone, objects.as_slice()) {
             let _ = self.rows.replace_at(place, objects);
         } else {
             let _ = self.rows.drop_at(place);
@@ -71,8 +71,8 @@ impl<R: Rows> TableRows<R> {
 }
 
 /// Returns whether a slot stays with these objects.
-fn slot_stays(hold: bool, was_held: bool, objects: &[Term]) -> bool
-    ensures { result ≡ (hold || has_objects objects.now || was_held) }
+fn slot_stays(hold: bool, was_tombstone: bool, objects: &[Term]) -> bool
+    ensures { result ≡ (hold || has_objects objects.now || was_tombstone) }
 {
-    hold || !objects.is_empty() || was_held
+    hold || !objects.is_empty() || was_tombstone
 }

@@ -3,7 +3,7 @@ use Rattle.table_ops.specs.Content.{Content}
 use Rattle.table_ops.specs.Drop.{equal_to, DeletesObject}
 use Rattle.table_ops.specs.inside.TableRows.{content_of}
 use Rattle.table_ops.proofs.TableRowsLaws.{of-slots, holds-kept}
-use Rattle.table_ops.proofs.DropLaws.{object-taken, object-count, counted-less, none-dropped, spares-object, deletes}
+use Rattle.table_ops.proofs.DropLaws.{object-taken, object-count, counted-less, none-dropped, keeps-others-object, deletes}
 use Rattle.table_ops.proofs.table.Table.delete_object.Goals as goal
 
 pub returns-in_default-find-clause-content : goal.returns-in_default-find-clause-content
@@ -11,8 +11,8 @@ returns-in_default-find-clause-content g c =
     let slots = g.R.Rows.content c.self.inside.inner.rows in
     let old : Content = content_of g.R.Rows.content c.self.inside.inner in
     let its = sym c.in-Some.ensures in
-    let spares = spares-object c.self.inside.inner.kind c.self.inside.inner.keypos c.args.object.now c.in-Some.key.now slots its c.self.invariant.slots_are in
-    rw (← c.self.view_is) (deletes c.args.hold c.args.object.now c.in-Some.key.now old its slots (sym (none-dropped c.args.hold (equal_to c.args.object.now) slots c.in-Some.key.now spares c.in_default-find.ensures.place)))
+    let others = keeps-others-object c.self.inside.inner.kind c.self.inside.inner.keypos c.args.object.now c.in-Some.key.now slots its c.self.invariant.slots_are in
+    rw (← c.self.view_is) (deletes c.args.hold c.args.object.now c.in-Some.key.now old its slots (sym (none-dropped c.args.hold (equal_to c.args.object.now) slots c.in-Some.key.now others c.in_default-find.ensures.place)))
 
 pub overflow_sub-self : goal.overflow_sub-self
 overflow_sub-self g c =

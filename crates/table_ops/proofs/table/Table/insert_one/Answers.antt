@@ -19,13 +19,13 @@ returns-in_err-count-clause-content g c =
     let old : Content = content_of g.R.Rows.content c.self.inside.inner in
     let new : Content = content_of g.R.Rows.content c.put_one.new.self in
     let p = err_from_is_err_and c.from_residual.result c.from_residual.ensures.1 in
-    let told : c.from_residual.result ≡ Err f = p.1 ∙ ap Err p.2 in
+    let failed : c.from_residual.result ≡ Err f = p.1 ∙ ap Err p.2 in
     let shallow : is_too_deep object ≡ false = sym c.is_too_deep.ensures ∙ c.if-is_too_deep.false in
     let done : RefinesChange (Inserts (object ∷ []) old) old (Err f) new =
     of-slots g.R.Rows.content c.self.inside.inner c.put_one.new.self c.in_err-count.ensures.keeps.rest (λ (n : Content). RefinesChange (Inserts (object ∷ []) old) old (Err f) n)
     (one-not-inserted object c.in-Some.key.now old (sym c.in-Some.ensures) shallow f (g.R.Rows.content c.put_one.new.self.rows) c.in_err-count.ensures.slots) in
     let same : old ≡ c.args.self.now.content = ap (λ (t : ContentState). t.content) c.self.view_is in
-    subst (λ (r : Result (Unit {0}) Refusal). RefinesChange (Inserts (object ∷ []) c.args.self.now.content) c.args.self.now.content r new) (sym told)
+    subst (λ (r : Result (Unit {0}) Refusal). RefinesChange (Inserts (object ∷ []) c.args.self.now.content) c.args.self.now.content r new) (sym failed)
     (subst (λ (o : Content). RefinesChange (Inserts (object ∷ []) o) o (Err f) new) same done)
 
 pub invariant_of-self-2 : goal.invariant_of-self-2

@@ -20,7 +20,7 @@ returns-in_err-undo-clause-content g c =
     let old : Content = content_of g.R.Rows.content c.self.inside.inner in
     let new : Content = content_of g.R.Rows.content c.put.new.self in
     let p = err_from_is_err_and c.from_residual.result c.from_residual.ensures.1 in
-    let told : c.from_residual.result ≡ Err c.in_err-undo.field-0.0 = p.1 ∙ ap Err p.2 in
+    let failed : c.from_residual.result ≡ Err c.in_err-undo.field-0.0 = p.1 ∙ ap Err p.2 in
     let object = c.args.object.now in
     let shallow : is_too_deep object ≡ false = sym c.is_too_deep.ensures ∙ c.if-is_too_deep.false in
     let none = none-found c.occupied_place.result _ _ (sym c.is_some.ensures ∙ c.if-is_some.false) c.occupied_place.ensures in
@@ -28,7 +28,7 @@ returns-in_err-undo-clause-content g c =
     of-slots g.R.Rows.content c.self.inside.inner c.put.new.self c.in_err-undo.ensures.keeps.rest (λ (n : Content). RefinesChange (InsertsNew (object ∷ []) old) old (Err c.in_err-undo.field-0.0) n)
     (one-kept object c.in-Some.key.now old (sym c.in-Some.ensures) none shallow c.self.inside.count c.self.invariant c.in_err-undo.field-0.0 (g.R.Rows.content c.put.new.self.rows) c.in_err-undo.ensures.slots) in
     let same : old ≡ c.args.self.now.content = ap (λ (t : ContentState). t.content) c.self.view_is in
-    subst (λ (r : Result Bool Refusal). RefinesChange (InsertsNew (object ∷ []) c.args.self.now.content) c.args.self.now.content r new) (sym told)
+    subst (λ (r : Result Bool Refusal). RefinesChange (InsertsNew (object ∷ []) c.args.self.now.content) c.args.self.now.content r new) (sym failed)
     (subst (λ (o : Content). RefinesChange (InsertsNew (object ∷ []) o) o (Err c.in_err-undo.field-0.0) new) same done)
 
 pub invariant_of-self-2 : goal.invariant_of-self-2

@@ -5,13 +5,13 @@ use Rattle.table_ops.specs.Content.{Content}
 use Rattle.table_ops.specs.Drop.{has_key}
 use Rattle.table_ops.specs.inside.TableRows.{content_of}
 use Rattle.table_ops.proofs.TableRowsLaws.{content-kept, holds-kept}
-use Rattle.table_ops.proofs.DropLaws.{key-taken, taken-count, counted-less, none-dropped, spares-key}
+use Rattle.table_ops.proofs.DropLaws.{key-taken, taken-count, counted-less, none-dropped, keeps-others-key}
 use Rattle.table_ops.proofs.table.Table.take.Goals as goal
 
 pub returns-in_default-clause-content : goal.returns-in_default-clause-content
 returns-in_default-clause-content g c =
     let old = g.R.Rows.content c.self.inside.inner.rows in
-    rw (← c.self.view_is) (ap (λ (l : List Slot). let r : Content = record (content_of g.R.Rows.content c.self.inside.inner) { slots = l } in r) (sym (none-dropped c.args.hold (has_key c.args.key.now) old c.args.key.now (spares-key c.args.key.now old) c.in_default.ensures.place)))
+    rw (← c.self.view_is) (ap (λ (l : List Slot). let r : Content = record (content_of g.R.Rows.content c.self.inside.inner) { slots = l } in r) (sym (none-dropped c.args.hold (has_key c.args.key.now) old c.args.key.now (keeps-others-key c.args.key.now old) c.in_default.ensures.place)))
 
 pub overflow_sub-self : goal.overflow_sub-self
 overflow_sub-self g c =

@@ -50,12 +50,12 @@ returns-in_err-object-clause-content g c =
     let made = start_counter ops (with_key c.self.inside.inner.keypos k c.in-Some-default.default.now) in
     let f = c.in_err-object.field-0.0 in
     let p = err_from_is_err_and c.from_residual-in_err-object.result c.from_residual-in_err-object.ensures.1 in
-    let told : c.from_residual-in_err-object.result ≡ Err (refusal_of f) = p.1 ∙ ap Err p.2 in
+    let failed : c.from_residual-in_err-object.result ≡ Err (refusal_of f) = p.1 ∙ ap Err p.2 in
     let s = fault-starts (nat_lt c.self.inside.count old.limit) k made f old.slots (λ e. c.in_err-object.ensures.badarg (ap Err e)) (λ e. c.in_err-object.ensures.limit (ap Err e)) in
     let done : RefinesChange (UpdatesCounter k ops d old) old (Err (refusal_of f)) old =
     started-comes k ops c.in-Some-default.default.now old c.self.inside.count c.in_default.ensures c.self.invariant.counted d given may (Err (refusal_of f)) old.slots s in
     let same : old ≡ c.args.self.now.content = ap (λ (t : ContentState). t.content) c.self.view_is in
-    subst (λ (r : Result Term Refusal). RefinesChange (UpdatesCounter k ops d c.args.self.now.content) c.args.self.now.content r c.args.self.now.content) (sym told)
+    subst (λ (r : Result Term Refusal). RefinesChange (UpdatesCounter k ops d c.args.self.now.content) c.args.self.now.content r c.args.self.now.content) (sym failed)
     (subst (λ (o : Content). RefinesChange (UpdatesCounter k ops d o) o (Err (refusal_of f)) o) same done)
 
 pub returns-in_err-insert_default-clause-content : goal.returns-in_err-insert_default-clause-content
@@ -71,12 +71,12 @@ returns-in_err-insert_default-clause-content g c =
     let s = refusal-starts (nat_lt c.self.inside.count old.limit) k made c.in_ok-object.object c.in_ok-object.answer (c.in_ok-object.ensures.done) old.slots (g.R.Rows.content c.insert_default.new.self.rows) c.in_err-insert_default.field-0.0 c.in_err-insert_default.ensures.slots in
     let p = err_from_is_err_and c.from_residual-in_err-insert_default.result c.from_residual-in_err-insert_default.ensures.1 in
     let new : Content = content_of g.R.Rows.content c.insert_default.new.self in
-    let told : c.from_residual-in_err-insert_default.result ≡ Err c.in_err-insert_default.field-0.0 = p.1 ∙ ap Err p.2 in
+    let failed : c.from_residual-in_err-insert_default.result ≡ Err c.in_err-insert_default.field-0.0 = p.1 ∙ ap Err p.2 in
     let done : RefinesChange (UpdatesCounter k ops d old) old (Err c.in_err-insert_default.field-0.0) new =
     of-slots g.R.Rows.content c.self.inside.inner c.insert_default.new.self c.in_err-insert_default.ensures.keeps.rest (λ (n : Content). RefinesChange (UpdatesCounter k ops d old) old (Err c.in_err-insert_default.field-0.0) n)
     (started-comes k ops c.in-Some-default.default.now old c.self.inside.count c.in_default.ensures c.self.invariant.counted d given may (Err c.in_err-insert_default.field-0.0) (g.R.Rows.content c.insert_default.new.self.rows) s) in
     let same : old ≡ c.args.self.now.content = ap (λ (t : ContentState). t.content) c.self.view_is in
-    subst (λ (r : Result Term Refusal). RefinesChange (UpdatesCounter k ops d c.args.self.now.content) c.args.self.now.content r new) (sym told)
+    subst (λ (r : Result Term Refusal). RefinesChange (UpdatesCounter k ops d c.args.self.now.content) c.args.self.now.content r new) (sym failed)
     (subst (λ (o : Content). RefinesChange (UpdatesCounter k ops d o) o (Err c.in_err-insert_default.field-0.0) new) same done)
 
 pub invariant_of-self-2 : goal.invariant_of-self-2

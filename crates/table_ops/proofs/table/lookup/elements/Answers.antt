@@ -1,7 +1,7 @@
 use Rattle.std.proofs.Common.{◌≡◌, suc, ◌+◌, ◌<◌, [], ◌∷◌, ◌++◌, Some, refl, sym, ap, ◌∙◌, take, length, slice_get, arith}
 use Rattle.std.proofs.lemmas.Option.{slice_get_read}
 use Rattle.table_ops.specs.Read.{elements_at}
-use Rattle.table_ops.proofs.ReadLaws.{elements-push, told-none}
+use Rattle.table_ops.proofs.ReadLaws.{elements-push, lookup_element-none}
 use Rattle.table_ops.proofs.InsertLaws.{take-one}
 use Rattle.table_ops.proofs.table.lookup.elements.Goals as goal
 
@@ -11,7 +11,7 @@ returns-in_default c =
     let i = c.loop-object.object-index in
     let within : i < length xs = omega arith in
     let at : slice_get xs i ≡ Some c.object-item.result = slice_get_read xs (length xs) i c.object-item.result refl within c.object-item.is in
-    told-none c.args.position xs i c.object-item.result at (sym c.in_default.ensures)
+    lookup_element-none c.args.position xs i c.object-item.result at (sym c.in_default.ensures)
 
 pub loop-object-preserved : goal.loop-object-preserved
 loop-object-preserved c =

@@ -2,7 +2,7 @@ use Rattle.std.proofs.Common.{◌≡◌, ◌++◌, [], ◌∷◌, sym, ap, subst
 use Rattle.bucket_table.specs.Slots.{Slot}
 use Rattle.table_ops.specs.inside.DeletePlan.{PlannedSlot, planned_at, with_kept, after_plan, AreInOrder}
 use Rattle.table_ops.proofs.TableRowsLaws.{both-keep}
-use Rattle.table_ops.proofs.DeletePlanLaws.{noted-append, order-last, order-thin, noted-same, thin-append}
+use Rattle.table_ops.proofs.DeletePlanLaws.{planned-append, order-last, order-thin, planned-same, thin-append}
 use Rattle.table_ops.proofs.table_rows.TableRows.apply.Goals as goal
 
 pub apply_one-requires : goal.apply_one-requires
@@ -10,7 +10,7 @@ apply_one-requires g c =
     let key_at = g.R.Rows.key_at c.loop-delete.self.rows in
     let ms = c.pop.new.self.items in
     let m : PlannedSlot = (key_at c.in-Some.delete.place, c.in-Some.delete.kept) in
-    let all : planned_at key_at c.loop-delete.plan.list.items ≡ planned_at key_at ms ++ m ∷ [] = ap (planned_at key_at) c.in-Some.ensures.items ∙ noted-append key_at ms (c.in-Some.delete ∷ []) in
+    let all : planned_at key_at c.loop-delete.plan.list.items ≡ planned_at key_at ms ++ m ∷ [] = ap (planned_at key_at) c.in-Some.ensures.items ∙ planned-append key_at ms (c.in-Some.delete ∷ []) in
     (order-last (g.R.Rows.content c.loop-delete.self.rows) (planned_at key_at ms) m (subst (AreInOrder (g.R.Rows.content c.loop-delete.self.rows)) all c.loop-delete.invariant.order)).0
 
 pub loop-delete-preserved : goal.loop-delete-preserved
@@ -21,9 +21,9 @@ loop-delete-preserved g c =
     let new = g.R.Rows.content c.apply_one.new.self.rows in
     let ms = c.pop.new.self.items in
     let m : PlannedSlot = (key_at c.in-Some.delete.place, c.in-Some.delete.kept) in
-    let all : planned_at key_at c.loop-delete.plan.list.items ≡ planned_at key_at ms ++ m ∷ [] = ap (planned_at key_at) c.in-Some.ensures.items ∙ noted-append key_at ms (c.in-Some.delete ∷ []) in
+    let all : planned_at key_at c.loop-delete.plan.list.items ≡ planned_at key_at ms ++ m ∷ [] = ap (planned_at key_at) c.in-Some.ensures.items ∙ planned-append key_at ms (c.in-Some.delete ∷ []) in
     let o = order-last slots (planned_at key_at ms) m (subst (AreInOrder slots) all c.loop-delete.invariant.order) in
-    let kept' : planned_at after ms ≡ planned_at key_at ms = noted-same key_at after slots m.0 ms (λ other h. c.apply_one.ensures.places other h) o.1 in
+    let kept' : planned_at after ms ≡ planned_at key_at ms = planned-same key_at after slots m.0 ms (λ other h. c.apply_one.ensures.places other h) o.1 in
     let after_removal : new ≡ with_kept c.args.hold m.0 m.1 slots = c.apply_one.ensures.slots in
     record {
       rest = ap (λ (ns : List PlannedSlot). after_plan c.args.hold ns new) kept' ∙ ap (after_plan c.args.hold (planned_at key_at ms)) after_removal ∙ sym (thin-append c.args.hold (planned_at key_at ms) m slots)

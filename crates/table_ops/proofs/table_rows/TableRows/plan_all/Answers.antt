@@ -7,7 +7,7 @@ use Rattle.node_list.specs.Ticks.{ticks}
 use Rattle.table_ops.specs.Queries.{chosen_count}
 use Rattle.table_ops.specs.Read.{all_objects}
 use Rattle.table_ops.specs.inside.DeletePlan.{planned_at, planned, plan_of}
-use Rattle.table_ops.proofs.DeletePlanLaws.{notes-next}
+use Rattle.table_ops.proofs.DeletePlanLaws.{plan-next}
 use Rattle.table_ops.proofs.QueryLaws.{is-here, none-here, next-here, objects-here, objects-count, chosen-few, chosen-slot, slot-count, count-within, ticks-on, ticks-most, joined}
 use Rattle.table_ops.proofs.table_rows.TableRows.plan_all.Goals as goal
 
@@ -56,7 +56,7 @@ loop-preserved g c =
       here = next-here key_at slots c.reveal_invariant.ensures i place here.0 c.next_place-at.result here.1 c.next_place-at.ensures;
       done = omega (arith, c.loop.invariant.done, c.in_ok-total.ensures.count, ap (λ (os : List Term). chosen_count choose os) own, chosen-slot choose slots i here.0 here.1.at);
       marked = joined (planned_at key_at c.args.plan.now.list.items) (planned_at key_at c.loop.plan.list.items) (planned_at key_at c.plan_slot.new.self.list.items) (plan_of choose (take i slots)) (planned choose here.0) (plan_of choose (take (i + 1) slots)) c.loop.invariant.marked
-          (c.in_ok-total.ensures.plan key_at here.0.0 here.1.key ∙ ap (λ (os : List Term). planned_at key_at c.loop.plan.list.items ++ planned choose (here.0.0, os)) own) (notes-next choose slots i here.0 here.1.at);
+          (c.in_ok-total.ensures.plan key_at here.0.0 here.1.key ∙ ap (λ (os : List Term). planned_at key_at c.loop.plan.list.items ++ planned choose (here.0.0, os)) own) (plan-next choose slots i here.0 here.1.at);
       looked = c.in_ok-total.ensures.looks ∙ ticks-on (object_count (take i slots)) (length c.slot_at.result.1.now) c.args.looks.now c.loop.looks c.loop.invariant.looked
           ∙ ap (λ n. ticks n c.args.looks.now) (omega (arith, ap length own, slot-count slots i here.0 here.1.at));
     }
