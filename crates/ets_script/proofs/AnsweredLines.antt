@@ -9,35 +9,35 @@ use Rattle.ets_script.specs.declared.answer.Answer.{Answer}
 use Rattle.ets_script.proofs.KnownBytes.{the_none}
 use Rattle.ets_script.proofs.BufferedLines.{none-or-some, weaker-line}
 
-weaker : (old new : ScriptState) (bytes said : List ℕ) (L M : Type 0) → (L → M) → IsAnswered old bytes said new L → IsAnswered old bytes said new M
-weaker old new bytes said L M f a = record { line = a.line; answer = a.answer; is_line = weaker-line bytes a.line L M f a.is_line; answers = a.answers; prints = a.prints }
+weaker : (old new : ScriptState) (bytes output : List ℕ) (L M : Type 0) → (L → M) → IsAnswered old bytes output new L → IsAnswered old bytes output new M
+weaker old new bytes output L M f a = record { line = a.line; answer = a.answer; is_line = weaker-line bytes a.line L M f a.is_line; answers = a.answers; prints = a.prints }
 
 pub none-is : the_none ≡ the_none
 none-is = refl
 
 -- a line after whole lines
-pub then-line : (n : ℕ) (a b c : ScriptState) (input out bytes said : List ℕ) (M : Type 0) → ScriptText n ⊥ a input out b → IsAnswered b bytes said c M → ScriptText (suc n) M a (input ++ bytes) (out ++ said) c
-then-line zero a b c input out bytes said M (i, o, s) x = (
+pub then-line : (n : ℕ) (a b c : ScriptState) (input out bytes output : List ℕ) (M : Type 0) → ScriptText n ⊥ a input out b → IsAnswered b bytes output c M → ScriptText (suc n) M a (input ++ bytes) (out ++ output) c
+then-line zero a b c input out bytes output M (i, o, s) x = (
   c,
   bytes,
   [],
-  said,
+  output,
   [],
   ap (λ k. k ++ bytes) i ∙ sym (append-nil bytes),
-  ap (λ k. k ++ said) o ∙ sym (append-nil said),
-  subst (λ (z : ScriptState). IsAnswered z bytes said c ((the_none ≡ the_none) × M)) s (weaker b c bytes said M ((the_none ≡ the_none) × M) (λ m. (none-is, m)) x),
+  ap (λ k. k ++ output) o ∙ sym (append-nil output),
+  subst (λ (z : ScriptState). IsAnswered z bytes output c ((the_none ≡ the_none) × M)) s (weaker b c bytes output M ((the_none ≡ the_none) × M) (λ m. (none-is, m)) x),
   (refl, refl, refl),
 )
-then-line (suc n) a b c input out bytes said M (mid, first, rest, answer, others, i, o, x, more) y = (
+then-line (suc n) a b c input out bytes output M (mid, first, rest, answer, others, i, o, x, more) y = (
   mid,
   first,
   rest ++ bytes,
   answer,
-  others ++ said,
+  others ++ output,
   ap (λ k. k ++ bytes) i ∙ append_assoc first rest bytes,
-  ap (λ k. k ++ said) o ∙ append_assoc answer others said,
+  ap (λ k. k ++ output) o ∙ append_assoc answer others output,
   weaker a mid first answer ((rest ≡ []) × ⊥) ((rest ++ bytes ≡ []) × M) (λ z. absurd z.1) x,
-  then-line n mid b c rest others bytes said M more y,
+  then-line n mid b c rest others bytes output M more y,
 )
 
 pub no-more : (n : ℕ) (a b : ScriptState) (input out : List ℕ) (M : Type 0) → ScriptText n ⊥ a input out b → ScriptText n M a input out b

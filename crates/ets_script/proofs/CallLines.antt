@@ -22,8 +22,8 @@ word-not_silent line name rest e =
     not_silent text (passed (begins is_lowercase text) (nat_le (prefix_len is_name text) MAX_CHARACTERS) _ _ text name rest e)
 
 -- a clean line that is read as a call means that call
-pub call-means : (line name rest : List ℕ) (said : Command) → IsPrintable line → word (past_blanks line) ≡ read name rest → IsCaller name → ask_command name rest ≡ read said [] → Means line said
-call-means line name rest said clean front caller call = (
+pub call-means : (line name rest : List ℕ) (call_command : Command) → IsPrintable line → word (past_blanks line) ≡ read name rest → IsCaller name → ask_command name rest ≡ read call_command [] → Means line call_command
+call-means line name rest call_command clean front caller call = (
   word-not_silent line name rest front,
-  command-printable line [] said clean (ap (λ (r : Read (List ℕ)). and_then r by_word) front ∙ (caller rest ∙ call)),
+  command-printable line [] call_command clean (ap (λ (r : Read (List ℕ)). and_then r by_word) front ∙ (caller rest ∙ call)),
 )

@@ -107,9 +107,9 @@ pub as-many : {limits : Limits} {lists : List (List Job)} {done : List Entry} {l
 as-many {limits} {lists} {done} {left} r = same-lengths done 0 lists left r.each
 
 -- a fault is reported as it was found
-pub fault-told : {N F : Type 0} (P : F → Type 0) (r : Result N F) (fault : F) → IsErrAnd r (λ told. told ≡ fault) → P fault → IfErr r P
-fault-told P (Ok x) fault told is = tt
-fault-told P (Err e) fault told is = subst P (sym told) is
+pub fault-of-err : {N F : Type 0} (P : F → Type 0) (r : Result N F) (fault : F) → IsErrAnd r (λ returned. returned ≡ fault) → P fault → IfErr r P
+fault-of-err P (Ok x) fault returned is = tt
+fault-of-err P (Err e) fault returned is = subst P (sym returned) is
 
 -- what stops the planning stops the run
 pub unplanned : (limits : Limits) (fault : ScriptFault) → IsUnplanned fault → Stops limits fault

@@ -32,11 +32,11 @@ error_or (Ok m) e = e
 error_or (Err f) e = f
 
 -- a parse failed, and its error is returned
-pub parse-fault : {T U : Type 0} (kinds : Kinds) (parsed : Result T Error) (e : Error) (r : Result U Error) → FailsBy kinds parsed → parsed ≡ Err e → IsErrAnd r (λ told. told ≡ e) → FailsBy kinds r
-parse-fault kinds (Ok m) e r fails is told = cc
-parse-fault kinds (Err f) e (Ok s) fails is told = absurd told
-parse-fault {T} kinds (Err f) e (Err g) fails is told =
-    let same : f ≡ g = ap (λ (r : Result T Error). error_or r f) is ∙ sym told in
+pub parse-fault : {T U : Type 0} (kinds : Kinds) (parsed : Result T Error) (e : Error) (r : Result U Error) → FailsBy kinds parsed → parsed ≡ Err e → IsErrAnd r (λ returned. returned ≡ e) → FailsBy kinds r
+parse-fault kinds (Ok m) e r fails is returned = cc
+parse-fault kinds (Err f) e (Ok s) fails is returned = absurd returned
+parse-fault {T} kinds (Err f) e (Err g) fails is returned =
+    let same : f ≡ g = ap (λ (r : Result T Error). error_or r f) is ∙ sym returned in
     subst (HasKind kinds) same fails
 
 among-more : (kinds next : Kinds) (e : Error) → HasKind kinds e → HasKind (or_else kinds next) e
@@ -46,8 +46,8 @@ among-more (k ∷ ks) next e h = h
 
 -- an error of the first kinds is one of these or else of others
 pub fails-first : {U : Type 0} (kinds next : Kinds) (Q : Error → Type 0) (r : Result U Error) → IsErrAnd r Q → FailsBy kinds r → FailsBy (or_else kinds next) r
-fails-first kinds next Q (Ok s) told fails = absurd told
-fails-first kinds next Q (Err e) told fails = among-more kinds next e fails
+fails-first kinds next Q (Ok s) returned fails = absurd returned
+fails-first kinds next Q (Err e) returned fails = among-more kinds next e fails
 
 -- memory ran out
 pub lacks-memory : {U : Type 0} (kinds : Kinds) (r : Result U Error) → IsErrAnd r (λ e. kind_of e ≡ OutOfMemory) → FailsBy kinds r
@@ -136,9 +136,9 @@ pub request_line-of_rules : (hashes : ValueParser) (three four five six : Comman
     → AddsArg three why four → rule_of why ≡ flag_option (codes "why")
     → AddsArg four external five → rule_of external ≡ flag_option (codes "external")
     → out-Command six ≡ record (out-Command five) { version = Some version } → app_of six ≡ request_line hashes
-request_line-of_rules hashes three four five six why external version is adds told adds2 told2 versioned =
-    let with_why = added three four why (limited_line hashes) (flag_option (codes "why")) adds is told refl in
-    let with_both = added four five external _ (flag_option (codes "external")) adds2 with_why told2 refl in
+request_line-of_rules hashes three four five six why external version is adds first adds2 second versioned =
+    let with_why = added three four why (limited_line hashes) (flag_option (codes "why")) adds is first refl in
+    let with_both = added four five external _ (flag_option (codes "external")) adds2 with_why second refl in
     let as_fields : app_of six ≡ with_version (app_of five) = ap app_of_fields versioned in
     as_fields ∙ ap with_version with_both
 

@@ -36,14 +36,14 @@ printed-broken a b c p whole q rest text later g is broken =
     subst (λ (k : List ℕ). Breaks (between a c) (p ++ k)) (append_assoc g.front text later ∙ parts) (breaks-first a c p (g.front ++ text) later (breaks-two a b c p g.front q text g.sent broken))
 
 -- a name and a space, and what follows them
-pub line-sent : (a b c : Option (List ℕ)) (p name space q said r : List ℕ) → Sends (between a b) (p ++ (name ++ space)) q → Sends (between b c) (q ++ said) r → Sends (between a c) (p ++ (name ++ (space ++ said))) r
-line-sent a b c p name space q said r s t = subst (λ (k : List ℕ). Sends (between a c) (p ++ k) r) (append_assoc name space said) (sends-two a b c p (name ++ space) q said r s t)
+pub line-sent : (a b c : Option (List ℕ)) (p name space q answer r : List ℕ) → Sends (between a b) (p ++ (name ++ space)) q → Sends (between b c) (q ++ answer) r → Sends (between a c) (p ++ (name ++ (space ++ answer))) r
+line-sent a b c p name space q answer r s t = subst (λ (k : List ℕ). Sends (between a c) (p ++ k) r) (append_assoc name space answer) (sends-two a b c p (name ++ space) q answer r s t)
 
-pub line-first : (a b : Option (List ℕ)) (p name space said : List ℕ) → Breaks (between a b) (p ++ (name ++ space)) → Breaks (between a b) (p ++ (name ++ (space ++ said)))
-line-first a b p name space said s = subst (λ (k : List ℕ). Breaks (between a b) (p ++ k)) (append_assoc name space said) (breaks-first a b p (name ++ space) said s)
+pub line-first : (a b : Option (List ℕ)) (p name space answer : List ℕ) → Breaks (between a b) (p ++ (name ++ space)) → Breaks (between a b) (p ++ (name ++ (space ++ answer)))
+line-first a b p name space answer s = subst (λ (k : List ℕ). Breaks (between a b) (p ++ k)) (append_assoc name space answer) (breaks-first a b p (name ++ space) answer s)
 
-pub line-broken : (a b c : Option (List ℕ)) (p name space q said : List ℕ) → Sends (between a b) (p ++ (name ++ space)) q → Breaks (between b c) (q ++ said) → Breaks (between a c) (p ++ (name ++ (space ++ said)))
-line-broken a b c p name space q said s t = subst (λ (k : List ℕ). Breaks (between a c) (p ++ k)) (append_assoc name space said) (breaks-two a b c p (name ++ space) q said s t)
+pub line-broken : (a b c : Option (List ℕ)) (p name space q answer : List ℕ) → Sends (between a b) (p ++ (name ++ space)) q → Breaks (between b c) (q ++ answer) → Breaks (between a c) (p ++ (name ++ (space ++ answer)))
+line-broken a b c p name space q answer s t = subst (λ (k : List ℕ). Breaks (between a c) (p ++ k)) (append_assoc name space answer) (breaks-two a b c p (name ++ space) q answer s t)
 
 -- the texts of items from one on
 pub items-at : {X : Type 0} (f : X → List ℕ) (xs : List X) (i : ℕ) (x : X) → i < length xs → get_or xs i x ≡ x → flat_map f (drop i xs) ≡ f x ++ flat_map f (drop (i + 1) xs)

@@ -122,7 +122,7 @@ end-err (Err e) h s1 s2 p1 p2 w1 w2 w3 answer answers printed_so broken =
     record { answer = answer; answers = answers; broken = breaks-on w1 w2 w3 (p1 ++ printed answer) p2 printed_so broken }
 
 -- a fault is reported as it was found
-pub stop-told : {N : Type 0} (start : ScriptState) (before after old new : Option (List ℕ)) (r : Result N ScriptFault) (fault : ScriptFault) → IsErrAnd r (λ told. told ≡ fault)
+pub stop-of-err : {N : Type 0} (start : ScriptState) (before after old new : Option (List ℕ)) (r : Result N ScriptFault) (fault : ScriptFault) → IsErrAnd r (λ returned. returned ≡ fault)
     → Stops start (traffic (between before after) (between old new)) fault → IfErr r (Stops start (traffic (between before after) (between old new)))
-stop-told start before after old new (Ok x) fault told stops = tt
-stop-told start before after old new (Err e) fault told stops = subst (Stops start (traffic (between before after) (between old new))) (sym told) stops
+stop-of-err start before after old new (Ok x) fault returned stops = tt
+stop-of-err start before after old new (Err e) fault returned stops = subst (Stops start (traffic (between before after) (between old new))) (sym returned) stops

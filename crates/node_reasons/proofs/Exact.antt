@@ -100,22 +100,22 @@ module _ (old : State) where
       limit-right (limit_of name) (last_rule_of_call old.world p name args) (why_call old.world p name args) reply (limit-refuses name)
       (call-explained old p name args reply new h) (call-named old.world p name args)
 
-  abbrev Asked : ℕ → Call → Reply → Bool → Option ℕ → Type 0
-  Asked p asked reply b o =
+  abbrev AskIsRight : ℕ → Call → Reply → Bool → Option ℕ → Type 0
+  AskIsRight p asked reply b o =
       Right (if b then option_map_or (λ index. Some (argument (index + 1) rule.TooDeep)) o (option_map_or (λ name. or_limit (limit_of name) (why_call old.world p name asked.args) reply) (call_name asked.name) (Some (about_whole_call rule.NoCall))) else Some (about_whole_call rule.NoProcess))
       (if b then option_map_or (λ index. argument (index + 1) rule.TooDeep) o (option_map_or (last_rule_of_refused old.world p asked.args false) (call_name asked.name) (about_whole_call rule.NoCall)) else about_whole_call rule.NoProcess)
       (if b then option_map_or (λ index. argument (index + 1) rule.TooDeep) o (option_map_or (last_rule_of_refused old.world p asked.args true) (call_name asked.name) (about_whole_call rule.NoCall)) else about_whole_call rule.NoProcess) reply
 
-  asked-right : (p : ℕ) (asked : Call) (reply : Reply) (new : State) (o : Option ℕ) (b : Bool) → Deep o b → Either b (gives SystemLimit old) (call_by_text old p asked.name asked.args) reply new → Asked p asked reply true o
-  asked-right p asked reply new None true d h = absurd (cc)
-  asked-right p asked reply new None false d h = called-right p asked.args reply new (call_name asked.name) h
-  asked-right p asked reply new (Some index) true d h = subst (λ r. Asked p asked r true (Some index)) (sym h.0) (refl, refl)
-  asked-right p asked reply new (Some index) false d h = absurd (cc)
+  ask-right-at : (p : ℕ) (asked : Call) (reply : Reply) (new : State) (o : Option ℕ) (b : Bool) → Deep o b → Either b (gives SystemLimit old) (call_by_text old p asked.name asked.args) reply new → AskIsRight p asked reply true o
+  ask-right-at p asked reply new None true d h = absurd (cc)
+  ask-right-at p asked reply new None false d h = called-right p asked.args reply new (call_name asked.name) h
+  ask-right-at p asked reply new (Some index) true d h = subst (λ r. AskIsRight p asked r true (Some index)) (sym h.0) (refl, refl)
+  ask-right-at p asked reply new (Some index) false d h = absurd (cc)
 
   ask-right : (p : ℕ) (asked : Call) (reply : Reply) (new : State) (b : Bool)
-      → Either (not b) (gives NoProcess old) (Either (list_any is_too_deep asked.args) (gives SystemLimit old) (call_by_text old p asked.name asked.args)) reply new → Asked p asked reply b (position is_too_deep asked.args)
-  ask-right p asked reply new true h = asked-right p asked reply new (position is_too_deep asked.args) (list_any is_too_deep asked.args) (deep-at is_too_deep asked.args) h
-  ask-right p asked reply new false h = subst (λ r. Asked p asked r false (position is_too_deep asked.args)) (sym h.0) (refl, refl)
+      → Either (not b) (gives NoProcess old) (Either (list_any is_too_deep asked.args) (gives SystemLimit old) (call_by_text old p asked.name asked.args)) reply new → AskIsRight p asked reply b (position is_too_deep asked.args)
+  ask-right p asked reply new true h = ask-right-at p asked reply new (position is_too_deep asked.args) (list_any is_too_deep asked.args) (deep-at is_too_deep asked.args) h
+  ask-right p asked reply new false h = subst (λ r. AskIsRight p asked r false (position is_too_deep asked.args)) (sym h.0) (refl, refl)
 
   enrol-explained : (p : ℕ) → ReasonExplainsAll (if is_some (process_at old.world.processes p) then Some (about_whole_call rule.AlreadyEnrolled) else None) (step old (Enrol p))
   enrol-explained p =

@@ -48,9 +48,9 @@ use Rattle.node_reasons.proofs.Explained.{ReasonExplains, ReasonExplainsAll, Eit
 use Rattle.node_reasons.proofs.ExplainedRules.{insert-explained, insert_new-explained, deletion-explained, key-value, slot-value, next-explained, next_lookup-explained, fixes-explained, match-explained, match_object-explained, match_delete-explained, select-explained, select_count-explained, select_delete-explained, element-explained, element-or-explained}
 use Rattle.node_reasons.proofs.ExplainedUpdates.{counter-explained, update-explained}
 
-told-value : (o : Option Term) → is_value (value_or_undefined o) ≡ true
-told-value None = refl
-told-value (Some term) = refl
+value_or_undefined-is_value : (o : Option Term) → is_value (value_or_undefined o) ≡ true
+value_or_undefined-is_value None = refl
+value_or_undefined-is_value (Some term) = refl
 
 module _ (old : State) where
   naming-explained : (name : Term) → ReasonExplainsAll (why_whereis name) (Whereis old name)
@@ -59,13 +59,13 @@ module _ (old : State) where
       by : (o : Option (List ℕ)) → ReasonExplainsAll (if is_some o then None else Some (argument 1 rule.NotAnAtom))
           (Where o old (λ text. gives (value_or_undefined (option_map_or (λ t. Some (Tid t)) (whereis old.world.tables text) None)) old))
       by None reply new h = (h.0, refl)
-      by (Some text) reply new h = inl (ap is_value h.0 ∙ told-value (option_map_or (λ t. Some (Tid t)) (whereis old.world.tables text) None))
+      by (Some text) reply new h = inl (ap is_value h.0 ∙ value_or_undefined-is_value (option_map_or (λ t. Some (Tid t)) (whereis old.world.tables text) None))
 
   informing-explained : (term item : Term) → ReasonExplainsAll (why_info term item) (Info old term item)
   informing-explained term item = by (item_of item)
     where
       named : (i : InfoItem) (b : Bool) → ReasonExplainsAll (if b then None else Some (argument 1 rule.NotAnAtom)) (Either b (gives (value_or_undefined (option_and_then (info_at i old.world) (resolve old.world.tables term))) old) (gives Badarg old))
-      named i true reply new h = inl (ap is_value h.0 ∙ told-value (option_and_then (info_at i old.world) (resolve old.world.tables term)))
+      named i true reply new h = inl (ap is_value h.0 ∙ value_or_undefined-is_value (option_and_then (info_at i old.world) (resolve old.world.tables term)))
       named i false reply new h = (h.0, refl)
 
       by : (o : Option InfoItem) → ReasonExplainsAll (if is_some o then (if names_form (out-Term term) then None else Some (argument 1 rule.NotAnAtom)) else Some (argument 2 rule.NotAnItem))
@@ -113,8 +113,8 @@ module _ (old : State) where
   abbrev Enters : ℕ → List ℕ → NewOptions → Outcome (Result Term WorldFault) World
   Enters p text options = tables.New old.world p text options (new_table_of old.limits.objects options)
 
-  told-term : (named : Bool) (name : List ℕ) (t : ℕ) → is_value (Value (name_or_identifier named name t)) ≡ true
-  told-term named name t = refl
+  name_or_identifier-is_value : (named : Bool) (name : List ℕ) (t : ℕ) → is_value (Value (name_or_identifier named name t)) ≡ true
+  name_or_identifier-is_value named name t = refl
 
   enters-explained : (p : ℕ) (text : List ℕ) (options : NewOptions) → ReasonExplainsWorld (why_new_with old.world.tables text (Some options)) Value (Enters p text options)
   enters-explained p text options =

@@ -162,16 +162,16 @@ zero-explained Set n object objects e = rw e refl
 zero-explained Bag n object objects e = rw e refl
 zero-explained DuplicateBag n object objects e = rw e refl
 
-told-of : (o : Option Term) → ReasonExplains (if is_some o then None else Some (argument 3 rule.NoElement)) (term_reply o)
-told-of None = (refl, refl)
-told-of (Some element) = inl refl
+element-explained-of : (o : Option Term) → ReasonExplains (if is_some o then None else Some (argument 3 rule.NoElement)) (term_reply o)
+element-explained-of None = (refl, refl)
+element-explained-of (Some element) = inl refl
 
 module _ (kind : Kind) (n : ℕ) where
   -- by whether the position is 0
   under : (object : Term) (objects : List Term) (missing : Option Reason) (b : Bool) → (n == 0) ≡ b
       → ReasonExplains (if b then Some (argument 3 rule.NotAPosition) else why_element_of_key missing kind n (object ∷ objects)) (term_reply (lookup_element kind n (object ∷ objects)))
   under object objects missing true e = (ap term_reply (zero-explained kind n object objects e), refl)
-  under object objects missing false e = told-of (lookup_element kind n (object ∷ objects))
+  under object objects missing false e = element-explained-of (lookup_element kind n (object ∷ objects))
 
   none-under : (b : Bool) → ReasonExplains (if b then Some (argument 3 rule.NotAPosition) else Some (argument 2 rule.NoKey)) Badarg
   none-under true = (refl, refl)
@@ -181,9 +181,9 @@ module _ (kind : Kind) (n : ℕ) where
   default-under default true = (refl, refl)
   default-under default false = inl refl
 
-  told-at : (objects : List Term) → ReasonExplains (why_element_at (Some (argument 2 rule.NoKey)) objects kind (Some n)) (term_reply (lookup_element kind n objects))
-  told-at [] = none-under (n == 0)
-  told-at (object ∷ objects) = under object objects (Some (argument 2 rule.NoKey)) (n == 0) refl
+  element-explained-at : (objects : List Term) → ReasonExplains (why_element_at (Some (argument 2 rule.NoKey)) objects kind (Some n)) (term_reply (lookup_element kind n objects))
+  element-explained-at [] = none-under (n == 0)
+  element-explained-at (object ∷ objects) = under object objects (Some (argument 2 rule.NoKey)) (n == 0) refl
 
   or-at : (default : Term) (objects : List Term) → ReasonExplains (why_element_at None objects kind (Some n)) (term_reply (lookup_element_or kind n default objects))
   or-at default [] = default-under default (n == 0)
@@ -194,7 +194,7 @@ element-explained key position f = by (position_of position)
   where
     by : (o : Option ℕ) → ReasonExplains (why_element_at (Some (argument 2 rule.NoKey)) (objects_under f.content.slots key) f.content.kind o) (term_reply (option_and_then (λ n. lookup_element f.content.kind n (objects_under f.content.slots key)) o))
     by None = (refl, refl)
-    by (Some n) = told-at f.content.kind n (objects_under f.content.slots key)
+    by (Some n) = element-explained-at f.content.kind n (objects_under f.content.slots key)
 
 pub element-or-explained : (key position default : Term) (f : TableState) → ReasonExplains (why_lookup_element_or key position f.content) (lookup_element_or_reply key position default f)
 element-or-explained key position default f = by (position_of position)

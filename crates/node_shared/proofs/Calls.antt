@@ -30,16 +30,16 @@ continues-more limits own n (e ∷ es) k s m r each last =
     let further = subst (λ (l : List Entry). ContinuesTo limits l s m r) (sym (append_assoc own (e ∷ []) es)) last in
     (each.0, each.1, continues-more limits (own ++ e ∷ []) each.0 es k s m r each.2 further)
 
-pub asked-none : (limits : Limits) (old : CallerState) (calls : List Call) → HasAsked limits old calls [] old
-asked-none limits old [] = record { pid = refl; few = omega arith; entries = sym (append-nil old.own.entries); order = refl }
-asked-none limits old (c ∷ cs) = record { pid = refl; few = omega arith; entries = sym (append-nil old.own.entries); order = refl }
+pub ask-none : (limits : Limits) (old : CallerState) (calls : List Call) → HasAsked limits old calls [] old
+ask-none limits old [] = record { pid = refl; few = omega arith; entries = sym (append-nil old.own.entries); order = refl }
+ask-none limits old (c ∷ cs) = record { pid = refl; few = omega arith; entries = sym (append-nil old.own.entries); order = refl }
 
 -- the next call is the first after those that have a reply
-pub asked-next : (limits : Limits) (old now new : CallerState) (before after : List Call) (c : Call) (calls : List Call) (rs : List Reply) (r : Reply)
+pub ask-next : (limits : Limits) (old now new : CallerState) (before after : List Call) (c : Call) (calls : List Call) (rs : List Reply) (r : Reply)
     → before ++ c ∷ after ≡ calls → length rs ≡ length before → HasAsked limits old calls rs now
     → new.own ≡ with_entry now.own (Ask now.own.pid c) r → ContinuesTo limits now.own.entries (Ask now.own.pid c) new.seen r
     → HasAsked limits old calls (rs ++ r ∷ []) new
-asked-next limits old now new before after c calls rs r is same was own last =
+ask-next limits old now new before after c calls rs r is same was own last =
     let p = old.own.pid in
     let more : call_entries p calls (rs ++ r ∷ []) ≡ call_entries p calls rs ++ entry (Ask p c) r ∷ [] =
     subst (λ (l : List Call). call_entries p l (rs ++ r ∷ []) ≡ call_entries p l rs ++ entry (Ask p c) r ∷ []) is (entries-more p before after c rs r same) in

@@ -12,8 +12,8 @@ returns-in-Ok-parse_words c =
     let front : word (past_blanks line) ≡ read c.in-Ok.caller.now c.in-Ok.rest.now = ap word (sym c.past_blanks.ensures) ∙ c.in-Ok.ensures.word in
     let clean : list_all is_printable line ≡ true = search rules in
     let passes : c.is_caller.result ≡ true = search rules in
-    let said = ask c.in-Ok-parse_words.name.now c.in-Ok-parse_words.word.now c.parse_words.new.terms in
-    (call-means line c.in-Ok.caller.now c.in-Ok.rest.now said clean front (c.is_caller.ensures passes) c.in-Ok-parse_words.ensures.call, c.in-Ok-parse_words.ensures.atom)
+    let call_command = ask c.in-Ok-parse_words.name.now c.in-Ok-parse_words.word.now c.parse_words.new.terms in
+    (call-means line c.in-Ok.caller.now c.in-Ok.rest.now call_command clean front (c.is_caller.ensures passes) c.in-Ok-parse_words.ensures.call, c.in-Ok-parse_words.ensures.atom)
 
 pub returns-in-Err-Memory : goal.returns-in-Err-Memory
 returns-in-Err-Memory c =

@@ -10,7 +10,7 @@ returns-in_err-matches g c =
     let given = c.in_ok-settings_command.ensures in
     let line = request_line given.0 in
     let command = c.version-command.result in
-    let told = c.from_residual-in_err-matches.ensures.1 in
+    let returned = c.from_residual-in_err-matches.ensures.1 in
     let words = map g.S.AsStr.text c.args.words.now in
     let limits = limited_line-of_rules given.0 c.in_ok-settings_command.field-0 c.in_ok-arg.field-0 c.in_ok-arg-2.field-0 c.number_option-processes.result c.number_option-tables.result given.2
     c.in_ok-arg.ensures c.number_option-processes.ensures c.in_ok-arg-2.ensures c.number_option-tables.ensures in
@@ -19,8 +19,8 @@ returns-in_err-matches g c =
     record {
       hashes = given.0;
       names = given.1;
-      faults = parse-fault (fault_of line words) c.try_get_matches_from.result c.in_err-matches.field-0.0 c.from_residual-in_err-matches.result known c.in_err-matches.was told;
-      request = unanswered _ _ c.from_residual-in_err-matches.result told;
+      faults = parse-fault (fault_of line words) c.try_get_matches_from.result c.in_err-matches.field-0.0 c.from_residual-in_err-matches.result known c.in_err-matches.was returned;
+      request = unanswered _ _ c.from_residual-in_err-matches.result returned;
     }
 
 pub returns : goal.returns

@@ -7,21 +7,21 @@ use Rattle.ets_script.proofs.command_line.settings.Goals as goal
 pub returns-in_err-settings_command : goal.returns-in_err-settings_command
 returns-in_err-settings_command g c =
     let given = c.settings_command.ensures in
-    let told = c.from_residual.ensures.1 in
-    record { hashes = given.0; names = given.1; faults = lacks-memory _ c.from_residual.result told; settings = unanswered _ _ c.from_residual.result told }
+    let returned = c.from_residual.ensures.1 in
+    record { hashes = given.0; names = given.1; faults = lacks-memory _ c.from_residual.result returned; settings = unanswered _ _ c.from_residual.result returned }
 
 pub returns-in_err-matches : goal.returns-in_err-matches
 returns-in_err-matches g c =
     let given = c.in_ok-settings_command.ensures in
     let command = c.in_ok-settings_command.field-0 in
-    let told = c.from_residual-in_err-matches.ensures.1 in
+    let returned = c.from_residual-in_err-matches.ensures.1 in
     let words = map g.S.AsStr.text c.args.words.now in
     let known = faults (command_line given.0) (app_of command) words c.try_get_matches_from.result given.2 refl c.try_get_matches_from.ensures.kinds in
     record {
       hashes = given.0;
       names = given.1;
-      faults = parse-fault (fault_of (command_line given.0) words) c.try_get_matches_from.result c.in_err-matches.field-0.0 c.from_residual-in_err-matches.result known c.in_err-matches.was told;
-      settings = unanswered _ _ c.from_residual-in_err-matches.result told;
+      faults = parse-fault (fault_of (command_line given.0) words) c.try_get_matches_from.result c.in_err-matches.field-0.0 c.from_residual-in_err-matches.result known c.in_err-matches.was returned;
+      settings = unanswered _ _ c.from_residual-in_err-matches.result returned;
     }
 
 pub returns : goal.returns

@@ -2,7 +2,7 @@ use Rattle.std.proofs.Common.{◌∙◌, ℕ, Option, None, subst}
 use Rattle.ets_script.specs.inside.Planning.{PlansNext, PlansFirstLine}
 use Rattle.ets_script.proofs.BufferedLines.{refill-end}
 use Rattle.ets_script.specs.inside.Planning.{IsUnplanned}
-use Rattle.ets_script.proofs.Clients.{fault-told}
+use Rattle.ets_script.proofs.Clients.{fault-of-err}
 use Rattle.ets_script.proofs.PlannedLines.{planning-start, planning-line, planning-read, planning-end}
 use Rattle.ets_script.proofs.planning.plan_lines.Goals as goal
 
@@ -33,10 +33,10 @@ loop-taken-preserved g c =
     planning-line c.args.plan.now l.plan c.count_line.new.self (g.R.Read.remaining c.args.reader.now) l.buffer c.consume.new.self (g.R.Read.remaining l.reader) c.in-Some.taken n.line l.invariant n.ends (c.count_line.ensures ∙ n.plans) c.consume.ensures.bytes c.consume.ensures.whole
 
 pub returns-in_err-taken-clause-err : goal.returns-in_err-taken-clause-err
-returns-in_err-taken-clause-err g c = fault-told IsUnplanned c.from_residual.result _ c.from_residual.ensures.1 tt
+returns-in_err-taken-clause-err g c = fault-of-err IsUnplanned c.from_residual.result _ c.from_residual.ensures.1 tt
 
 pub returns-in_err-refill-clause-err : goal.returns-in_err-refill-clause-err
-returns-in_err-refill-clause-err g c = fault-told IsUnplanned c.from_residual-in_err-refill.result _ c.from_residual-in_err-refill.ensures.1 tt
+returns-in_err-refill-clause-err g c = fault-of-err IsUnplanned c.from_residual-in_err-refill.result _ c.from_residual-in_err-refill.ensures.1 tt
 
 pub returns-in_err-plan_last-clause-err : goal.returns-in_err-plan_last-clause-err
-returns-in_err-plan_last-clause-err g c = fault-told IsUnplanned c.from_residual-in_err-plan_last.result _ c.from_residual-in_err-plan_last.ensures.1 tt
+returns-in_err-plan_last-clause-err g c = fault-of-err IsUnplanned c.from_residual-in_err-plan_last.result _ c.from_residual-in_err-plan_last.ensures.1 tt

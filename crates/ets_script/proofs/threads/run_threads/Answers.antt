@@ -2,7 +2,7 @@ use Rattle.std.proofs.lemmas.Result.{err_from_is_err_and}
 use Rattle.ets_packets.specs.Traffic.{traffic}
 use Rattle.ets_packets.proofs.KnownBytes.{between, appends-same}
 use Rattle.ets_script.specs.Threads.{ThreadsStop}
-use Rattle.ets_script.proofs.Clients.{fault-told}
+use Rattle.ets_script.proofs.Clients.{fault-of-err}
 use Rattle.ets_script.proofs.ThreadsEnds.{threads-end, threads-write_fault, threads-stop}
 use Rattle.ets_script.proofs.threads.run_threads.Goals as goal
 
@@ -14,7 +14,7 @@ returns-in_err-planned-clause-err g c =
     let before = g.R.Read.remaining c.args.streams.now.input in
     let after = g.R.Read.remaining c.run_input.new.reader in
     let old = g.W.Write.contents c.args.streams.now.output in
-    fault-told (ThreadsStop c.args.settings.limits (traffic (between before after) (between old old))) c.from_residual.result _ c.from_residual.ensures.1 (threads-stop c.args.settings.limits before after old _ c.in_err-planned.ensures.err)
+    fault-of-err (ThreadsStop c.args.settings.limits (traffic (between before after) (between old old))) c.from_residual.result _ c.from_residual.ensures.1 (threads-stop c.args.settings.limits before after old _ c.in_err-planned.ensures.err)
 
 pub returns-in_err-print_results-clause-err : goal.returns-in_err-print_results-clause-err
 returns-in_err-print_results-clause-err g c =

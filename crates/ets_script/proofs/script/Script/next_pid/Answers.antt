@@ -13,5 +13,5 @@ pub returns : goal.returns
 returns g c =
     let count : c.len.result ≡ length c.self.inside.names.keys = search rules in
     let counted : c.len.result ≡ length c.args.self.now.names = count ∙ sym (length-map c.self.inside.names.keys vec_items) ∙ ap (λ (s : ScriptState). length s.names) c.self.view_is in
-    let told : c.unwrap_or.result ≡ min c.len.result (2 ^ 32 - 1) = rw c.unwrap_or.ensures (capped c.try_from.result c.len.result c.try_from.ensures) in
-    rw (← counted) told
+    let returned : c.unwrap_or.result ≡ min c.len.result (2 ^ 32 - 1) = rw c.unwrap_or.ensures (capped c.try_from.result c.len.result c.try_from.ensures) in
+    rw (← counted) returned

@@ -3,7 +3,7 @@ use Rattle.std.specs.Vec.Iter.{into_iter_items}
 use Rattle.node_core.specs.declared.step.Step.TheVariants.{Ask}
 use Rattle.node_shared.specs.Records.{with_entry}
 use Rattle.node_shared.specs.Serving.{CallerState, ContinuesTo}
-use Rattle.node_shared.proofs.Calls.{asked-none, asked-next}
+use Rattle.node_shared.proofs.Calls.{ask-none, ask-next}
 use Rattle.node_shared.proofs.caller.Caller.ask_each.Goals as goal
 
 pub loop-call-init : goal.loop-call-init
@@ -12,7 +12,7 @@ loop-call-init g c = record {
   len = search rules;
   count = ap length c.requires.none;
   room = c.requires.room;
-  asked = rw c.requires.none (asked-none g.B.HistoryId.limits c.args.self.now c.args.calls.items);
+  calls_made = rw c.requires.none (ask-none g.B.HistoryId.limits c.args.self.now c.args.calls.items);
 }
 
 pub loop-call-preserved : goal.loop-call-preserved
@@ -35,5 +35,5 @@ loop-call-preserved g c =
       len = omega (arith, at.invariant.len, gone, short);
       count = ap length pushed ∙ omega (arith, length-append at.replies.items (reply ∷ []), length-append at.yielded (call ∷ []), at.invariant.count);
       room = omega (arith, c.push_reserved.ensures.capacity, at.invariant.room);
-      asked = rw pushed (asked-next g.B.HistoryId.limits c.args.self.now at.self new at.yielded rest call c.args.calls.items at.replies.items reply (sym (append_assoc at.yielded (call ∷ []) rest) ∙ all) at.invariant.count at.invariant.asked own last);
+      calls_made = rw pushed (ask-next g.B.HistoryId.limits c.args.self.now at.self new at.yielded rest call c.args.calls.items at.replies.items reply (sym (append_assoc at.yielded (call ∷ []) rest) ∙ all) at.invariant.count at.invariant.calls_made own last);
     }

@@ -10,10 +10,10 @@ use Rattle.node_text.specs.StoreState.{StoreState}
 use Rattle.node_text.proofs.store.Store.call_external.Goals as goal
 
 -- a call that was done, and then its reply
-told : (what : ParsedCall) (pid : ℕ) (old new : StoreState) (t : WrittenReply)
+call-replied : (what : ParsedCall) (pid : ℕ) (old new : StoreState) (t : WrittenReply)
     → RunsExternalCall what pid old (Ok (tt {0})) new → WritesReply written new.reply t → ExternalCallReturns what pid t old new
-told (Call name args) pid old new t runs writes = inl (runs, writes)
-told (Faulty problem at) pid old new t runs writes = absurd runs
+call-replied (Call name args) pid old new t runs writes = inl (runs, writes)
+call-replied (Faulty problem at) pid old new t runs writes = absurd runs
 
 pub returns-in-Ok : goal.returns-in-Ok
 returns-in-Ok c =
@@ -24,5 +24,5 @@ returns-in-Ok c =
     let written_by : ℤ → WrittenReply = λ status. written_reply status c.write_reply_external.new.len c.args.out.now c.write_reply_external.new.out in
     let writes : WritesReply written c.write_reply_external.new.self.reply (written_by c.write_reply_external.result) =
     subst (λ (new : StoreState). WritesReply written new.reply (written_by c.write_reply_external.result)) (sym c.write_reply_external.ensures.same) c.write_reply_external.ensures.writes in
-    told parsed c.args.pid c.args.self.now c.write_reply_external.new.self _ runs
+    call-replied parsed c.args.pid c.args.self.now c.write_reply_external.new.self _ runs
     (subst (λ (s : ℤ). WritesReply written c.write_reply_external.new.self.reply (written_by s)) (sym status) writes)
