@@ -85,9 +85,9 @@ module _ (key_at : ℕ → Option Term) where
   from-first ss None f = sym f
   from-first ss (Some p) f = ap (from_key_if_any ss) f.key ∙ (ap (λ (zs : List Slot). from_key zs f.slot.0) f.is ∙ (from-own f.slot f.rest ∙ sym f.is))
 
-  pub stands-first : (ss : List Slot) (o : Option ℕ) → IsFirstPlace key_at ss o → HasSlotAt key_at o
-  stands-first ss None f = tt
-  stands-first ss (Some p) f = subst (λ (k : Option Term). IsSome k) (sym f.key) refl
+  pub first-has-slot : (ss : List Slot) (o : Option ℕ) → IsFirstPlace key_at ss o → HasSlotAt key_at o
+  first-has-slot ss None f = tt
+  first-has-slot ss (Some p) f = subst (λ (k : Option Term). IsSome k) (sym f.key) refl
 
   next-at : (ss rest : List Slot) (k : Term) (o : Option ℕ) → HasDistinctKeys ss → slots_behind ss k ≡ Some rest → IsFirstPlace key_at rest o → slots_from key_at ss o ≡ rest
   next-at ss rest k None d b f = sym f
@@ -101,8 +101,8 @@ module _ (key_at : ℕ → Option Term) where
       let at : slots_behind ss k ≡ Some n.rest = sym (ap (behind_in ss) e) ∙ n.is in
       at ∙ ap Some (sym (next-at ss n.rest k o d at n.first))
 
-  pub stands-next : (ss : List Slot) (here : Option Term) (o : Option ℕ) → IsNextPlace key_at ss here o → HasSlotAt key_at o
-  stands-next ss here o n = stands-first n.rest o n.first
+  pub next-has-slot : (ss : List Slot) (here : Option Term) (o : Option ℕ) → IsNextPlace key_at ss here o → HasSlotAt key_at o
+  next-has-slot ss here o n = first-has-slot n.rest o n.first
 
   -- one step
   pub from-step : (ss : List Slot) (p : ℕ) (k : Term) (objects : List Term) (o : Option ℕ) → HasDistinctKeys ss → key_at p ≡ Some k → objects_of ss k ≡ Some objects → IsNextPlace key_at ss (key_at p) o
@@ -132,14 +132,14 @@ from-short (s ∷ ss) k =
       | inr miss ↦ let e = ap length (from-on s ss k miss) in let rest = from-short ss k in omega (arith, e, rest)
     ]
 
-told-short : (ss : List Slot) (k : Option Term) → length (from_key_if_any ss k) ≤ length ss
-told-short ss None = omega arith
-told-short ss (Some k) = from-short ss k
+answer-short : (ss : List Slot) (k : Option Term) → length (from_key_if_any ss k) ≤ length ss
+answer-short ss None = omega arith
+answer-short ss (Some k) = from-short ss k
 
 -- they are not more than all slots
 pub slots-short : (key_at : ℕ → Option Term) (ss : List Slot) (o : Option ℕ) → length (slots_from key_at ss o) ≤ length ss
 slots-short key_at ss None = omega arith
-slots-short key_at ss (Some p) = told-short ss (key_at p)
+slots-short key_at ss (Some p) = answer-short ss (key_at p)
 
 -- the code's test for a tombstone
 pub none-left : (objects : List Term) → (length objects == 0) ≡ true → has_objects objects ≡ false
@@ -153,8 +153,8 @@ some-left (o ∷ os) h = refl
 pub first-of : (k : Term) (objects : List Term) (rest : List Slot) → has_objects objects ≡ false → first_slot ((k, objects) ∷ rest) ≡ first_slot rest
 first-of k objects rest h = ap (λ (b : Bool). cond b (Some (k, objects)) (first_slot rest)) h
 
-pub next-told : (key_at : ℕ → Option Term) (ss : List Slot) (k : Term) (here : Option Term) (o : Option ℕ) → HasDistinctKeys ss → here ≡ Some k → IsNextPlace key_at ss here o → next_slot ss k ≡ Some (first_slot (slots_from key_at ss o))
-next-told key_at ss k here o d e n = ap (option_map first_slot) (from-next key_at ss k here o d e n)
+pub next-answer : (key_at : ℕ → Option Term) (ss : List Slot) (k : Term) (here : Option Term) (o : Option ℕ) → HasDistinctKeys ss → here ≡ Some k → IsNextPlace key_at ss here o → next_slot ss k ≡ Some (first_slot (slots_from key_at ss o))
+next-answer key_at ss k here o d e n = ap (option_map first_slot) (from-next key_at ss k here o d e n)
 
 pub next-absent : (ss : List Slot) (k : Term) → objects_of ss k ≡ None → next_slot ss k ≡ None
 next-absent ss k h = ap (option_map first_slot) (behind-absent k ss h)

@@ -49,12 +49,12 @@ keeping = record {
 }
 
 -- a deletion that leaves tombstones keeps the slot of each key
-pub held-keys : (which : Which) (slots : List Slot) → keys_of (after_drop true which slots) ≡ keys_of slots
-held-keys which [] = refl
-held-keys which (s ∷ ss) = ap (λ (ks : List Term). s.0 ∷ ks) (held-keys which ss)
+pub tombstones-keep-keys : (which : Which) (slots : List Slot) → keys_of (after_drop true which slots) ≡ keys_of slots
+tombstones-keep-keys which [] = refl
+tombstones-keep-keys which (s ∷ ss) = ap (λ (ks : List Term). s.0 ∷ ks) (tombstones-keep-keys which ss)
 
 pub dropped-stay : (hold : Bool) (which : Which) (slots : List Slot) → hold ≡ true → KeysStay slots (after_drop hold which slots)
-dropped-stay true which slots e = equal-keys slots (after_drop true which slots) (held-keys which slots)
+dropped-stay true which slots e = equal-keys slots (after_drop true which slots) (tombstones-keep-keys which slots)
 dropped-stay false which slots e = absurd (true≢false (sym e))
 
 -- ---- no key has two slots
@@ -144,15 +144,15 @@ fix-keeps pid old new (Ok x) c = same-content old new (ap (λ (t : TableState). 
 fix-keeps pid old new (Err FixLimit) c = same-content old new (ap (λ (t : TableState). t.content) c.1)
 fix-keeps pid old new (Err FixMemory) c = same-content old new (ap (λ (t : TableState). t.content) c.1)
 
-settled-keeps : (old : TableState) (fixes : FixCounts) (b : Bool) → is_fixed fixes ≡ b → KeepsKeys old (cond b (record old { fixes = fixes }) (record old { content = record old.content { slots = purged old.content.slots }; fixes = fixes }))
-settled-keeps old fixes true e = record { distinct = λ d. d; order = λ fixed still. sub-same (keys_of old.content.slots) }
-settled-keeps old fixes false e = record { distinct = purged-apart old.content.slots; order = λ fixed still. absurd (true≢false (sym still ∙ e)) }
+purge-keeps : (old : TableState) (fixes : FixCounts) (b : Bool) → is_fixed fixes ≡ b → KeepsKeys old (cond b (record old { fixes = fixes }) (record old { content = record old.content { slots = purged old.content.slots }; fixes = fixes }))
+purge-keeps old fixes true e = record { distinct = λ d. d; order = λ fixed still. sub-same (keys_of old.content.slots) }
+purge-keeps old fixes false e = record { distinct = purged-apart old.content.slots; order = λ fixed still. absurd (true≢false (sym still ∙ e)) }
 
 pub release-keeps : (pid : ℕ) (old : TableState) → KeepsKeys old (after_release pid old)
-release-keeps pid old = settled-keeps old (with_count old.fixes pid (fix_count old.fixes pid - 1)) (is_fixed (with_count old.fixes pid (fix_count old.fixes pid - 1))) refl
+release-keeps pid old = purge-keeps old (with_count old.fixes pid (fix_count old.fixes pid - 1)) (is_fixed (with_count old.fixes pid (fix_count old.fixes pid - 1))) refl
 
 pub release_all-keeps : (pid : ℕ) (old : TableState) → KeepsKeys old (after_release_all pid old)
-release_all-keeps pid old = settled-keeps old (with_count old.fixes pid 0) (is_fixed (with_count old.fixes pid 0)) refl
+release_all-keeps pid old = purge-keeps old (with_count old.fixes pid 0) (is_fixed (with_count old.fixes pid 0)) refl
 
 pub rows-keep : (old new : TableState) → new.content ≡ old.content → KeepsKeys old new
 rows-keep old new e = same-content old new e

@@ -2,7 +2,7 @@ pub mod ChangeLaws
 pub mod CountLaws
 mod Examples
 pub mod FromLaws
-pub mod HeldLaws
+pub mod TombstoneLaws
 pub mod KeptLaws
 pub mod Subsequences
 pub mod WalkLaws

@@ -159,15 +159,15 @@ comes : (now : List Slot) (later : List (List Slot)) (k x : Term) (keys : List T
 comes now later k x [] kept w p o =
     let rest = behind now k x (now-distinct now later kept) o p.0 in
     let first = before rest.slots x rest.present in
-    let told : next_key now k ≡ Some (Some first.key) = ap (option_map first_key) rest.is ∙ ap Some first.first in
-    let none : Some None ≡ Some (Some first.key) = sym w.0 ∙ told in
+    let key_is : next_key now k ≡ Some (Some first.key) = ap (option_map first_key) rest.is ∙ ap Some first.first in
+    let none : Some None ≡ Some (Some first.key) = sym w.0 ∙ key_is in
     cc
 comes now [] k x (key ∷ keys) kept w p o = absurd w.1
 comes now (next ∷ later) k x (key ∷ keys) kept w p o =
     let rest = behind now k x kept.0 o p.0 in
     let first = before rest.slots x rest.present in
-    let told : next_key now k ≡ Some (Some first.key) = ap (option_map first_key) rest.is ∙ ap Some first.first in
-    let both : Some (Some key) ≡ Some (Some first.key) = sym w.0 ∙ told in
+    let key_is : next_key now k ≡ Some (Some first.key) = ap (option_map first_key) rest.is ∙ ap Some first.first in
+    let both : Some (Some key) ≡ Some (Some first.key) = sym w.0 ∙ key_is in
     let is : first.key ≡ key = cc in
     by first.key rest.slots first.order is rest.within (λ q. comes next later key x keys kept.2 w.1 p.1 q)
   where
@@ -179,8 +179,8 @@ comes now (next ∷ later) k x (key ∷ keys) kept w p o =
         further key x keys (on (subst (λ (t : Term). IsSubsequence (t ∷ x ∷ []) (keys_of next)) is at_next))
 
 -- ---- the whole traversal
-first-told : (now : List Slot) (key : Term) → walk_answer None now ≡ Some (Some key) → first_key now ≡ Some key
-first-told now key e = cc
+first-answer : (now : List Slot) (key : Term) → walk_answer None now ≡ Some (Some key) → first_key now ≡ Some key
+first-answer now key e = cc
 
 once-at : (now : List Slot) (later : List (List Slot)) (key : Term) (keys : List Term) → MomentsKeepKeys (now ∷ later) → IsWalk None (now ∷ later) (key ∷ keys) → IsDistinct same (key ∷ keys)
 once-at now [] key keys kept w = absurd w.1
@@ -197,7 +197,7 @@ all-at now later [] kept w x p =
 all-at now [] (key ∷ keys) kept w x p = absurd w.1
 all-at now (next ∷ later) (key ∷ keys) kept w x p =
     let first = before now x p.0 in
-    let told : first_key now ≡ Some key = first-told now key w.0 in
+    let key_is : first_key now ≡ Some key = first-answer now key w.0 in
     let some : first_key now ≡ Some first.key = first.first in
     let is : first.key ≡ key = cc in
     by first.key first.order is (λ q. comes next later key x keys kept.2 w.1 p.1 q)

@@ -12,7 +12,7 @@ use Rattle.std.proofs.lemmas.List.{get_or-set_other, length-map}
 use Rattle.bucket_table.specs.Slots.{purged}
 use Rattle.fixed_walk.specs.Fixes.{FixCounts, is_fixed}
 use Rattle.fixed_walk.specs.TableState.{TableState, after_release_all}
-use Rattle.fixed_walk.proofs.HeldLaws.{free-release_all, purged-none}
+use Rattle.fixed_walk.proofs.TombstoneLaws.{free-release_all, purged-none}
 use Rattle.ownership.specs.declared.metadata.Metadata.{Metadata}
 use Rattle.ownership.specs.declared.metadata.Heir.{Heir}
 use Rattle.ownership.specs.World.{Table, Tables, Processes, table_at, lives}

@@ -69,7 +69,7 @@ impl<R: Rows> Walked<R> {
     /// Inserts objects one after another, or none of them if one is refused (stdlib manual, ets:insert/2). Refuses with
     /// `Badarg` if one is no object, and with `SystemLimit` if one is too deep or the table would pass its limit. A key
     /// that was deleted while the table is fixed comes back at its place.
-    #[tactic(auto, using(crate::proofs::HeldLaws::held))]
+    #[tactic(auto, using(crate::proofs::TombstoneLaws::no_tombstones))]
     pub fn insert(&mut self, objects: &[Term]) -> Result<(), Refusal>
         ensures { RefinesChange (on_content (Inserts objects.now) self.old) self.old result self.new }
     {
@@ -78,7 +78,7 @@ impl<R: Rows> Walked<R> {
 
     /// Inserts objects if none of their keys has an object, and returns whether it did (stdlib manual,
     /// ets:insert_new/2). Refuses what `insert` refuses, but `SystemLimit` only if no key has an object.
-    #[tactic(auto, using(crate::proofs::HeldLaws::held))]
+    #[tactic(auto, using(crate::proofs::TombstoneLaws::no_tombstones))]
     pub fn insert_new(&mut self, objects: &[Term]) -> Result<bool, Refusal>
         ensures { RefinesChange (on_content (InsertsNew objects.now) self.old) self.old result self.new }
     {
@@ -97,7 +97,7 @@ impl<R: Rows> Walked<R> {
     ///
     /// Refuses with `SystemLimit` a new value that is out of range, and a new object that is too deep or past the
     /// limit.
-    #[tactic(auto, using(crate::proofs::HeldLaws::held))]
+    #[tactic(auto, using(crate::proofs::TombstoneLaws::no_tombstones))]
     pub fn update_counter(
         &mut self,
         key: &Term,
@@ -113,7 +113,7 @@ impl<R: Rows> Walked<R> {
 
     /// Does one operation on a counter of a key's object, as `update_counter` does without a Default. It takes no
     /// memory.
-    #[tactic(auto, using(crate::proofs::HeldLaws::held))]
+    #[tactic(auto, using(crate::proofs::TombstoneLaws::no_tombstones))]
     #[inline(always)]
     pub fn update_one_counter(&mut self, key: &Term, op: Op) -> Result<Term, Refusal>
         ensures { RefinesChange (on_content (UpdatesCounter key.now (One op) None) self.old)
@@ -133,7 +133,7 @@ impl<R: Rows> Walked<R> {
     /// - a position that the object does not have.
     ///
     /// Refuses with `SystemLimit` an object that would be too deep or past the limit.
-    #[tactic(auto, using(crate::proofs::HeldLaws::held))]
+    #[tactic(auto, using(crate::proofs::TombstoneLaws::no_tombstones))]
     pub fn update_element(
         &mut self,
         key: &Term,
@@ -148,7 +148,7 @@ impl<R: Rows> Walked<R> {
     }
 
     /// Sets one element of a key's object to a copy of a value, as `update_element` does without a Default.
-    #[tactic(auto, using(crate::proofs::HeldLaws::held))]
+    #[tactic(auto, using(crate::proofs::TombstoneLaws::no_tombstones))]
     #[inline(always)]
     pub fn update_one_element(
         &mut self,
@@ -165,7 +165,7 @@ impl<R: Rows> Walked<R> {
     }
 
     /// Deletes the objects of a key (stdlib manual, ets:delete/2).
-    #[tactic(auto, using(crate::proofs::HeldLaws::held))]
+    #[tactic(auto, using(crate::proofs::TombstoneLaws::no_tombstones))]
     pub fn delete_key(&mut self, key: &Term)
         ensures { self.new ≡ after_delete (has_key key.now) self.old }
     {
@@ -174,7 +174,7 @@ impl<R: Rows> Walked<R> {
     }
 
     /// Removes and returns the objects of a key, oldest first (stdlib manual, ets:take/2).
-    #[tactic(auto, using(crate::proofs::HeldLaws::held))]
+    #[tactic(auto, using(crate::proofs::TombstoneLaws::no_tombstones))]
     pub fn take(&mut self, key: &Term) -> Result<Items<Term>, AllocError>
         ensures objects { Returns result (objects_under self.old.content.slots key.now) }
         ensures ok { OnOk result (self.new ≡ after_delete (has_key key.now) self.old) }
@@ -186,7 +186,7 @@ impl<R: Rows> Walked<R> {
 
     /// Deletes every instance of an object (stdlib manual, ets:delete_object/2). Refuses with `Badarg` if the term is
     /// no object.
-    #[tactic(auto, using(crate::proofs::HeldLaws::held))]
+    #[tactic(auto, using(crate::proofs::TombstoneLaws::no_tombstones))]
     pub fn delete_object(&mut self, object: &Term) -> Result<(), Refusal>
         ensures { on_content (DeletesObject (is_fixed self.old.fixes) object.now)
             self.old result self.new }
@@ -196,7 +196,7 @@ impl<R: Rows> Walked<R> {
     }
 
     /// Deletes all objects (stdlib manual, ets:delete_all_objects/1).
-    #[tactic(auto, using(crate::proofs::HeldLaws::held))]
+    #[tactic(auto, using(crate::proofs::TombstoneLaws::no_tombstones))]
     pub fn delete_all(&mut self)
         ensures { self.new ≡ after_delete every_object self.old }
     {

@@ -16,7 +16,7 @@ impl<R: Rows> Walked<R> {
 
     /// Adds one fix of a process (stdlib manual, ets:safe_fixtable/2). Refuses with `SystemLimit` if the process has
     /// 4,294,967,295. Its time does not depend on the number of fixes.
-    #[tactic(auto, using(crate::proofs::HeldLaws::held))]
+    #[tactic(auto, using(crate::proofs::TombstoneLaws::no_tombstones))]
     pub fn fix(&mut self, pid: u32) -> Result<(), FixFault>
         ensures { IncrementsFix pid self.old result self.new }
     {
@@ -28,7 +28,7 @@ impl<R: Rows> Walked<R> {
     }
 
     /// Removes one fix of a process, if it has one. Removes the tombstones once no process fixes the table.
-    #[tactic(auto, using(crate::proofs::HeldLaws::held))]
+    #[tactic(auto, using(crate::proofs::TombstoneLaws::no_tombstones))]
     pub fn release(&mut self, pid: u32)
         ensures { self.new ≡ after_release pid self.old }
     {
@@ -42,7 +42,7 @@ impl<R: Rows> Walked<R> {
     }
 
     /// Removes all fixes of a process, as when it exits. Removes the tombstones once no process fixes the table.
-    #[tactic(auto, using(crate::proofs::HeldLaws::held))]
+    #[tactic(auto, using(crate::proofs::TombstoneLaws::no_tombstones))]
     pub fn release_all(&mut self, pid: u32)
         ensures { self.new ≡ after_release_all pid self.old }
     {

@@ -44,7 +44,7 @@ impl<R: Rows> Walked<R> {
     }
 
     /// Deletes the objects that match (stdlib manual, ets:match_delete/2). If memory runs out, it changes nothing.
-    #[tactic(auto, using(crate::proofs::HeldLaws::held))]
+    #[tactic(auto, using(crate::proofs::TombstoneLaws::no_tombstones))]
     pub fn match_delete(&mut self, pattern: &Pattern) -> Result<(), AllocError>
         ensures ok { OnOk result (self.new ≡ after_delete (λ own. matches pattern.now) self.old) }
         ensures err { OnErr result (self.new ≡ self.old) }
@@ -55,7 +55,7 @@ impl<R: Rows> Walked<R> {
 
     /// Deletes the objects whose result is `true` and returns their number (stdlib manual, ets:select_delete/2). If
     /// memory runs out, it changes nothing.
-    #[tactic(auto, using(crate::proofs::HeldLaws::held))]
+    #[tactic(auto, using(crate::proofs::TombstoneLaws::no_tombstones))]
     pub fn select_delete(&mut self, spec: &Spec) -> Result<usize, AllocError>
         ensures count { Returns result (chosen_in (is_chosen spec.now) self.old.content) }
         ensures few { IfOk result (λ count. count < 2 ^ 32) }

@@ -4,7 +4,7 @@ use Rattle.std.specs.Map.Iter.{deref_pair}
 use Rattle.bucket_table.specs.Slots.{Slot}
 use Rattle.fixed_walk.specs.Walk.{next_slot}
 use Rattle.fixed_walk.specs.TableState.{TableState}
-use Rattle.fixed_walk.proofs.FromLaws.{next-told, next-absent}
+use Rattle.fixed_walk.proofs.FromLaws.{next-answer, next-absent}
 use Rattle.fixed_walk.proofs.walked.Walked.next_lookup.Goals as goal
 
 pub returns-clause-ok : goal.returns-clause-ok
@@ -14,8 +14,8 @@ returns-clause-ok g c =
     let slots = g.R.Rows.content rows in
     let key = c.args.key.now in
     let is : slots ≡ c.args.self.now.content.slots = c.rows-rows.ensures.slots ∙ ap (λ (t : TableState). t.content.slots) c.self.view_is in
-    let told = next-told key_at slots key (key_at c.in-Some.place) c.next_place.result c.reveal_invariant.ensures c.in-Some.ensures.0 c.next_place.ensures in
-    subst (λ (zs : List Slot). next_slot zs key ≡ Some (option_map deref_pair c.first_nonempty.result)) is (told ∙ ap Some (sym c.first_nonempty.ensures))
+    let key_is = next-answer key_at slots key (key_at c.in-Some.place) c.next_place.result c.reveal_invariant.ensures c.in-Some.ensures.0 c.next_place.ensures in
+    subst (λ (zs : List Slot). next_slot zs key ≡ Some (option_map deref_pair c.first_nonempty.result)) is (key_is ∙ ap Some (sym c.first_nonempty.ensures))
 
 pub returns-in_default-clause-err : goal.returns-in_default-clause-err
 returns-in_default-clause-err g c =

@@ -1,13 +1,13 @@
 use Rattle.std.proofs.Common.{◌≡◌, ◌∷◌, refl, sym, ap, ◌∙◌, length, arith}
 use Rattle.fixed_walk.specs.Walk.{first_slot}
 use Rattle.fixed_walk.specs.inside.From.{slots_from}
-use Rattle.fixed_walk.proofs.FromLaws.{from-step, from-here-first, slots-short, stands-next, none-left, some-left, first-of}
+use Rattle.fixed_walk.proofs.FromLaws.{from-step, from-here-first, slots-short, next-has-slot, none-left, some-left, first-of}
 use Rattle.fixed_walk.proofs.walked.walk.first_nonempty.Goals as goal
 
 pub loop-init : goal.loop-init
 loop-init g c =
     let short = slots-short (g.R.Rows.key_at c.args.rows.now) (g.R.Rows.content c.args.rows.now) c.args.start in
-    record { stands = c.requires; same = refl; few = omega (arith, short) }
+    record { has_slot = c.requires; same = refl; few = omega (arith, short) }
 
 pub returns-then-not-is_empty : goal.returns-then-not-is_empty
 returns-then-not-is_empty g c =
@@ -29,7 +29,7 @@ loop-preserved g c =
     let none = none-left objects (sym c.is_empty.ensures ∙ c.if-not-is_empty.false) in
     let long = ap length here in
     record {
-      stands = stands-next key_at slots (key_at c.in_ok-place.place) next c.next_place-at.ensures;
+      has_slot = next-has-slot key_at slots (key_at c.in_ok-place.place) next c.next_place-at.ensures;
       same = sym (first-of key objects (slots_from key_at slots next) none) ∙ ap first_slot (sym here) ∙ c.loop.invariant.same;
       few = omega (arith, c.loop.invariant.few, long);
     }

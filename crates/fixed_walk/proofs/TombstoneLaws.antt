@@ -87,18 +87,18 @@ object_at hold (Some key) object old new r e c n = subst (λ (t : Content). HasN
 pub object-none : (hold : Bool) (object : Term) (old new : Content) (r : Result (Unit {0}) Refusal) → hold ≡ false → DeletesObject hold object old r new → HasNoTombstones old.slots → HasNoTombstones new.slots
 object-none hold object old new r e c n = object_at hold (key_of old.keypos object) object old new r e c n
 
-pub ruleset held = (inserts-none, news-none, counter-none, element-none, dropped-none, object-none, purged-none, purged-same)
+pub ruleset no_tombstones = (inserts-none, news-none, counter-none, element-none, dropped-none, object-none, purged-none, purged-same)
 
 -- a release of a table that no process fixes changes nothing
-settled_at : (table : TableState) (fixes : _) → fixes ≡ table.fixes → is_fixed table.fixes ≡ false → TombstonesOnlyWhileFixed table
+release-unfixed-at : (table : TableState) (fixes : _) → fixes ≡ table.fixes → is_fixed table.fixes ≡ false → TombstonesOnlyWhileFixed table
     → table ≡ cond (is_fixed fixes) (record table { fixes = fixes }) (record table { content = record table.content { slots = purged table.content.slots }; fixes = fixes })
-settled_at table fixes e free held =
+release-unfixed-at table fixes e free only_fixed =
     sym (ap (λ f. cond (is_fixed f) (record table { fixes = f }) (record table { content = record table.content { slots = purged table.content.slots }; fixes = f })) e
     ∙ ap (λ (b : Bool). cond b table (record table { content = record table.content { slots = purged table.content.slots } })) free
-    ∙ ap (λ slots. record table { content = record table.content { slots = slots } }) (purged-same table.content.slots (held free)))
+    ∙ ap (λ slots. record table { content = record table.content { slots = slots } }) (purged-same table.content.slots (only_fixed free)))
 
 pub free-release : (pid : ℕ) (table : TableState) → is_fixed table.fixes ≡ false → TombstonesOnlyWhileFixed table → table ≡ after_release pid table
-free-release pid table free held = settled_at table _ (free-released table.fixes pid free) free held
+free-release pid table free only_fixed = release-unfixed-at table _ (free-released table.fixes pid free) free only_fixed
 
 pub free-release_all : (pid : ℕ) (table : TableState) → is_fixed table.fixes ≡ false → TombstonesOnlyWhileFixed table → table ≡ after_release_all pid table
-free-release_all pid table free held = settled_at table _ (free-cleared table.fixes pid free) free held
+free-release_all pid table free only_fixed = release-unfixed-at table _ (free-cleared table.fixes pid free) free only_fixed
