@@ -20,7 +20,7 @@ use Rattle.bucket_table.specs.inside.Nodes.{slots_of}
 use Rattle.bucket_table.specs.inside.Directory.{IsInDirectory, IsDummyOf, DummiesAreListed, DirectoryInvariant}
 use Rattle.bucket_table.specs.inside.Search.{IsFound}
 use Rattle.bucket_table.proofs.slots.Distinct.{slots-put-dummy, slots-put-item, distinct-added, distinct-removed, distinct-set}
-use Rattle.bucket_table.proofs.directory.Placed.{placed-put, placed-without, placed-with, IsPartOf, placed-more, stand-put, stand-without, stand-with}
+use Rattle.bucket_table.proofs.directory.Placed.{placed-put, placed-without, placed-with, IsPartOf, placed-more, listed-put, listed-without, listed-with}
 
 abbrev nones : ℕ → List (Option ℕ)
 nones n = replicate n None
@@ -44,7 +44,7 @@ module _ (hash_of : Term → ℕ) (directory : List (Option ℕ)) (cs : List Cel
         size = i.size;
         few = i.few;
         first = i.first;
-        stand = stand-put directory x cs f i.stand;
+        listed = listed-put directory x cs f i.listed;
         placed = placed-put hash_of directory x cs k i.placed;
         distinct = distinct-added (slots_of cs) (slots_of (put_cell x cs)) term chain (slots-put-item at key term chain cs) none i.distinct;
       })
@@ -61,7 +61,7 @@ module _ (hash_of : Term → ℕ) (directory : List (Option ℕ)) (cs : List Cel
         size = i.size;
         few = i.few;
         first = i.first;
-        stand = stand-without directory at cs h.cell h.later h.item h.is h.has i.stand;
+        listed = listed-without directory at cs h.cell h.later h.item h.is h.has i.listed;
         placed = placed-without hash_of directory at cs i.placed;
         distinct = subst Distinct (sym h.removed) (distinct-removed (same term) (slots_of cs) i.distinct);
       })
@@ -73,7 +73,7 @@ module _ (hash_of : Term → ℕ) (directory : List (Option ℕ)) (cs : List Cel
     size = i.size;
     few = i.few;
     first = i.first;
-    stand = stand-with directory at w cs h.cell h.later h.item h.is h.has i.stand;
+    listed = listed-with directory at w cs h.cell h.later h.item h.is h.has i.listed;
     placed = placed-with hash_of directory at w cs i.placed;
     distinct = subst Distinct (sym (h.replaced w)) (distinct-set (same term) (slots_of cs) w i.distinct);
   }
@@ -101,8 +101,8 @@ module _ (hash_of : Term → ℕ) (directory : List (Option ℕ)) (cs : List Cel
     some-in : (a b : ℕ) (o : Option ℕ) → o ≡ Some a → o ≡ Some b → a ≡ b
     some-in a b o x y = cc
 
-    ready-stands : DummiesAreListed dirs (put_cell dummy cs)
-    ready-stands b p e =
+    ready-listed : DummiesAreListed dirs (put_cell dummy cs)
+    ready-listed b p e =
         elim (cases_eq b bucket) [
           | inl it ↦
               let at-is : at ≡ p = some-in at p (get_or dirs bucket None) set-entry (ap (λ (z : ℕ). get_or dirs z None) (sym it) ∙ e) in
@@ -111,7 +111,7 @@ module _ (hash_of : Term → ℕ) (directory : List (Option ℕ)) (cs : List Cel
               let P : ℕ → Type 0 = λ z. IsDummyOf z p (put_cell dummy cs) in
               let Q : ℕ → Type 0 = λ z. IsDummyOf bucket z (put_cell dummy cs) in
               subst P (sym it) (subst Q at-is here)
-          | inr other ↦ stand-put directory dummy cs f i.stand b p (sym (get_or-set_other directory bucket b (Some at) None other) ∙ e)
+          | inr other ↦ listed-put directory dummy cs f i.listed b p (sym (get_or-set_other directory bucket b (Some at) None other) ∙ e)
         ]
 
     none-some : (o : Option ℕ) → o ≡ None → IsSome o → ⊥
@@ -136,7 +136,7 @@ module _ (hash_of : Term → ℕ) (directory : List (Option ℕ)) (cs : List Cel
           size = l ∙ i.size;
           few = i.few;
           first = ready-first;
-          stand = ready-stands;
+          listed = ready-listed;
           placed = placed-put hash_of dirs dummy cs known (placed-more hash_of directory dirs set-part cs i.placed);
           distinct = subst Distinct (sym (slots-put-dummy at (key_of_dummy bucket) cs)) i.distinct;
         }))
@@ -175,7 +175,7 @@ module _ (hash_of : Term → ℕ) (directory : List (Option ℕ)) (cs : List Cel
         size = grown-length ∙ (ap (λ (z : ℕ). 2 * z) i.size ∙ sym (pow-suc i.doublings));
         few = omega arith;
         first = subst P (sym (get_or_append_left directory (replicate (length directory) None) None 0 some-buckets)) i.first;
-        stand = λ b p e. i.stand b p (old-entry b p e);
+        listed = λ b p e. i.listed b p (old-entry b p e);
         placed = placed-more hash_of directory grown part cs i.placed;
         distinct = i.distinct;
       })

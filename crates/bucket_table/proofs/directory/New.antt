@@ -19,10 +19,10 @@ none-distinct = tt
 abbrev one : List Cell
 one = new_cell 0 (key_of_dummy 0) None ∷ []
 
-stands : (bucket at : ℕ) → get_or (Some 0 ∷ None ∷ []) bucket None ≡ Some at → IsDummyOf bucket at one
-stands zero at e = let z : 0 ≡ at = cc in let P : ℕ → Type 0 = λ a. IsDummyOf 0 a one in subst P z (record { later = []; is = refl })
-stands (suc zero) at e = absurd (cc)
-stands (suc (suc n)) at e = absurd (cc)
+is_dummy : (bucket at : ℕ) → get_or (Some 0 ∷ None ∷ []) bucket None ≡ Some at → IsDummyOf bucket at one
+is_dummy zero at e = let z : 0 ≡ at = cc in let P : ℕ → Type 0 = λ a. IsDummyOf 0 a one in subst P z (record { later = []; is = refl })
+is_dummy (suc zero) at e = absurd (cc)
+is_dummy (suc (suc n)) at e = absurd (cc)
 
 pub new-split : (hash_of : Term → ℕ) (head : ℕ) (directory : List (Option ℕ)) (cells : List Cell) → directory ≡ Some head ∷ None ∷ [] → cells ≡ new_cell 0 0 None ∷ [] → first_place cells ≡ Some head → DirectoryInvariant hash_of directory cells
 new-split hash_of head directory cells d e f =
@@ -37,7 +37,7 @@ new-split hash_of head directory cells d e f =
       size = refl;
       few = lit≤ tt;
       first = refl;
-      stand = stands;
+      listed = is_dummy;
       placed = (record { bucket = 0; below = lit< tt; is = refl; entry = refl }, tt);
       distinct = none-distinct;
     }))

@@ -64,8 +64,8 @@ module _ (hash_of : Term → ℕ) (ds es : List (Option ℕ)) (part : IsPartOf d
 
 -- ---- each dummy
 
-pub stand-put : (directory : List (Option ℕ)) (x : Cell) (cs : List Cell) → IsFresh x.at cs → DummiesAreListed directory cs → DummiesAreListed directory (put_cell x cs)
-stand-put directory x cs f h bucket at e =
+pub listed-put : (directory : List (Option ℕ)) (x : Cell) (cs : List Cell) → IsFresh x.at cs → DummiesAreListed directory cs → DummiesAreListed directory (put_cell x cs)
+listed-put directory x cs f h bucket at e =
     let d = h bucket at e in
     let kept = put-from_other x cs at (new_cell at (key_of_dummy bucket) None) d.later (fresh-apart x.at at cs (new_cell at (key_of_dummy bucket) None) d.later f d.is) d.is in
     record { later = kept.0; is = kept.1 }
@@ -79,8 +79,8 @@ item-apart directory gone cs cell later item is has h bucket at e same =
     let none : cell.item ≡ None = ap (λ (z : Cell). z.item) c in
     absurd (cc (none, has))
 
-pub stand-without : (directory : List (Option ℕ)) (gone : ℕ) (cs : List Cell) (cell : Cell) (later : List Cell) (item : Item) → from gone cs ≡ cell ∷ later → cell.item ≡ Some item → DummiesAreListed directory cs → DummiesAreListed directory (without gone cs)
-stand-without directory gone cs cell later item is has h bucket at e =
+pub listed-without : (directory : List (Option ℕ)) (gone : ℕ) (cs : List Cell) (cell : Cell) (later : List Cell) (item : Item) → from gone cs ≡ cell ∷ later → cell.item ≡ Some item → DummiesAreListed directory cs → DummiesAreListed directory (without gone cs)
+listed-without directory gone cs cell later item is has h bucket at e =
     let d = h bucket at e in
     let kept = without-from_other gone cs at (new_cell at (key_of_dummy bucket) None) d.later (item-apart directory gone cs cell later item is has h bucket at e) d.is in
     record { later = kept.0; is = kept.1 }
@@ -109,8 +109,8 @@ from-with at gone w (c ∷ cs) =
           ]
     ]
 
-pub stand-with : (directory : List (Option ℕ)) (gone : ℕ) (w : List Term) (cs : List Cell) (cell : Cell) (later : List Cell) (item : Item) → from gone cs ≡ cell ∷ later → cell.item ≡ Some item → DummiesAreListed directory cs → DummiesAreListed directory (cells_with gone w cs)
-stand-with directory gone w cs cell later item is has h bucket at e =
+pub listed-with : (directory : List (Option ℕ)) (gone : ℕ) (w : List Term) (cs : List Cell) (cell : Cell) (later : List Cell) (item : Item) → from gone cs ≡ cell ∷ later → cell.item ≡ Some item → DummiesAreListed directory cs → DummiesAreListed directory (cells_with gone w cs)
+listed-with directory gone w cs cell later item is has h bucket at e =
     let d = h bucket at e in
     let apart = item-apart directory gone cs cell later item is has h bucket at e in
     let other : at ≢ gone = λ f. apart (sym f) in

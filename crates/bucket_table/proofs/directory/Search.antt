@@ -22,8 +22,8 @@ use Rattle.bucket_table.proofs.list.Content.{item-cases, is_it-no, found, absent
 use Rattle.bucket_table.specs.inside.Search.{IsFound}
 use Rattle.bucket_table.proofs.list.Passed.{count-dummy, count-from, placed-from, apart-from, hash-passed, hash-from, below-bucket}
 
-pub start-stands : (directory : List (Option ℕ)) (bucket at key : ℕ) (cs : List Cell) → DummiesAreListed directory cs → IsStartOf directory bucket at → key_of_dummy bucket ≤ key → HasKeyAtMost key at cs
-start-stands directory bucket at key cs h s low =
+pub start-is_place : (directory : List (Option ℕ)) (bucket at key : ℕ) (cs : List Cell) → DummiesAreListed directory cs → IsStartOf directory bucket at → key_of_dummy bucket ≤ key → HasKeyAtMost key at cs
+start-is_place directory bucket at key cs h s low =
     let d = h s.nearest at s.entry in
     let before : key_of_dummy s.nearest ≤ key_of_dummy bucket = s.before in
     record { cell = new_cell at (key_of_dummy s.nearest) None; later = d.later; is = d.is; up_to = omega arith }
@@ -91,7 +91,7 @@ module _ (hash_of : Term → ℕ) (directory : List (Option ℕ)) (cs : List Cel
     -- A search from the start finds what the whole list has.
     pub whole : place_of key term cs ≡ place_of key term (from start cs)
     whole =
-        let d = i.stand s.nearest start s.entry in
+        let d = i.listed s.nearest start s.entry in
         place_of-from key term start cs first d.later o d.is strict ∙ ap (place_of key term) (sym d.is)
 
     pub search-found : (at : ℕ) → place_of key term (from start cs) ≡ Some at → IsFound term at cs
@@ -107,22 +107,22 @@ module _ (hash_of : Term → ℕ) (directory : List (Option ℕ)) (cs : List Cel
           | inr some ↦ let f = search-found some.0 some.1 in absurd (cc (f.objects, h))
         ]
 
-    first-passed : length (passed key term (from start cs)) ≡ length (passed key term (i.stand s.nearest start s.entry).later) + 1
+    first-passed : length (passed key term (from start cs)) ≡ length (passed key term (i.listed s.nearest start s.entry).later) + 1
     first-passed =
-        let d = i.stand s.nearest start s.entry in
+        let d = i.listed s.nearest start s.entry in
         let low : first.key ≤ key = (let st : key_of_dummy s.nearest < key = strict in omega arith) in
         ap (λ (zs : List Cell). length (passed key term zs)) d.is ∙ (search-on key term first d.later low (is_it-no key term first refl)).passed
 
     all-passed : lookup (same term) (slots_of cs) ≡ None → hash_keys hash_of (hash_of term) (slots_of cs) ≤ length (passed key term (from start cs))
     all-passed h =
-        let d = i.stand s.nearest start s.entry in
+        let d = i.listed s.nearest start s.entry in
         let n = hash-from hash_of directory key (hash_of term) refl start cs first d.later o i.placed d.is strict in
         let m = hash-passed hash_of directory key (hash_of term) refl term (from start cs) (sorted-from start cs o) (placed-from hash_of directory start cs i.placed) (none-found h) in
         omega (arith, n, m)
 
     few-passed : s.nearest ≡ bucket → length (passed key term (from start cs)) ≤ bucket_keys hash_of (length directory) bucket (slots_of cs) + 2
     few-passed near =
-        let d = i.stand s.nearest start s.entry in
+        let d = i.listed s.nearest start s.entry in
         let n = length directory in
         let j = i.doublings in
         let few : i.doublings ≤ 20 = i.few in

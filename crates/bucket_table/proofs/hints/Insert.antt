@@ -21,8 +21,8 @@ module _ (width key first : ℕ) (cs : List Cell) (o : Sorted cs) (a : HasDistin
   pub node : First width (key / width) first cs
   node = first-node width (key / width) first cs a is
 
-  pub stands : IsPlaceOf first cs
-  stands = record { cell = node.cell; later = node.later; is = node.is }
+  pub is_place : IsPlaceOf first cs
+  is_place = record { cell = node.cell; later = node.later; is = node.is }
 
   pub key-is : (k : ℕ) → key_at first cs ≡ Some k → node.cell.key ≡ k
   key-is k e = some-key node.cell.key k (key_at first cs) (ap first_key node.is) e

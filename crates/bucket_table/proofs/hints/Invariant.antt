@@ -56,9 +56,9 @@ new-rows hash_of head directory current n cells d e f h = record {
 }
 
 -- A node with a greater split key comes later.
-pub stands-behind : (start at : ℕ) (cs : List Cell) (d : Cell) (ds : List Cell) (e : Cell) (es : List Cell) → Sorted cs → from start cs ≡ d ∷ ds → from at cs ≡ e ∷ es → d.key < e.key → from at ds ≡ e ∷ es
-stands-behind start at [] d ds e es o s t h = absurd (cc)
-stands-behind start at (c ∷ cs) d ds e es o s t h =
+pub is-after : (start at : ℕ) (cs : List Cell) (d : Cell) (ds : List Cell) (e : Cell) (es : List Cell) → Sorted cs → from start cs ≡ d ∷ ds → from at cs ≡ e ∷ es → d.key < e.key → from at ds ≡ e ∷ es
+is-after start at [] d ds e es o s t h = absurd (cc)
+is-after start at (c ∷ cs) d ds e es o s t h =
     elim (cases_eq c.at at) [
       | inl here ↦
           let same' : c ≡ e = cc (sym (from-here at c cs here) ∙ t) in
@@ -78,7 +78,7 @@ stands-behind start at (c ∷ cs) d ds e es o s t h =
             | inl first ↦
                 let later : cs ≡ ds = cc (sym (from-here start c cs first) ∙ s) in
                 ap (from at) (sym later) ∙ t'
-            | inr other ↦ stands-behind start at cs d ds e es o.1 (sym (from-on start c cs other) ∙ s) t' h
+            | inr other ↦ is-after start at cs d ds e es o.1 (sym (from-on start c cs other) ∙ s) t' h
           ]
     ]
 

@@ -141,7 +141,7 @@ module _ (hash_of : Term → ℕ) (directory : List (Option ℕ)) (interval_bits
 
   pub rebuild-start : (current : List (Option (Option ℕ))) → IsRebuiltUpTo hash_of directory (2 ^ interval_bits) start (key_of_dummy bucket) current (place_after start cs) cs
   rebuild-start current =
-      let d = i.stand bucket start entry in
+      let d = i.listed bucket start entry in
       let A : List Cell → Type 0 = λ zs. HasDistinctPlaces zs in
       let S : List Cell → Type 0 = λ zs. Sorted zs in
       let R : List Cell → Type 0 = λ zs. HaveSplitKeys hash_of directory zs in
@@ -178,11 +178,11 @@ module _ (hash_of : Term → ℕ) (directory : List (Option ℕ)) (interval_bits
     pub here : Next place s.rest
     here = next-of place s.rest (sym is-at ∙ s.link)
 
-    pub stands-here : from place cs ≡ here.cell ∷ here.later
-    stands-here = sym (ap (λ (z : Option ℕ). tail_from z cs) is-at) ∙ (s.is ∙ here.is)
+    pub is-here : from place cs ≡ here.cell ∷ here.later
+    is-here = sym (ap (λ (z : Option ℕ). tail_from z cs) is-at) ∙ (s.is ∙ here.is)
 
     pub can-read : IsPlaceOf place cs
-    can-read = record { cell = here.cell; later = here.later; is = stands-here }
+    can-read = record { cell = here.cell; later = here.later; is = is-here }
 
     -- The interval of the node is of the bucket, or later.
     late-here : key_of_dummy bucket / 2 ^ interval_bits ≤ here.cell.key / 2 ^ interval_bits
@@ -204,15 +204,15 @@ module _ (hash_of : Term → ℕ) (directory : List (Option ℕ)) (interval_bits
         let S : List Cell → Type 0 = λ zs. Sorted zs in
         let R : List Cell → Type 0 = λ zs. HaveSplitKeys hash_of directory zs in
         let so = subst S h.is s.sorted in
-        let next = after-is place cs h.cell h.later stands-here in
+        let next = after-is place cs h.cell h.later is-here in
         record {
           rest = h.later;
-          is = ap (λ (z : Option ℕ). tail_from z cs) next ∙ tail-is place cs h.cell h.later a stands-here;
+          is = ap (λ (z : Option ℕ). tail_from z cs) next ∙ tail-is place cs h.cell h.later a is-here;
           link = next;
           seen = λ g late known.
-              (let told = marked g None known in
-              let n : h.cell.key / 2 ^ interval_bits ≢ g = other-one g f place (get_or current f None) (get_or current g None) None fe refl told in
-              s.seen g late (old-one g f place (get_or current f None) (get_or current g None) None refl told) ∙ (ap (first_in (2 ^ interval_bits) g) h.is ∙ first-on (2 ^ interval_bits) g h.cell h.later (out-in (h.cell.key / 2 ^ interval_bits) g h.cell.item n)));
+              (let was_marked = marked g None known in
+              let n : h.cell.key / 2 ^ interval_bits ≢ g = other-one g f place (get_or current f None) (get_or current g None) None fe refl was_marked in
+              s.seen g late (old-one g f place (get_or current f None) (get_or current g None) None refl was_marked) ∙ (ap (first_in (2 ^ interval_bits) g) h.is ∙ first-on (2 ^ interval_bits) g h.cell h.later (out-in (h.cell.key / 2 ^ interval_bits) g h.cell.item n)));
           fresh = (subst F h.is s.fresh).1;
           above = starts-later (key_of_dummy bucket) h.cell h.later (subst U h.is s.above) so.0;
           sorted = so.1;
@@ -222,8 +222,8 @@ module _ (hash_of : Term → ℕ) (directory : List (Option ℕ)) (interval_bits
     pub rebuild-smaller : length (tail_from (place_after place cs) cs) < length (tail_from at cs)
     rebuild-smaller =
         let h = here in
-        let after = after-is place cs h.cell h.later stands-here in
-        let l : tail_from (place_after place cs) cs ≡ h.later = ap (λ (z : Option ℕ). tail_from z cs) after ∙ tail-is place cs h.cell h.later a stands-here in
+        let after = after-is place cs h.cell h.later is-here in
+        let l : tail_from (place_after place cs) cs ≡ h.later = ap (λ (z : Option ℕ). tail_from z cs) after ∙ tail-is place cs h.cell h.later a is-here in
         let m : tail_from at cs ≡ h.cell ∷ h.later = s.is ∙ h.is in
         omega (arith, ap length l, ap length m)
 
@@ -251,7 +251,7 @@ module _ (hash_of : Term → ℕ) (directory : List (Option ℕ)) (interval_bits
 
     -- The node that was read at the place.
     pub read-key : (k : ℕ) → key_at place cs ≡ Some k → k ≡ here.cell.key
-    read-key k e = some-is k here.cell.key (key_at place cs) e (ap first_key stands-here)
+    read-key k e = some-is k here.cell.key (key_at place cs) e (ap first_key is-here)
 
     parity-here : IsParity here.cell.key here.cell.item
     parity-here =

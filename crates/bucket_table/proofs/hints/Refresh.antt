@@ -40,8 +40,8 @@ skip-front width f at (c ∷ cs) d ds some o e h =
           first-on width f c cs (out-in (c.key / width) f c.item differs) ∙ skip-front width f at cs d ds some o.1 later h
     ]
 
-pub front-stands : (width f at : ℕ) (cs : List Cell) → IsBeforeInterval width f at cs → IsPlaceOf at cs
-front-stands width f at cs s = record { cell = s.cell; later = s.later; is = s.is }
+pub before-is_place : (width f at : ℕ) (cs : List Cell) → IsBeforeInterval width f at cs → IsPlaceOf at cs
+before-is_place width f at cs s = record { cell = s.cell; later = s.later; is = s.is }
 
 -- A node of a lower interval has a lesser split key.
 pub front-below : (width key at : ℕ) (cs : List Cell) → 0 < width → IsBeforeInterval width (key / width) at cs → HasKeyBelow key at cs

@@ -106,8 +106,8 @@ module _ (width half f : ℕ) (some : 0 < half) (parts : (k : ℕ) → k / width
             half-below p cs node.cell node.later o a node.is (subst P (sym key-is) less) (h (Some p) e) ∙ q
 
   -- The first item is where the hint says.
-  pub hint-stands : (p : ℕ) (cs : List Cell) → HasDistinctPlaces cs → (hint : Option (Option ℕ)) → IsSoundHint width f cs hint → hint ≡ Some (Some p) → IsPlaceOf p cs
-  hint-stands p cs a hint h e = let n = first-node width f p cs a (h (Some p) e) in record { cell = n.cell; later = n.later; is = n.is }
+  pub hint-is_place : (p : ℕ) (cs : List Cell) → HasDistinctPlaces cs → (hint : Option (Option ℕ)) → IsSoundHint width f cs hint → hint ≡ Some (Some p) → IsPlaceOf p cs
+  hint-is_place p cs a hint h e = let n = first-node width f p cs a (h (Some p) e) in record { cell = n.cell; later = n.later; is = n.is }
 
   -- The split key of the first item shows its half.
   pub key-part : (p k : ℕ) (cs : List Cell) → HasDistinctPlaces cs → (hint : Option (Option ℕ)) → IsSoundHint width f cs hint → hint ≡ Some (Some p) → key_at p cs ≡ Some k → k / half / 2 ≡ f

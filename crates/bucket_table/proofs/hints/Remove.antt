@@ -15,8 +15,8 @@ use Rattle.bucket_table.proofs.hints.Rebuild.{none-from, part-rises}
 pub empty-next : (hint : Option (Option ℕ)) (known : Option ℕ) → hint ≡ Some None → known ≡ None → (first : Option ℕ) → hint ≡ Some first → known ≡ first
 empty-next hint known e f first h = cc
 
-pub item-in-stands : (width f at : ℕ) (cs : List Cell) → IsItemIn width f at cs → IsPlaceOf at cs
-item-in-stands width f at cs i = record { cell = i.cell; later = i.later; is = i.is }
+pub item-in-is_place : (width f at : ℕ) (cs : List Cell) → IsItemIn width f at cs → IsPlaceOf at cs
+item-in-is_place width f at cs i = record { cell = i.cell; later = i.later; is = i.is }
 
 pub next-none : (width f at : ℕ) (cs : List Cell) → place_after at cs ≡ None → first_in width f (cells_after at cs) ≡ None
 next-none width f at cs e = go (cells_after at cs) e
@@ -53,8 +53,8 @@ module _ (width f at next : ℕ) (cs : List Cell) (some : 0 < width) (o : Sorted
   pub node : Behind next at cs
   node = behind-node next at cs a e
 
-  pub next-stands : IsPlaceOf next cs
-  next-stands = record { cell = node.cell; later = node.later; is = node.from_next }
+  pub next-is_place : IsPlaceOf next cs
+  next-is_place = record { cell = node.cell; later = node.later; is = node.from_next }
 
   module _ (k : ℕ) (read : key_at next cs ≡ Some k) where
     next-key : node.cell.key ≡ k

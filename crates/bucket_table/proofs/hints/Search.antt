@@ -250,8 +250,8 @@ module _ (hash_of : Term → ℕ) (directory : List (Option ℕ)) (cs : List Cel
   searched : FromFirst hash_of directory term (2 ^ interval_bits) (key_of_item (hash_of term) / 2 ^ interval_bits) refl first cs
   searched = from-first hash_of directory term (2 ^ interval_bits) (key_of_item (hash_of term) / 2 ^ interval_bits) refl first cs i.placed a is
 
-  pub first-stands : IsPlaceOf first cs
-  first-stands = record { cell = node.cell; later = node.later; is = node.is }
+  pub first-is_place : IsPlaceOf first cs
+  first-is_place = record { cell = node.cell; later = node.later; is = node.is }
 
   pub first-answer : (r : Option ℕ) → r ≡ place_of (key_of_item (hash_of term)) term (from first cs) → MatchOption r (lookup (same term) (slots_of cs) ≡ None) (λ at. IsFound term at cs)
   first-answer None r = absent hash_of directory (key_of_item (hash_of term)) term refl cs i.placed (searched.found ∙ sym r)
@@ -308,7 +308,7 @@ module _ (hash_of : Term → ℕ) (directory : List (Option ℕ)) (cs : List Cel
           ]
 
   pub own-start : CanStartSearch hash_of directory term first cs
-  own-start = record { stands = first-stands; finds = first-answer; looks = first-looked }
+  own-start = record { is_place = first-is_place; finds = first-answer; looks = first-looked }
 
 -- ---- an empty interval
 

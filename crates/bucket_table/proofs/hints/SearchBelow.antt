@@ -60,8 +60,8 @@ module _ (hash_of : Term → ℕ) (directory : List (Option ℕ)) (cs : List Cel
   lesser : HasKeyBelow (key_of_item (hash_of term)) first cs
   lesser = first-lesser (2 ^ interval_bits) (key_of_item (hash_of term)) first cs o a (key_of_dummy bucket / 2 ^ interval_bits) current (pow_pos interval_bits) right f
 
-  below-stands : IsPlaceOf first cs
-  below-stands = record { cell = lesser.cell; later = lesser.later; is = lesser.is }
+  below-is_place : IsPlaceOf first cs
+  below-is_place = record { cell = lesser.cell; later = lesser.later; is = lesser.is }
 
   whole : place_of key term cs ≡ place_of key term (from first cs)
   whole = place_of-from key term first cs lesser.cell lesser.later o lesser.is lesser.below ∙ ap (place_of key term) (sym lesser.is)
@@ -115,7 +115,7 @@ module _ (hash_of : Term → ℕ) (directory : List (Option ℕ)) (cs : List Cel
       }
 
   pub below-start : CanStartSearch hash_of directory term first cs
-  below-start = record { stands = below-stands; finds = below-answer; looks = below-looked }
+  below-start = record { is_place = below-is_place; finds = below-answer; looks = below-looked }
 
 -- ---- by current hints, or by previous ones
 
@@ -168,7 +168,7 @@ pub dummy-start : (hash_of : Term → ℕ) (directory : List (Option ℕ)) (cs :
 dummy-start hash_of directory cs term nearest start i n o a =
     let s = nearest-start directory (hash_of term % length directory) nearest start n in
     record {
-      stands = start-is _ _ _ _ i.stand s;
+      is_place = start-is _ _ _ _ i.listed s;
       finds = answer hash_of directory cs term (hash_of term % length directory) start i s refl o a;
       looks = looked hash_of directory cs term (hash_of term % length directory) start i s refl o a;
     }

@@ -14,7 +14,7 @@ use Rattle.bucket_table.proofs.list.Passed.{placed-from}
 use Rattle.bucket_table.proofs.hints.First.{first-node}
 use Rattle.bucket_table.proofs.hints.Search.{inside}
 use Rattle.bucket_table.proofs.hints.Insert.{node, key-is}
-use Rattle.bucket_table.proofs.hints.Invariant.{stands-behind}
+use Rattle.bucket_table.proofs.hints.Invariant.{is-after}
 use Rattle.bucket_table.proofs.sweep.PurgeHash.{start-below}
 
 -- A number of a lower interval is less.
@@ -51,7 +51,7 @@ below-lesser width key cs current sorted apart some h (Some at) f = first-lesser
 -- The dummy from which a search by the hash starts.
 pub start-lesser : (hash_of : Term → ℕ) (directory : List (Option ℕ)) (hash start : ℕ) (cs : List Cell) → DirectoryInvariant hash_of directory cs → IsStartOf directory (hash % length directory) start → HasKeyBelow (key_of_item hash) start cs
 start-lesser hash_of directory hash start cs i s =
-    let d = i.stand s.nearest start s.entry in
+    let d = i.listed s.nearest start s.entry in
     record { cell = new_cell start (key_of_dummy s.nearest) None; later = d.later; is = d.is; below = start-below directory i.doublings hash start i.size i.few s }
 
 -- An item can be inserted from there.
@@ -67,5 +67,5 @@ found-behind hash_of directory term hash at start cs placed o h e s =
     let H : List Cell → Type 0 = λ zs. HasItem at (all_but_first zs) in
     let B : ℕ → Type 0 = λ z. s.cell.key < z in
     let below : s.cell.key < h.cell.key = subst B (e ∙ sym is) s.below in
-    let later = stands-behind start at cs s.cell s.later h.cell h.later o s.is h.is below in
+    let later = is-after start at cs s.cell s.later h.cell h.later o s.is h.is below in
     subst H (sym s.is) (record { cell = h.cell; later = h.later; item = h.item; is = later; has = h.has })

@@ -160,8 +160,8 @@ places-with at w (c ∷ cs) =
 
 -- ---- what is read and changed there
 
-pub place-stands : (at : ℕ) (cs : List Cell) → AtPlace at cs → IsPlaceOf at cs
-place-stands at cs p = record { cell = p.found.cell; later = p.found.later; is = p.found.is }
+pub at-is_place : (at : ℕ) (cs : List Cell) → AtPlace at cs → IsPlaceOf at cs
+at-is_place at cs p = record { cell = p.found.cell; later = p.found.later; is = p.found.is }
 
 pub no-item : (at : ℕ) (cs : List Cell) → AtPlace at cs → item_at at cs ≡ None → ⊥
 no-item at cs p e = let h : item_at at cs ≡ Some p.found.item = found-at p.key at cs p.found in absurd (cc)

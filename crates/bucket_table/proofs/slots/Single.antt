@@ -7,9 +7,9 @@ use Rattle.bucket_table.specs.Slots.{Slot, has_objects}
 use Rattle.bucket_table.specs.Entries.{HasOneObject, objects_in, with_objects_in, with_element_in}
 
 -- The slot has a place.
-pub one-stands : (slots : List Slot) (at : Option Term) → HasOneObject slots at → IsSome at
-one-stands slots None h = absurd (cc)
-one-stands slots (Some key) h = refl
+pub one-exists : (slots : List Slot) (at : Option Term) → HasOneObject slots at → IsSome at
+one-exists slots None h = absurd (cc)
+one-exists slots (Some key) h = refl
 
 -- The returned object is replaced by another.
 pub record IsSwapped (was : List Term) (result object : Term) (new : List Term) : Type 0 where
@@ -25,8 +25,8 @@ swapped slots at was new result object h e r w =
       written = w ∙ ap (λ (l : List Term). slice_set l 0 object) is;
     }
 
-pub no-held : (new : List Term) (object : Term) → new ≡ object ∷ [] → has_objects new ≡ false → ⊥
-no-held new object e h = absurd (cc)
+pub no-tombstone : (new : List Term) (object : Term) → new ≡ object ∷ [] → has_objects new ≡ false → ⊥
+no-tombstone new object e h = absurd (cc)
 
 -- There is one object to replace.
 pub one-long : (slots : List Slot) (at : Option Term) (was : List Term) → HasOneObject slots at → objects_in slots at ≡ Some was → 0 < length was

@@ -134,10 +134,10 @@ pub among-swept : (hash_of : Term → ℕ) (hs : List ℕ) (mode : SweepMode) (s
 among-swept hash_of hs mode ss e = subst (λ mode. TombstonesAreAmong hash_of hs (swept mode ss)) (sym e) (among-purged hash_of hs ss)
 
 -- The length of a chain shows whether it has objects.
-pub held-told : (chain : List Term) (n : ℕ) → n ≡ length chain → has_objects chain ≡ false → nat_eq n 0 ≡ true
-held-told [] n e h = ap (λ (z : ℕ). nat_eq z 0) e
-held-told (x ∷ xs) n e h = absurd (cc)
+pub tombstone-counted : (chain : List Term) (n : ℕ) → n ≡ length chain → has_objects chain ≡ false → nat_eq n 0 ≡ true
+tombstone-counted [] n e h = ap (λ (z : ℕ). nat_eq z 0) e
+tombstone-counted (x ∷ xs) n e h = absurd (cc)
 
 -- The log after a hash was logged.
-pub among-marked : (hash_of : Term → ℕ) (is_held : Bool) (hash : ℕ) (had_overflowed : Bool) (old : List ℕ) (overflowed : Bool) (new : List ℕ) (ss : List Slot) → LogsHash is_held hash had_overflowed old overflowed new → (had_overflowed ≡ false → TombstonesAreAmong hash_of old ss) → overflowed ≡ false → TombstonesAreAmong hash_of new ss
-among-marked hash_of is_held hash had_overflowed old overflowed new ss n a kept = let m = n kept in among-more hash_of old new m.1 ss (a m.0)
+pub among-marked : (hash_of : Term → ℕ) (is_tombstone : Bool) (hash : ℕ) (had_overflowed : Bool) (old : List ℕ) (overflowed : Bool) (new : List ℕ) (ss : List Slot) → LogsHash is_tombstone hash had_overflowed old overflowed new → (had_overflowed ≡ false → TombstonesAreAmong hash_of old ss) → overflowed ≡ false → TombstonesAreAmong hash_of new ss
+among-marked hash_of is_tombstone hash had_overflowed old overflowed new ss n a kept = let m = n kept in among-more hash_of old new m.1 ss (a m.0)

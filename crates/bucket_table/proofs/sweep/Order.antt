@@ -28,9 +28,9 @@ alike-gone mode gone cs new a e h at =
       | inr other ↦ ap S (without-apart gone at cs other)
     ])
 
-held-again : (o : Option Item) → swept EmptyAll (with_slot (item_with o []) []) ≡ swept EmptyAll (with_slot o [])
-held-again None = refl
-held-again (Some item) = refl
+emptied-again : (o : Option Item) → swept EmptyAll (with_slot (item_with o []) []) ≡ swept EmptyAll (with_slot o [])
+emptied-again None = refl
+emptied-again (Some item) = refl
 
 pub alike-emptied : (own : ℕ) (cs : List Cell) → HaveSameSweep EmptyAll cs (cells_with own [] cs)
 alike-emptied own cs at =
@@ -38,7 +38,7 @@ alike-emptied own cs at =
     elim (cases_eq own at) [
       | inl here ↦
           ap (λ (z : ℕ). swept EmptyAll (slot_at z (cells_with own [] cs))) (sym here)
-          ∙ (ap S (with-own own [] cs) ∙ (held-again (item_at own cs) ∙ ap (λ (z : ℕ). swept EmptyAll (slot_at z cs)) here))
+          ∙ (ap S (with-own own [] cs) ∙ (emptied-again (item_at own cs) ∙ ap (λ (z : ℕ). swept EmptyAll (slot_at z cs)) here))
       | inr other ↦ ap S (with-apart own at [] cs other)
     ]
 
@@ -63,41 +63,41 @@ with-parts (Some item) ss = refl
 
 -- ---- slots that a sweep keeps
 
-abbrev pub AreSettled : SweepMode → List Slot → Type 0
-AreSettled mode [] = Unit {0}
-AreSettled mode (s ∷ ss) = (swept mode (s ∷ []) ≡ s ∷ []) × AreSettled mode ss
+abbrev pub AreSwept : SweepMode → List Slot → Type 0
+AreSwept mode [] = Unit {0}
+AreSwept mode (s ∷ ss) = (swept mode (s ∷ []) ≡ s ∷ []) × AreSwept mode ss
 
-purged-settled : (s : Slot) (ss : List Slot) (b : Bool) → has_objects s.1 ≡ b → AreSettled RemoveTombstones ss → AreSettled RemoveTombstones (cond b (s ∷ ss) ss)
-purged-settled s ss true e h = (ap (λ (b : Bool). cond b (s ∷ []) []) e, h)
-purged-settled s ss false e h = h
+purged-swept : (s : Slot) (ss : List Slot) (b : Bool) → has_objects s.1 ≡ b → AreSwept RemoveTombstones ss → AreSwept RemoveTombstones (cond b (s ∷ ss) ss)
+purged-swept s ss true e h = (ap (λ (b : Bool). cond b (s ∷ []) []) e, h)
+purged-swept s ss false e h = h
 
-dropped-settled : (s : Slot) (ss : List Slot) (b : Bool) → not (has_objects s.1) ≡ b → AreSettled RemoveFilled ss → AreSettled RemoveFilled (cond b (s ∷ ss) ss)
-dropped-settled s ss true e h = (ap (λ (b : Bool). cond b (s ∷ []) []) e, h)
-dropped-settled s ss false e h = h
+dropped-swept : (s : Slot) (ss : List Slot) (b : Bool) → not (has_objects s.1) ≡ b → AreSwept RemoveFilled ss → AreSwept RemoveFilled (cond b (s ∷ ss) ss)
+dropped-swept s ss true e h = (ap (λ (b : Bool). cond b (s ∷ []) []) e, h)
+dropped-swept s ss false e h = h
 
-settled : (mode : SweepMode) (ss : List Slot) → AreSettled mode (swept mode ss)
-settled RemoveTombstones [] = tt
-settled RemoveFilled [] = tt
-settled EmptyAll [] = tt
-settled RemoveTombstones (s ∷ ss) = purged-settled s (swept RemoveTombstones ss) (has_objects s.1) refl (settled RemoveTombstones ss)
-settled RemoveFilled (s ∷ ss) = dropped-settled s (swept RemoveFilled ss) (not (has_objects s.1)) refl (settled RemoveFilled ss)
-settled EmptyAll (s ∷ ss) = (refl, settled EmptyAll ss)
+sweep-swept : (mode : SweepMode) (ss : List Slot) → AreSwept mode (swept mode ss)
+sweep-swept RemoveTombstones [] = tt
+sweep-swept RemoveFilled [] = tt
+sweep-swept EmptyAll [] = tt
+sweep-swept RemoveTombstones (s ∷ ss) = purged-swept s (swept RemoveTombstones ss) (has_objects s.1) refl (sweep-swept RemoveTombstones ss)
+sweep-swept RemoveFilled (s ∷ ss) = dropped-swept s (swept RemoveFilled ss) (not (has_objects s.1)) refl (sweep-swept RemoveFilled ss)
+sweep-swept EmptyAll (s ∷ ss) = (refl, sweep-swept EmptyAll ss)
 
-settled-first : (mode : SweepMode) (o : Option Item) (ss : List Slot) → AreSettled mode (with_slot o ss) → swept mode (with_slot o []) ≡ with_slot o []
-settled-first mode None ss h = swept-none mode
-settled-first mode (Some item) ss h = h.0
+swept-slot-first : (mode : SweepMode) (o : Option Item) (ss : List Slot) → AreSwept mode (with_slot o ss) → swept mode (with_slot o []) ≡ with_slot o []
+swept-slot-first mode None ss h = swept-none mode
+swept-slot-first mode (Some item) ss h = h.0
 
-settled-rest : (mode : SweepMode) (o : Option Item) (ss : List Slot) → AreSettled mode (with_slot o ss) → AreSettled mode ss
-settled-rest mode None ss h = h
-settled-rest mode (Some item) ss h = h.1
+swept-rest : (mode : SweepMode) (o : Option Item) (ss : List Slot) → AreSwept mode (with_slot o ss) → AreSwept mode ss
+swept-rest mode None ss h = h
+swept-rest mode (Some item) ss h = h.1
 
-settled-at : (mode : SweepMode) (at : ℕ) (cs : List Cell) → AreSettled mode (slots_of cs) → swept mode (slot_at at cs) ≡ slot_at at cs
-settled-at mode at [] h = swept-none mode
-settled-at mode at (c ∷ cs) h =
+swept-at : (mode : SweepMode) (at : ℕ) (cs : List Cell) → AreSwept mode (slots_of cs) → swept mode (slot_at at cs) ≡ slot_at at cs
+swept-at mode at [] h = swept-none mode
+swept-at mode at (c ∷ cs) h =
     let S : Option Item → Type 0 = λ o. swept mode (with_slot o []) ≡ with_slot o [] in
     elim (cases_eq c.at at) [
-      | inl here ↦ subst S (sym (item-here at c cs here)) (settled-first mode c.item (slots_of cs) h)
-      | inr other ↦ subst S (sym (item-on at c cs other)) (settled-at mode at cs (settled-rest mode c.item (slots_of cs) h))
+      | inl here ↦ subst S (sym (item-here at c cs here)) (swept-slot-first mode c.item (slots_of cs) h)
+      | inr other ↦ subst S (sym (item-on at c cs other)) (swept-at mode at cs (swept-rest mode c.item (slots_of cs) h))
     ]
 
 -- ---- all slots
@@ -110,20 +110,20 @@ alike-from mode f g at (suc more) h =
     ∙ (ap (λ (ss : List Slot). swept mode (with_slot (g at) []) ++ ss) (alike-from mode f g (suc at) more h)
     ∙ sym (swept-parts mode (g at) (slots_from g (suc at) more))))
 
-settled-from : (mode : SweepMode) (f : ℕ → Option Item) (at more : ℕ) → ((p : ℕ) → swept mode (with_slot (f p) []) ≡ with_slot (f p) []) → swept mode (slots_from f at more) ≡ slots_from f at more
-settled-from mode f at zero h = swept-none mode
-settled-from mode f at (suc more) h =
+swept-from : (mode : SweepMode) (f : ℕ → Option Item) (at more : ℕ) → ((p : ℕ) → swept mode (with_slot (f p) []) ≡ with_slot (f p) []) → swept mode (slots_from f at more) ≡ slots_from f at more
+swept-from mode f at zero h = swept-none mode
+swept-from mode f at (suc more) h =
     swept-parts mode (f at) (slots_from f (suc at) more)
     ∙ (ap (λ (ss : List Slot). ss ++ swept mode (slots_from f (suc at) more)) (h at)
-    ∙ (ap (λ (ss : List Slot). with_slot (f at) [] ++ ss) (settled-from mode f (suc at) more h) ∙ with-parts (f at) (slots_from f (suc at) more)))
+    ∙ (ap (λ (ss : List Slot). with_slot (f at) [] ++ ss) (swept-from mode f (suc at) more h) ∙ with-parts (f at) (slots_from f (suc at) more)))
 
 -- A sweep of the list also sweeps the slots in the order of their places.
 pub content-swept : (mode : SweepMode) (old new : List Cell) → HaveSameSweep mode old new → slots_of new ≡ swept mode (slots_of old) → content_of new ≡ swept mode (content_of old)
 content-swept mode old new alike e =
-    let S : List Slot → Type 0 = λ ss. AreSettled mode ss in
-    let s : AreSettled mode (slots_of new) = subst S (sym e) (settled mode (slots_of old)) in
+    let S : List Slot → Type 0 = λ ss. AreSwept mode ss in
+    let s : AreSwept mode (slots_of new) = subst S (sym e) (sweep-swept mode (slots_of old)) in
     sym (content-is new (above old + above new) (omega arith))
-    ∙ (sym (settled-from mode (λ at. item_at at new) 0 (above old + above new) (λ at. settled-at mode at new s))
+    ∙ (sym (swept-from mode (λ at. item_at at new) 0 (above old + above new) (λ at. swept-at mode at new s))
     ∙ (alike-from mode (λ at. item_at at new) (λ at. item_at at old) 0 (above old + above new) alike
     ∙ ap (swept mode) (content-is old (above old + above new) (omega arith))))
 

@@ -113,8 +113,8 @@ module _ (mode : SweepMode) (at next : ℕ) (cs : List Cell) (n : Neighbour at n
   item-is : item_at next cs ≡ n.other.item
   item-is = ap (λ (z : ℕ). item_at z cs) (sym n.place) ∙ ap first_item n.pair.next
 
-  pub next-stands : IsPlaceOf next cs
-  next-stands = let P : ℕ → Type 0 = λ z. IsPlaceOf z cs in subst P n.place (record { cell = n.other; later = n.later; is = n.pair.next })
+  pub next-is_place : IsPlaceOf next cs
+  next-is_place = let P : ℕ → Type 0 = λ z. IsPlaceOf z cs in subst P n.place (record { cell = n.other; later = n.later; is = n.pair.next })
 
   pub next-item : HasItem next cs → HasItem next (cells_after at cs)
   next-item i =
@@ -132,7 +132,7 @@ module _ (mode : SweepMode) (at next : ℕ) (cs : List Cell) (n : Neighbour at n
       let l : length (cells_after at cs) ≡ length (n.other ∷ n.later) = ap length behind-at in
       let m : length (cells_after n.other.at cs) ≡ length n.later = ap length behind-next in
       subst P n.place (record {
-        stands = record { cell = n.other; later = n.later; is = n.pair.next };
+        is_place = record { cell = n.other; later = n.later; is = n.pair.next };
         same_end =
             ap (λ (zs : List Cell). slots_of zs ++ swept mode (slots_of (cells_after n.other.at cs))) n.pair.front
             ∙ (ap (λ (zs : List Slot). zs ++ swept mode (slots_of (cells_after n.other.at cs))) (slots-append (up_to at cs) (n.other ∷ []))
@@ -153,7 +153,7 @@ module _ (mode : SweepMode) (at next : ℕ) (cs : List Cell) (n : Neighbour at n
       let b : cells_after at new ≡ n.later = ap all_but_first from' in
       let l : length (cells_after at cs) ≡ length (n.other ∷ n.later) = ap length behind-at in
       record {
-        stands = record { cell = n.cell; later = n.later; is = from' };
+        is_place = record { cell = n.cell; later = n.later; is = from' };
         same_end =
             ap (λ (zs : List Cell). slots_of zs ++ swept mode (slots_of (cells_after at new))) (ap (up_to at) e' ∙ n.pair.front_without)
             ∙ (ap (λ (zs : List Cell). slots_of (up_to at cs) ++ swept mode (slots_of zs)) b
@@ -209,11 +209,11 @@ none-left : (chain : List Term) → length chain ≡ 0 → chain ≡ []
 none-left [] e = refl
 none-left (x ∷ xs) e = absurd (omega arith)
 
-gone-held : (o : Option Item) (t : Term) (chain : List Term) → o ≡ Some (new_item t chain) → chain ≡ [] → (ss : List Slot) → swept RemoveTombstones (with_slot o ss) ≡ swept RemoveTombstones ss
-gone-held o t chain e f ss = ap (λ (z : Option Item). swept RemoveTombstones (with_slot z ss)) e ∙ ap (λ (z : List Term). swept RemoveTombstones ((t, z) ∷ ss)) f
+gone-tombstone : (o : Option Item) (t : Term) (chain : List Term) → o ≡ Some (new_item t chain) → chain ≡ [] → (ss : List Slot) → swept RemoveTombstones (with_slot o ss) ≡ swept RemoveTombstones ss
+gone-tombstone o t chain e f ss = ap (λ (z : Option Item). swept RemoveTombstones (with_slot z ss)) e ∙ ap (λ (z : List Term). swept RemoveTombstones ((t, z) ∷ ss)) f
 
 pub purge-goes : (mode : SweepMode) (at : ℕ) (cs : List Cell) (t : Term) (chain : List Term) → mode ≡ RemoveTombstones → item_at at cs ≡ Some (new_item t chain) → length chain ≡ 0 → (ss : List Slot) → swept mode (with_slot (item_at at cs) ss) ≡ swept mode ss
-purge-goes mode at cs t chain h e l ss = let P : SweepMode → Type 0 = λ z. swept z (with_slot (item_at at cs) ss) ≡ swept z ss in subst P (sym h) (gone-held (item_at at cs) t chain e (none-left chain l) ss)
+purge-goes mode at cs t chain h e l ss = let P : SweepMode → Type 0 = λ z. swept z (with_slot (item_at at cs) ss) ≡ swept z ss in subst P (sym h) (gone-tombstone (item_at at cs) t chain e (none-left chain l) ss)
 
 gone-full : (o : Option Item) (t : Term) (chain : List Term) → o ≡ Some (new_item t chain) → length chain ≢ 0 → (ss : List Slot) → swept RemoveFilled (with_slot o ss) ≡ swept RemoveFilled ss
 gone-full o t [] e f ss = absurd (f refl)
@@ -256,9 +256,9 @@ front-emptied at (c ∷ cs) d e ds a h =
           ∙ ap (λ (zs : List Cell). zs ++ emptied e ∷ []) (sym (to-on at c cs miss))))
     ]
 
-held-slot : (o : Option Item) (front ss : List Slot) → front ++ swept EmptyAll (with_slot o ss) ≡ (front ++ with_slot (item_with o []) []) ++ swept EmptyAll ss
-held-slot None front ss = sym (append_assoc front [] (swept EmptyAll ss))
-held-slot (Some item) front ss = sym (append_assoc front ((item.term, []) ∷ []) (swept EmptyAll ss))
+emptied-slot : (o : Option Item) (front ss : List Slot) → front ++ swept EmptyAll (with_slot o ss) ≡ (front ++ with_slot (item_with o []) []) ++ swept EmptyAll ss
+emptied-slot None front ss = sym (append_assoc front [] (swept EmptyAll ss))
+emptied-slot (Some item) front ss = sym (append_assoc front ((item.term, []) ∷ []) (swept EmptyAll ss))
 
 pub empties : (at next : ℕ) (cs : List Cell) (n : Neighbour at next cs) → HasDistinctPlaces cs → SweepsNext EmptyAll at cs next (cells_with next [] cs)
 empties at next cs n a =
@@ -268,12 +268,12 @@ empties at next cs n a =
     let was : cells_after at cs ≡ n.other ∷ n.later = ap all_but_first n.pair.is in
     let P : ℕ → Type 0 = λ z. SweepsNext EmptyAll at cs z (cells_with z [] cs) in
     subst P n.place (record {
-      stands = record { cell = emptied n.other; later = n.later; is = f };
+      is_place = record { cell = emptied n.other; later = n.later; is = f };
       same_end =
           ap (λ (zs : List Cell). slots_of zs ++ swept EmptyAll (slots_of (cells_after n.other.at new))) (front-emptied at cs n.cell n.other n.later a n.pair.is)
           ∙ (ap (λ (zs : List Slot). zs ++ swept EmptyAll (slots_of (cells_after n.other.at new))) (slots-append (up_to at cs) (emptied n.other ∷ []))
           ∙ (ap (λ (zs : List Cell). (slots_of (up_to at cs) ++ with_slot (item_with n.other.item []) []) ++ swept EmptyAll (slots_of zs)) b
-          ∙ (sym (held-slot n.other.item (slots_of (up_to at cs)) (slots_of n.later))
+          ∙ (sym (emptied-slot n.other.item (slots_of (up_to at cs)) (slots_of n.later))
           ∙ ap (λ (zs : List Cell). slots_of (up_to at cs) ++ swept EmptyAll (slots_of zs)) (sym was))));
       rest = b ∙ ap all_but_first (sym was);
       shorter = omega (arith, ap length b, ap length was);

@@ -41,7 +41,7 @@ pub record DirectoryInvariant (hash_of : Term → ℕ) (directory : List (Option
   pub size : length directory ≡ 2 ^ doublings
   pub few : doublings ≤ 20
   pub first : IsSome (get_or directory 0 None)
-  pub stand : DummiesAreListed directory cells
+  pub listed : DummiesAreListed directory cells
   pub placed : HaveSplitKeys hash_of directory cells
   pub distinct : HasDistinctKeys (slots_of cells)
 

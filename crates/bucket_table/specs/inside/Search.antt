@@ -29,7 +29,7 @@ pub record IsFound (term : Term) (at : ℕ) (cs : List Cell) : Type 0 where
 -- A search for a key from this place finds its item, or that there is none, and visits a bounded number of nodes.
 pub record CanStartSearch (hash_of : Term → ℕ) (directory : List (Option ℕ)) (term : Term)
     (start : ℕ) (cs : List Cell) : Type 0 where
-  pub stands : IsPlaceOf start cs
+  pub is_place : IsPlaceOf start cs
   pub finds : (r : Option ℕ) → r ≡ place_of (key_of_item (hash_of term)) term (from start cs)
       → MatchOption r (lookup (same term) (slots_of cs) ≡ None) (λ at. IsFound term at cs)
   pub looks : (old new : ℕ) → new ≡ ticks (length (passed (key_of_item (hash_of term)) term (from start cs))) old

@@ -40,7 +40,7 @@ slots_after_sweep mode at cs = slots_of (up_to at cs) ++ swept mode (slots_of (c
 
 -- One more node is swept.
 pub record SweepsNext (mode : SweepMode) (at : ℕ) (old : List Cell) (last : ℕ) (new : List Cell) : Type 0 where
-  pub stands : IsPlaceOf last new
+  pub is_place : IsPlaceOf last new
   pub same_end : slots_after_sweep mode last new ≡ slots_after_sweep mode at old
   pub rest : cells_after last new ≡ all_but_first (cells_after at old)
   pub shorter : length (cells_after last new) < length (cells_after at old)

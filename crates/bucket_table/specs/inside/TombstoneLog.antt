@@ -20,7 +20,7 @@ LogInvariant hash_of overflowed hashes slots = overflowed ≡ false → Tombston
 
 -- Logging keeps the old hashes, and adds the new one if the slot is a tombstone, unless the log overflows.
 abbrev pub LogsHash : Bool → ℕ → Bool → List ℕ → Bool → List ℕ → Type 0
-LogsHash is_held hash had_overflowed old overflowed new =
+LogsHash is_tombstone hash had_overflowed old overflowed new =
     overflowed ≡ false → (had_overflowed ≡ false)
     × ((h : ℕ) → IsAmong h old → IsAmong h new)
-    × (is_held ≡ true → IsAmong hash new)
+    × (is_tombstone ≡ true → IsAmong hash new)

@@ -40,11 +40,11 @@ impl TombstoneLog {
     }
 
     /// Logs the hash of a slot if the slot is a tombstone. It allocates no memory: without room the log overflows.
-    pub fn log_hash(&mut self, is_held: bool, hash: u32)
-        ensures { LogsHash is_held hash self.old.overflowed self.old.hashes.items
+    pub fn log_hash(&mut self, is_tombstone: bool, hash: u32)
+        ensures { LogsHash is_tombstone hash self.old.overflowed self.old.hashes.items
             self.new.overflowed self.new.hashes.items }
     {
-        if !is_held {
+        if !is_tombstone {
             return;
         }
         if self.hashes.len() < self.hashes.capacity() {

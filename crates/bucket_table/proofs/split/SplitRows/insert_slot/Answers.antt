@@ -9,7 +9,7 @@ use Rattle.bucket_table.specs.inside.Nodes.{slots_of}
 use Rattle.bucket_table.specs.inside.TombstoneLog.{IsAmong, LogInvariant}
 use Rattle.bucket_table.specs.inside.Order.{content_of}
 use Rattle.bucket_table.proofs.list.Length.{length-added}
-use Rattle.bucket_table.proofs.sweep.Log.{among-entered, among-more, held-told}
+use Rattle.bucket_table.proofs.sweep.Log.{among-entered, among-more, tombstone-counted}
 use Rattle.bucket_table.proofs.order.Read.{item-put, objects-same}
 use Rattle.bucket_table.proofs.list.Places.{few-slots}
 use Rattle.bucket_table.proofs.directory.Change.{put-added}
@@ -50,7 +50,7 @@ invariant_of-self g c =
       counted = omega (arith, one, c.self.invariant.counted);
       due = subst D (sym e.keeps.directory) c.self.invariant.due;
       logged = subst N (sym e.keeps.hasher) (λ kept. among-entered hash_of hs ss (slots_of new.list.cells) c.args.key c.args.objects enters
-          (λ h. subst A hash ((c.log_hash.ensures kept).2 (held-told c.args.objects c.len.result c.len.ensures h)))
+          (λ h. subst A hash ((c.log_hash.ensures kept).2 (tombstone-counted c.args.objects c.len.result c.len.ensures h)))
           (among-more hash_of c.self.inside.log.hashes.items hs (c.log_hash.ensures kept).1 ss (c.self.invariant.logged (c.log_hash.ensures kept).0)));
     }
 

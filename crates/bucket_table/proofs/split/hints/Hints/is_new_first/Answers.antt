@@ -1,5 +1,5 @@
 use Rattle.std.proofs.Common.{◌^◌, Some, None, refl, sym, ◌∙◌, ap, ℕ, get_or}
-use Rattle.bucket_table.proofs.hints.Insert.{new-empty, stands, key-is, new-before, kept-behind}
+use Rattle.bucket_table.proofs.hints.Insert.{new-empty, is_place, key-is, new-before, kept-behind}
 use Rattle.bucket_table.proofs.hints.Search.{hint-says}
 use Rattle.bucket_table.proofs.split.hints.Hints.is_new_first.Goals as goal
 
@@ -7,7 +7,7 @@ pub key-requires : goal.key-requires
 key-requires c =
     let read = c.get.ensures ∙ ap (λ (z : ℕ). get_or c.args.self.now.current z None) c.interval_of.ensures in
     let is = hint-says (2 ^ c.args.self.now.interval_bits) c.args.self.now.current c.args.list.now.cells c.args.split_key c.args.split_key c.get.result (Some c.in-Some-Some.first) c.requires.hints.current read (c.in-Some-Some.is ∙ ap Some c.in-Some-Some.field-0-is) refl in
-    stands (2 ^ c.args.self.now.interval_bits) c.args.split_key c.in-Some-Some.first c.args.list.now.cells c.reveal_invariant.ensures.sorted c.reveal_invariant.ensures.apart is
+    is_place (2 ^ c.args.self.now.interval_bits) c.args.split_key c.in-Some-Some.first c.args.list.now.cells c.reveal_invariant.ensures.sorted c.reveal_invariant.ensures.apart is
 
 pub returns-in-Some-None-clause-new : goal.returns-in-Some-None-clause-new
 returns-in-Some-None-clause-new c = λ _.

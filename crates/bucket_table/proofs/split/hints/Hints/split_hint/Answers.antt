@@ -1,11 +1,11 @@
 use Rattle.std.proofs.Common.{◌≡◌, ◌+◌, ◌*◌, ◌/◌, ◌%◌, ◌^◌, Some, None, get_or, sym, ◌∙◌, ap, arith, ℕ}
 use Rattle.std.proofs.lemmas.Nat.{pow_pos}
-use Rattle.bucket_table.proofs.hints.Rehash.{part-half, right-empty, right-first, right-below, hint-stands, key-part, upper-part, lower-part, lower-own, upper-own}
+use Rattle.bucket_table.proofs.hints.Rehash.{part-half, right-empty, right-first, right-below, hint-is_place, key-part, upper-part, lower-part, lower-own, upper-own}
 use Rattle.bucket_table.proofs.split.hints.Hints.split_hint.Goals as goal
 
 pub key-requires : goal.key-requires
 key-requires c =
-    hint-stands (2 ^ (c.args.self.now.interval_bits + 1)) (2 ^ c.args.self.now.interval_bits) c.args.pair (pow_pos c.args.self.now.interval_bits) (λ k. part-half c.args.self.now.interval_bits k) c.in-Some-Some.first c.args.list.now.cells c.reveal_invariant.ensures.apart (get_or c.args.self.now.previous c.args.pair None) (c.requires.hints.previous c.args.pair) (sym c.get.ensures ∙ (c.in-Some-Some.is ∙ ap Some c.in-Some-Some.field-0-is))
+    hint-is_place (2 ^ (c.args.self.now.interval_bits + 1)) (2 ^ c.args.self.now.interval_bits) c.args.pair (pow_pos c.args.self.now.interval_bits) (λ k. part-half c.args.self.now.interval_bits k) c.in-Some-Some.first c.args.list.now.cells c.reveal_invariant.ensures.apart (get_or c.args.self.now.previous c.args.pair None) (c.requires.hints.previous c.args.pair) (sym c.get.ensures ∙ (c.in-Some-Some.is ∙ ap Some c.in-Some-Some.field-0-is))
 
 pub returns-in-Some-None-clause-lower : goal.returns-in-Some-None-clause-lower
 returns-in-Some-None-clause-lower c =

@@ -19,10 +19,10 @@ find_from-requires-clause-start g c =
     let T : ℕ → ℕ → Type 0 = λ k i. IsNearestBelow k i first index.hints.current ⊎ IsNearestBelow (k / 2) (i / 2) first index.hints.previous in
     let K : ℕ → Type 0 = λ k. T k c.interval_of-interval.result in
     let J : ℕ → Type 0 = λ i. T (c.dummy_key.result / 2 ^ interval_bits) i in
-    let told = subst J c.interval_of-interval.ensures (subst K c.interval_of-floor.ensures c.in-Some.ensures) in
+    let ensured = subst J c.interval_of-interval.ensures (subst K c.interval_of-floor.ensures c.in-Some.ensures) in
     let key = c.item_key.ensures ∙ ap key_of_item c.requires.hash in
     lower-start (g.H.KeyHash.hash index.hasher) index.directory index.list.cells c.args.key.now interval_bits near start first index.hints.current index.hints.previous c.requires.rows.rows.split c.requires.rows.rows.hinted c.requires.rows.previous c.reveal_invariant.ensures.sorted c.reveal_invariant.ensures.apart
-    (subst N c.requires.hash c.bucket_start-bucket.ensures) (subst I key (subst D c.dummy_key.ensures told))
+    (subst N c.requires.hash c.bucket_start-bucket.ensures) (subst I key (subst D c.dummy_key.ensures ensured))
 
 pub find_from-requires-in-None-clause-start : goal.find_from-requires-in-None-clause-start
 find_from-requires-in-None-clause-start g c =

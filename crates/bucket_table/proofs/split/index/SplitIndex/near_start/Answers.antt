@@ -1,7 +1,7 @@
 use Rattle.std.proofs.Common.{ℕ, ◌^◌, Some, refl, ◌∙◌, ap, subst, None, get_or, IfSome}
 use Rattle.std.proofs.lemmas.Nat.{pow_pos}
 use Rattle.bucket_table.specs.inside.Intervals.{IsNearestBelow}
-use Rattle.bucket_table.proofs.hints.Insert.{stands}
+use Rattle.bucket_table.proofs.hints.Insert.{is_place}
 use Rattle.bucket_table.proofs.hints.Search.{hint-says}
 use Rattle.bucket_table.proofs.hints.Start.{own-lesser, below-lesser}
 use Rattle.bucket_table.proofs.split.index.SplitIndex.near_start.Goals as goal
@@ -10,7 +10,7 @@ pub key-requires : goal.key-requires
 key-requires g c =
     let read = c.get.ensures ∙ ap (λ (z : ℕ). get_or c.args.self.now.hints.current z None) c.interval_of-interval.ensures in
     let is = hint-says (2 ^ c.args.self.now.hints.interval_bits) c.args.self.now.hints.current c.args.self.now.list.cells c.args.split_key c.args.split_key c.get.result (Some c.in-Some-Some.first) c.requires.rows.rows.hinted.hints read (c.in-Some-Some.is ∙ ap Some c.in-Some-Some.field-0-is) refl in
-    stands (2 ^ c.args.self.now.hints.interval_bits) c.args.split_key c.in-Some-Some.first c.args.self.now.list.cells c.reveal_invariant.ensures.sorted c.reveal_invariant.ensures.apart is
+    is_place (2 ^ c.args.self.now.hints.interval_bits) c.args.split_key c.in-Some-Some.first c.args.self.now.list.cells c.reveal_invariant.ensures.sorted c.reveal_invariant.ensures.apart is
 
 pub returns-then-key-split_key : goal.returns-then-key-split_key
 returns-then-key-split_key g c =

@@ -17,7 +17,7 @@ search_start-at-requires-clause-small g c =
 pub loop-next-init : goal.loop-next-init
 loop-next-init g c = record {
   rows = c.requires.rows;
-  stands = (let b = c.search_start-at.ensures c.args.hash c.item_key-split_key.ensures (omega arith) in record { cell = b.cell; later = b.later; is = b.is });
+  is_place = (let b = c.search_start-at.ensures c.args.hash c.item_key-split_key.ensures (omega arith) in record { cell = b.cell; later = b.later; is = b.is });
   slots = refl;
   rest = λ hs a. a;
   each = record { alike = λ at. refl; len = refl; fewer = omega arith };
@@ -25,14 +25,14 @@ loop-next-init g c = record {
 }
 
 pub key-requires : goal.key-requires
-key-requires g c = next-there c.loop-next.at c.in-Some.next c.loop-next.self.list.cells c.reveal_invariant-in-Some.ensures.apart c.loop-next.invariant.stands (sym c.in-Some.ensures)
+key-requires g c = next-there c.loop-next.at c.in-Some.next c.loop-next.self.list.cells c.reveal_invariant-in-Some.ensures.apart c.loop-next.invariant.is_place (sym c.in-Some.ensures)
 
 pub returns-then-split_key-key-clause-purged : goal.returns-then-split_key-key-clause-purged
 returns-then-split_key-key-clause-purged g c =
     let s = c.requires.rows.rows.split in
     let b = c.search_start-at.ensures c.args.hash c.item_key-split_key.ensures (omega arith) in
     run-purged (g.H.KeyHash.hash c.args.self.now.hasher) c.args.self.now.directory c.item_key-split_key.result c.args.hash c.item_key-split_key.ensures c.search_start-at.result c.loop-next.at c.args.self.now.list.cells c.loop-next.self.list.cells
-    b.cell b.later b.is (b.below) c.reveal_invariant.ensures.sorted s.placed c.loop-next.invariant.stands c.loop-next.invariant.slots
+    b.cell b.later b.is (b.below) c.reveal_invariant.ensures.sorted s.placed c.loop-next.invariant.is_place c.loop-next.invariant.slots
 
 pub returns-then-split_key-key-clause-tombstones : goal.returns-then-split_key-key-clause-tombstones
 returns-then-split_key-key-clause-tombstones g c =
@@ -42,9 +42,9 @@ returns-then-split_key-key-clause-tombstones g c =
     let N : g.row.H.Denot → Type 0 = λ h. HaveSplitKeys (g.H.KeyHash.hash h) c.loop-next.self.directory c.loop-next.self.list.cells in
     let D : List (Option ℕ) → Type 0 = λ ds. HaveSplitKeys (g.H.KeyHash.hash c.args.self.now.hasher) ds c.loop-next.self.list.cells in
     let placed = subst D i.keeps.directory (subst N i.keeps.hasher i.rows.rows.split.placed) in
-    let none = beyond-next (g.H.KeyHash.hash c.args.self.now.hasher) c.args.self.now.directory c.item_key-split_key.result c.args.hash c.item_key-split_key.ensures c.loop-next.at c.in-Some.next c.key.result c.loop-next.self.list.cells c.reveal_invariant-in-Some.ensures.apart c.reveal_invariant-in-Some.ensures.sorted placed c.loop-next.invariant.stands (sym c.in-Some.ensures) c.key.ensures c.if-split_key-key.true in
+    let none = beyond-next (g.H.KeyHash.hash c.args.self.now.hasher) c.args.self.now.directory c.item_key-split_key.result c.args.hash c.item_key-split_key.ensures c.loop-next.at c.in-Some.next c.key.result c.loop-next.self.list.cells c.reveal_invariant-in-Some.ensures.apart c.reveal_invariant-in-Some.ensures.sorted placed c.loop-next.invariant.is_place (sym c.in-Some.ensures) c.key.ensures c.if-split_key-key.true in
     run-gone (g.H.KeyHash.hash c.args.self.now.hasher) c.args.self.now.directory c.item_key-split_key.result c.args.hash c.item_key-split_key.ensures c.search_start-at.result c.loop-next.at c.args.self.now.list.cells c.loop-next.self.list.cells
-    b.cell b.later b.is (b.below) c.reveal_invariant.ensures.sorted s.placed c.loop-next.invariant.stands c.loop-next.invariant.slots none c.loop-next.invariant.rest
+    b.cell b.later b.is (b.below) c.reveal_invariant.ensures.sorted s.placed c.loop-next.invariant.is_place c.loop-next.invariant.slots none c.loop-next.invariant.rest
 
 pub loop-next-preserved : goal.loop-next-preserved
 loop-next-preserved g c =
@@ -53,7 +53,7 @@ loop-next-preserved g c =
     let hash_of = g.H.KeyHash.hash c.args.self.now.hasher in
     record {
       rows = e.rows;
-      stands = e.cells.stands;
+      is_place = e.cells.is_place;
       slots = e.cells.same_end ∙ i.slots;
       rest = λ hs a. (let P : List Cell → Type 0 = λ zs. TombstonesAreAmong hash_of hs (slots_of zs) in subst P (sym e.cells.rest) (among-rest hash_of hs (cells_after c.loop-next.at c.loop-next.self.list.cells) (i.rest hs a)));
       each = sweeps-on _ _ _ _ i.each e.each;
@@ -65,7 +65,7 @@ returns-clause-purged g c =
     let s = c.requires.rows.rows.split in
     let b = c.search_start-at.ensures c.args.hash c.item_key-split_key.ensures (omega arith) in
     run-purged (g.H.KeyHash.hash c.args.self.now.hasher) c.args.self.now.directory c.item_key-split_key.result c.args.hash c.item_key-split_key.ensures c.search_start-at.result c.loop-next.at c.args.self.now.list.cells c.loop-next.self.list.cells
-    b.cell b.later b.is (b.below) c.reveal_invariant.ensures.sorted s.placed c.loop-next.invariant.stands c.loop-next.invariant.slots
+    b.cell b.later b.is (b.below) c.reveal_invariant.ensures.sorted s.placed c.loop-next.invariant.is_place c.loop-next.invariant.slots
 
 pub returns-clause-tombstones : goal.returns-clause-tombstones
 returns-clause-tombstones g c =
@@ -73,4 +73,4 @@ returns-clause-tombstones g c =
     let b = c.search_start-at.ensures c.args.hash c.item_key-split_key.ensures (omega arith) in
     let none = nothing-behind (g.H.KeyHash.hash c.args.self.now.hasher) c.args.hash c.loop-next.at c.loop-next.self.list.cells (sym c.after.ensures ∙ c.in_default.is) in
     run-gone (g.H.KeyHash.hash c.args.self.now.hasher) c.args.self.now.directory c.item_key-split_key.result c.args.hash c.item_key-split_key.ensures c.search_start-at.result c.loop-next.at c.args.self.now.list.cells c.loop-next.self.list.cells
-    b.cell b.later b.is (b.below) c.reveal_invariant.ensures.sorted s.placed c.loop-next.invariant.stands c.loop-next.invariant.slots none c.loop-next.invariant.rest
+    b.cell b.later b.is (b.below) c.reveal_invariant.ensures.sorted s.placed c.loop-next.invariant.is_place c.loop-next.invariant.slots none c.loop-next.invariant.rest

@@ -10,7 +10,7 @@ use Rattle.bucket_table.proofs.split.index.SplitIndex.purge_hash.Given as goal
 abbrev pub invariant-loop-next : goal.invariant-loop-next
 invariant-loop-next g l = record {
   rows : RowsInvariant g.H.KeyHash.hash l.self;
-  stands : IsPlaceOf l.at l.self.list.cells;
+  is_place : IsPlaceOf l.at l.self.list.cells;
   slots : slots_after_sweep RemoveTombstones l.at l.self.list.cells ≡ slots_after_sweep RemoveTombstones l.initial.at l.initial.self.list.cells;
   rest : (hs : List ℕ) → TombstonesAreAmong (g.H.KeyHash.hash l.initial.self.hasher) hs (slots_of (cells_after l.initial.at l.initial.self.list.cells)) → TombstonesAreAmong (g.H.KeyHash.hash l.initial.self.hasher) hs (slots_of (cells_after l.at l.self.list.cells));
   each : Sweeps RemoveTombstones l.initial.self.list.cells l.self.list.cells;

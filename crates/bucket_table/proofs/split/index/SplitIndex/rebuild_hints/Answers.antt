@@ -20,7 +20,7 @@ overflow_add-end g c =
 
 pub after-at-requires : goal.after-at-requires
 after-at-requires g c =
-    let d = c.requires.rows.rows.split.stand c.args.bucket c.args.start c.requires.start in
+    let d = c.requires.rows.rows.split.listed c.args.bucket c.args.start c.requires.start in
     record { cell = _; later = d.later; is = d.is }
 
 pub loop-at-init : goal.loop-at-init

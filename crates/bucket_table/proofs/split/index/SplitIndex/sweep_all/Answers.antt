@@ -7,7 +7,7 @@ use Rattle.bucket_table.proofs.split.index.SplitIndex.sweep_all.Goals as goal
 pub loop-next-init : goal.loop-next-init
 loop-next-init g c = record {
   rows = c.requires.rows;
-  stands = head-is_place c.head-at.result c.args.self.now.list.cells c.head-at.ensures.first c.head-at.ensures.dummy;
+  is_place = head-is_place c.head-at.result c.args.self.now.list.cells c.head-at.ensures.first c.head-at.ensures.dummy;
   slots = start-end c.args.mode c.head-at.result c.args.self.now.list.cells c.head-at.ensures.dummy c.head-at.ensures.first;
   each = record { alike = λ at. refl; len = refl; fewer = omega arith };
   keeps = record { hasher = refl; directory = refl };
@@ -19,11 +19,11 @@ loop-next-preserved g c =
     let e = c.sweep_next-at.ensures in
     record {
       rows = e.rows;
-      stands = e.cells.stands;
+      is_place = e.cells.is_place;
       slots = e.cells.same_end ∙ i.slots;
       each = sweeps-on _ _ _ _ i.each e.each;
       keeps = record { hasher = e.keeps.hasher ∙ i.keeps.hasher; directory = e.keeps.directory ∙ i.keeps.directory };
     }
 
 pub returns-clause-slots : goal.returns-clause-slots
-returns-clause-slots g c = end-end c.args.mode c.loop-next.at c.loop-next.self.list.cells c.loop-next.invariant.stands (sym c.after.ensures ∙ c.in_default.is) ∙ c.loop-next.invariant.slots
+returns-clause-slots g c = end-end c.args.mode c.loop-next.at c.loop-next.self.list.cells c.loop-next.invariant.is_place (sym c.after.ensures ∙ c.in_default.is) ∙ c.loop-next.invariant.slots

@@ -8,7 +8,7 @@ use Rattle.bucket_table.proofs.split.index.SplitIndex.sweep_all.Given as goal
 abbrev pub invariant-loop-next : goal.invariant-loop-next
 invariant-loop-next g l = record {
   rows : RowsInvariant g.H.KeyHash.hash l.self;
-  stands : IsPlaceOf l.at l.self.list.cells;
+  is_place : IsPlaceOf l.at l.self.list.cells;
   slots : slots_after_sweep l.mode l.at l.self.list.cells ≡ swept l.mode (slots_of l.initial.self.list.cells);
   each : Sweeps l.mode l.initial.self.list.cells l.self.list.cells;
   keeps : KeepsDirectory l.initial.self l.self;

@@ -11,12 +11,12 @@ use Rattle.bucket_table.proofs.list.Length.{length-set_value}
 use Rattle.bucket_table.proofs.hints.Change.{hints-with}
 use Rattle.bucket_table.proofs.hints.Invariant.{rows-with}
 use Rattle.bucket_table.proofs.list.Places.{seat-found, length-with}
-use Rattle.bucket_table.proofs.sweep.Sweep.{neighbour, next-stands, next-item, stays, goes, empties, item-seat, length-out}
+use Rattle.bucket_table.proofs.sweep.Sweep.{neighbour, next-is_place, next-item, stays, goes, empties, item-seat, length-out}
 use Rattle.bucket_table.proofs.sweep.Order.{alike-gone, alike-emptied}
 use Rattle.bucket_table.proofs.split.index.SplitIndex.sweep_next.Goals as goal
 
 pub action_for-requires : goal.action_for-requires
-action_for-requires g c = next-stands c.args.mode c.args.at c.args.next c.args.self.now.list.cells (neighbour c.args.at c.args.next c.args.self.now.list.cells c.reveal_invariant.ensures.apart c.requires.place c.requires.next)
+action_for-requires g c = next-is_place c.args.mode c.args.at c.args.next c.args.self.now.list.cells (neighbour c.args.at c.args.next c.args.self.now.list.cells c.reveal_invariant.ensures.apart c.requires.place c.requires.next)
 
 pub delete_after-count-requires-clause-item : goal.delete_after-count-requires-clause-item
 delete_after-count-requires-clause-item g c = next-item c.args.mode c.args.at c.args.next c.args.self.now.list.cells (neighbour c.args.at c.args.next c.args.self.now.list.cells c.reveal_invariant.ensures.apart c.requires.place c.requires.next) c.in-Remove.ensures.0

@@ -39,17 +39,17 @@ invariant_of-self g c =
     let l = length-removed (same p.key) (slots_of c.self.inside.index.list.cells) p.found.item.chain p.found.objects in
     let e = c.delete-count.ensures in
     let new = c.delete-count.new.self in
-    let held = c.self.inside.log in
+    let its_log = c.self.inside.log in
     let is = ap slots_of e.cells ∙ p.found.removed in
     let hash_of = g.H.KeyHash.hash c.self.inside.index.hasher in
     let D : List (Option ℕ) → Type 0 = λ ds. IsFirstUnready ds c.self.inside.first_unready in
-    let N : g.row.H.Denot → Type 0 = λ h. LogInvariant (g.H.KeyHash.hash h) held.overflowed held.hashes.items (slots_of new.list.cells) in
-    let S : List Slot → Type 0 = λ ss. TombstonesAreAmong hash_of held.hashes.items ss in
+    let N : g.row.H.Denot → Type 0 = λ h. LogInvariant (g.H.KeyHash.hash h) its_log.overflowed its_log.hashes.items (slots_of new.list.cells) in
+    let S : List Slot → Type 0 = λ ss. TombstonesAreAmong hash_of its_log.hashes.items ss in
     record {
       rows = e.rows;
       counted = omega (arith, l, ap length is, c.self.invariant.counted);
       due = subst D (sym e.keeps.directory) c.self.invariant.due;
-      logged = subst N (sym e.keeps.hasher) (λ kept. subst S (sym is) (among-without hash_of held.hashes.items p.key (slots_of c.self.inside.index.list.cells) (c.self.invariant.logged kept)));
+      logged = subst N (sym e.keeps.hasher) (λ kept. subst S (sym is) (among-without hash_of its_log.hashes.items p.key (slots_of c.self.inside.index.list.cells) (c.self.invariant.logged kept)));
     }
 
 pub returns-clause-count : goal.returns-clause-count

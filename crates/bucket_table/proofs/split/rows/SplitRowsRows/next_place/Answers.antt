@@ -1,7 +1,7 @@
 use Rattle.std.proofs.Common.{IsSome, sym, subst, arith}
 use Rattle.bucket_table.specs.Walks.{IsNextPlace}
 use Rattle.bucket_table.specs.SplitRowsState.{SplitRowsState, key_of_place}
-use Rattle.bucket_table.proofs.list.Places.{at-place, place-stands}
+use Rattle.bucket_table.proofs.list.Places.{at-place, at-is_place}
 use Rattle.bucket_table.proofs.order.Read.{next-there}
 use Rattle.bucket_table.proofs.split.rows.SplitRowsRows.next_place.Goals as goal
 
@@ -9,7 +9,7 @@ pub overflow_add-place : goal.overflow_add-place
 overflow_add-place g c =
     let P : SplitRowsState g.row.H.Denot → Type 0 = λ v. IsSome (key_of_place v.places c.args.place) in
     let p = at-place c.args.place c.self.inside.index.list.cells c.reveal_invariant.ensures.apart c.self.invariant.rows.rows.split.distinct (subst P (sym c.self.view_is) c.requires) in
-    let less = c.reveal_invariant.ensures.places c.args.place (place-stands c.args.place c.self.inside.index.list.cells p) in
+    let less = c.reveal_invariant.ensures.places c.args.place (at-is_place c.args.place c.self.inside.index.list.cells p) in
     omega (arith, less)
 
 pub returns : goal.returns

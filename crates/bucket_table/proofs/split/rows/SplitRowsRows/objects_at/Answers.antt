@@ -2,7 +2,7 @@ use Rattle.std.proofs.Common.{◌≡◌, IsSome, Some, option_map, sym, ◌∙�
 use Rattle.node_list.specs.declared.node.Item.{Item}
 use Rattle.bucket_table.specs.Entries.{objects_in}
 use Rattle.bucket_table.specs.SplitRowsState.{SplitRowsState, key_of_place}
-use Rattle.bucket_table.proofs.list.Places.{at-place, place-stands, no-item}
+use Rattle.bucket_table.proofs.list.Places.{at-place, at-is_place, no-item}
 use Rattle.bucket_table.proofs.order.Read.{objects-there}
 use Rattle.bucket_table.proofs.split.rows.SplitRowsRows.objects_at.Goals as goal
 
@@ -10,7 +10,7 @@ pub item-requires : goal.item-requires
 item-requires g c =
     let P : SplitRowsState g.row.H.Denot → Type 0 = λ v. IsSome (key_of_place v.places c.args.place) in
     let p = at-place c.args.place c.self.inside.index.list.cells c.reveal_invariant.ensures.apart c.self.invariant.rows.rows.split.distinct (subst P (sym c.self.view_is) c.requires) in
-    place-stands c.args.place c.self.inside.index.list.cells p
+    at-is_place c.args.place c.self.inside.index.list.cells p
 
 pub unreachable-requires : goal.unreachable-requires
 unreachable-requires g c =

@@ -2,7 +2,7 @@ use Rattle.ets_term.specs.declared.term.Term.{Term}
 use Rattle.std.proofs.Math.Nat.{mod-eq_of_lt}
 use Rattle.bucket_table.specs.Slots.{Slot, has_objects}
 use Rattle.bucket_table.specs.inside.TombstoneLog.{IsAmong, TombstonesAreAmong}
-use Rattle.bucket_table.proofs.sweep.Log.{among-with, among-more, held-told}
+use Rattle.bucket_table.proofs.sweep.Log.{among-with, among-more, tombstone-counted}
 use Rattle.bucket_table.proofs.hints.Rebuild.{item-small}
 use Rattle.std.proofs.Common.{◌≡◌, ◌-◌, ℕ, List, arith, length, IsSome, Some, sym, ◌∙◌, ap, subst, ◌^◌, ◌+◌}
 use Rattle.bucket_table.specs.Entries.{objects_in, with_objects_in}
@@ -12,7 +12,7 @@ use Rattle.node_list.specs.Changes.{cells_with}
 use Rattle.bucket_table.proofs.list.Content.{found-item}
 use Rattle.bucket_table.proofs.list.Length.{length-set_value}
 use Rattle.bucket_table.proofs.hints.Invariant.{rows-with}
-use Rattle.bucket_table.proofs.list.Places.{at-place, place-stands, hash-key, length-with, places-with}
+use Rattle.bucket_table.proofs.list.Places.{at-place, at-is_place, hash-key, length-with, places-with}
 use Rattle.ets_term.specs.Order.{same}
 use Rattle.bucket_table.specs.inside.Order.{content_of}
 use Rattle.bucket_table.proofs.order.Read.{objects-there, objects-put}
@@ -29,7 +29,7 @@ pub key-requires : goal.key-requires
 key-requires g c =
     let P : SplitRowsState g.row.H.Denot → Type 0 = λ v. IsSome (key_of_place v.places c.args.place) in
     let p = at-place c.args.place c.self.inside.index.list.cells c.reveal_invariant.ensures.apart c.self.invariant.rows.rows.split.distinct (subst P (sym c.self.view_is) c.requires) in
-    place-stands c.args.place c.self.inside.index.list.cells p
+    at-is_place c.args.place c.self.inside.index.list.cells p
 
 pub item_hash-hash-requires : goal.item_hash-hash-requires
 item_hash-hash-requires g c =
@@ -57,7 +57,7 @@ invariant_of-self g c =
       counted = c.self.invariant.counted ∙ sym (ap length (h.replaced c.replace.new.dest) ∙ length-set_value (same p.key) ss c.replace.new.dest);
       due = c.self.invariant.due;
       logged = λ kept. subst N (sym (h.replaced c.replace.new.dest)) (among-with hash_of hs p.key c.replace.new.dest ss
-          (λ e. subst H hash ((c.log_hash.ensures kept).2 (held-told c.args.objects c.len.result c.len.ensures (ap has_objects (sym c.replace.ensures.after) ∙ e))))
+          (λ e. subst H hash ((c.log_hash.ensures kept).2 (tombstone-counted c.args.objects c.len.result c.len.ensures (ap has_objects (sym c.replace.ensures.after) ∙ e))))
           (among-more hash_of c.self.inside.log.hashes.items hs (c.log_hash.ensures kept).1 ss (c.self.invariant.logged (c.log_hash.ensures kept).0)));
     }
 

@@ -10,7 +10,7 @@ use Rattle.bucket_table.specs.inside.TombstoneLog.{TombstonesAreAmong}
 use Rattle.bucket_table.proofs.list.Content.{found-item}
 use Rattle.bucket_table.proofs.list.Length.{length-set_value}
 use Rattle.bucket_table.proofs.sweep.Log.{among-with}
-use Rattle.bucket_table.proofs.slots.Single.{one-stands, element-one, element-in, no-held}
+use Rattle.bucket_table.proofs.slots.Single.{one-exists, element-one, element-in, no-tombstone}
 use Rattle.bucket_table.proofs.hints.Invariant.{rows-with}
 use Rattle.bucket_table.proofs.list.Places.{at-place, length-with, places-with}
 use Rattle.bucket_table.specs.inside.Order.{content_of}
@@ -22,14 +22,14 @@ pub chain_mut-requires : goal.chain_mut-requires
 chain_mut-requires g c =
     let P : SplitRowsState g.row.H.Denot → Type 0 = λ v. HasOneObject v.slots (key_of_place v.places c.args.place) in
     let one = subst P (sym c.self.view_is) c.requires in
-    let p = at-place c.args.place c.self.inside.index.list.cells c.reveal_invariant.ensures.apart c.self.invariant.rows.rows.split.distinct (one-stands _ _ one) in
+    let p = at-place c.args.place c.self.inside.index.list.cells c.reveal_invariant.ensures.apart c.self.invariant.rows.rows.split.distinct (one-exists _ _ one) in
     found-item p.key c.args.place c.self.inside.index.list.cells p.found
 
 pub invariant_of-self : goal.invariant_of-self
 invariant_of-self g c =
     let P : SplitRowsState g.row.H.Denot → Type 0 = λ v. HasOneObject v.slots (key_of_place v.places c.args.place) in
     let one = subst P (sym c.self.view_is) c.requires in
-    let p = at-place c.args.place c.self.inside.index.list.cells c.reveal_invariant.ensures.apart c.self.invariant.rows.rows.split.distinct (one-stands _ _ one) in
+    let p = at-place c.args.place c.self.inside.index.list.cells c.reveal_invariant.ensures.apart c.self.invariant.rows.rows.split.distinct (one-exists _ _ one) in
     let h = p.found in
     let hash_of = g.H.KeyHash.hash c.self.inside.index.hasher in
     let ss = slots_of c.self.inside.index.list.cells in
@@ -40,14 +40,14 @@ invariant_of-self g c =
       rows = record { rows = rows-with hash_of c.self.inside.index.directory c.self.inside.index.hints.interval_bits c.self.inside.index.hints.current c.self.inside.index.list.cells c.self.invariant.rows.rows p.key c.args.place c.set_element.new.self h; previous = hints-with (2 ^ (c.self.inside.index.hints.interval_bits + 1)) c.self.inside.index.hints.previous c.args.place c.set_element.new.self c.self.inside.index.list.cells c.self.invariant.rows.previous };
       counted = c.self.invariant.counted ∙ sym (ap length (h.replaced c.set_element.new.self) ∙ length-set_value (same p.key) ss c.set_element.new.self);
       due = c.self.invariant.due;
-      logged = λ kept. subst N (sym (h.replaced c.set_element.new.self)) (among-with hash_of hs p.key c.set_element.new.self ss (λ e. absurd (no-held c.set_element.new.self _ done e)) (c.self.invariant.logged kept));
+      logged = λ kept. subst N (sym (h.replaced c.set_element.new.self)) (among-with hash_of hs p.key c.set_element.new.self ss (λ e. absurd (no-tombstone c.set_element.new.self _ done e)) (c.self.invariant.logged kept));
     }
 
 pub returns-clause-now : goal.returns-clause-now
 returns-clause-now g c =
     let P : SplitRowsState g.row.H.Denot → Type 0 = λ v. HasOneObject v.slots (key_of_place v.places c.args.place) in
     let one = subst P (sym c.self.view_is) c.requires in
-    let p = at-place c.args.place c.self.inside.index.list.cells c.reveal_invariant.ensures.apart c.self.invariant.rows.rows.split.distinct (one-stands _ _ one) in
+    let p = at-place c.args.place c.self.inside.index.list.cells c.reveal_invariant.ensures.apart c.self.invariant.rows.rows.split.distinct (one-exists _ _ one) in
     let done = element-in (content_of c.self.inside.index.list.cells) (key_of_place (places_of c.self.inside.index.list.cells) c.args.place) c.chain_mut.result.now c.set_element.new.self c.args.index c.args.value (objects-there c.self.inside.index.list.cells c.reveal_invariant.ensures.apart c.self.invariant.rows.rows.split.distinct c.args.place p c.chain_mut.result.now c.chain_mut.ensures.value) c.set_element.ensures in
     let Q : SplitRowsState g.row.H.Denot → Type 0 = λ v. content_of (cells_with c.args.place c.set_element.new.self c.self.inside.index.list.cells) ≡ with_element_in v.slots (key_of_place v.places c.args.place) c.args.index c.args.value in
     subst Q c.self.view_is (objects-put c.self.inside.index.list.cells c.reveal_invariant.ensures.apart c.self.invariant.rows.rows.split.distinct c.args.place p c.set_element.new.self ∙ done)
