@@ -107,8 +107,8 @@ module _ (p t : ℕ) where
       (new ≡ last)
 
   module _ (old : State) (keys : List Term) (given : Given) (last : State) where
-    -- One run: the fix is done, and then of the interleaved steps the first ones. The others are left. Each step handed
-    -- in has a turn. Of the process's own steps, only calls of the traversal are done. Their replies are the keys, and
+    -- One run: the fix, and then the first of the interleaved steps. The rest of them was not run. Each step of the
+    -- others has a turn. Of the process's own steps, only calls of the traversal are run. Their replies are the keys, and
     -- then those that the others do not see.
     pub record WovenRun : Type 0 where
       pub fixed : State

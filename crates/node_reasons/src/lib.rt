@@ -10,7 +10,7 @@
 //! *Mechanism.* A refused step changes nothing, so `why` finds the node as the step found it. It tries all rules of a
 //! call but the last, in their order. If none of these is broken, the last one is.
 //!
-//! *Limits.* Nothing is said about a reply that the specification does not allow for this step.
+//! *Limits.* There is no guarantee for a reply that the specification does not allow for this step.
 #![tactic(auto)]
 
 mod access;

@@ -85,7 +85,7 @@ pub due-weighs : (old : State) (s : Step) → due old ≡ Some s → weight s �
 due-weighs old s is = due-tends (λ s. weight s ≡ 0) (λ t. refl) (λ t bucket. refl) old s is
 
 module _ (limits : Limits) (all : ℕ) (es : List Entry) (old new : State) (total parts : ℕ) where
-  -- after a step that goes last all holds
+  -- the invariant holds after one more step
   pub invariant-step : (s : Step) (r : Reply) (more : ℕ) → BookInvariant limits all old es total parts → TakesStep old s r new → weight s ≡ more → BookInvariant limits all new (es ++ entry s r ∷ []) (total + more) parts
   invariant-step s r more was does adds =
       let m = step-remembers (observable old) (observable new) s r does.0 in

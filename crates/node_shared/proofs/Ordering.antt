@@ -15,7 +15,7 @@ within-more [] ys e h = tt
 within-more (x ∷ xs) [] e h = absurd h
 within-more (x ∷ xs) (y ∷ ys) e h = ⊎_elim (λ (t : (x ≡ y) × IsSubsequence xs ys). inl (t.0, within-more xs ys e t.1)) (λ (t : IsSubsequence (x ∷ xs) ys). inr (within-more (x ∷ xs) ys e t)) h
 
--- and goes on where it does
+-- and stays in it if both get one more
 pub within-on : (xs ys : List Entry) (e : Entry) → IsSubsequence xs ys → IsSubsequence (xs ++ e ∷ []) (ys ++ e ∷ [])
 within-on [] [] e h = inl (refl, tt)
 within-on [] (y ∷ ys) e h = inr (within-on [] ys e tt)

@@ -72,11 +72,11 @@ client_send L l =
       ),
     )))
 
--- what a closure takes with it goes with it
+-- a closure may be sent if all that it captures may be sent
 pub captures_send : (name : Sym) (Ts : List RattleType) → AllSend (shape (type_at name Ts)).fields → IsSend (TupleAt name Ts)
 captures_send name Ts s = recorded_send (field_at name Ts).row _ _ (type_at name Ts).to_one (struct_send (shape (type_at name Ts)) s)
 
--- what the closure of one half of the clients takes with it
+-- what the closure of one half of the clients captures
 abbrev pub Taken : (a b d : Lifetime) (α β γ : Lft) (L H G R : RattleType) (l : Ledger.Ghosts L.Denot) (k : KeyHash.Ghosts H.Denot) (c : Clone.Ghosts H.Denot) → List RattleType
 Taken a b d α β γ L H G R l k c =
     ShrRef a α R ∷ Global.the_row ∷ ShrRef b β (Shared.the_row L H l k c) ∷ usize

@@ -1,4 +1,4 @@
--- Steps with replies that end a run, whatever went before.
+-- Steps with replies at the end of a run, with any beginning.
 use Rattle.std.specs.Prelude.{◌≡◌, ◌⊎◌, ℕ, ◌+◌, List, [], ◌∷◌, ◌++◌}
 use Rattle.std.specs.List.{All}
 use Rattle.node_core.specs.declared.limits.Limits.{Limits}

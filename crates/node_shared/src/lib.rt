@@ -10,8 +10,8 @@
 //! each reply that a caller gets, there is a run that has all of the caller's earlier replies, in order, and ends with
 //! this reply.
 //!
-//! *Weakness.* A call that waits for the lock need not return. Nothing is said of time, of fairness, or of the order of
-//! calls of clients that did not communicate.
+//! *Weakness.* A call that waits for the lock need not return. No contract speaks of time, of fairness, or of the
+//! order of calls of clients that did not communicate.
 //!
 //! *Mechanism.* A step is run and recorded under one lock. A ledger counts the entries of processes: the lock's side
 //! has the total, each client's share its own part, so that no other node can reply to a client. `close` compares the

@@ -42,7 +42,7 @@ module _ (ps : Processes) (p : ℕ) (dead : lives ps p ≡ false) (now : Indices
     pub reassigned-all : new ≡ map (table_after_exit ps p) old
     reassigned-all = reassigns-all ps p dead old own now.fixed.items reassigned.listed owned new reassigned.reassigns
 
-    -- tables that nobody fixes are not listed
+    -- tables that no process fixes are not listed
     pub kept-fixed-only : (next : Indices) → next ≡ record now { fixed = next.fixed } → next.fixed.items ≡ filter (is_fixed_at new) now.fixed.items → vec_capacity next.fixed ≡ vec_capacity now.fixed → IndicesInvariant next new
     kept-fixed-only next rest items room =
         let listed : FixedAreListed next.fixed.items None new = subst (λ ids. FixedAreListed ids None new) (sym items) (listed-after ps p dead old own now.fixed.items reassigned.listed owned new reassigned-all) in

@@ -14,7 +14,7 @@ use Rattle.ownership.specs.Access.{is_owner}
 use Rattle.ownership.specs.Messages.{transfer_message, push_messages}
 use Rattle.ownership.specs.Tables.{with_owner}
 
--- the processes after one has ended: it lives no more, and its messages are gone
+-- the processes after one has ended: it does not live, and its mailbox is empty
 abbrev pub with_ended : Processes → ℕ → Processes
 with_ended processes p = set_value (λ q. p == q) processes (record { lives = false; mailbox = [] })
 
@@ -23,7 +23,7 @@ abbrev pub living_heir : Processes → Metadata → Option Heir
 living_heir processes metadata =
     option_and_then (λ heir. if lives processes heir.pid then Some heir else None) metadata.heir
 
--- a table without the fixes of a process; tombstones go when nobody fixes the table
+-- a table without the fixes of a process, and without tombstones if no other process fixes it
 abbrev pub without_fixes : ℕ → Table → Table
 without_fixes p table = record table { fixed = after_release_all p table.fixed }
 
@@ -62,8 +62,8 @@ after_exit w processes p =
       tables = map (table_after_exit processes p) w.tables;
     }
 
--- The process must live. It then lives no more, so it is no heir. Its messages and fixes are gone. Each of its tables
--- passes to its living heir with the message, or is deleted.
+-- The process must live. Afterwards it does not live, so it is no heir, and it has no messages and no fixes. Each of its
+-- tables passes to its living heir with the message, or is deleted.
 abbrev pub End : World → ℕ → Outcome (Result (Unit {0}) WorldFault) World
 End old p =
     refuse old (not (lives old.processes p)) (Err NoProcess) (

@@ -106,7 +106,7 @@ module _ (p : ℕ) (needs : Bool) (old : State) where
       by None copy = none
       by (Some name) copy = call-lawful name args (copy name refl)
 
--- ---- and whatever the step is
+-- ---- for each step
 growth-at : (o : Option Table)
     → option_map_or (λ _. ok_reply) (option_map observable_table o) Badarg ≡ option_map_or (λ _. ok_reply) o Badarg
 growth-at None = refl

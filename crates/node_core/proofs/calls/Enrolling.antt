@@ -19,7 +19,7 @@ use Rattle.node_core.specs.rules.Growth.{step_on_buckets}
 use Rattle.node_core.specs.rules.Replies.{is_value}
 use Rattle.node_core.proofs.buckets.Unobservable.{unobservable-same}
 
--- what the world makes of it, where a process of this number is known, or where all places are taken
+-- the result of an enrolment: refused if the number was enrolled before, or if the limit of processes is reached
 abbrev Enrols : World → World → ℕ → Bool → Bool → Result (Unit {0}) WorldFault → Type 0
 Enrols old new p known full r =
     MatchBool known ((r ≡ Err fault.Badarg) × (new ≡ old)) (MatchBool full ((r ≡ Err fault.SystemLimit) × (new ≡ old)) ((r ≡ Ok tt) × (new ≡ after_enrol old p)))
@@ -27,7 +27,7 @@ Enrols old new p known full r =
 no-value : (answer r : Reply) → r ≡ answer → is_value answer ≡ false → is_value r ≡ true → ⊥
 no-value answer r is refused granted = let both : true ≡ false = sym granted ∙ ap is_value is ∙ refused in cc
 
--- one that is let in is one more, and there was a place for it
+-- an enrolled process is one more, and the limit was not reached before
 pub enrolled : (old new : State) (p : ℕ) (r : Reply) → is_value r ≡ true → step old (Enrol p) r new
     → (length new.world.processes ≡ length old.world.processes + 1) × (length old.world.processes < old.world.most_processes)
 enrolled old new p r granted h = by (is_some (process_at old.world.processes p)) (nat_le old.world.most_processes (length old.world.processes)) refl h.0 h.1 h.2
@@ -40,7 +40,7 @@ enrolled old new p r granted h = by (is_some (process_at old.world.processes p))
         let more : length new.world.processes ≡ length (after_enrol old.world p).processes = ap (λ (w : World). length w.processes) a.1 in
         (more ∙ length-append old.world.processes ((p, record { lives = true; mailbox = [] }) ∷ []), leb-false old.world.most_processes (length old.world.processes) f)
 
--- one that is refused leaves all as it was, the buckets too
+-- a refused one changes nothing, not even buckets
 pub not-enrolled : (old new : State) (p : ℕ) (r : Reply) → is_value r ≡ false → step (observable old) (Enrol p) r (observable new) → step_on_buckets old (Enrol p) r new → new ≡ old
 not-enrolled old new p r refused h kept =
     unobservable-same old new (by (is_some (process_at (observable old).world.processes p)) (nat_le (observable old).world.most_processes (length (observable old).world.processes)) h.0 h.1 h.2 h.3) kept.0

@@ -152,7 +152,7 @@ module _ (own : ℕ → Bool) where
         (on-content (InsertsNew (objects_in argument)) (insert_new-keeps (objects_in argument)) (news-free (objects_in argument)))
 
     -- ---- removal
-    -- these objects go, with this answer
+    -- these objects are removed, with this answer
     drops : (answer : TableState → Reply) (which : Which) → ((old : TableState) → answer (observable_fixed old) ≡ answer old)
         → (needs ≡ false → (old : TableState) → is_flat (answer old) ≡ true)
         → IsLawful own needs (λ old reply new. (reply ≡ answer old) × (new ≡ after_delete which old))

@@ -1,5 +1,5 @@
 -- What becomes of processes and tables: no outcome depends on buckets, and what holds of the world before it and of all that it may
--- leave holds after it. Each outcome of the world is gone through here once.
+-- leave holds after it. Each outcome of the world is treated here once.
 use Rattle.std.proofs.Common.{◌≡◌, ℕ, suc, Bool, true, false, ◌&&◌, not, ◌==◌, nat_le, cond, List, [], ◌∷◌, Option, None, Some, option_map, Result, Ok, Err, refl, sym, subst, subst₂, ap, ap₂, ◌∙◌, length, map}
 use Rattle.std.specs.Prelude.{is_some}
 use Rattle.std.specs.Option.{option_map_or}

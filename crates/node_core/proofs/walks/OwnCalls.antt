@@ -63,7 +63,7 @@ or-false : (a b : Bool) → a ≡ false → b ≡ false → (a || b) ≡ false
 or-false true b h k = absurd (true≢false h)
 or-false false b h k = k
 
--- a key that may be walked on from, whatever the table
+-- a key from which a traversal of any table may continue
 abbrev IsGood : Term → Type 0
 IsGood key = (is_too_deep key ≡ false) × (is_atom (codes "$end_of_table") key ≡ false)
 

@@ -147,7 +147,7 @@ module _ (old new : State) (q t : ℕ) (r : Reply) (table : Table) (at : table_a
   call-replies name.NextLookup (term ∷ key ∷ []) asked e h = reads-walk term (next_lookup_reply key) (Some key, true) asked refl e h
   call-replies _ _ asked e h = absurd (cc)
 
-  -- refusals that go before the call
+  -- refusals before the call is made
   named-replies : (found : Option CallName) (args : List Term) (asked : Option Term × Bool) → option_and_then (λ name. walk_call old t name args) found ≡ Some asked
       → refuse_none old found Badarg (λ name. call old q name args) r new → Replies asked.1 asked.0 table.fixed.content.slots r
   named-replies None args asked e h = absurd (cc)

@@ -76,7 +76,7 @@ HeirsOfOwnerAreIndexed indices processes p tables =
     → (table.metadata.owner == p) ≡ true
     → living_heir processes table.metadata ≡ Some heir → IsAmong t (ids_under indices heir.pid)
 
--- nobody fixes the table, and it has no tombstones
+-- no process fixes the table, and it has no tombstones
 abbrev pub IsUnfixed : TableState → Type 0
 IsUnfixed table = (is_fixed table.fixes ≡ false) × HasNoTombstones table.content.slots
 

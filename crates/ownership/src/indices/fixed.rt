@@ -55,7 +55,7 @@ impl Indices {
         }
     }
 
-    /// Removes the tables that nobody fixes.
+    /// Removes the tables that no process fixes.
     pub(super) fn retain_fixed<R: Rows>(&mut self, tables: &[Option<OwnedTable<R>>])
         ensures rest { self.new ≡ record self.old { fixed = self.new.fixed } }
         ensures items { self.new.fixed.items
