@@ -1,4 +1,4 @@
-//! Reads pids, and references, which represent table identifiers.
+//! Reads pids, and the references that encode table identifiers.
 ghost use Rattle.std.specs.Prelude.{◌≡◌, ◌+◌, ◌≤◌, ◌<◌, ◌^◌, length, IfOk};
 ghost use Rattle.external_term.specs.Faults.{Returns};
 ghost use Rattle.external_term.specs.Identifiers.{are_zero, is_own, node_at as read_node, identifier_at as read_identifier, pid_at as read_pid, old_reference_at as read_old, reference_at as read_reference};
