@@ -9,6 +9,7 @@ use std::io;
 /// The process that calls.
 const PID: u32 = 0;
 
+/// Prints the price of tea, or to the standard error that there is none.
 fn main(rt: HostRuntime) -> io::Result<()> {
     match price_of_tea(rt.alloc())? {
         Reply::Value(Term::Int(price)) => println!(rt; "tea costs {price}"),
@@ -16,6 +17,7 @@ fn main(rt: HostRuntime) -> io::Result<()> {
     }
 }
 
+/// Creates a node, and returns the reply to a look-up of the price of tea.
 fn price_of_tea(alloc: Global) -> Result<Reply, AllocError> {
     let mut node = Node::new(alloc, Limits::usual(), Fnv);
     store_and_look_up(alloc, &mut node)
@@ -44,6 +46,7 @@ fn call(node: &mut Node<Fnv>, name: Atom, args: Vec<Term>) -> Result<Reply, Allo
     Ok(reply)
 }
 
+/// Returns the term that is the atom with this text.
 fn word(alloc: Global, text: &str) -> Result<Term, AllocError> {
     Ok(Term::Atom(atom(alloc, text)?))
 }

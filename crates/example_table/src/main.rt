@@ -11,6 +11,7 @@ use table_ops::{Kind, Refusal, Table};
 /// The most objects that the table may have.
 const OBJECTS: u32 = 1_000;
 
+/// Prints the count of milk and the number of buckets, or to the standard error that there is none.
 fn main(rt: HostRuntime) -> io::Result<ExitCode> {
     let Ok((Some(count), buckets)) = count_of_milk(rt.alloc()) else {
         eprintln!(rt; "no milk, or out of memory")?;
@@ -20,7 +21,7 @@ fn main(rt: HostRuntime) -> io::Result<ExitCode> {
     Ok(ExitCode::SUCCESS)
 }
 
-/// What a table says of milk after it has doubled its buckets, and how many these are.
+/// Returns the count of milk, read after the table doubled its buckets, and the number of buckets.
 fn count_of_milk(alloc: Global) -> Result<(Option<Integer>, u32), Refusal> {
     let rows = SplitRows::new(alloc, Fnv)?;
     let mut table = Table::new(alloc, rows, Kind::Set, 1, OBJECTS);
@@ -31,12 +32,12 @@ fn count_of_milk(alloc: Global) -> Result<(Option<Integer>, u32), Refusal> {
     Ok((found, table.buckets()))
 }
 
-/// The objects that go into the table.
+/// Returns the objects that go into the table.
 fn stock(alloc: Global) -> Result<Vec<Term>, AllocError> {
     Ok(vec![in alloc; count(alloc, "tea", 3)?, count(alloc, "milk", 1)?]?)
 }
 
-/// The second element of the only object of a key.
+/// Returns the second element of the only object of a key, if it is an integer.
 fn count_in(objects: &[Term]) -> Option<Integer> {
     match objects.first()?.element(2)? {
         Term::Int(count) => Some(*count),
@@ -44,13 +45,13 @@ fn count_in(objects: &[Term]) -> Option<Integer> {
     }
 }
 
-/// The object `{name,number}`.
+/// Returns the object `{name,number}`.
 fn count(alloc: Global, name: &str, number: Integer) -> Result<Term, AllocError> {
     let elements = vec![in alloc; atom(alloc, name)?, Term::Int(number)]?;
     Ok(Term::Tuple(Items::from_vec(elements)))
 }
 
-/// The atom with this text, which is short printable ASCII here.
+/// Returns the atom with this text, which is short and printable ASCII.
 fn atom(alloc: Global, text: &str) -> Result<Term, AllocError> {
     match Atom::new(alloc, text) {
         Ok(atom) => Ok(Term::Atom(atom)),

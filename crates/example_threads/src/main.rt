@@ -21,6 +21,7 @@ use std::sync::Wait;
 use std::sync::ledger::{Blank, Ledger};
 use std::thread::Threads;
 
+/// Runs five clients on a shared node, and prints what they counted, inserted and visited.
 fn main(rt: HostRuntime) -> io::Result<ExitCode> {
     let Some(totals) = share_node::<Brand, _>(&rt, rt.alloc(), Blank::new(6)) else {
         eprintln!(rt; "out of memory")?;
@@ -35,7 +36,7 @@ fn main(rt: HostRuntime) -> io::Result<ExitCode> {
     Ok(ExitCode::SUCCESS)
 }
 
-/// Runs five clients on one node. At the end, compares their records with the journal.
+/// Runs five clients on one node, and returns their totals, if the clients' records agree with the journal.
 fn share_node<L: Ledger + Send + Sync, R: Threads + Wait + Sync>(
     rt: &R,
     alloc: Global,

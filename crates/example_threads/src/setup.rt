@@ -8,7 +8,11 @@ use std::alloc::Global;
 use std::sync::Wait;
 use std::sync::ledger::Ledger;
 
-/// The number of objects that are in the bag at first, with the keys below it. Each client counts and inserts as often.
+/// The fifth creates the tables and traverses the bag; the other four count and insert.
+pub(crate) const CLIENTS: usize = 5;
+
+/// How often each client counts, and how often it inserts. The bag starts with as many objects, whose keys are the
+/// numbers below this one.
 pub(crate) const TIMES: u32 = 100;
 
 /// Returns the fifth client, which has created the tables, and the four others with their jobs.
@@ -17,7 +21,7 @@ pub(crate) fn set_up<L: Ledger, R: Wait>(
     alloc: Global,
     shared: &Shared<L, Fnv>,
 ) -> Option<(Client<L>, Vec<(Client<L>, Vec<Job>)>)> {
-    let mut clients = clients(rt, alloc, shared, 5)?;
+    let mut clients = clients(rt, alloc, shared, CLIENTS)?;
     create_tables(rt, alloc, shared, clients.last_mut()?)?;
     let fifth = clients.pop()?;
     let work = with_jobs(alloc, clients)?;
@@ -57,10 +61,11 @@ fn create_tables<L: Ledger, R: Wait>(
     for (name, args) in calls {
         client.ask(rt, shared, &call(alloc, name, args)?).ok()?;
     }
-    fill(rt, alloc, shared, client)
+    fill_bag(rt, alloc, shared, client)
 }
 
-fn fill<L: Ledger, R: Wait>(
+/// Inserts the objects with the keys below `TIMES` into the bag.
+fn fill_bag<L: Ledger, R: Wait>(
     rt: &R,
     alloc: Global,
     shared: &Shared<L, Fnv>,

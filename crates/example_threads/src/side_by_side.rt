@@ -2,7 +2,7 @@
 ghost use Rattle.std.specs.Thread.{IsSync};
 
 use crate::calls::{ask_integer, call};
-use crate::setup::set_up;
+use crate::setup::{CLIENTS, set_up};
 use crate::traversal::traverse;
 use ets_term::{Fnv, Integer, KeyHash};
 use node_shared::{Client, Gate, Job, Shared, Worked, run_clients};
@@ -22,10 +22,12 @@ impl Gate for NoGate {
     fn after(&self, _client: usize, _call: usize) {}
 }
 
-/// The results of all clients.
+/// What the clients counted, inserted and visited.
 #[derive(Drop)]
 pub(crate) struct Totals {
+    /// The counter's value at the end.
     pub(crate) counter: Integer,
+    /// The number of objects in the bag at the end.
     pub(crate) objects: Integer,
     /// The number of keys that the traversal visited, of those that were in the bag before.
     pub(crate) old_keys: usize,
@@ -49,7 +51,7 @@ pub(crate) fn run_clients_and_traversal<L: Ledger + Send + Sync, R: Threads + Wa
     Some((clients, totals))
 }
 
-/// Returns what came of the traversal, and of the clients that ran at the same time.
+/// Traverses the bag in one thread and runs the other clients in theirs; returns the results of both.
 fn run_side_by_side<
     L: Ledger + Send + Sync,
     H: KeyHash + Copy + Drop + Send + Sync,
@@ -83,13 +85,14 @@ fn all_clients<L: Ledger>(
     workers: Result<Vec<Worked<L>>, AllocError>,
 ) -> Option<(Vec<Client<L>>, usize)> {
     let (fifth, old_keys) = traversal?;
-    let mut clients = clients_of(alloc, workers.ok()?)?;
+    let mut clients = clients_of_workers(alloc, workers.ok()?)?;
     clients.push(fifth).ok()?;
     Some((clients, old_keys))
 }
 
-fn clients_of<L: Ledger>(alloc: Global, workers: Vec<Worked<L>>) -> Option<Vec<Client<L>>> {
-    let mut clients = Vec::with_capacity(alloc, 5).ok()?;
+/// Returns the clients of the workers.
+fn clients_of_workers<L: Ledger>(alloc: Global, workers: Vec<Worked<L>>) -> Option<Vec<Client<L>>> {
+    let mut clients = Vec::with_capacity(alloc, CLIENTS).ok()?;
     for worker in workers {
         clients.push(worker.client).ok()?;
     }

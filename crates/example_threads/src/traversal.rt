@@ -7,6 +7,9 @@ use std::alloc::Global;
 use std::sync::Wait;
 use std::sync::ledger::Ledger;
 
+/// More than the keys of the bag: a bound for the loop.
+const MOST_KEYS: u32 = 1_000;
+
 /// Traverses the bag. Returns the client, and the number of keys that were in the bag before.
 pub(crate) fn traverse<L: Ledger, H: KeyHash + Copy + Drop, R: Wait>(
     rt: &R,
@@ -14,12 +17,13 @@ pub(crate) fn traverse<L: Ledger, H: KeyHash + Copy + Drop, R: Wait>(
     shared: &Shared<L, H>,
     mut client: Client<L>,
 ) -> Option<(Client<L>, usize)> {
-    fix(rt, alloc, shared, &mut client)?;
+    fix_bag(rt, alloc, shared, &mut client)?;
     let old_keys = count_old_keys(rt, alloc, shared, &mut client)?;
     Some((client, old_keys))
 }
 
-fn fix<L: Ledger, H: KeyHash + Copy + Drop, R: Wait>(
+/// Fixes the bag, so that a traversal visits each object that is in it from first to last.
+fn fix_bag<L: Ledger, H: KeyHash + Copy + Drop, R: Wait>(
     rt: &R,
     alloc: Global,
     shared: &Shared<L, H>,
@@ -30,6 +34,7 @@ fn fix<L: Ledger, H: KeyHash + Copy + Drop, R: Wait>(
     Some(())
 }
 
+/// Visits the keys of the bag in turn, and returns how many of them are below `TIMES`.
 fn count_old_keys<L: Ledger, H: KeyHash + Copy + Drop, R: Wait>(
     rt: &R,
     alloc: Global,
@@ -38,7 +43,7 @@ fn count_old_keys<L: Ledger, H: KeyHash + Copy + Drop, R: Wait>(
 ) -> Option<usize> {
     let mut count = 0usize;
     let mut next = call(alloc, "first", "[notes]")?;
-    for _ in 0..1_000 {
+    for _ in 0..MOST_KEYS {
         let Some(key) = ask_integer(rt, shared, client, &next) else {
             break;
         };

@@ -10,6 +10,7 @@ use external_term::{ExternalFault, read_external, write_external, write_external
 use std::alloc::{AllocError, Global};
 use std::io::{self, Read, Write};
 
+/// Answers all lines of the standard input on the standard output.
 fn main(rt: HostRuntime) -> io::Result<()> {
     let alloc = rt.alloc();
     let mut input = Vec::new(alloc);
@@ -33,6 +34,7 @@ fn reply_to_lines(alloc: Global, input: &[u8], output: &mut Vec<u8>) -> Result<(
     Ok(())
 }
 
+/// Appends the answer to one line of hexadecimal digits.
 fn reply_to_line(alloc: Global, line: &[u8], output: &mut Vec<u8>) -> Result<(), AllocError> {
     let bytes = bytes_of(alloc, line)?;
     reply_to(alloc, bytes.as_slice(), output)
@@ -67,6 +69,7 @@ fn append_term(alloc: Global, term: &Term, output: &mut Vec<u8>) -> Result<(), A
     append_digits(written.as_slice(), output)
 }
 
+/// Appends the name of a fault, as `Debug` prints it.
 fn append_fault(
     alloc: Global,
     fault: ExternalFault,
@@ -98,6 +101,7 @@ fn value_of(digit: u8) -> u8
     }
 }
 
+/// Appends two hexadecimal digits for each byte.
 fn append_digits(bytes: &[u8], output: &mut Vec<u8>) -> Result<(), AllocError> {
     for byte in bytes {
         output.push(digit_of(*byte / 16))?;
