@@ -15,8 +15,19 @@ mod refused;
 mod searches;
 mod several;
 mod sizes;
+mod sweeps;
+mod traversals;
+mod visits;
 
-use self::hashes::{Even, Last, Plain};
+use self::hashes::{Even, Greatest, PidNumber};
+
+/// The first state of the generator; any number would do.
+const SEED: u64 = 20_261_122;
+
+/// The multiplier and the increment of Knuth's linear congruential generator, MMIX.
+const MULTIPLIER: u64 = 6_364_136_223_846_793_005;
+
+const INCREMENT: u64 = 1_442_695_040_888_963_407;
 
 /// Pseudo-random numbers, the same in each run.
 #[derive(Drop)]
@@ -25,22 +36,22 @@ struct Draws {
 }
 
 impl Draws {
+    /// Starts the generator at the seed.
     fn new() -> Draws {
-        Draws { state: 20_261_122 }
+        Draws { state: SEED }
     }
 
-    fn below(&mut self, bound: u32) -> u32
+    /// Advances the generator, and returns a number below the bound.
+    fn random_below(&mut self, bound: u32) -> u32
         requires { 0 < bound }
     {
-        self.state = self
-            .state
-            .wrapping_mul(6_364_136_223_846_793_005)
-            .wrapping_add(1_442_695_040_888_963_407);
+        self.state = self.state.wrapping_mul(MULTIPLIER).wrapping_add(INCREMENT);
+        // The low bits of such a generator repeat soon, so the high ones are used.
         ((self.state >> 33) % (bound as u64)) as u32
     }
 }
 
-/// What rows have under a key.
+/// What rows have under a key. `Object` has the integer that is the key's only object.
 #[derive(Clone, Copy, PartialEq, Eq)]
 enum KeyState {
     Nothing,
@@ -48,28 +59,31 @@ enum KeyState {
     Object(Integer),
 }
 
-fn state_in(objects: &[Term]) -> KeyState {
+/// Returns the state of a slot with these objects: its first integer, or a tombstone if there is none.
+fn state_of_objects(objects: &[Term]) -> KeyState {
     match objects.first() {
         Some(Term::Int(value)) => KeyState::Object(*value),
         _ => KeyState::Tombstone,
     }
 }
 
+/// Returns the state of a key.
 fn state_at<R: Rows>(rows: &R, key: Integer) -> KeyState {
     let term = Term::Int(key);
     let state = match rows.get(&term) {
-        Some(objects) => state_in(objects),
+        Some(objects) => state_of_objects(objects),
         None => KeyState::Nothing,
     };
     drop(term);
     state
 }
 
-/// Returns the state of a key whose slot had these objects, before it was removed or changed.
-fn state_of(objects: Option<Chain>) -> KeyState {
+/// Returns the state of a key whose slot had these objects before it was removed or changed. `None` means that it had
+/// no slot.
+fn state_of_removed(objects: Option<Chain>) -> KeyState {
     match objects {
         Some(objects) => {
-            let state = state_in(objects.as_slice());
+            let state = state_of_objects(objects.as_slice());
             drop(objects);
             state
         }
@@ -93,7 +107,7 @@ fn insert<R: Rows>(
         }
         SlotEntry::Occupied(place) => {
             drop(term);
-            Ok(state_of(Some(rows.replace_at(place, objects))))
+            Ok(state_of_removed(Some(rows.replace_at(place, objects))))
         }
     }
 }
@@ -103,16 +117,16 @@ fn remove<R: Rows>(rows: &mut R, key: Integer) -> KeyState {
     let term = Term::Int(key);
     let objects = rows.remove(&term);
     drop(term);
-    state_of(objects)
+    state_of_removed(objects)
 }
 
 /// Doubles the buckets now and then, and makes some of them ready in any order.
 fn ready_some<R: Rows>(rows: &mut R, draws: &mut Draws) -> Result<(), AllocError> {
-    if rows.buckets() < 4096 && draws.below(50) == 0 {
+    if rows.buckets() < 4096 && draws.random_below(50) == 0 {
         rows.grow()?;
     }
-    for _ in 0..draws.below(20) {
-        let bucket = draws.below(rows.buckets().max(1));
+    for _ in 0..draws.random_below(20) {
+        let bucket = draws.random_below(rows.buckets().max(1));
         rows.ready(bucket)?;
     }
     Ok(())

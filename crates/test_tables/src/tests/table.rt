@@ -1,19 +1,21 @@
-// Expected answers from the rules of the manual. A test is a list of steps, each with its answer. One function runs it
-// on tables over each form of rows.
+// Expected answers from the rules of the manual. A scenario is a list of steps, each with its answer. `scenario_holds`
+// runs it on tables over each form of rows.
 use answers::Answer;
 use bucket_table::{PlainRows, Rows, SplitRows};
 use ets_term::{AllSame, Fnv, Integer, Position};
 use std::alloc::Global;
-use steps::change;
+use steps::run_step;
 use table_ops::{Kind, Table};
 
 mod answers;
+mod bad_objects;
 mod calls;
 mod lists;
 mod long;
 mod objects;
 mod refused;
 mod searches;
+mod single_calls;
 mod steps;
 mod terms;
 mod updates;
@@ -58,7 +60,8 @@ pub enum Emptied {
 }
 
 impl Emptied {
-    fn holds(self) -> bool {
+    /// Returns the `hold` argument of the call: whether a slot without objects stays as a tombstone.
+    fn leaves_tombstone(self) -> bool {
         match self {
             Emptied::LeaveTombstone => true,
             Emptied::RemoveSlot => false,
@@ -107,18 +110,18 @@ const MEMORY: Integer = -3;
 
 /// Runs a step. Returns the number for its answer.
 fn answer<R: Rows>(alloc: Global, table: &mut Table<R>, step: Step) -> Integer {
-    change(alloc, table, step).unwrap_or(MEMORY)
+    run_step(alloc, table, step).unwrap_or(MEMORY)
 }
 
-/// Runs a step. Returns whether it has this answer.
-fn gives<R: Rows>(alloc: Global, table: &mut Table<R>, step: Step, wanted: Answer) -> bool {
+/// Runs a step, and returns whether it has this answer.
+fn step_answers<R: Rows>(alloc: Global, table: &mut Table<R>, step: Step, wanted: Answer) -> bool {
     answer(alloc, table, step) == wanted.number()
 }
 
-/// Returns whether each step has its answer.
-fn runs<R: Rows>(alloc: Global, table: &mut Table<R>, steps: &[(Step, Answer)]) -> bool {
+/// Runs steps in order, and returns whether each has its answer.
+fn steps_answer<R: Rows>(alloc: Global, table: &mut Table<R>, steps: &[(Step, Answer)]) -> bool {
     for (step, wanted) in steps {
-        if !gives(alloc, table, *step, *wanted) {
+        if !step_answers(alloc, table, *step, *wanted) {
             return false;
         }
     }
@@ -133,10 +136,12 @@ pub struct Keypos(pub u32);
 #[derive(Clone, Copy)]
 pub struct MaxObjects(pub u32);
 
+/// Creates a table over plain rows.
 fn plain_table(alloc: Global, kind: Kind, keypos: Keypos, limit: MaxObjects) -> Table<PlainRows> {
     Table::new(alloc, PlainRows::new(alloc), kind, keypos.0.max(1), limit.0)
 }
 
+/// Creates a table over split rows with the usual hash. `None` means out of memory.
 fn split_table(
     alloc: Global,
     kind: Kind,
@@ -147,7 +152,7 @@ fn split_table(
     Some(Table::new(alloc, rows, kind, keypos.0.max(1), limit.0))
 }
 
-/// Builds a table over split rows with one hash for all keys.
+/// Creates a table over split rows with one hash for all keys. `None` means out of memory.
 fn one_bucket_table(
     alloc: Global,
     kind: Kind,
@@ -159,42 +164,46 @@ fn one_bucket_table(
 }
 
 /// A table by its kind, its keypos and its greatest number of objects, and the steps on it with their answers.
-type Life = (Kind, Keypos, MaxObjects, &'static [(Step, Answer)]);
+type Scenario = (Kind, Keypos, MaxObjects, &'static [(Step, Answer)]);
 
-fn plain_runs(alloc: Global, life: Life) -> bool {
-    let (kind, keypos, limit, steps) = life;
+/// Returns whether each step has its answer over plain rows.
+fn scenario_holds_on_plain_rows(alloc: Global, scenario: Scenario) -> bool {
+    let (kind, keypos, limit, steps) = scenario;
     let mut table = plain_table(alloc, kind, keypos, limit);
-    let all = runs(alloc, &mut table, steps);
+    let all_answer = steps_answer(alloc, &mut table, steps);
     drop(table);
-    all
+    all_answer
 }
 
-fn split_runs(alloc: Global, life: Life) -> Option<bool> {
-    let (kind, keypos, limit, steps) = life;
+/// Returns whether each step has its answer over split rows. `None` means out of memory.
+fn scenario_holds_on_split_rows(alloc: Global, scenario: Scenario) -> Option<bool> {
+    let (kind, keypos, limit, steps) = scenario;
     let mut table = split_table(alloc, kind, keypos, limit)?;
-    let all = runs(alloc, &mut table, steps);
+    let all_answer = steps_answer(alloc, &mut table, steps);
     drop(table);
-    Some(all)
+    Some(all_answer)
 }
 
-fn one_bucket_runs(alloc: Global, life: Life) -> Option<bool> {
-    let (kind, keypos, limit, steps) = life;
+/// Returns whether each step has its answer if all keys share a hash. `None` means out of memory.
+fn scenario_holds_in_one_bucket(alloc: Global, scenario: Scenario) -> Option<bool> {
+    let (kind, keypos, limit, steps) = scenario;
     let mut table = one_bucket_table(alloc, kind, keypos, limit)?;
-    let all = runs(alloc, &mut table, steps);
+    let all_answer = steps_answer(alloc, &mut table, steps);
     drop(table);
-    Some(all)
+    Some(all_answer)
 }
 
-fn all_run(alloc: Global, life: Life) -> bool {
-    plain_runs(alloc, life)
-        && split_runs(alloc, life) == Some(true)
-        && one_bucket_runs(alloc, life) == Some(true)
+/// Returns whether each step has its answer over each form of rows.
+fn scenario_holds(alloc: Global, scenario: Scenario) -> bool {
+    scenario_holds_on_plain_rows(alloc, scenario)
+        && scenario_holds_on_split_rows(alloc, scenario) == Some(true)
+        && scenario_holds_in_one_bucket(alloc, scenario) == Some(true)
 }
 
-/// Returns the index of the first life with a wrong answer over some form of rows.
-fn first_mismatch(alloc: Global, lives: &[Life]) -> Option<usize> {
-    for (index, life) in lives.iter().enumerate() {
-        if !all_run(alloc, *life) {
+/// Returns the index of the first scenario with a wrong answer over some form of rows.
+fn first_mismatch(alloc: Global, scenarios: &[Scenario]) -> Option<usize> {
+    for (index, scenario) in scenarios.iter().enumerate() {
+        if !scenario_holds(alloc, *scenario) {
             return Some(index);
         }
     }

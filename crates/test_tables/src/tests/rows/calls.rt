@@ -1,22 +1,34 @@
+use super::sweeps::sweep_both;
+use super::traversals::traverses;
 use super::*;
 
 /// The number of keys that calls are made with.
 const KEYS: u32 = 150;
 
+/// The number of rounds, and of the calls in each. After a round all keys are compared.
+const ROUNDS: u32 = 200;
+
+const CALLS_IN_ROUND: u32 = 25;
+
 /// A call on one key.
 #[derive(Clone, Copy)]
 enum Call {
+    /// Inserts the object, or replaces that of the key.
     Insert(Integer),
+    /// Inserts the object only if the key has no slot.
     Put(Integer),
-    Hold,
+    /// Replaces the objects of the slot by none.
+    LeaveTombstone,
     Remove,
+    /// Removes the slot at the place where `find` finds the key.
     RemoveAtPlace,
 }
 
+/// Draws a call: an insertion most often, with a value below 1000.
 fn draw_call(draws: &mut Draws) -> Call {
-    let value = Integer::from(draws.below(1000));
-    match draws.below(8) {
-        0 => Call::Hold,
+    let value = Integer::from(draws.random_below(1000));
+    match draws.random_below(8) {
+        0 => Call::LeaveTombstone,
         1 => Call::Remove,
         2 => Call::RemoveAtPlace,
         3 | 4 => Call::Put(value),
@@ -25,18 +37,19 @@ fn draw_call(draws: &mut Draws) -> Call {
 }
 
 /// Returns the state of a key after a call.
-fn state_after_call(call: Call, had: KeyState) -> KeyState {
-    match (call, had) {
+fn state_after_call(call: Call, before: KeyState) -> KeyState {
+    match (call, before) {
         (Call::Insert(value), _) => KeyState::Object(value),
         (Call::Put(value), KeyState::Nothing) => KeyState::Object(value),
-        (Call::Put(_), had) => had,
-        (Call::Hold, KeyState::Nothing) => KeyState::Nothing,
-        (Call::Hold, _) => KeyState::Tombstone,
+        (Call::Put(_), before) => before,
+        (Call::LeaveTombstone, KeyState::Nothing) => KeyState::Nothing,
+        (Call::LeaveTombstone, _) => KeyState::Tombstone,
         (Call::Remove, _) => KeyState::Nothing,
         (Call::RemoveAtPlace, _) => KeyState::Nothing,
     }
 }
 
+/// Puts the row of a key if it has no slot. Returns the state before.
 fn put<R: Rows>(
     rows: &mut R,
     alloc: Global,
@@ -45,30 +58,32 @@ fn put<R: Rows>(
 ) -> Result<KeyState, AllocError> {
     let term = Term::Int(key);
     if let Some(objects) = rows.get(&term) {
-        let had = state_in(objects);
+        let before = state_of_objects(objects);
         drop(term);
-        return Ok(had);
+        return Ok(before);
     }
     rows.put(vec![in alloc; (term, Chain::one(alloc, Term::Int(value)))]?)?;
     Ok(KeyState::Nothing)
 }
 
-fn hold<R: Rows>(rows: &mut R, alloc: Global, key: Integer) -> KeyState {
+/// Replaces the objects of a key's slot by none, which leaves a tombstone. Returns the state before.
+fn leave_tombstone<R: Rows>(rows: &mut R, alloc: Global, key: Integer) -> KeyState {
     let term = Term::Int(key);
     let objects = rows.replace(&term, Chain::new(alloc));
     drop(term);
-    state_of(objects)
+    state_of_removed(objects)
 }
 
+/// Removes the slot at the place of a key. Returns the state before.
 fn remove_at_place<R: Rows>(rows: &mut R, key: Integer) -> KeyState {
     let term = Term::Int(key);
     let found = rows.find(&term);
     drop(term);
     match found {
         Some(place) => {
-            let (own, objects) = rows.remove_at(place);
-            drop(own);
-            state_of(Some(objects))
+            let (removed_key, objects) = rows.remove_at(place);
+            drop(removed_key);
+            state_of_removed(Some(objects))
         }
         None => KeyState::Nothing,
     }
@@ -84,7 +99,7 @@ fn run_call<R: Rows>(
     match call {
         Call::Insert(value) => insert(rows, alloc, key, value),
         Call::Put(value) => put(rows, alloc, key, value),
-        Call::Hold => Ok(hold(rows, alloc, key)),
+        Call::LeaveTombstone => Ok(leave_tombstone(rows, alloc, key)),
         Call::Remove => Ok(remove(rows, key)),
         Call::RemoveAtPlace => Ok(remove_at_place(rows, key)),
     }
@@ -92,120 +107,43 @@ fn run_call<R: Rows>(
 
 /// Makes a call on the list with the state of each key. Returns the state of the key before.
 fn run_on_list(list: &mut [KeyState], key: u32, call: Call) -> Option<KeyState> {
-    let own = list.get_mut(key as usize)?;
-    let had = *own;
-    *own = state_after_call(call, had);
-    Some(had)
+    let state = list.get_mut(key as usize)?;
+    let before = *state;
+    *state = state_after_call(call, before);
+    Some(before)
 }
 
-/// Makes a call on rows and on the list. Returns whether they agree.
-fn agrees<R: Rows>(
+/// Makes a random call on rows and on the list. Returns whether the key had the same state in both before it.
+fn calls_agree<R: Rows>(
     rows: &mut R,
     alloc: Global,
     list: &mut [KeyState],
     draws: &mut Draws,
 ) -> Result<bool, AllocError> {
-    let key = draws.below(KEYS);
+    let key = draws.random_below(KEYS);
     let call = draw_call(draws);
-    let had = run_call(rows, alloc, Integer::from(key), call)?;
-    Ok(run_on_list(list, key, call) == Some(had))
-}
-
-/// Returns the state of a key after all slots were cleared, with tombstones or without, or purged.
-fn state_after_sweep(hold: Option<bool>, had: KeyState) -> KeyState {
-    match (hold, had) {
-        (Some(true), KeyState::Object(_)) => KeyState::Tombstone,
-        (Some(false), KeyState::Object(_)) => KeyState::Nothing,
-        (None, KeyState::Tombstone) => KeyState::Nothing,
-        (_, had) => had,
-    }
-}
-
-/// Purges most of the time, and clears less often.
-fn sweep<R: Rows>(rows: &mut R, list: &mut [KeyState], draws: &mut Draws) {
-    let hold = match draws.below(6) {
-        0 => Some(true),
-        1 => Some(false),
-        _ => None,
-    };
-    match hold {
-        Some(hold) => rows.clear(hold),
-        None => rows.purge(),
-    }
-    for own in list.iter_mut() {
-        let had = *own;
-        *own = state_after_sweep(hold, had);
-    }
+    let before = run_call(rows, alloc, Integer::from(key), call)?;
+    Ok(run_on_list(list, key, call) == Some(before))
 }
 
 /// Returns whether each key has the state of the list, and no other key has a slot.
-fn agree<R: Rows>(rows: &R, list: &[KeyState]) -> bool {
+fn states_agree<R: Rows>(rows: &R, list: &[KeyState]) -> bool {
     let mut slots = 0usize;
-    let mut all = true;
+    let mut all_agree = true;
     for number in 0..KEYS {
         let wanted = list
             .get(number as usize)
             .copied()
             .unwrap_or(KeyState::Nothing);
-        all = state_at(rows, Integer::from(number)) == wanted && all;
+        all_agree = state_at(rows, Integer::from(number)) == wanted && all_agree;
         if wanted != KeyState::Nothing {
             slots = slots.wrapping_add(1);
         }
     }
-    all && rows.len() == slots && traverses(rows)
+    all_agree && rows.len() == slots && traverses(rows)
 }
 
-fn number_of(key: &Term) -> Integer {
-    match key {
-        Term::Int(number) => *number,
-        _ => -1,
-    }
-}
-
-fn first_key<R: Rows>(rows: &R) -> Option<Integer> {
-    let place = rows.first_place()?;
-    let (key, _objects) = rows.slot_at(place);
-    Some(number_of(key))
-}
-
-/// Returns the key after another, found by places.
-fn key_after<R: Rows>(rows: &R, key: Integer) -> Option<Integer> {
-    let term = Term::Int(key);
-    let found = rows.find(&term);
-    drop(term);
-    let place = found?;
-    let next = rows.next_place(place)?;
-    let (key, _objects) = rows.slot_at(next);
-    Some(number_of(key))
-}
-
-/// Returns whether `next_at` gives this key after another.
-fn is_key_after<R: Rows>(rows: &R, key: Integer, next: Option<Integer>) -> bool {
-    let term = Term::Int(key);
-    let is_next = match rows.next_at(&term) {
-        Some(Some((key, _objects))) => next == Some(number_of(key)),
-        Some(None) => next == None,
-        None => false,
-    };
-    drop(term);
-    is_next
-}
-
-/// Returns whether a traversal from the first slot visits each slot and then ends.
-fn traverses<R: Rows>(rows: &R) -> bool {
-    let mut all = true;
-    let mut at = first_key(rows);
-    for _ in 0..rows.len() {
-        if let Some(key) = at {
-            at = key_after(rows, key);
-            all = is_key_after(rows, key, at) && all;
-        } else {
-            all = false;
-        }
-    }
-    all && at == None
-}
-
+/// Returns a list in which no key has a slot.
 fn new_list(alloc: Global) -> Result<Vec<KeyState>, AllocError> {
     let mut list = Vec::new(alloc);
     match list.resize(KEYS as usize, KeyState::Nothing) {
@@ -217,75 +155,79 @@ fn new_list(alloc: Global) -> Result<Vec<KeyState>, AllocError> {
     }
 }
 
-/// Makes a few calls on keys, growth steps, and sometimes one call on all slots.
-fn runs_round<R: Rows>(
+/// Makes a round of calls on keys, growth steps, and sometimes a call on all slots. Returns whether rows and list
+/// agree.
+fn round_agrees<R: Rows>(
     rows: &mut R,
     alloc: Global,
     list: &mut [KeyState],
     draws: &mut Draws,
 ) -> Result<bool, AllocError> {
-    let mut all = true;
-    for _ in 0..25 {
-        all = agrees(rows, alloc, list, draws)? && all;
+    let mut all_agree = true;
+    for _ in 0..CALLS_IN_ROUND {
+        all_agree = calls_agree(rows, alloc, list, draws)? && all_agree;
     }
     ready_some(rows, draws)?;
-    if draws.below(4) == 0 {
-        sweep(rows, list, draws);
+    if draws.random_below(4) == 0 {
+        sweep_both(rows, list, draws);
     }
-    Ok(agree(rows, list) && all)
+    Ok(states_agree(rows, list) && all_agree)
 }
 
-fn runs_rounds<R: Rows>(
+/// Makes all rounds. Returns whether rows and list agree in each.
+fn rounds_agree<R: Rows>(
     rows: &mut R,
     alloc: Global,
     list: &mut [KeyState],
 ) -> Result<bool, AllocError> {
     let mut draws = Draws::new();
-    let mut all = true;
-    for _ in 0..200 {
-        all = runs_round(rows, alloc, list, &mut draws)? && all;
+    let mut all_agree = true;
+    for _ in 0..ROUNDS {
+        all_agree = round_agrees(rows, alloc, list, &mut draws)? && all_agree;
     }
-    Ok(all)
+    Ok(all_agree)
 }
 
 /// Returns whether 5,000 calls on rows and on a list agree.
-fn runs_thousands<R: Rows>(rows: &mut R, alloc: Global) -> Result<bool, AllocError> {
+fn rows_agree_with_list<R: Rows>(rows: &mut R, alloc: Global) -> Result<bool, AllocError> {
     let mut list = new_list(alloc)?;
-    let all = runs_rounds(rows, alloc, list.as_mut_slice());
+    let agreed = rounds_agree(rows, alloc, list.as_mut_slice());
     drop(list);
-    all
+    agreed
 }
 
-fn split_runs_thousands<H: KeyHash + Copy + Drop>(
+/// Makes the calls on new split rows with this hash, and returns whether they agree with the list.
+fn split_agrees_with_list<H: KeyHash + Copy + Drop>(
     alloc: Global,
     hash: H,
 ) -> Result<bool, AllocError> {
     let mut rows = SplitRows::new(alloc, hash)?;
-    let all = runs_thousands(&mut rows, alloc);
+    let agreed = rows_agree_with_list(&mut rows, alloc);
     drop(rows);
-    all
+    agreed
 }
 
-fn plain_runs_thousands(alloc: Global) -> Result<bool, AllocError> {
+/// Makes the calls on new plain rows, and returns whether they agree with the list.
+fn plain_agrees_with_list(alloc: Global) -> Result<bool, AllocError> {
     let mut rows = PlainRows::new(alloc);
-    let all = runs_thousands(&mut rows, alloc);
+    let agreed = rows_agree_with_list(&mut rows, alloc);
     drop(rows);
-    all
+    agreed
 }
 
 #[test]
 fn plain_rows_are_a_list(rt: HostRuntime) {
-    assert!(rt; plain_runs_thousands(rt.alloc()) == Ok(true));
+    assert!(rt; plain_agrees_with_list(rt.alloc()) == Ok(true));
 }
 
 #[test]
 fn split_rows_are_a_list(rt: HostRuntime) {
-    assert!(rt; split_runs_thousands(rt.alloc(), Fnv) == Ok(true));
-    assert!(rt; split_runs_thousands(rt.alloc(), Even) == Ok(true));
+    assert!(rt; split_agrees_with_list(rt.alloc(), Fnv) == Ok(true));
+    assert!(rt; split_agrees_with_list(rt.alloc(), Even) == Ok(true));
 }
 
 #[test]
 fn split_rows_of_one_hash_are_a_list(rt: HostRuntime) {
-    assert!(rt; split_runs_thousands(rt.alloc(), AllSame) == Ok(true));
-    assert!(rt; split_runs_thousands(rt.alloc(), Last) == Ok(true));
+    assert!(rt; split_agrees_with_list(rt.alloc(), AllSame) == Ok(true));
+    assert!(rt; split_agrees_with_list(rt.alloc(), Greatest) == Ok(true));
 }

@@ -1,16 +1,17 @@
 // Calls that take no memory: `.ci/refusals` refuses each allocation between two marks.
 use super::*;
 
-/// More bytes than any machine has, so that each request is refused. To `.ci/refusals` such a request marks the begin
+/// More bytes than any machine has, so that each request is refused. To `.ci/refusals` such a request marks the start
 /// or the end of a part that takes no memory.
 const MARK: usize = 1 << 60;
 
+/// Requests `MARK` bytes, and returns whether they are refused.
 fn mark(alloc: Global) -> bool {
     Vec::<u8>::with_capacity(alloc, MARK).is_err()
 }
 
 /// Inserts the keys 1 to 4, each with itself as its object.
-fn fill<R: Rows>(rows: &mut R, alloc: Global) -> Result<(), AllocError> {
+fn fill_with_keys<R: Rows>(rows: &mut R, alloc: Global) -> Result<(), AllocError> {
     for key in 1..5u32 {
         let key = Integer::from(key);
         insert(rows, alloc, key, key)?;
@@ -28,6 +29,7 @@ fn first_of(slot: Option<(&Term, &[Term])>) -> Integer {
     }
 }
 
+/// Returns the integer that an object is, or 0.
 fn number_of(object: Option<&Term>) -> Integer {
     match object {
         Some(Term::Int(value)) => *value,
@@ -35,43 +37,44 @@ fn number_of(object: Option<&Term>) -> Integer {
     }
 }
 
-/// Returns the sum of the first objects of all slots.
+/// Returns the sum of the first objects of all slots, which it visits in order.
 fn sum<R: Rows>(rows: &R) -> Integer {
-    let mut all = first_of(rows.first_at());
+    let mut total = first_of(rows.first_at());
     for key in 1..5u32 {
         let key = Term::Int(Integer::from(key));
         if let Some(slot) = rows.next_at(&key) {
-            all = all.wrapping_add(first_of(slot));
+            total = total.wrapping_add(first_of(slot));
         }
         drop(key);
     }
-    all
+    total
 }
 
-/// What rows have before and after calls.
+/// The sums of the objects before the calls, after the object of key 1 is replaced, and after key 2 is removed.
 #[derive(Clone, Copy, PartialEq, Eq)]
-struct Seen {
+struct Observed {
     sum: Integer,
     sum_replaced: Integer,
     sum_removed: Integer,
+    /// The number of slots after `clear` and `purge`.
     slots_cleared: usize,
 }
 
 /// Replaces the object of key 1 by 10, removes key 2, and then removes all keys. Returns what rows have in between.
-fn calls<R: Rows>(rows: &mut R, alloc: Global) -> Option<Seen> {
+fn run_free_calls<R: Rows>(rows: &mut R, alloc: Global) -> Option<Observed> {
     let before = sum(rows);
     let one = Term::Int(1);
-    let was = state_of(rows.replace(&one, Chain::one(alloc, Term::Int(10))));
+    let old_state = state_of_removed(rows.replace(&one, Chain::one(alloc, Term::Int(10))));
     drop(one);
     let replaced = sum(rows);
-    let gone = remove(rows, 2);
+    let removed_state = remove(rows, 2);
     let removed = sum(rows);
     rows.clear(true);
     rows.purge();
-    if was != KeyState::Object(1) || gone != KeyState::Object(2) {
+    if old_state != KeyState::Object(1) || removed_state != KeyState::Object(2) {
         return None;
     }
-    Some(Seen {
+    Some(Observed {
         sum: before,
         sum_replaced: replaced,
         sum_removed: removed,
@@ -79,43 +82,45 @@ fn calls<R: Rows>(rows: &mut R, alloc: Global) -> Option<Seen> {
     })
 }
 
-/// Returns whether the calls do what they should between two marks.
-fn is_free<R: Rows>(rows: &mut R, alloc: Global) -> Result<bool, AllocError> {
-    fill(rows, alloc)?;
+/// Makes the calls between two marks, and returns whether they have the right results.
+fn calls_take_no_memory<R: Rows>(rows: &mut R, alloc: Global) -> Result<bool, AllocError> {
+    fill_with_keys(rows, alloc)?;
     let began = mark(alloc);
-    let seen = calls(rows, alloc);
+    let observed = run_free_calls(rows, alloc);
     let ended = mark(alloc);
-    let wanted = Seen {
+    let wanted = Observed {
         sum: 1 + 2 + 3 + 4,
         sum_replaced: 10 + 2 + 3 + 4,
         sum_removed: 10 + 3 + 4,
         slots_cleared: 0,
     };
-    Ok(began && ended && seen == Some(wanted))
+    Ok(began && ended && observed == Some(wanted))
 }
 
-fn is_free_of_plain(alloc: Global) -> Result<bool, AllocError> {
+/// Makes the calls on new plain rows, and returns whether they have the right results.
+fn plain_calls_take_no_memory(alloc: Global) -> Result<bool, AllocError> {
     let mut rows = PlainRows::new(alloc);
-    let free = is_free(&mut rows, alloc);
+    let free = calls_take_no_memory(&mut rows, alloc);
     drop(rows);
     free
 }
 
-fn is_free_of_split(alloc: Global) -> Result<bool, AllocError> {
+/// Makes the calls on new split rows, and returns whether they have the right results.
+fn split_calls_take_no_memory(alloc: Global) -> Result<bool, AllocError> {
     let mut rows = SplitRows::new(alloc, Fnv)?;
-    let free = is_free(&mut rows, alloc);
+    let free = calls_take_no_memory(&mut rows, alloc);
     drop(rows);
     free
 }
 
 #[test]
 fn rows_take_no_memory(rt: HostRuntime) {
-    assert!(rt; is_free_of_plain(rt.alloc()) == Ok(true));
-    assert!(rt; is_free_of_split(rt.alloc()) == Ok(true));
+    assert!(rt; plain_calls_take_no_memory(rt.alloc()) == Ok(true));
+    assert!(rt; split_calls_take_no_memory(rt.alloc()) == Ok(true));
 }
 
 /// Returns whether a counted search finds a key and misses another between two marks.
-fn is_counted(rows: &SplitRows<Fnv>, alloc: Global) -> bool {
+fn counted_searches_are_right(rows: &SplitRows<Fnv>, alloc: Global) -> bool {
     let (three, nine) = (Term::Int(3), Term::Int(9));
     let mut steps = Steps::new();
     let began = mark(alloc);
@@ -126,10 +131,11 @@ fn is_counted(rows: &SplitRows<Fnv>, alloc: Global) -> bool {
     began && found && missed && ended && steps.count() > 0
 }
 
-fn searches_free(alloc: Global) -> Result<bool, AllocError> {
+/// Searches new split rows between two marks, and returns whether the searches are right.
+fn split_searches_take_no_memory(alloc: Global) -> Result<bool, AllocError> {
     let mut rows = SplitRows::new(alloc, Fnv)?;
-    let filled = fill(&mut rows, alloc);
-    let counted = is_counted(&rows, alloc);
+    let filled = fill_with_keys(&mut rows, alloc);
+    let counted = counted_searches_are_right(&rows, alloc);
     drop(rows);
     filled?;
     Ok(counted)
@@ -137,5 +143,5 @@ fn searches_free(alloc: Global) -> Result<bool, AllocError> {
 
 #[test]
 fn counted_searches_take_no_memory(rt: HostRuntime) {
-    assert!(rt; searches_free(rt.alloc()) == Ok(true));
+    assert!(rt; split_searches_take_no_memory(rt.alloc()) == Ok(true));
 }

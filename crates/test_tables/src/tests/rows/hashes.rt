@@ -20,11 +20,11 @@ impl KeyHash for Even {
     }
 }
 
-/// The number of a process, and 0 for every other term.
+/// A hash that is the number of a process, and 0 for every other term.
 #[derive(Clone, Copy, Drop)]
-pub struct Plain;
+pub struct PidNumber;
 
-impl KeyHash for Plain {
+impl KeyHash for PidNumber {
     ghost use Rattle.test_tables.specs.Numbers.{number_of, number-below};
 
     ghost hash = { λ _ term. number_of term };
@@ -39,11 +39,11 @@ impl KeyHash for Plain {
     }
 }
 
-/// One hash for all keys, the greatest.
+/// A hash that is the greatest number for all keys.
 #[derive(Clone, Copy, Drop)]
-pub struct Last;
+pub struct Greatest;
 
-impl KeyHash for Last {
+impl KeyHash for Greatest {
     ghost use Rattle.std.proofs.Common.{arith};
 
     ghost hash = { λ _ _. 4294967295 };

@@ -1,112 +1,127 @@
 // Out of memory. `.ci/refusals` runs these tests with each allocation refused in turn. A call that ran out of memory
 // must have changed nothing, and must succeed when it is made again.
-use super::several::{put_three, three};
+use super::several::{put_three, three_keys};
 use super::*;
 
-/// How often three rows are put, the buckets doubled, and one of them made ready.
+/// How often three rows are put, the buckets are doubled, and one of them is made ready.
 const TIMES: u32 = 8;
 
-/// More keys than are put.
+/// More keys than are put, so that the states of missing keys count too.
 const KEYS: u32 = 27;
 
-/// Adds a number to a digest.
-fn mix(digest: u64, more: u64) -> u64 {
-    digest.wrapping_mul(1_000_003).wrapping_add(more)
+/// A prime, so that the order of the numbers changes the hash.
+const PRIME: u64 = 1_000_003;
+
+/// Returns the hash of some numbers and one more, from the hash of the first ones.
+fn add_to_hash(hash: u64, number: u64) -> u64 {
+    hash.wrapping_mul(PRIME).wrapping_add(number)
 }
 
-fn digest_of(objects: &[Term]) -> u64 {
+/// Returns the first integer of a slot plus 2, or 1 for a tombstone. 0 is left for a missing slot.
+fn code_of_objects(objects: &[Term]) -> u64 {
     match objects.first() {
         Some(Term::Int(value)) => u64::try_from(*value).unwrap_or(u64::MAX).wrapping_add(2),
         _ => 1,
     }
 }
 
-/// Returns a number for the state of a key and of the key after it.
-fn digest_at<R: Rows>(rows: &R, key: Integer) -> u64 {
+/// Returns a hash of the state of a key and of that of the key after it.
+fn hash_at_key<R: Rows>(rows: &R, key: Integer) -> u64 {
     let term = Term::Int(key);
-    let own = match rows.get(&term) {
-        Some(objects) => digest_of(objects),
+    let code = match rows.get(&term) {
+        Some(objects) => code_of_objects(objects),
         None => 0,
     };
-    let next = match rows.next_at(&term) {
-        Some(Some((_key, objects))) => digest_of(objects),
+    let next_code = match rows.next_at(&term) {
+        Some(Some((_key, objects))) => code_of_objects(objects),
         Some(None) => 1,
         None => 0,
     };
     drop(term);
-    mix(own, next)
+    add_to_hash(code, next_code)
 }
 
-/// Returns a number for all that a caller can see of rows: the state of each key, their order, and the ready buckets.
-fn digest<R: Rows>(rows: &R) -> u64 {
-    let mut digest = rows.len() as u64;
+/// Returns a hash of all that a caller can read of rows: the state of each key, their order, and the ready buckets.
+fn hash_of_rows<R: Rows>(rows: &R) -> u64 {
+    let mut hash = rows.len() as u64;
     for key in 0..KEYS {
-        digest = mix(digest, digest_at(rows, Integer::from(key)));
+        hash = add_to_hash(hash, hash_at_key(rows, Integer::from(key)));
     }
     for bucket in 0..rows.buckets() {
-        digest = mix(digest, u64::from(rows.is_ready(bucket)));
+        hash = add_to_hash(hash, u64::from(rows.is_ready(bucket)));
     }
-    digest
+    hash
 }
 
+/// Puts three rows, and again if memory runs out; the first call must then have changed nothing. Returns whether it is
+/// so.
 fn put_again<R: Rows>(rows: &mut R, alloc: Global, time: u32) -> Result<bool, AllocError> {
-    let before = digest(rows);
-    match put_three(rows, alloc, three(time)) {
+    let before = hash_of_rows(rows);
+    match put_three(rows, alloc, three_keys(time)) {
         Ok(done) => Ok(done),
-        Err(_) => Ok(digest(rows) == before && put_three(rows, alloc, three(time))?),
+        Err(_) => Ok(hash_of_rows(rows) == before && put_three(rows, alloc, three_keys(time))?),
     }
 }
 
+/// Doubles the buckets, and again if memory runs out; the first call must then have changed nothing. Returns whether it
+/// is so.
 fn grow_again<R: Rows>(rows: &mut R) -> Result<bool, AllocError> {
-    let before = digest(rows);
+    let before = hash_of_rows(rows);
     match rows.grow() {
         Ok(growth) => Ok(growth == Growth::Grown),
-        Err(_) => Ok(digest(rows) == before && rows.grow()? == Growth::Grown),
+        Err(_) => Ok(hash_of_rows(rows) == before && rows.grow()? == Growth::Grown),
     }
 }
 
+/// Makes a bucket ready, and again if memory runs out; the first call must then have changed nothing. Returns whether
+/// it is so.
 fn ready_again<R: Rows>(rows: &mut R, bucket: u32) -> Result<bool, AllocError> {
-    let before = digest(rows);
+    let before = hash_of_rows(rows);
     match rows.ready(bucket) {
         Ok(readying) => Ok(readying == Readying::Ready),
-        Err(_) => Ok(digest(rows) == before && rows.ready(bucket)? == Readying::Ready),
+        Err(_) => Ok(hash_of_rows(rows) == before && rows.ready(bucket)? == Readying::Ready),
     }
 }
 
+/// Inserts a new key, and again if memory runs out; the first call must then have changed nothing. Returns whether it
+/// is so.
 fn insert_again<R: Rows>(rows: &mut R, alloc: Global, key: Integer) -> Result<bool, AllocError> {
-    let before = digest(rows);
+    let before = hash_of_rows(rows);
     match insert(rows, alloc, key, key) {
-        Ok(had) => Ok(had == KeyState::Nothing),
-        Err(_) => Ok(digest(rows) == before && insert(rows, alloc, key, key)? == KeyState::Nothing),
+        Ok(state) => Ok(state == KeyState::Nothing),
+        Err(_) => Ok(
+            hash_of_rows(rows) == before && insert(rows, alloc, key, key)? == KeyState::Nothing,
+        ),
     }
 }
 
 /// Returns whether rows are put, buckets doubled and made ready, and a key inserted, each again if memory runs out.
 fn runs_again<R: Rows>(rows: &mut R, alloc: Global) -> Result<bool, AllocError> {
-    let mut all = true;
+    let mut all_right = true;
     for time in 0..TIMES {
-        all = put_again(rows, alloc, time)? && all;
-        all = grow_again(rows)? && all;
+        all_right = put_again(rows, alloc, time)? && all_right;
+        all_right = grow_again(rows)? && all_right;
         let bucket = rows.first_unready().unwrap_or(0);
-        all = ready_again(rows, bucket)? && all;
+        all_right = ready_again(rows, bucket)? && all_right;
     }
-    let put = TIMES.wrapping_mul(3);
-    all = insert_again(rows, alloc, Integer::from(put))? && all;
-    for key in 0..put {
+    let keys_put = TIMES.wrapping_mul(3);
+    all_right = insert_again(rows, alloc, Integer::from(keys_put))? && all_right;
+    for key in 0..keys_put {
         let key = Integer::from(key);
-        all = state_at(rows, key) == KeyState::Object(key) && all;
+        all_right = state_at(rows, key) == KeyState::Object(key) && all_right;
     }
-    Ok(all)
+    Ok(all_right)
 }
 
 /// Returns whether capacity for more slots than memory can hold is refused, and nothing is changed.
-fn refuses<R: Rows>(rows: &mut R, alloc: Global) -> Result<bool, AllocError> {
+fn refuses_too_much<R: Rows>(rows: &mut R, alloc: Global) -> Result<bool, AllocError> {
     let put = put_again(rows, alloc, 0)?;
-    let before = digest(rows);
+    let before = hash_of_rows(rows);
     let refused = rows.reserve(usize::MAX).is_err() && rows.reserve(1 << 58).is_err();
-    Ok(put && refused && digest(rows) == before)
+    Ok(put && refused && hash_of_rows(rows) == before)
 }
 
+/// Creates split rows, and again if memory runs out.
 fn new_rows_again(alloc: Global) -> Result<SplitRows<Fnv>, AllocError> {
     match SplitRows::new(alloc, Fnv) {
         Ok(rows) => Ok(rows),
@@ -114,6 +129,7 @@ fn new_rows_again(alloc: Global) -> Result<SplitRows<Fnv>, AllocError> {
     }
 }
 
+/// Returns whether the calls on new split rows succeed, each again if memory runs out.
 fn split_runs_again(alloc: Global) -> Result<bool, AllocError> {
     let mut rows = new_rows_again(alloc)?;
     let done = runs_again(&mut rows, alloc);
@@ -126,22 +142,24 @@ fn a_refused_call_is_called_again(rt: HostRuntime) {
     assert!(rt; split_runs_again(rt.alloc()) == Ok(true));
 }
 
-fn split_refuses(alloc: Global) -> Result<bool, AllocError> {
+/// Returns whether new split rows refuse too much capacity.
+fn split_refuses_too_much(alloc: Global) -> Result<bool, AllocError> {
     let mut rows = new_rows_again(alloc)?;
-    let refused = refuses(&mut rows, alloc);
+    let refused = refuses_too_much(&mut rows, alloc);
     drop(rows);
     refused
 }
 
-fn plain_refuses(alloc: Global) -> Result<bool, AllocError> {
+/// Returns whether new plain rows refuse too much capacity.
+fn plain_refuses_too_much(alloc: Global) -> Result<bool, AllocError> {
     let mut rows = PlainRows::new(alloc);
-    let refused = refuses(&mut rows, alloc);
+    let refused = refuses_too_much(&mut rows, alloc);
     drop(rows);
     refused
 }
 
 #[test]
 fn too_much_room_is_refused(rt: HostRuntime) {
-    assert!(rt; split_refuses(rt.alloc()) == Ok(true));
-    assert!(rt; plain_refuses(rt.alloc()) == Ok(true));
+    assert!(rt; split_refuses_too_much(rt.alloc()) == Ok(true));
+    assert!(rt; plain_refuses_too_much(rt.alloc()) == Ok(true));
 }

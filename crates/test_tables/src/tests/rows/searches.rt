@@ -4,8 +4,9 @@ use super::*;
 const MOMENTS: usize = 1_000;
 
 /// The number of searches at each moment. In all there are more than a million.
-const AT_ONCE: usize = 334;
+const SEARCHES: usize = 334;
 
+/// Returns the bucket of a key: its hash modulo the number of buckets, which is a power of two.
 fn bucket_of<H: KeyHash + Copy + Drop>(hash: H, key: &Term, buckets: u32) -> u32 {
     hash.hash32(key).checked_rem(buckets).unwrap_or(0)
 }
@@ -20,6 +21,7 @@ fn count_slot<H: KeyHash + Copy + Drop>(counts: &mut [u64], hash: H, buckets: u3
     }
 }
 
+/// Returns a vector of as many zeros.
 fn zeros(alloc: Global, count: usize) -> Result<Vec<u64>, AllocError> {
     let mut zeros: Vec<u64> = Vec::new(alloc);
     match zeros.resize(count, 0) {
@@ -45,42 +47,43 @@ fn count_by_bucket<H: KeyHash + Copy + Drop>(
     Ok(counts)
 }
 
-/// Returns whether a search finds a key exactly if it is below the number of slots, and visits at least one node then.
-/// In a ready bucket of n keys it must visit at most n + 2 nodes.
-fn is_right<H: KeyHash + Copy + Drop>(
+/// Searches for a key, and returns whether it is found exactly if it is below the number of slots, and then visits at
+/// least one node. In a ready bucket of n keys it must visit at most n + 2 nodes.
+fn search_is_right<H: KeyHash + Copy + Drop>(
     rows: &SplitRows<H>,
     hash: H,
     counts: &[u64],
     slots: u32,
-    number: u32,
+    key_number: u32,
 ) -> bool {
-    let key = Term::Int(Integer::from(number));
+    let key = Term::Int(Integer::from(key_number));
     let mut steps = Steps::new();
     let found = rows.get_counted(&key, &mut steps).is_some();
     let bucket = bucket_of(hash, &key, rows.buckets());
     drop(key);
-    let most = counts
+    let most_visits = counts
         .get(bucket as usize)
         .copied()
         .unwrap_or(0)
         .wrapping_add(2);
-    let within = steps.count() <= most || !rows.is_ready(bucket);
-    found == (number < slots) && within && (steps.count() >= 1 || !found)
+    let is_short = steps.count() <= most_visits || !rows.is_ready(bucket);
+    found == (key_number < slots) && is_short && (steps.count() >= 1 || !found)
 }
 
-fn are_right<H: KeyHash + Copy + Drop>(
+/// Searches for random keys, half of them missing, and returns whether each search is right.
+fn searches_are_right<H: KeyHash + Copy + Drop>(
     rows: &SplitRows<H>,
     hash: H,
     counts: &[u64],
     slots: u32,
     draws: &mut Draws,
 ) -> bool {
-    let mut all = true;
-    for _ in 0..AT_ONCE {
-        let number = draws.below(slots.wrapping_mul(2).max(1));
-        all = is_right(rows, hash, counts, slots, number) && all;
+    let mut all_right = true;
+    for _ in 0..SEARCHES {
+        let number = draws.random_below(slots.wrapping_mul(2).max(1));
+        all_right = search_is_right(rows, hash, counts, slots, number) && all_right;
     }
-    all
+    all_right
 }
 
 /// Inserts the next few keys, up to a total. Returns how many there are now.
@@ -88,18 +91,18 @@ fn put_some<R: Rows>(
     rows: &mut R,
     alloc: Global,
     slots: u32,
-    most: u32,
+    max_slots: u32,
     draws: &mut Draws,
 ) -> Result<u32, AllocError> {
-    let now = slots.saturating_add(draws.below(20)).min(most);
-    for number in slots..now {
+    let new_total = slots.saturating_add(draws.random_below(20)).min(max_slots);
+    for number in slots..new_total {
         insert(rows, alloc, Integer::from(number), 1)?;
     }
-    Ok(now)
+    Ok(new_total)
 }
 
 /// Returns whether searches in rows with this number of slots are right.
-fn are_right_now<H: KeyHash + Copy + Drop>(
+fn searches_are_right_now<H: KeyHash + Copy + Drop>(
     rows: &SplitRows<H>,
     alloc: Global,
     hash: H,
@@ -107,161 +110,61 @@ fn are_right_now<H: KeyHash + Copy + Drop>(
     draws: &mut Draws,
 ) -> Result<bool, AllocError> {
     let counts = count_by_bucket(alloc, hash, rows.buckets(), slots)?;
-    let right = are_right(rows, hash, counts.as_slice(), slots, draws);
+    let right = searches_are_right(rows, hash, counts.as_slice(), slots, draws);
     drop(counts);
     Ok(right)
 }
 
-/// Returns whether all searches in rows with this hasher are right, at moments of growth up to a number of slots.
-fn finds<H: KeyHash + Copy + Drop>(
+/// Inserts up to a number of slots, and returns whether the searches at each moment of growth are right.
+fn searches_are_right_as_rows_grow<H: KeyHash + Copy + Drop>(
     rows: &mut SplitRows<H>,
     alloc: Global,
     hash: H,
-    most: u32,
+    max_slots: u32,
 ) -> Result<bool, AllocError> {
     let mut draws = Draws::new();
     let mut slots = 0;
-    let mut all = true;
+    let mut all_right = true;
     for _ in 0..MOMENTS {
-        slots = put_some(rows, alloc, slots, most, &mut draws)?;
+        slots = put_some(rows, alloc, slots, max_slots, &mut draws)?;
         ready_some(rows, &mut draws)?;
-        all = are_right_now(rows, alloc, hash, slots, &mut draws)? && all;
+        all_right = searches_are_right_now(rows, alloc, hash, slots, &mut draws)? && all_right;
     }
-    Ok(all)
+    Ok(all_right)
 }
 
-fn searches_rightly<H: KeyHash + Copy + Drop>(
+/// Returns whether searches in new split rows with this hasher are right as the rows grow.
+fn new_rows_search_rightly<H: KeyHash + Copy + Drop>(
     alloc: Global,
     hash: H,
-    most: u32,
+    max_slots: u32,
 ) -> Result<bool, AllocError> {
     let mut rows = SplitRows::new(alloc, hash)?;
-    let found = finds(&mut rows, alloc, hash, most);
+    let found = searches_are_right_as_rows_grow(&mut rows, alloc, hash, max_slots);
     drop(rows);
     found
 }
 
+/// Searches rows with the usual hash.
 #[test]
 fn by_fnv(rt: HostRuntime) {
-    assert!(rt; searches_rightly(rt.alloc(), Fnv, 10_000) == Ok(true));
+    assert!(rt; new_rows_search_rightly(rt.alloc(), Fnv, 10_000) == Ok(true));
 }
 
+/// Searches rows in which each odd bucket is empty.
 #[test]
 fn by_even_hashes(rt: HostRuntime) {
-    assert!(rt; searches_rightly(rt.alloc(), Even, 10_000) == Ok(true));
+    assert!(rt; new_rows_search_rightly(rt.alloc(), Even, 10_000) == Ok(true));
 }
 
+/// Searches rows in which all keys share the bucket 0.
 #[test]
 fn by_one_hash(rt: HostRuntime) {
-    assert!(rt; searches_rightly(rt.alloc(), AllSame, 50) == Ok(true));
+    assert!(rt; new_rows_search_rightly(rt.alloc(), AllSame, 50) == Ok(true));
 }
 
+/// Searches rows in which all keys share the last bucket.
 #[test]
 fn by_the_greatest_hash_alone(rt: HostRuntime) {
-    assert!(rt; searches_rightly(rt.alloc(), Last, 8) == Ok(true));
-}
-
-/// Returns how many nodes a search visits.
-fn count_visited<H: KeyHash + Copy + Drop>(rows: &SplitRows<H>, key: Term) -> u64 {
-    let mut steps = Steps::new();
-    let _found = rows.get_counted(&key, &mut steps);
-    drop(key);
-    steps.count()
-}
-
-fn put_process<R: Rows>(rows: &mut R, alloc: Global, number: u32) -> Result<(), AllocError> {
-    let key = Term::Pid(number);
-    match rows.entry(&key) {
-        SlotEntry::Vacant(hash) => {
-            rows.put_at(hash, key, Chain::new(alloc))?;
-            Ok(())
-        }
-        SlotEntry::Occupied(_) => {
-            drop(key);
-            Ok(())
-        }
-    }
-}
-
-/// Returns whether searches for the keys 0 to 63 are short if the keys 0 to 7 are in 8 ready buckets.
-fn eight_in_eight(rows: &mut SplitRows<Plain>, alloc: Global) -> Result<bool, AllocError> {
-    rows.grow()?;
-    rows.grow()?;
-    for number in 0..8u32 {
-        rows.ready(number)?;
-        put_process(rows, alloc, number)?;
-    }
-    let mut all = true;
-    for number in 0..64u32 {
-        all = count_visited(rows, Term::Pid(number)) <= 3 && all;
-    }
-    Ok(all)
-}
-
-fn new_eight_in_eight(alloc: Global) -> Result<bool, AllocError> {
-    let mut rows = SplitRows::new(alloc, Plain)?;
-    let short = eight_in_eight(&mut rows, alloc);
-    drop(rows);
-    short
-}
-
-#[test]
-fn few_nodes_in_ready_buckets(rt: HostRuntime) {
-    assert!(rt; new_eight_in_eight(rt.alloc()) == Ok(true));
-}
-
-/// Returns whether the readying of a bucket sets the hints of its intervals and of those of its parent. A search then
-/// visits no node if the interval is empty, and one node if the slot of the key is the first of its interval.
-fn hints_in_eight(rows: &mut SplitRows<Plain>, alloc: Global) -> Result<bool, AllocError> {
-    for number in 0..8u32 {
-        put_process(rows, alloc, number)?;
-    }
-    rows.grow()?;
-    rows.grow()?;
-    for bucket in 1..8u32 {
-        rows.ready(bucket)?;
-    }
-    let mut all = true;
-    for number in 0..64u32 {
-        let most = u64::from(number < 8);
-        all = count_visited(rows, Term::Pid(number)) == most && all;
-    }
-    Ok(all)
-}
-
-fn new_hints_in_eight(alloc: Global) -> Result<bool, AllocError> {
-    let mut rows = SplitRows::new(alloc, Plain)?;
-    let known = hints_in_eight(&mut rows, alloc);
-    drop(rows);
-    known
-}
-
-#[test]
-fn readying_sets_hints(rt: HostRuntime) {
-    assert!(rt; new_hints_in_eight(rt.alloc()) == Ok(true));
-}
-
-/// Returns whether searches among a thousand keys of one hash visit at most all of them.
-fn thousand_in_one(rows: &mut SplitRows<AllSame>, alloc: Global) -> Result<bool, AllocError> {
-    for number in 0..1000u32 {
-        insert(rows, alloc, Integer::from(number), 1)?;
-    }
-    let mut all = true;
-    for number in 0..1000u32 {
-        all = count_visited(rows, Term::Int(Integer::from(number))) <= 1002 && all;
-    }
-    let missed = count_visited(rows, Term::Int(1000));
-    Ok(all && 1000 <= missed && missed <= 1002)
-}
-
-fn new_thousand_in_one(alloc: Global) -> Result<bool, AllocError> {
-    let mut rows = SplitRows::new(alloc, AllSame)?;
-    let passed = thousand_in_one(&mut rows, alloc);
-    drop(rows);
-    passed
-}
-
-#[test]
-fn a_thousand_keys_of_one_hash(rt: HostRuntime) {
-    assert!(rt; new_thousand_in_one(rt.alloc()) == Ok(true));
+    assert!(rt; new_rows_search_rightly(rt.alloc(), Greatest, 8) == Ok(true));
 }

@@ -3,8 +3,8 @@ use super::*;
 /// How often three rows are put at once.
 const TIMES: u32 = 100;
 
-/// Builds the chain of one object, this number.
-fn one(alloc: Global, number: Integer) -> Chain {
+/// Builds the chain of one object, this integer.
+fn chain_of_one(alloc: Global, number: Integer) -> Chain {
     Chain::one(alloc, Term::Int(number))
 }
 
@@ -28,44 +28,49 @@ pub fn put_three<R: Rows>(
         return Ok(false);
     }
     rows.put(vec![in alloc;
-        (a, one(alloc, first)),
-        (b, one(alloc, second)),
-        (c, one(alloc, third)),
+        (a, chain_of_one(alloc, first)),
+        (b, chain_of_one(alloc, second)),
+        (c, chain_of_one(alloc, third)),
     ]?)?;
     Ok(true)
 }
 
-/// Returns three keys for a number, different from those of any other number.
-pub fn three(time: u32) -> (Integer, Integer, Integer) {
-    let first = Integer::from(time).wrapping_mul(3);
+/// Returns the three keys of a number. No two numbers share a key.
+pub fn three_keys(number: u32) -> (Integer, Integer, Integer) {
+    let first = Integer::from(number).wrapping_mul(3);
     (first, first.wrapping_add(1), first.wrapping_add(2))
 }
 
-/// Returns whether three rows at a time are put, at moments of growth, and each of them is found.
-fn puts_three_by_three<R: Rows>(rows: &mut R, alloc: Global) -> Result<bool, AllocError> {
+/// Puts three rows at a time, at moments of growth, and returns whether each of them is then found.
+fn puts_by_threes<R: Rows>(rows: &mut R, alloc: Global) -> Result<bool, AllocError> {
     let mut draws = Draws::new();
-    let mut all = true;
+    let mut all_right = true;
     for time in 0..TIMES {
-        all = put_three(rows, alloc, three(time))? && all;
+        all_right = put_three(rows, alloc, three_keys(time))? && all_right;
         ready_some(rows, &mut draws)?;
     }
     for key in 0..TIMES.wrapping_mul(3) {
         let key = Integer::from(key);
-        all = state_at(rows, key) == KeyState::Object(key) && all;
+        all_right = state_at(rows, key) == KeyState::Object(key) && all_right;
     }
-    Ok(all && rows.len() == 3 * TIMES as usize)
+    Ok(all_right && rows.len() == 3 * TIMES as usize)
 }
 
-fn split_puts<H: KeyHash + Copy + Drop>(alloc: Global, hash: H) -> Result<bool, AllocError> {
+/// Returns whether new split rows with this hash store three rows at a time.
+fn split_puts_by_threes<H: KeyHash + Copy + Drop>(
+    alloc: Global,
+    hash: H,
+) -> Result<bool, AllocError> {
     let mut rows = SplitRows::new(alloc, hash)?;
-    let put = puts_three_by_three(&mut rows, alloc);
+    let put = puts_by_threes(&mut rows, alloc);
     drop(rows);
     put
 }
 
-fn plain_puts(alloc: Global) -> Result<bool, AllocError> {
+/// Returns whether new plain rows store three rows at a time.
+fn plain_puts_by_threes(alloc: Global) -> Result<bool, AllocError> {
     let mut rows = PlainRows::new(alloc);
-    let put = puts_three_by_three(&mut rows, alloc);
+    let put = puts_by_threes(&mut rows, alloc);
     drop(rows);
     put
 }
@@ -73,8 +78,8 @@ fn plain_puts(alloc: Global) -> Result<bool, AllocError> {
 #[test]
 fn three_rows_are_put_at_once(rt: HostRuntime) {
     let alloc = rt.alloc();
-    assert!(rt; plain_puts(alloc) == Ok(true));
-    assert!(rt; split_puts(alloc, Fnv) == Ok(true));
-    assert!(rt; split_puts(alloc, Even) == Ok(true));
-    assert!(rt; split_puts(alloc, Last) == Ok(true));
+    assert!(rt; plain_puts_by_threes(alloc) == Ok(true));
+    assert!(rt; split_puts_by_threes(alloc, Fnv) == Ok(true));
+    assert!(rt; split_puts_by_threes(alloc, Even) == Ok(true));
+    assert!(rt; split_puts_by_threes(alloc, Greatest) == Ok(true));
 }

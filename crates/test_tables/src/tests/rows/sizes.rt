@@ -4,18 +4,18 @@ use super::*;
 const SLOTS: u32 = 70_000;
 
 /// Returns whether each key is inserted as a new one, while the buckets are doubled and made ready as they fill.
-fn fills<R: Rows>(rows: &mut R, alloc: Global) -> Result<bool, AllocError> {
-    let mut all = true;
+fn inserts_all<R: Rows>(rows: &mut R, alloc: Global) -> Result<bool, AllocError> {
+    let mut all_new = true;
     for key in 0..SLOTS {
         let key = Integer::from(key);
-        all = insert(rows, alloc, key, key)? == KeyState::Nothing && all;
-        keep_up(rows)?;
+        all_new = insert(rows, alloc, key, key)? == KeyState::Nothing && all_new;
+        grow_as_rows_fill(rows)?;
     }
-    Ok(all && rows.len() == SLOTS as usize)
+    Ok(all_new && rows.len() == SLOTS as usize)
 }
 
 /// Doubles the buckets if they have more than four slots each, and makes the next two ready.
-fn keep_up<R: Rows>(rows: &mut R) -> Result<(), AllocError> {
+fn grow_as_rows_fill<R: Rows>(rows: &mut R) -> Result<(), AllocError> {
     if rows.len() / 4 > rows.buckets() as usize {
         rows.grow()?;
     }
@@ -27,88 +27,94 @@ fn keep_up<R: Rows>(rows: &mut R) -> Result<(), AllocError> {
     Ok(())
 }
 
-/// Returns whether each key has its own number, and can be given another object.
-fn changes<R: Rows>(rows: &mut R, alloc: Global) -> Result<bool, AllocError> {
-    let mut all = true;
+/// Returns whether each key has its own number, and its object is replaced by the next number.
+fn replaces_all<R: Rows>(rows: &mut R, alloc: Global) -> Result<bool, AllocError> {
+    let mut all_right = true;
     for key in 0..SLOTS {
         let key = Integer::from(key);
-        all = state_at(rows, key) == KeyState::Object(key) && all;
-        all = insert(rows, alloc, key, key.wrapping_add(1))? == KeyState::Object(key) && all;
+        all_right = state_at(rows, key) == KeyState::Object(key) && all_right;
+        all_right = insert(rows, alloc, key, key.wrapping_add(1))? == KeyState::Object(key)
+            && all_right;
     }
-    Ok(all && state_at(rows, Integer::from(SLOTS)) == KeyState::Nothing)
+    Ok(all_right && state_at(rows, Integer::from(SLOTS)) == KeyState::Nothing)
 }
 
 /// Returns whether each key is removed, the last first.
-fn empties<R: Rows>(rows: &mut R) -> bool {
-    let mut all = true;
-    for back in 0..SLOTS {
-        let key = Integer::from(SLOTS.wrapping_sub(back).wrapping_sub(1));
-        all = remove(rows, key) == KeyState::Object(key.wrapping_add(1)) && all;
+fn removes_all<R: Rows>(rows: &mut R) -> bool {
+    let mut all_right = true;
+    for index_from_end in 0..SLOTS {
+        let key = Integer::from(SLOTS.wrapping_sub(index_from_end).wrapping_sub(1));
+        all_right = remove(rows, key) == KeyState::Object(key.wrapping_add(1)) && all_right;
     }
-    all && rows.len() == 0 && rows.first_at().is_none()
+    all_right && rows.len() == 0 && rows.first_at().is_none()
 }
 
-fn serves<R: Rows>(rows: &mut R, alloc: Global) -> Result<bool, AllocError> {
+/// Returns whether all keys are inserted, then replaced, and then removed.
+fn inserts_replaces_and_removes<R: Rows>(rows: &mut R, alloc: Global) -> Result<bool, AllocError> {
     rows.reserve(3)?;
-    Ok(fills(rows, alloc)? && changes(rows, alloc)? && empties(rows))
+    Ok(inserts_all(rows, alloc)? && replaces_all(rows, alloc)? && removes_all(rows))
 }
 
 /// Returns whether `clear` leaves a tombstone for each slot and `purge` removes them, or `clear` removes all at once.
-fn sweeps<R: Rows>(rows: &mut R, alloc: Global) -> Result<bool, AllocError> {
-    let filled = fills(rows, alloc)?;
+fn clears_and_purges<R: Rows>(rows: &mut R, alloc: Global) -> Result<bool, AllocError> {
+    let filled = inserts_all(rows, alloc)?;
     rows.clear(true);
     let cleared = rows.len() == SLOTS as usize && state_at(rows, 0) == KeyState::Tombstone;
     rows.purge();
     let purged = rows.len() == 0;
-    let again = fills(rows, alloc)?;
+    let again = inserts_all(rows, alloc)?;
     rows.clear(false);
     Ok(filled && cleared && purged && again && rows.len() == 0)
 }
 
-fn split_serves(alloc: Global) -> Result<bool, AllocError> {
+/// Returns whether new split rows insert, replace and remove all keys.
+fn split_rows_serve_all_keys(alloc: Global) -> Result<bool, AllocError> {
     let mut rows = SplitRows::new(alloc, Fnv)?;
-    let served = serves(&mut rows, alloc);
+    let served = inserts_replaces_and_removes(&mut rows, alloc);
     drop(rows);
     served
 }
 
-fn plain_serves(alloc: Global) -> Result<bool, AllocError> {
+/// Returns whether new plain rows insert, replace and remove all keys.
+fn plain_rows_serve_all_keys(alloc: Global) -> Result<bool, AllocError> {
     let mut rows = PlainRows::new(alloc);
-    let served = serves(&mut rows, alloc);
+    let served = inserts_replaces_and_removes(&mut rows, alloc);
     drop(rows);
     served
 }
 
 #[test]
 fn split_rows_serve(rt: HostRuntime) {
-    assert!(rt; split_serves(rt.alloc()) == Ok(true));
+    assert!(rt; split_rows_serve_all_keys(rt.alloc()) == Ok(true));
 }
 
 #[test]
 fn plain_rows_serve(rt: HostRuntime) {
-    assert!(rt; plain_serves(rt.alloc()) == Ok(true));
+    assert!(rt; plain_rows_serve_all_keys(rt.alloc()) == Ok(true));
 }
 
-fn split_sweeps(alloc: Global) -> Result<bool, AllocError> {
+/// Returns whether new split rows clear and purge all slots.
+fn split_clears_and_purges(alloc: Global) -> Result<bool, AllocError> {
     let mut rows = SplitRows::new(alloc, Fnv)?;
-    let swept = sweeps(&mut rows, alloc);
+    let swept = clears_and_purges(&mut rows, alloc);
     drop(rows);
     swept
 }
 
-fn plain_sweeps(alloc: Global) -> Result<bool, AllocError> {
+/// Returns whether new plain rows clear and purge all slots.
+fn plain_clears_and_purges(alloc: Global) -> Result<bool, AllocError> {
     let mut rows = PlainRows::new(alloc);
-    let swept = sweeps(&mut rows, alloc);
+    let swept = clears_and_purges(&mut rows, alloc);
     drop(rows);
     swept
 }
 
 #[test]
 fn split_rows_are_swept(rt: HostRuntime) {
-    assert!(rt; split_sweeps(rt.alloc()) == Ok(true));
+    assert!(rt; split_clears_and_purges(rt.alloc()) == Ok(true));
 }
 
 #[test]
 fn plain_rows_are_swept(rt: HostRuntime) {
-    assert!(rt; plain_sweeps(rt.alloc()) == Ok(true));
+    assert!(rt; plain_clears_and_purges(rt.alloc()) == Ok(true));
 }

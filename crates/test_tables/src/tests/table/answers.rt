@@ -30,12 +30,14 @@ pub enum Answer {
     Selected(Integer),
 }
 
-/// The numbers for refusals.
+/// The number for the refusal `badarg`.
 const BADARG: Integer = -1;
 
+/// The number for the refusal `system_limit`.
 const SYSTEM_LIMIT: Integer = -2;
 
 impl Answer {
+    /// Returns the number for an expected answer. `answer` returns the same number for a step with this answer.
     pub fn number(self) -> Integer {
         match self {
             Answer::True => 1,
@@ -69,11 +71,11 @@ pub fn refusal_code(refusal: Refusal) -> Integer {
 
 /// Returns one number whose digits are these values.
 fn number_of_values(values: &[Integer]) -> Integer {
-    let mut all: Integer = 0;
+    let mut digits: Integer = 0;
     for value in values {
-        all = add_digit(all, *value);
+        digits = add_digit(digits, *value);
     }
-    all
+    digits
 }
 
 /// Appends a digit to a number, which may wrap.

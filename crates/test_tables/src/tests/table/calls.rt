@@ -1,4 +1,4 @@
-// Each call, and each refusal.
+// Each call, and each refusal: steps in order on one table, each with its answer.
 use super::Emptied::{LeaveTombstone, RemoveSlot};
 use super::Step::{
     CountObjects, CountSlots, Delete, DeleteAll, DeleteObject, Insert, InsertInteger, InsertNew,
@@ -9,11 +9,14 @@ use super::answers::Answer::{
     self, Badarg, Deleted, False, Int, ListOf, Matched, Objects, OneValue, Selected, Slots,
     SystemLimit, True, Values,
 };
-use super::{Incr, Key, Keypos, Life, MaxObjects, Object, Pos, Start, Step, Value, first_mismatch};
+use super::{
+    Incr, Key, Keypos, MaxObjects, Object, Pos, Scenario, Start, Step, Value, first_mismatch,
+};
 use ets_term::Integer;
 use std::process::Abort;
 use table_ops::Kind;
 
+/// Steps on a set: an object replaces that of its key.
 const SETS: [(Step, Answer); 26] = [
     (Insert(Object(7, 1)), True),
     (Insert(Object(7, 2)), True),
@@ -43,6 +46,7 @@ const SETS: [(Step, Answer); 26] = [
     (DeleteAll(RemoveSlot), Slots(0)),
 ];
 
+/// Steps on a bag: a key has different objects, in the order of their insertion.
 const BAGS: [(Step, Answer); 12] = [
     (Insert(Object(7, 1)), True),
     (Insert(Object(7, 2)), True),
@@ -58,6 +62,7 @@ const BAGS: [(Step, Answer); 12] = [
     (CountSlots, Slots(0)),
 ];
 
+/// Steps on a duplicate bag: a key has equal objects too.
 const DUPLICATE_BAGS: [(Step, Answer); 14] = [
     (InsertTwo(Object(7, 1), Object(7, 2)), True),
     (Insert(Object(7, 1)), True),
@@ -75,6 +80,7 @@ const DUPLICATE_BAGS: [(Step, Answer); 14] = [
     (Purge, Slots(0)),
 ];
 
+/// Steps on a set of at most three objects.
 const LIMITS: [(Step, Answer); 15] = [
     (InsertTwo(Object(1, 1), Object(2, 1)), True),
     (InsertTwo(Object(3, 1), Object(4, 1)), SystemLimit),
@@ -93,6 +99,7 @@ const LIMITS: [(Step, Answer); 15] = [
     (CountSlots, Slots(4)),
 ];
 
+/// Steps that update counters and elements of a set.
 const UPDATES: [(Step, Answer); 16] = [
     (Insert(Object(7, 5)), True),
     (UpdateCounter(Key(7), Incr(3)), Int(8)),
@@ -112,6 +119,7 @@ const UPDATES: [(Step, Answer); 16] = [
     (CountSlots, Slots(2)),
 ];
 
+/// Steps that search and delete by a pattern or a match specification, in a set.
 const QUERIES: [(Step, Answer); 16] = [
     (Match(Key(7)), Matched(0)),
     (InsertTwo(Object(7, 1), Object(8, 2)), True),
@@ -131,7 +139,8 @@ const QUERIES: [(Step, Answer); 16] = [
     (Purge, Slots(0)),
 ];
 
-const LIVES: [Life; 6] = [
+/// The tables with their steps.
+const SCENARIOS: [Scenario; 6] = [
     (Kind::Set, Keypos(1), MaxObjects(10), &SETS),
     (Kind::Bag, Keypos(1), MaxObjects(10), &BAGS),
     (
@@ -147,5 +156,5 @@ const LIVES: [Life; 6] = [
 
 #[test]
 fn calls_answer_and_refuse(rt: HostRuntime) {
-    assert_eq!(rt; first_mismatch(rt.alloc(), &LIVES), None);
+    assert_eq!(rt; first_mismatch(rt.alloc(), &SCENARIOS), None);
 }

@@ -1,7 +1,7 @@
-// Lists of 10,000 objects whose keys repeat. The value of an object is the last digit of its index, its key the index
-// modulo 97.
+// Lists of objects whose keys repeat. The key of an object is its index modulo `KEYS`, its value the last digit of the
+// index.
 use super::answers::Answer::{self, False, SystemLimit, True};
-use super::steps::{lookup_digits, try_insert, try_insert_new};
+use super::single_calls::{lookup_digits, try_insert, try_insert_new};
 use super::terms::tuple;
 use super::{Keypos, MaxObjects, plain_table, split_table};
 use bucket_table::Rows;
@@ -10,89 +10,105 @@ use std::alloc::Global;
 use std::process::Abort;
 use table_ops::{Kind, Table};
 
+/// The length of the list, and so the number of objects in a duplicate bag.
+const OBJECTS: u32 = 10_000;
+
+/// The number of different keys, and so of objects in a set.
+const KEYS: u32 = 97;
+
+/// The number of different objects, and so of objects in a bag: each key has ten values.
+const DIFFERENT_OBJECTS: u32 = 970;
+
 /// A table, the answer of the insertion, and what the table then has.
 #[derive(Clone, Copy)]
 struct Row {
     kind: Kind,
     max_objects: MaxObjects,
     answer: Answer,
-    objects: usize,
-    slots: usize,
+    objects: u32,
+    slots: u32,
     /// The values of key 0 as the digits of one number, which wraps.
-    values: Integer,
+    digits: Integer,
 }
 
+/// For each kind of table, one row at its limit of objects and one whose limit is one less.
 const ROWS: [Row; 6] = [
     Row {
         kind: Kind::Set,
-        max_objects: MaxObjects(97),
+        max_objects: MaxObjects(KEYS),
         answer: True,
-        objects: 97,
-        slots: 97,
-        values: 1,
+        objects: KEYS,
+        slots: KEYS,
+        digits: 1,
     },
     Row {
         kind: Kind::Set,
-        max_objects: MaxObjects(96),
+        max_objects: MaxObjects(KEYS - 1),
         answer: SystemLimit,
         objects: 0,
         slots: 0,
-        values: 0,
+        digits: 0,
     },
     Row {
         kind: Kind::Bag,
-        max_objects: MaxObjects(970),
+        max_objects: MaxObjects(DIFFERENT_OBJECTS),
         answer: True,
-        objects: 970,
-        slots: 97,
-        values: 741_852_963,
+        objects: DIFFERENT_OBJECTS,
+        slots: KEYS,
+        digits: DIGITS_IN_BAG,
     },
     Row {
         kind: Kind::Bag,
-        max_objects: MaxObjects(969),
+        max_objects: MaxObjects(DIFFERENT_OBJECTS - 1),
         answer: SystemLimit,
         objects: 0,
         slots: 0,
-        values: 0,
+        digits: 0,
     },
     Row {
         kind: Kind::DuplicateBag,
-        max_objects: MaxObjects(10_000),
+        max_objects: MaxObjects(OBJECTS),
         answer: True,
-        objects: 10_000,
-        slots: 97,
-        values: SAME_KEY,
+        objects: OBJECTS,
+        slots: KEYS,
+        digits: DIGITS_IN_DUPLICATE_BAG,
     },
     Row {
         kind: Kind::DuplicateBag,
-        max_objects: MaxObjects(9_999),
+        max_objects: MaxObjects(OBJECTS - 1),
         answer: SystemLimit,
         objects: 0,
         slots: 0,
-        values: 0,
+        digits: 0,
     },
 ];
 
-/// The digits of key 0 in a duplicate bag, 104 of them.
-const SAME_KEY: Integer = 17_411_923_686_422_082_608_420_841_024_488_311_317;
+/// The ten different values of key 0: 0, 7, 4 and so on.
+const DIGITS_IN_BAG: Integer = 741_852_963;
 
+/// The 104 values of key 0. A number of 104 digits wraps.
+const DIGITS_IN_DUPLICATE_BAG: Integer = 17_411_923_686_422_082_608_420_841_024_488_311_317;
+
+/// Appends `OBJECTS` objects, in the order of their indexes.
 fn push_objects(alloc: Global, objects: &mut Items<Term>) -> Option<()> {
-    for index in 0..10_000u32 {
-        let index = Integer::from(index);
-        objects.push(tuple(alloc, &[index % 97, index % 10])?).ok()?;
+    for index in 0..OBJECTS {
+        let key = Integer::from(index % KEYS);
+        let value = Integer::from(index % 10);
+        objects.push(tuple(alloc, &[key, value])?).ok()?;
     }
     Some(())
 }
 
-fn has<R: Rows>(table: &Table<R>, row: Row) -> bool {
-    table.size() == row.objects
-        && table.slots() == row.slots
-        && lookup_digits(table, 0) == row.values
+/// Returns whether a table has as many objects and slots as the row says, and these values of key 0.
+fn has_contents<R: Rows>(table: &Table<R>, row: Row) -> bool {
+    table.size() == row.objects as usize
+        && table.slots() == row.slots as usize
+        && lookup_digits(table, 0) == row.digits
 }
 
 /// Returns whether `insert` of the list does what the row says.
 fn inserts<R: Rows>(table: &mut Table<R>, list: &[Term], row: Row) -> bool {
-    try_insert(table, list) == row.answer.number() && has(table, row)
+    try_insert(table, list) == row.answer.number() && has_contents(table, row)
 }
 
 /// Returns whether `insert_new` of the list does what the row says, and does not insert it again.
@@ -102,10 +118,13 @@ fn inserts_new<R: Rows>(table: &mut Table<R>, list: &[Term], row: Row) -> bool {
         True => False.number(),
         _ => answer,
     };
-    try_insert_new(table, list) == answer && has(table, row) && try_insert_new(table, list) == again
+    try_insert_new(table, list) == answer
+        && has_contents(table, row)
+        && try_insert_new(table, list) == again
 }
 
-fn plain_does(alloc: Global, list: &[Term], row: Row) -> bool {
+/// Returns whether `insert` and `insert_new` do what the row says, each on a new table over plain rows.
+fn row_holds_on_plain_rows(alloc: Global, list: &[Term], row: Row) -> bool {
     let mut first = plain_table(alloc, row.kind, Keypos(1), row.max_objects);
     let done = inserts(&mut first, list, row);
     drop(first);
@@ -115,7 +134,9 @@ fn plain_does(alloc: Global, list: &[Term], row: Row) -> bool {
     done && done_new
 }
 
-fn split_does(alloc: Global, list: &[Term], row: Row) -> Option<bool> {
+/// Returns whether `insert` and `insert_new` do what the row says, each on a new table over split rows. `None` means
+/// out of memory.
+fn row_holds_on_split_rows(alloc: Global, list: &[Term], row: Row) -> Option<bool> {
     let mut first = split_table(alloc, row.kind, Keypos(1), row.max_objects)?;
     let done = inserts(&mut first, list, row);
     drop(first);
@@ -128,14 +149,17 @@ fn split_does(alloc: Global, list: &[Term], row: Row) -> Option<bool> {
 /// Returns the index of the first row whose table differs.
 fn first_row_mismatch(alloc: Global, list: &[Term], rows: &[Row]) -> Option<usize> {
     for (index, row) in rows.iter().enumerate() {
-        if !plain_does(alloc, list, *row) || split_does(alloc, list, *row) != Some(true) {
+        if !row_holds_on_plain_rows(alloc, list, *row)
+            || row_holds_on_split_rows(alloc, list, *row) != Some(true)
+        {
             return Some(index);
         }
     }
     None
 }
 
-fn inserts_lists(alloc: Global, rows: &[Row]) -> Option<bool> {
+/// Builds the list, and returns whether its insertion does what each row says. `None` means out of memory.
+fn all_rows_hold(alloc: Global, rows: &[Row]) -> Option<bool> {
     let mut list = Items::new(alloc);
     let pushed = push_objects(alloc, &mut list);
     let mismatch = first_row_mismatch(alloc, list.as_slice(), rows);
@@ -146,5 +170,5 @@ fn inserts_lists(alloc: Global, rows: &[Row]) -> Option<bool> {
 
 #[test]
 fn lists_with_repeated_keys(rt: HostRuntime) {
-    assert!(rt; inserts_lists(rt.alloc(), &ROWS) == Some(true));
+    assert!(rt; all_rows_hold(rt.alloc(), &ROWS) == Some(true));
 }

@@ -9,8 +9,8 @@ use super::answers::Answer::{
     Deleted, False, Int, Matched, Objects, OneValue, Selected, Slots, True,
 };
 use super::{
-    Incr, Key, Keypos, MaxObjects, Object, Pos, Start, Step, Value, answer, gives,
-    one_bucket_table, plain_table, runs, split_table,
+    Incr, Key, Keypos, MaxObjects, Object, Pos, Start, Step, Value, answer, one_bucket_table,
+    plain_table, split_table, step_answers, steps_answer,
 };
 use bucket_table::Rows;
 use ets_term::Integer;
@@ -18,21 +18,32 @@ use std::alloc::Global;
 use std::process::Abort;
 use table_ops::{Kind, Table};
 
+/// The number of calls on two tables that are compared.
 const CALLS: u32 = 10_000;
 
+/// The number of objects of a table that grows object by object.
+const OBJECTS: u32 = 10_000;
+
+/// More objects than any table here has.
 const MAX_OBJECTS: MaxObjects = MaxObjects(1_000_000);
 
-/// Returns the call of a number, on a key that spreads with it.
-fn step_at(i: u32) -> Step {
-    let mixed = i.wrapping_mul(2_654_435_761);
-    let key = (mixed >> 16) as Integer % 97;
-    let value = (mixed >> 8) as Integer % 10;
-    let emptied = if i % 64 < 16 {
+/// Knuth's multiplicative hash: 2^32 divided by the golden ratio. It spreads consecutive numbers.
+const SPREAD: u32 = 2_654_435_761;
+
+/// The number of keys of the calls.
+const KEYS: Integer = 97;
+
+/// Returns the call of a number. Its kind is the five highest bits of the spread number; key and value are lower ones.
+fn step_at(number: u32) -> Step {
+    let spread = number.wrapping_mul(SPREAD);
+    let key = (spread >> 16) as Integer % KEYS;
+    let value = (spread >> 8) as Integer % 10;
+    let emptied = if number % 64 < 16 {
         LeaveTombstone
     } else {
         RemoveSlot
     };
-    match mixed >> 27 {
+    match spread >> 27 {
         0 | 1 | 2 | 3 | 4 | 5 | 6 | 7 => Step::Insert(Object(key, value)),
         8 | 9 => Step::InsertTwo(Object(key, value), Object(value, key)),
         10 | 11 => Step::InsertNew(Object(key, value)),
@@ -52,33 +63,33 @@ fn step_at(i: u32) -> Step {
     }
 }
 
-/// Returns a call on the whole table now and then, else that of `step_at`.
-fn whole_step_at(i: u32) -> Step {
-    match i % 1024 {
+/// Returns a call on the whole table four times in 1024 numbers, and otherwise that of `step_at`.
+fn step_or_sweep_at(number: u32) -> Step {
+    match number % 1024 {
         0 => Step::AllObjects,
-        256 => Step::SelectBelow((i % 7) as Integer),
+        256 => Step::SelectBelow((number % 7) as Integer),
         512 => {
-            let emptied = if i % 2048 < 1024 {
+            let emptied = if number % 2048 < 1024 {
                 LeaveTombstone
             } else {
                 RemoveSlot
             };
-            Step::SelectDeleteBelow((i % 3) as Integer, emptied)
+            Step::SelectDeleteBelow((number % 3) as Integer, emptied)
         }
         700 => Step::Purge,
-        _ => step_at(i),
+        _ => step_at(number),
     }
 }
 
-/// Returns whether the tables answer alike.
-fn agree<A: Rows, B: Rows>(
+/// Makes the same calls on two tables, and returns whether each has the same answer in both.
+fn tables_answer_alike<A: Rows, B: Rows>(
     alloc: Global,
     first: &mut Table<A>,
     second: &mut Table<B>,
     calls: u32,
 ) -> bool {
-    for i in 0..calls {
-        let step = whole_step_at(i);
+    for number in 0..calls {
+        let step = step_or_sweep_at(number);
         if answer(alloc, first, step) != answer(alloc, second, step) {
             return false;
         }
@@ -86,72 +97,77 @@ fn agree<A: Rows, B: Rows>(
     true
 }
 
-fn agrees_with_plain<B: Rows>(alloc: Global, second: &mut Table<B>) -> bool {
+/// Returns whether a table answers as one over plain rows.
+fn answers_as_plain_table<B: Rows>(alloc: Global, second: &mut Table<B>) -> bool {
     let mut first = plain_table(alloc, second.kind(), Keypos(1), MAX_OBJECTS);
-    let alike = agree(alloc, &mut first, second, CALLS);
+    let alike = tables_answer_alike(alloc, &mut first, second, CALLS);
     drop(first);
     alike
 }
 
-fn split_agrees(alloc: Global, kind: Kind) -> Option<bool> {
+/// Returns whether a table over split rows answers as one over plain rows. `None` means out of memory.
+fn split_rows_answer_alike(alloc: Global, kind: Kind) -> Option<bool> {
     let mut table = split_table(alloc, kind, Keypos(1), MAX_OBJECTS)?;
-    let alike = agrees_with_plain(alloc, &mut table);
+    let alike = answers_as_plain_table(alloc, &mut table);
     drop(table);
     Some(alike)
 }
 
-fn one_bucket_agrees(alloc: Global, kind: Kind) -> Option<bool> {
+/// Returns whether a table in which all keys share a hash answers as one over plain rows. `None` means out of memory.
+fn one_bucket_answers_alike(alloc: Global, kind: Kind) -> Option<bool> {
     let mut table = one_bucket_table(alloc, kind, Keypos(1), MAX_OBJECTS)?;
-    let alike = agrees_with_plain(alloc, &mut table);
+    let alike = answers_as_plain_table(alloc, &mut table);
     drop(table);
     Some(alike)
 }
 
-fn both_agree(alloc: Global, kind: Kind) -> bool {
-    split_agrees(alloc, kind) == Some(true) && one_bucket_agrees(alloc, kind) == Some(true)
+/// Returns whether tables of this kind answer alike over each form of rows.
+fn all_rows_answer_alike(alloc: Global, kind: Kind) -> bool {
+    split_rows_answer_alike(alloc, kind) == Some(true)
+        && one_bucket_answers_alike(alloc, kind) == Some(true)
 }
 
 #[test]
 fn sets_answer_alike(rt: HostRuntime) {
-    assert!(rt; both_agree(rt.alloc(), Kind::Set));
+    assert!(rt; all_rows_answer_alike(rt.alloc(), Kind::Set));
 }
 
 #[test]
 fn bags_answer_alike(rt: HostRuntime) {
-    assert!(rt; both_agree(rt.alloc(), Kind::Bag));
+    assert!(rt; all_rows_answer_alike(rt.alloc(), Kind::Bag));
 }
 
 #[test]
 fn duplicate_bags_answer_alike(rt: HostRuntime) {
-    assert!(rt; both_agree(rt.alloc(), Kind::DuplicateBag));
+    assert!(rt; all_rows_answer_alike(rt.alloc(), Kind::DuplicateBag));
 }
 
 /// Returns whether a table answers as it must while it grows object by object, and deletes all at the end.
-fn fills<R: Rows>(alloc: Global, table: &mut Table<R>, most: u32) -> bool {
-    for i in 0..most {
-        if !gives(alloc, table, Insert(Object(i as Integer, 1)), True) {
+fn answers_as_it_grows<R: Rows>(alloc: Global, table: &mut Table<R>, objects: u32) -> bool {
+    for key in 0..objects {
+        if !step_answers(alloc, table, Insert(Object(key as Integer, 1)), True) {
             return false;
         }
-        if !gives(alloc, table, CountObjects, Objects(i as Integer + 1)) {
+        if !step_answers(alloc, table, CountObjects, Objects(key as Integer + 1)) {
             return false;
         }
-        if i % 8 == 0 && !gives(alloc, table, Grow, True) {
+        if key % 8 == 0 && !step_answers(alloc, table, Grow, True) {
             return false;
         }
-        if i.is_power_of_two() && !has_all(alloc, table, i as Integer) {
+        if key.is_power_of_two() && !each_call_answers(alloc, table, key as Integer) {
             return false;
         }
     }
-    gives(
+    step_answers(
         alloc,
         table,
         SelectDeleteBelow(2, RemoveSlot),
-        Deleted(most as Integer),
+        Deleted(objects as Integer),
     )
 }
 
 /// Returns whether each call answers as it must on a table of the keys up to this one, each with the value 1.
-fn has_all<R: Rows>(alloc: Global, table: &mut Table<R>, last: Integer) -> bool {
+fn each_call_answers<R: Rows>(alloc: Global, table: &mut Table<R>, last: Integer) -> bool {
     let count = last.wrapping_add(1);
     let rows = [
         (SelectBelow(2), Selected(count)),
@@ -171,25 +187,27 @@ fn has_all<R: Rows>(alloc: Global, table: &mut Table<R>, last: Integer) -> bool 
         (Insert(Object(last, 1)), True),
         (CountSlots, Slots(count)),
     ];
-    runs(alloc, table, &rows)
+    steps_answer(alloc, table, &rows)
 }
 
-fn plain_fills(alloc: Global) -> bool {
+/// Returns whether a table over plain rows answers as it must while it grows.
+fn plain_answers_as_it_grows(alloc: Global) -> bool {
     let mut table = plain_table(alloc, Kind::Set, Keypos(1), MAX_OBJECTS);
-    let filled = fills(alloc, &mut table, 10_000);
+    let filled = answers_as_it_grows(alloc, &mut table, OBJECTS);
     drop(table);
     filled
 }
 
-fn split_fills(alloc: Global) -> Option<bool> {
+/// Returns whether a table over split rows answers as it must while it grows. `None` means out of memory.
+fn split_answers_as_it_grows(alloc: Global) -> Option<bool> {
     let mut table = split_table(alloc, Kind::Set, Keypos(1), MAX_OBJECTS)?;
-    let filled = fills(alloc, &mut table, 10_000);
+    let filled = answers_as_it_grows(alloc, &mut table, OBJECTS);
     drop(table);
     Some(filled)
 }
 
 #[test]
 fn fills_and_empties(rt: HostRuntime) {
-    assert!(rt; plain_fills(rt.alloc()));
-    assert!(rt; split_fills(rt.alloc()) == Some(true));
+    assert!(rt; plain_answers_as_it_grows(rt.alloc()));
+    assert!(rt; split_answers_as_it_grows(rt.alloc()) == Some(true));
 }

@@ -1,4 +1,4 @@
-// What an object is: its key, its depth, and lists with an element that is not an object.
+// What an object is: its key, and its depth.
 use super::Emptied::{LeaveTombstone, RemoveSlot};
 use super::Step::{
     CountObjects, CountSlots, Delete, DeleteObject, Insert, InsertDeep, InsertNew, InsertNewDeep,
@@ -7,21 +7,22 @@ use super::Step::{
 use super::answers::Answer::{
     self, Badarg, False, Int, ListOf, Objects, Slots, SystemLimit, True, Values,
 };
-use super::steps::{count_of, insert, try_insert, try_insert_new};
-use super::terms::{Part, as_integer, atom, tuple, tuple_of};
-use super::updates::{ops, specs};
+use super::single_calls::{count_of, try_insert, try_insert_new};
+use super::terms::{Part, atom, tuple_of};
+use super::updates::{increment_of_counter, second_element_value};
 use super::{
-    Depth, Incr, Key, Keypos, Life, MaxObjects, Object, Pos, Start, Step, Triple, Value,
+    Depth, Incr, Key, Keypos, MaxObjects, Object, Pos, Scenario, Start, Step, Triple, Value,
     first_mismatch, plain_table, split_table,
 };
 use bucket_table::Rows;
-use ets_term::{Integer, Items, Term};
+use ets_term::Term;
 use std::alloc::Global;
 use std::process::Abort;
 use std::slice;
 use table_ops::{Kind, Table};
 
-const KEY_STANDS_SECOND: [(Step, Answer); 15] = [
+/// Steps on a set whose keypos is 2.
+const KEY_IS_SECOND: [(Step, Answer); 15] = [
     (Insert(Object(1, 7)), True),
     (Insert(Object(2, 7)), True),
     (Insert(Object(2, 8)), True),
@@ -39,7 +40,8 @@ const KEY_STANDS_SECOND: [(Step, Answer); 15] = [
     (CountObjects, Objects(1)),
 ];
 
-const KEY_STANDS_THIRD: [(Step, Answer); 14] = [
+/// Steps on a bag whose keypos is 3. A pair is no object of it.
+const KEY_IS_THIRD: [(Step, Answer); 14] = [
     (Insert(Object(1, 2)), Badarg),
     (InsertNew(Object(1, 2)), Badarg),
     (InsertTriple(Triple(1, 2, 7)), True),
@@ -56,6 +58,7 @@ const KEY_STANDS_THIRD: [(Step, Answer); 14] = [
     (CountObjects, Objects(1)),
 ];
 
+/// Steps with the deepest values that a table stores, and with values one deeper. The set has at most two objects.
 const DEEPEST_OBJECTS: [(Step, Answer); 14] = [
     (InsertDeep(Key(7), Depth(127)), True),
     (InsertDeep(Key(8), Depth(128)), SystemLimit),
@@ -73,19 +76,20 @@ const DEEPEST_OBJECTS: [(Step, Answer); 14] = [
     (CountSlots, Slots(2)),
 ];
 
-const LIVES: [Life; 3] = [
-    (Kind::Set, Keypos(2), MaxObjects(10), &KEY_STANDS_SECOND),
-    (Kind::Bag, Keypos(3), MaxObjects(10), &KEY_STANDS_THIRD),
+/// The tables with their steps.
+const SCENARIOS: [Scenario; 3] = [
+    (Kind::Set, Keypos(2), MaxObjects(10), &KEY_IS_SECOND),
+    (Kind::Bag, Keypos(3), MaxObjects(10), &KEY_IS_THIRD),
     (Kind::Set, Keypos(1), MaxObjects(2), &DEEPEST_OBJECTS),
 ];
 
 #[test]
 fn keys_and_depths_of_objects(rt: HostRuntime) {
-    assert_eq!(rt; first_mismatch(rt.alloc(), &LIVES), None);
+    assert_eq!(rt; first_mismatch(rt.alloc(), &SCENARIOS), None);
 }
 
 /// Builds the pair of `'$end_of_table'` and 1.
-fn object_at_end(alloc: Global) -> Option<Term> {
+pub fn object_at_end(alloc: Global) -> Option<Term> {
     tuple_of(alloc, &[Part::Atom("$end_of_table"), Part::Int(1)])
 }
 
@@ -95,14 +99,14 @@ fn inserts_none<R: Rows>(table: &mut Table<R>, object: &Term) -> bool {
         && try_insert_new(table, slice::from_ref(object)) == Badarg.number()
 }
 
-/// Returns whether no counter of that key is updated, with the object as a Default or without.
+/// Returns whether no counter of that key is updated, with a default object or without.
 fn counts_none<R: Rows>(
     alloc: Global,
     table: &mut Table<R>,
     end: &Term,
     object: &Term,
 ) -> Option<bool> {
-    let ops = ops(alloc, 1, 1)?;
+    let ops = increment_of_counter(alloc, 1, 1)?;
     let alone = table.update_counter(end, &ops, None).err();
     let with_default = table.update_counter(end, &ops, Some(object)).err();
     drop(ops);
@@ -111,7 +115,7 @@ fn counts_none<R: Rows>(
 
 /// Returns whether no element of that key is written.
 fn writes_none<R: Rows>(alloc: Global, table: &mut Table<R>, end: &Term) -> Option<bool> {
-    let specs = specs(alloc, 5)?;
+    let specs = second_element_value(alloc, 5)?;
     let updated = table.update_element(end, &specs, None);
     drop(specs);
     Some(updated == Ok(false))
@@ -132,7 +136,7 @@ fn reads_none<R: Rows>(table: &Table<R>, end: &Term) -> bool {
 }
 
 /// Returns whether no call finds or changes anything under the key `'$end_of_table'`.
-fn refuses_end<R: Rows>(
+fn refuses_end_of_table<R: Rows>(
     alloc: Global,
     table: &mut Table<R>,
     end: &Term,
@@ -147,123 +151,40 @@ fn refuses_end<R: Rows>(
     )
 }
 
-fn has_none_at<R: Rows>(alloc: Global, table: &mut Table<R>, end: &Term) -> Option<bool> {
+/// Builds the object, and returns whether no call finds or changes anything under its key.
+fn nothing_is_stored_at<R: Rows>(alloc: Global, table: &mut Table<R>, end: &Term) -> Option<bool> {
     let object = object_at_end(alloc)?;
-    let none = refuses_end(alloc, table, end, &object);
+    let is_refused = refuses_end_of_table(alloc, table, end, &object);
     drop(object);
-    none
+    is_refused
 }
 
-fn has_no_end<R: Rows>(alloc: Global, table: &mut Table<R>) -> Option<bool> {
+/// Builds the key `'$end_of_table'`, and returns whether no call finds or changes anything under it.
+fn end_is_no_key<R: Rows>(alloc: Global, table: &mut Table<R>) -> Option<bool> {
     let end = atom(alloc, "$end_of_table")?;
-    let none = has_none_at(alloc, table, &end);
+    let is_no_key = nothing_is_stored_at(alloc, table, &end);
     drop(end);
-    none
+    is_no_key
 }
 
-fn plain_has_no_end(alloc: Global) -> Option<bool> {
+/// Returns whether `'$end_of_table'` is no key of a table over plain rows.
+fn end_is_no_key_of_plain_rows(alloc: Global) -> Option<bool> {
     let mut table = plain_table(alloc, Kind::Set, Keypos(1), MaxObjects(10));
-    let none = has_no_end(alloc, &mut table);
+    let is_no_key = end_is_no_key(alloc, &mut table);
     drop(table);
-    none
+    is_no_key
 }
 
-fn split_has_no_end(alloc: Global) -> Option<bool> {
+/// Returns whether `'$end_of_table'` is no key of a table over split rows.
+fn end_is_no_key_of_split_rows(alloc: Global) -> Option<bool> {
     let mut table = split_table(alloc, Kind::Set, Keypos(1), MaxObjects(10))?;
-    let none = has_no_end(alloc, &mut table);
+    let is_no_key = end_is_no_key(alloc, &mut table);
     drop(table);
-    none
+    is_no_key
 }
 
 #[test]
 fn end_of_table_is_no_key(rt: HostRuntime) {
-    assert!(rt; plain_has_no_end(rt.alloc()) == Some(true));
-    assert!(rt; split_has_no_end(rt.alloc()) == Some(true));
-}
-
-/// Returns a copy of the bad term at its index, and an object of the key at each other index.
-fn object_at(alloc: Global, key: usize, place: usize, bad: &Term) -> Option<Term> {
-    if key == place {
-        bad.try_clone(alloc).ok()
-    } else {
-        tuple(alloc, &[as_integer(key), 1])
-    }
-}
-
-fn push_objects(
-    alloc: Global,
-    objects: &mut Items<Term>,
-    length: usize,
-    place: usize,
-    bad: &Term,
-) -> Option<()> {
-    for key in 0..length {
-        objects.push(object_at(alloc, key, place, bad)?).ok()?;
-    }
-    Some(())
-}
-
-/// Returns whether a list of this length with such a term at an index is not inserted.
-fn refuses_at<R: Rows>(
-    alloc: Global,
-    table: &mut Table<R>,
-    length: usize,
-    place: usize,
-    bad: &Term,
-) -> Option<bool> {
-    let mut objects = Items::new(alloc);
-    let pushed = push_objects(alloc, &mut objects, length, place, bad);
-    let first = try_insert(table, objects.as_slice());
-    let second = try_insert_new(table, objects.as_slice());
-    drop(objects);
-    pushed?;
-    Some(first == Badarg.number() && second == Badarg.number() && table.size() == 1)
-}
-
-/// Returns whether no list of five terms with such a term at any index is inserted, nor the list of it alone.
-fn refuses<R: Rows>(alloc: Global, table: &mut Table<R>, bad: &Term) -> bool {
-    for place in 0..5 {
-        if refuses_at(alloc, table, 5, place, bad) != Some(true) {
-            return false;
-        }
-    }
-    refuses_at(alloc, table, 1, 0, bad) == Some(true)
-}
-
-/// Does so with a term that it then drops.
-fn refuses_made<R: Rows>(alloc: Global, table: &mut Table<R>, made: Option<Term>) -> Option<bool> {
-    let bad = made?;
-    let refused = refuses(alloc, table, &bad);
-    drop(bad);
-    Some(refused)
-}
-
-/// Returns whether no list with a term that is not an object is inserted into a table of `{3,0}`.
-fn refuses_all<R: Rows>(alloc: Global, table: &mut Table<R>) -> Option<bool> {
-    Some(
-        insert(table, tuple(alloc, &[3, 0]))? == True.number()
-            && refuses_made(alloc, table, Some(Term::Int(7)))?
-            && refuses_made(alloc, table, tuple(alloc, &[]))?
-            && refuses_made(alloc, table, object_at_end(alloc))?,
-    )
-}
-
-fn plain_refuses_all(alloc: Global) -> Option<bool> {
-    let mut table = plain_table(alloc, Kind::Set, Keypos(1), MaxObjects(10));
-    let refused = refuses_all(alloc, &mut table);
-    drop(table);
-    refused
-}
-
-fn split_refuses_all(alloc: Global) -> Option<bool> {
-    let mut table = split_table(alloc, Kind::DuplicateBag, Keypos(1), MaxObjects(10))?;
-    let refused = refuses_all(alloc, &mut table);
-    drop(table);
-    refused
-}
-
-#[test]
-fn a_bad_object_at_each_place(rt: HostRuntime) {
-    assert!(rt; plain_refuses_all(rt.alloc()) == Some(true));
-    assert!(rt; split_refuses_all(rt.alloc()) == Some(true));
+    assert!(rt; end_is_no_key_of_plain_rows(rt.alloc()) == Some(true));
+    assert!(rt; end_is_no_key_of_split_rows(rt.alloc()) == Some(true));
 }

@@ -10,7 +10,7 @@ use super::Step::{
 use super::answers::Answer::{
     self, Deleted, False, Int, ListOf, Matched, Objects, Selected, Slots, True, Values,
 };
-use super::steps::{count_of, total_of_objects};
+use super::single_calls::{count_of, hash_of_objects};
 use super::terms::{pattern_of_key, spec_below};
 use super::{
     Depth, Incr, Key, Keypos, MEMORY, MaxObjects, Object, Pos, Start, Step, Value, answer,
@@ -23,9 +23,11 @@ use std::alloc::Global;
 use std::process::Abort;
 use table_ops::{Kind, Looks, Table};
 
+/// The greatest number of objects in the tables.
 const MAX_OBJECTS: MaxObjects = MaxObjects(9);
 
-const LIFE: [(Step, Answer); 26] = [
+/// Steps on a set, each with its answer when memory suffices.
+const SET_STEPS: [(Step, Answer); 26] = [
     (InsertTwo(Object(1, 1), Object(2, 2)), True),
     (InsertTwo(Object(3, 3), Object(1, 4)), True),
     (InsertNew(Object(1, 5)), False),
@@ -54,7 +56,8 @@ const LIFE: [(Step, Answer); 26] = [
     (DeleteAll(RemoveSlot), Slots(0)),
 ];
 
-const BAG_LIFE: [(Step, Answer); 10] = [
+/// Steps on a bag, each with its answer when memory suffices.
+const BAG_STEPS: [(Step, Answer); 10] = [
     (InsertTwo(Object(1, 1), Object(1, 2)), True),
     (InsertTwo(Object(1, 1), Object(1, 3)), True),
     (Insert(Object(1, 4)), True),
@@ -67,38 +70,44 @@ const BAG_LIFE: [(Step, Answer); 10] = [
     (Lookup(Key(2)), Values(&[5])),
 ];
 
-/// Returns a number for the objects of a table, and how many objects and slots it has.
-fn state<R: Rows>(table: &Table<R>) -> Option<(Integer, usize, usize)> {
-    let objects = total_of_objects(table).or_else(|| total_of_objects(table))?;
+/// Returns a hash of the objects of a table, and how many objects and slots it has. `None` means that memory ran out
+/// twice.
+fn state_of_table<R: Rows>(table: &Table<R>) -> Option<(Integer, usize, usize)> {
+    let objects = hash_of_objects(table).or_else(|| hash_of_objects(table))?;
     Some((objects, table.size(), table.slots()))
 }
 
 /// Returns whether a step has its answer at once, or was refused memory, changed nothing, and has its answer when it is
 /// run again.
-fn does_again<R: Rows>(alloc: Global, table: &mut Table<R>, step: Step, wanted: Answer) -> bool {
-    let before = state(table);
+fn answers_again<R: Rows>(alloc: Global, table: &mut Table<R>, step: Step, wanted: Answer) -> bool {
+    let before = state_of_table(table);
     let first = answer(alloc, table, step);
     if first != MEMORY {
         return first == wanted.number();
     }
-    state(table) == before && answer(alloc, table, step) == wanted.number()
+    state_of_table(table) == before && answer(alloc, table, step) == wanted.number()
 }
 
-/// Returns the index of the first step with another answer.
+/// Runs steps, each again if it is refused memory. Returns the index of the first one with another answer.
 fn first_mismatch_again<R: Rows>(
     alloc: Global,
     table: &mut Table<R>,
     steps: &[(Step, Answer)],
 ) -> Option<usize> {
     for (index, (step, wanted)) in steps.iter().enumerate() {
-        if !does_again(alloc, table, *step, *wanted) {
+        if !answers_again(alloc, table, *step, *wanted) {
             return Some(index);
         }
     }
     None
 }
 
-fn first_plain_mismatch(alloc: Global, kind: Kind, steps: &[(Step, Answer)]) -> Option<usize> {
+/// Returns the index of the first step with another answer over plain rows.
+fn first_mismatch_on_plain_rows(
+    alloc: Global,
+    kind: Kind,
+    steps: &[(Step, Answer)],
+) -> Option<usize> {
     let mut table = plain_table(alloc, kind, Keypos(1), MAX_OBJECTS);
     let mismatch = first_mismatch_again(alloc, &mut table, steps);
     drop(table);
@@ -107,40 +116,48 @@ fn first_plain_mismatch(alloc: Global, kind: Kind, steps: &[(Step, Answer)]) -> 
 
 #[test]
 fn refused_steps_of_plain_rows(rt: HostRuntime) {
-    assert_eq!(rt; first_plain_mismatch(rt.alloc(), Kind::Set, &LIFE), None);
     assert_eq!(rt;
-        first_plain_mismatch(rt.alloc(), Kind::Bag, &BAG_LIFE),
+        first_mismatch_on_plain_rows(rt.alloc(), Kind::Set, &SET_STEPS),
+        None
+    );
+    assert_eq!(rt;
+        first_mismatch_on_plain_rows(rt.alloc(), Kind::Bag, &BAG_STEPS),
         None
     );
 }
 
-fn try_split<H: KeyHash + Copy>(alloc: Global, hash: H, kind: Kind) -> Option<Table<SplitRows<H>>> {
+/// Creates a table over split rows with this hash. `None` means out of memory.
+fn try_split_table<H: KeyHash + Copy>(
+    alloc: Global,
+    hash: H,
+    kind: Kind,
+) -> Option<Table<SplitRows<H>>> {
     match SplitRows::new(alloc, hash) {
         Ok(rows) => Some(Table::new(alloc, rows, kind, 1, MAX_OBJECTS.0)),
         Err(_) => None,
     }
 }
 
-/// Builds a table over split rows, again if it is refused memory.
-fn split_again<H: KeyHash + Copy>(
+/// Creates a table over split rows, again if it is refused memory.
+fn split_table_again<H: KeyHash + Copy>(
     alloc: Global,
     hash: H,
     kind: Kind,
 ) -> Option<Table<SplitRows<H>>> {
-    match try_split(alloc, hash, kind) {
+    match try_split_table(alloc, hash, kind) {
         Some(table) => Some(table),
-        None => try_split(alloc, hash, kind),
+        None => try_split_table(alloc, hash, kind),
     }
 }
 
-/// Returns the index of the first step with another answer over split rows.
-fn first_split_mismatch<H: KeyHash + Copy + Drop>(
+/// Returns the index of the first step with another answer over split rows with this hash.
+fn first_mismatch_on_split_rows<H: KeyHash + Copy + Drop>(
     alloc: Global,
     hash: H,
     kind: Kind,
     steps: &[(Step, Answer)],
 ) -> Option<usize> {
-    let mut table = split_again(alloc, hash, kind)?;
+    let mut table = split_table_again(alloc, hash, kind)?;
     let mismatch = first_mismatch_again(alloc, &mut table, steps);
     drop(table);
     mismatch
@@ -149,17 +166,17 @@ fn first_split_mismatch<H: KeyHash + Copy + Drop>(
 #[test]
 fn refused_steps_of_split_rows(rt: HostRuntime) {
     assert_eq!(rt;
-        first_split_mismatch(rt.alloc(), Fnv, Kind::Set, &LIFE),
+        first_mismatch_on_split_rows(rt.alloc(), Fnv, Kind::Set, &SET_STEPS),
         None
     );
     assert_eq!(rt;
-        first_split_mismatch(rt.alloc(), AllSame, Kind::Bag, &BAG_LIFE),
+        first_mismatch_on_split_rows(rt.alloc(), AllSame, Kind::Bag, &BAG_STEPS),
         None
     );
 }
 
 /// Runs the six counted searches, of which the last two delete. Returns whether none of them lowers the counter.
-fn never_falls<R: Rows>(
+fn counter_never_falls<R: Rows>(
     table: &mut Table<R>,
     pattern: &Pattern,
     spec: &Spec,
@@ -181,8 +198,13 @@ fn never_falls<R: Rows>(
     front && third <= fourth && fourth <= fifth && fifth <= looks.count()
 }
 
-/// Does so with the pattern of a key and the match specification that chooses the objects below it.
-fn never_falls_under<R: Rows>(alloc: Global, table: &mut Table<R>, key: Integer) -> Option<bool> {
+/// Returns whether no search lowers the counter, by the pattern of a key and by the match specification that chooses
+/// the objects below it. `None` means out of memory.
+fn counter_never_falls_at_key<R: Rows>(
+    alloc: Global,
+    table: &mut Table<R>,
+    key: Integer,
+) -> Option<bool> {
     let mut looks = Looks::new();
     let pattern = pattern_of_key(alloc, key)?;
     let Some(spec) = spec_below(alloc, key) else {
@@ -190,25 +212,25 @@ fn never_falls_under<R: Rows>(alloc: Global, table: &mut Table<R>, key: Integer)
         return None;
     };
     let _ = count_of(table.matches_counted(&pattern, &mut looks).ok());
-    let never = never_falls(table, &pattern, &spec, &mut looks);
+    let never_falls = counter_never_falls(table, &pattern, &spec, &mut looks);
     drop(spec);
     drop(pattern);
-    Some(never)
+    Some(never_falls)
 }
 
-/// Does so on a table of four objects, or of fewer if memory runs out.
-fn never_falls_of_four(alloc: Global) -> bool {
+/// Returns whether no search lowers the counter, on a table of four objects, or of fewer if memory runs out.
+fn counter_never_falls_on_four_objects(alloc: Global) -> bool {
     let mut table = plain_table(alloc, Kind::Set, Keypos(1), MAX_OBJECTS);
     for key in 1..5u32 {
         let key = Integer::from(key);
         let _ = answer(alloc, &mut table, Insert(Object(key, key)));
     }
-    let never = never_falls_under(alloc, &mut table, 4);
+    let never_falls = counter_never_falls_at_key(alloc, &mut table, 4);
     drop(table);
-    never.unwrap_or(true)
+    never_falls.unwrap_or(true)
 }
 
 #[test]
 fn counters_never_fall(rt: HostRuntime) {
-    assert!(rt; never_falls_of_four(rt.alloc()));
+    assert!(rt; counter_never_falls_on_four_objects(rt.alloc()));
 }

@@ -4,9 +4,9 @@ use ets_term::{Atom, Integer, Items, Term};
 use match_spec::{Pattern, Spec};
 use std::alloc::Global;
 
-/// Returns the value if what was put into it succeeded, else drops it.
-fn keep_if_some<T: Drop>(put: Option<()>, value: T) -> Option<T> {
-    match put {
+/// Returns the value if what was pushed into it succeeded; otherwise drops it and returns `None`.
+fn keep_if_some<T: Drop>(pushed: Option<()>, value: T) -> Option<T> {
+    match pushed {
         Some(()) => Some(value),
         None => {
             drop(value);
@@ -15,6 +15,7 @@ fn keep_if_some<T: Drop>(put: Option<()>, value: T) -> Option<T> {
     }
 }
 
+/// Appends integers. `None` means out of memory.
 fn push_numbers(items: &mut Items<Term>, numbers: &[Integer]) -> Option<()> {
     for number in numbers {
         items.push(Term::Int(*number)).ok()?;
@@ -28,6 +29,7 @@ pub fn tuple(alloc: Global, numbers: &[Integer]) -> Option<Term> {
     Some(Term::Tuple(keep_if_some(push_numbers(&mut items, numbers), items)?))
 }
 
+/// Appends the tuples of pairs. `None` means out of memory.
 fn push_pairs(alloc: Global, items: &mut Items<Term>, pairs: &[[Integer; 2]]) -> Option<()> {
     for pair in pairs {
         items.push(tuple(alloc, pair.as_slice())?).ok()?;
@@ -41,11 +43,13 @@ pub fn tuples(alloc: Global, pairs: &[[Integer; 2]]) -> Option<Items<Term>> {
     keep_if_some(push_pairs(alloc, &mut items, pairs), items)
 }
 
+/// Returns a count as an integer of a term.
 pub fn as_integer(count: usize) -> Integer {
     count as Integer
 }
 
-pub fn number(term: Option<&Term>) -> Integer {
+/// Returns the integer that a term is, or 0.
+pub fn integer_of(term: Option<&Term>) -> Integer {
     match term {
         Some(Term::Int(n)) => *n,
         _ => 0,
@@ -53,30 +57,35 @@ pub fn number(term: Option<&Term>) -> Integer {
 }
 
 /// Returns the second elements of pairs as the digits of one number.
-pub fn digits(objects: &[Term]) -> Integer {
-    let mut all: Integer = 0;
+pub fn digits_of(objects: &[Term]) -> Integer {
+    let mut digits: Integer = 0;
     for object in objects {
-        all = add_digit(all, number(object.element(2)));
+        digits = add_digit(digits, integer_of(object.element(2)));
     }
-    all
+    digits
 }
 
-/// Returns a number for pairs, whatever their order.
-pub fn total_of(objects: &[Term]) -> Integer {
-    let mut all: Integer = 0;
+/// A prime, so that the two elements of a pair count differently.
+const PRIME: Integer = 1_000_003;
+
+/// Returns a hash of pairs, whatever their order: the sum of the squares of their numbers.
+pub fn hash_of_pairs(objects: &[Term]) -> Integer {
+    let mut sum: Integer = 0;
     for object in objects {
-        let pair = number(object.element(1))
-            .wrapping_mul(1_000_003)
-            .wrapping_add(number(object.element(2)));
-        all = all.wrapping_add(pair.wrapping_mul(pair));
+        let pair = integer_of(object.element(1))
+            .wrapping_mul(PRIME)
+            .wrapping_add(integer_of(object.element(2)));
+        sum = sum.wrapping_add(pair.wrapping_mul(pair));
     }
-    all
+    sum
 }
 
+/// Builds the atom with this text. `None` means out of memory.
 pub fn atom(alloc: Global, text: &str) -> Option<Term> {
     Some(Term::Atom(Atom::new(alloc, text).ok()?))
 }
 
+/// Appends two terms. `None` means out of memory.
 fn push_two(items: &mut Items<Term>, first: Term, second: Term) -> Option<()> {
     match items.push(first) {
         Ok(()) => items.push(second).ok(),
@@ -100,6 +109,7 @@ pub enum Part<'a> {
     Atom(&'a str),
 }
 
+/// Appends the terms of these parts. `None` means out of memory.
 fn push_parts(alloc: Global, items: &mut Items<Term>, parts: &[Part]) -> Option<()> {
     for part in parts {
         match *part {
@@ -110,11 +120,13 @@ fn push_parts(alloc: Global, items: &mut Items<Term>, parts: &[Part]) -> Option<
     Some(())
 }
 
+/// Builds the items of these parts.
 fn items_of(alloc: Global, parts: &[Part]) -> Option<Items<Term>> {
     let mut items = Items::new(alloc);
     keep_if_some(push_parts(alloc, &mut items, parts), items)
 }
 
+/// Builds the tuple of these parts.
 pub fn tuple_of(alloc: Global, parts: &[Part]) -> Option<Term> {
     Some(Term::Tuple(items_of(alloc, parts)?))
 }
@@ -145,8 +157,8 @@ fn list_of(alloc: Global, term: Term) -> Option<Term> {
     Some(Term::List(keep_if_some(items.push(term).ok(), items)?))
 }
 
-/// Builds 0 in lists within lists, to this depth.
-pub fn nest(alloc: Global, depth: usize) -> Option<Term> {
+/// Builds 0 in lists within lists, a term of this depth.
+pub fn nested_list(alloc: Global, depth: usize) -> Option<Term> {
     let mut term = Term::Int(0);
     for _ in 1..depth {
         term = list_of(alloc, term)?;
@@ -162,6 +174,7 @@ fn conditions(alloc: Global, condition: Option<&[Part]>) -> Option<Term> {
     }
 }
 
+/// Appends the pattern, the conditions and the results `[true]` of a clause.
 fn push_clause(
     alloc: Global,
     items: &mut Items<Term>,
@@ -194,6 +207,7 @@ pub fn spec_below(alloc: Global, limit: Integer) -> Option<Spec> {
     spec_of(alloc, list_of(alloc, clause)?)
 }
 
+/// Appends a clause `{{Key,'_'},[],[true]}` for each key.
 fn push_clauses(alloc: Global, clauses: &mut Items<Term>, keys: &[Integer]) -> Option<()> {
     for key in keys {
         let pattern = [Part::Int(*key), Part::Atom("_")];

@@ -1,6 +1,6 @@
 // Updates of counters and elements, and the numbers for their answers.
 use super::answers::refusal_code;
-use super::terms::{number, tuple};
+use super::terms::{integer_of, tuple};
 use bucket_table::Rows;
 use counters::{ElementSpecs, Ops, read_element_specs, read_ops};
 use ets_term::{Integer, Term};
@@ -8,14 +8,15 @@ use std::alloc::Global;
 use table_ops::Table;
 
 /// Builds the operation that adds an increment to the element after the key.
-pub fn ops(alloc: Global, increment: Integer, keypos: u32) -> Option<Ops> {
+pub fn increment_of_counter(alloc: Global, increment: Integer, keypos: u32) -> Option<Ops> {
     let update = Term::Int(increment);
     let ops = read_ops(alloc, &update, keypos);
     drop(update);
     ops.ok()
 }
 
-/// Updates the counter after the key, with a Default or without.
+/// Updates the counter after the key, with a default object or without. Returns its new value, or the number for the
+/// refusal.
 pub fn update_counter<R: Rows>(
     alloc: Global,
     table: &mut Table<R>,
@@ -23,14 +24,14 @@ pub fn update_counter<R: Rows>(
     increment: Integer,
     default: Option<&Term>,
 ) -> Option<Integer> {
-    let ops = ops(alloc, increment, table.keypos())?;
+    let ops = increment_of_counter(alloc, increment, table.keypos())?;
     let key = Term::Int(key);
     let counted = table.update_counter(&key, &ops, default);
     drop(key);
     drop(ops);
     match counted {
         Ok(answer) => {
-            let value = number(Some(&answer));
+            let value = integer_of(Some(&answer));
             drop(answer);
             Some(value)
         }
@@ -38,6 +39,7 @@ pub fn update_counter<R: Rows>(
     }
 }
 
+/// Updates a counter with the default object `{0,Start}`. Returns its new value, or the number for the refusal.
 pub fn update_counter_from<R: Rows>(
     alloc: Global,
     table: &mut Table<R>,
@@ -51,22 +53,22 @@ pub fn update_counter_from<R: Rows>(
     answer
 }
 
-/// Builds the element value for the second element. It is read for a key that is first; the table checks it again.
-pub fn specs(alloc: Global, value: Integer) -> Option<ElementSpecs> {
+/// Builds the value for the second element. It is read for a key that is first; the table checks it again.
+pub fn second_element_value(alloc: Global, value: Integer) -> Option<ElementSpecs> {
     let update = tuple(alloc, &[2, value])?;
     let specs = read_element_specs(alloc, &update, 1);
     drop(update);
     specs.ok()
 }
 
-/// Writes the second element.
+/// Writes the second element of a key. Returns 1 or 0 for true or false, or the number for the refusal.
 pub fn update_element<R: Rows>(
     alloc: Global,
     table: &mut Table<R>,
     key: Integer,
     value: Integer,
 ) -> Option<Integer> {
-    let specs = specs(alloc, value)?;
+    let specs = second_element_value(alloc, value)?;
     let key = Term::Int(key);
     let updated = table.update_element(&key, &specs, None);
     drop(specs);

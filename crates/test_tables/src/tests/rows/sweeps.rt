@@ -1,0 +1,41 @@
+// Calls on all slots.
+use super::*;
+
+/// A call on all slots.
+#[derive(Clone, Copy)]
+enum Sweep {
+    /// `clear` that makes a tombstone of each slot.
+    LeaveTombstones,
+    /// `clear` that removes each slot with objects.
+    RemoveSlots,
+    /// `purge`, which removes each tombstone.
+    Purge,
+}
+
+/// Returns the state of a key after a call on all slots.
+fn state_after_sweep(sweep: Sweep, before: KeyState) -> KeyState {
+    match (sweep, before) {
+        (Sweep::LeaveTombstones, KeyState::Object(_)) => KeyState::Tombstone,
+        (Sweep::RemoveSlots, KeyState::Object(_)) => KeyState::Nothing,
+        (Sweep::Purge, KeyState::Tombstone) => KeyState::Nothing,
+        (_, before) => before,
+    }
+}
+
+/// Makes a call on all slots of rows and of the list: most often it purges.
+pub(super) fn sweep_both<R: Rows>(rows: &mut R, list: &mut [KeyState], draws: &mut Draws) {
+    let sweep = match draws.random_below(6) {
+        0 => Sweep::LeaveTombstones,
+        1 => Sweep::RemoveSlots,
+        _ => Sweep::Purge,
+    };
+    match sweep {
+        Sweep::LeaveTombstones => rows.clear(true),
+        Sweep::RemoveSlots => rows.clear(false),
+        Sweep::Purge => rows.purge(),
+    }
+    for state in list.iter_mut() {
+        let before = *state;
+        *state = state_after_sweep(sweep, before);
+    }
+}

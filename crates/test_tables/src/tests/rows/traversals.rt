@@ -1,0 +1,56 @@
+// Traversals in which each next slot is found twice: by the place of a key, and by the key.
+use super::*;
+
+/// Returns the integer that a key is, or -1.
+fn number_of(key: &Term) -> Integer {
+    match key {
+        Term::Int(number) => *number,
+        _ => -1,
+    }
+}
+
+/// Returns the key of the first slot.
+fn first_key<R: Rows>(rows: &R) -> Option<Integer> {
+    let place = rows.first_place()?;
+    let (key, _objects) = rows.slot_at(place);
+    Some(number_of(key))
+}
+
+/// Returns the key after another, found by places.
+fn key_after<R: Rows>(rows: &R, key: Integer) -> Option<Integer> {
+    let term = Term::Int(key);
+    let found = rows.find(&term);
+    drop(term);
+    let place = found?;
+    let next = rows.next_place(place)?;
+    let (key, _objects) = rows.slot_at(next);
+    Some(number_of(key))
+}
+
+/// Returns whether `next_at` gives this key after another.
+fn is_key_after<R: Rows>(rows: &R, key: Integer, next: Option<Integer>) -> bool {
+    let term = Term::Int(key);
+    let is_next = match rows.next_at(&term) {
+        Some(Some((key, _objects))) => next == Some(number_of(key)),
+        Some(None) => next == None,
+        None => false,
+    };
+    drop(term);
+    is_next
+}
+
+/// Returns whether a traversal from the first slot visits each slot, finds each next key by its place and by its key,
+/// and then ends.
+pub(super) fn traverses<R: Rows>(rows: &R) -> bool {
+    let mut all_right = true;
+    let mut at = first_key(rows);
+    for _ in 0..rows.len() {
+        if let Some(key) = at {
+            at = key_after(rows, key);
+            all_right = is_key_after(rows, key, at) && all_right;
+        } else {
+            all_right = false;
+        }
+    }
+    all_right && at == None
+}

@@ -1,0 +1,130 @@
+// The exact number of nodes that searches visit, in rows whose buckets are known.
+use super::*;
+
+/// Returns how many nodes a search visits.
+fn count_visited<H: KeyHash + Copy + Drop>(rows: &SplitRows<H>, key: Term) -> u64 {
+    let mut steps = Steps::new();
+    let _found = rows.get_counted(&key, &mut steps);
+    drop(key);
+    steps.count()
+}
+
+/// Puts a slot without objects whose key is the process of a number.
+fn put_process<R: Rows>(rows: &mut R, alloc: Global, number: u32) -> Result<(), AllocError> {
+    let key = Term::Pid(number);
+    match rows.entry(&key) {
+        SlotEntry::Vacant(hash) => {
+            rows.put_at(hash, key, Chain::new(alloc))?;
+            Ok(())
+        }
+        SlotEntry::Occupied(_) => {
+            drop(key);
+            Ok(())
+        }
+    }
+}
+
+/// The number of buckets after two doublings, and of the keys in them. The hash is the number of a process, so each
+/// bucket has one key.
+const BUCKETS: u32 = 8;
+
+/// The keys that are searched for. Those from `BUCKETS` on are missing.
+const SEARCHED: u32 = 64;
+
+/// A search in a ready bucket of one key visits at most as many nodes: n + 2.
+const MOST_VISITS: u64 = 3;
+
+/// Returns whether searches are short if each of eight ready buckets has one key.
+fn searches_are_short(rows: &mut SplitRows<PidNumber>, alloc: Global) -> Result<bool, AllocError> {
+    rows.grow()?;
+    rows.grow()?;
+    for number in 0..BUCKETS {
+        rows.ready(number)?;
+        put_process(rows, alloc, number)?;
+    }
+    let mut all_short = true;
+    for number in 0..SEARCHED {
+        all_short = count_visited(rows, Term::Pid(number)) <= MOST_VISITS && all_short;
+    }
+    Ok(all_short)
+}
+
+/// Returns whether searches in new split rows with eight ready buckets are short.
+fn new_rows_search_shortly(alloc: Global) -> Result<bool, AllocError> {
+    let mut rows = SplitRows::new(alloc, PidNumber)?;
+    let short = searches_are_short(&mut rows, alloc);
+    drop(rows);
+    short
+}
+
+#[test]
+fn few_nodes_in_ready_buckets(rt: HostRuntime) {
+    assert!(rt; new_rows_search_shortly(rt.alloc()) == Ok(true));
+}
+
+/// Returns whether the readying of a bucket sets the hints of its intervals and of those of its parent. A search then
+/// visits no node if the interval is empty, and one node if the slot of the key is the first of its interval.
+fn hints_are_set(rows: &mut SplitRows<PidNumber>, alloc: Global) -> Result<bool, AllocError> {
+    for number in 0..BUCKETS {
+        put_process(rows, alloc, number)?;
+    }
+    rows.grow()?;
+    rows.grow()?;
+    for bucket in 1..BUCKETS {
+        rows.ready(bucket)?;
+    }
+    let mut all_exact = true;
+    for number in 0..SEARCHED {
+        let visits = u64::from(number < BUCKETS);
+        all_exact = count_visited(rows, Term::Pid(number)) == visits && all_exact;
+    }
+    Ok(all_exact)
+}
+
+/// Returns whether the readying of buckets sets the hints of new split rows.
+fn new_rows_set_hints(alloc: Global) -> Result<bool, AllocError> {
+    let mut rows = SplitRows::new(alloc, PidNumber)?;
+    let hints = hints_are_set(&mut rows, alloc);
+    drop(rows);
+    hints
+}
+
+#[test]
+fn readying_sets_hints(rt: HostRuntime) {
+    assert!(rt; new_rows_set_hints(rt.alloc()) == Ok(true));
+}
+
+/// The number of keys with one hash, and the most nodes that a search among them visits: two more.
+const SAME_HASH_KEYS: u32 = 1_000;
+
+const MOST_SAME_HASH_VISITS: u64 = 1_002;
+
+/// Returns whether searches among keys of one hash visit at most all of them, and for a missing key all.
+fn same_hash_searches_are_bounded(
+    rows: &mut SplitRows<AllSame>,
+    alloc: Global,
+) -> Result<bool, AllocError> {
+    for number in 0..SAME_HASH_KEYS {
+        insert(rows, alloc, Integer::from(number), 1)?;
+    }
+    let mut all_bounded = true;
+    for number in 0..SAME_HASH_KEYS {
+        let visits = count_visited(rows, Term::Int(Integer::from(number)));
+        all_bounded = visits <= MOST_SAME_HASH_VISITS && all_bounded;
+    }
+    let missed = count_visited(rows, Term::Int(Integer::from(SAME_HASH_KEYS)));
+    Ok(all_bounded && SAME_HASH_KEYS as u64 <= missed && missed <= MOST_SAME_HASH_VISITS)
+}
+
+/// Returns whether searches in new split rows with one hash for all keys visit at most all of them.
+fn new_rows_bound_same_hash_searches(alloc: Global) -> Result<bool, AllocError> {
+    let mut rows = SplitRows::new(alloc, AllSame)?;
+    let bounded = same_hash_searches_are_bounded(&mut rows, alloc);
+    drop(rows);
+    bounded
+}
+
+#[test]
+fn a_thousand_keys_of_one_hash(rt: HostRuntime) {
+    assert!(rt; new_rows_bound_same_hash_searches(rt.alloc()) == Ok(true));
+}
