@@ -14,9 +14,9 @@ pub struct Tid(u32);
 #[derive(Clone, Copy, PartialEq, Eq)]
 pub struct Bucket(u32);
 
-/// Returns the value if the change of it succeeded. Otherwise drops it.
-fn keep_if_ok<T: Drop, E>(done: Result<(), E>, value: T) -> Result<T, E> {
-    match done {
+/// Returns the value if the change of it succeeded; otherwise drops the value and returns the error.
+fn keep_if_ok<T: Drop, E>(changed: Result<(), E>, value: T) -> Result<T, E> {
+    match changed {
         Ok(()) => Ok(value),
         Err(error) => {
             drop(value);

@@ -1,5 +1,5 @@
 // Tests what no script of tests/scripts can say. A test is a table of rows: a step, and the reply that the rules of
-// docs/calls.md want, written by hand. A test reports the place of a wrong row.
+// docs/calls.md want, written by hand. A test reports the index of a wrong row.
 use crate::tests::text::{is_spelled, term, terms};
 use crate::tests::{Bucket, Pid, Tid, keep_if_ok};
 use ets_term::{AllSame, Atom, Fnv, Items, KeyHash, Term};
@@ -33,7 +33,7 @@ enum Event<'a> {
 /// A step, and its reply: a term, a list after `any order: `, or a refusal such as `** badarg`.
 type Row = (Event<'static>, &'static str);
 
-/// Returns the step of a call that a process makes.
+/// Builds the step of a call that a process makes, as in `lookup(t,a)`.
 fn ask(alloc: Global, pid: Pid, call: &str) -> Result<Step, AllocError> {
     let Some((name, rest)) = call.split_once('(') else {
         return Err(AllocError);
@@ -51,7 +51,8 @@ fn ask(alloc: Global, pid: Pid, call: &str) -> Result<Step, AllocError> {
     }
 }
 
-fn step(alloc: Global, event: Event) -> Result<Step, AllocError> {
+/// Builds the step of an event.
+fn build_step(alloc: Global, event: Event) -> Result<Step, AllocError> {
     match event {
         Event::Enrol(pid) => Ok(Step::Enrol(pid.0)),
         Event::End(pid) => Ok(Step::End(pid.0)),
@@ -94,8 +95,8 @@ fn are_spelled(alloc: Global, items: &[Term], text: &str) -> Result<bool, AllocE
     Ok(same)
 }
 
-/// Returns whether the text is that of the reply.
-fn is(alloc: Global, reply: &Reply, wanted: &str) -> Result<bool, AllocError> {
+/// Returns whether the text is that of the reply: a term, a list after `any order: `, or a refusal.
+fn reply_has_text(alloc: Global, reply: &Reply, wanted: &str) -> Result<bool, AllocError> {
     match reply {
         Reply::Value(value) => match wanted.strip_prefix("any order: ") {
             Some(wanted) => has_items(alloc, value, wanted),
@@ -107,67 +108,73 @@ fn is(alloc: Global, reply: &Reply, wanted: &str) -> Result<bool, AllocError> {
     }
 }
 
-/// Returns whether the step has this reply.
-fn does<H: KeyHash + Copy + Drop>(
+/// Runs the step of an event, and returns whether it has this reply.
+fn event_has_reply<H: KeyHash + Copy + Drop>(
     alloc: Global,
     node: &mut Node<H>,
     event: Event,
     wanted: &str,
 ) -> Result<bool, AllocError> {
-    let step = step(alloc, event)?;
-    let answered = answers_step(alloc, node, &step, wanted);
+    let step = build_step(alloc, event)?;
+    let answered = step_has_reply(alloc, node, &step, wanted);
     drop(step);
     answered
 }
 
-fn answers_step<H: KeyHash + Copy + Drop>(
+/// Runs a step, and returns whether it has this reply.
+fn step_has_reply<H: KeyHash + Copy + Drop>(
     alloc: Global,
     node: &mut Node<H>,
     step: &Step,
     wanted: &str,
 ) -> Result<bool, AllocError> {
     let reply = node.step(step)?;
-    let same = is(alloc, &reply, wanted);
+    let same = reply_has_text(alloc, &reply, wanted);
     drop(reply);
     same
 }
 
-/// Returns the place of the first row with another reply.
-fn wrong_in<H: KeyHash + Copy + Drop>(
+/// Runs the rows in a node, and returns the index of the first one with another reply.
+fn first_wrong_row_in<H: KeyHash + Copy + Drop>(
     alloc: Global,
     node: &mut Node<H>,
     rows: &[Row],
 ) -> Result<Option<usize>, AllocError> {
-    for (place, (event, wanted)) in rows.iter().enumerate() {
-        if !does(alloc, node, *event, *wanted)? {
-            return Ok(Some(place));
+    for (index, (event, wanted)) in rows.iter().enumerate() {
+        if !event_has_reply(alloc, node, *event, *wanted)? {
+            return Ok(Some(index));
         }
     }
     Ok(None)
 }
 
-/// Does so with a new node with this hasher.
-fn wrong_by<H: KeyHash + Copy + Drop>(
+/// Runs the rows in a new node with this hasher, and returns the index of the first one with another reply.
+fn first_wrong_row_by_hasher<H: KeyHash + Copy + Drop>(
     alloc: Global,
     limits: Limits,
     hasher: H,
     rows: &[Row],
 ) -> Result<Option<usize>, AllocError> {
     let mut node = Node::new(alloc, limits, hasher);
-    let place = wrong_in(alloc, &mut node, rows);
+    let index = first_wrong_row_in(alloc, &mut node, rows);
     drop(node);
-    place
+    index
 }
 
-/// Does so with new nodes with these limits, one whose hasher spreads keys and one whose hasher does not.
-fn wrong_within(alloc: Global, limits: Limits, rows: &[Row]) -> Result<Option<usize>, AllocError> {
-    match wrong_by(alloc, limits, Fnv, rows)? {
-        Some(place) => Ok(Some(place)),
-        None => wrong_by(alloc, limits, AllSame, rows),
+/// Runs the rows in two new nodes: one hasher spreads keys, the other gives all keys one hash. Returns the index of the
+/// first row with another reply.
+fn first_wrong_row_within_limits(
+    alloc: Global,
+    limits: Limits,
+    rows: &[Row],
+) -> Result<Option<usize>, AllocError> {
+    match first_wrong_row_by_hasher(alloc, limits, Fnv, rows)? {
+        Some(index) => Ok(Some(index)),
+        None => first_wrong_row_by_hasher(alloc, limits, AllSame, rows),
     }
 }
 
-/// Does so with the usual limits.
-fn wrong(alloc: Global, rows: &[Row]) -> Result<Option<usize>, AllocError> {
-    wrong_within(alloc, Limits::usual(), rows)
+/// Runs the rows in new nodes with the usual limits, and returns the index of the first one with another reply.
+fn first_wrong_row(alloc: Global, rows: &[Row]) -> Result<Option<usize>, AllocError> {
+    first_wrong_row_within_limits(alloc, Limits::usual(), rows)
 }

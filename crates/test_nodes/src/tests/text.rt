@@ -1,4 +1,4 @@
-// Terms as Erlang writes them: `{a,-1}`, `['$1',[]]`, `#Tid<7>`, `<0.7.0>`; and `deep(7)` for lists in lists, seven deep.
+// Terms as Erlang writes them: `{a,-1}`, `['$1',[]]`, `#Tid<7>`, `<0.7.0>`; and `deep(7)` for a list in lists, seven deep.
 // A text that is no term is a fault of its test, which then fails as if memory ran out.
 use crate::tests::keep_if_ok;
 use ets_term::{Atom, Integer, Items, Term};
@@ -15,24 +15,27 @@ struct Reader {
 }
 
 impl Reader {
-    fn read(&mut self, text: &str) -> Result<(), AllocError> {
+    /// Reads a whole text.
+    fn read_text(&mut self, text: &str) -> Result<(), AllocError> {
         for letter in text.chars() {
-            self.take(letter)?;
+            self.read_letter(letter)?;
         }
         self.end_word()
     }
 
-    fn take(&mut self, letter: char) -> Result<(), AllocError> {
+    /// Reads a letter: a bracket, a separator or a part of a word.
+    fn read_letter(&mut self, letter: char) -> Result<(), AllocError> {
         match letter {
-            '{' | '[' => self.begin(),
-            '}' => self.end(true),
-            ']' => self.end(false),
+            '{' | '[' => self.open_bracket(),
+            '}' => self.close_bracket(true),
+            ']' => self.close_bracket(false),
             ',' | ' ' => self.end_word(),
             _ => Ok(self.word.push(letter)?),
         }
     }
 
-    fn begin(&mut self) -> Result<(), AllocError> {
+    /// Sets the terms read so far aside until the bracket is closed.
+    fn open_bracket(&mut self) -> Result<(), AllocError> {
         self.end_word()?;
         self.open.reserve(1)?;
         let before = mem::replace(&mut self.terms, Items::new(self.alloc));
@@ -40,7 +43,8 @@ impl Reader {
         Ok(())
     }
 
-    fn end(&mut self, is_tuple: bool) -> Result<(), AllocError> {
+    /// Puts the terms since the open bracket into a tuple or a list, and appends it to the terms before the bracket.
+    fn close_bracket(&mut self, is_tuple: bool) -> Result<(), AllocError> {
         self.end_word()?;
         let Some(before) = self.open.pop() else {
             return Err(AllocError);
@@ -54,11 +58,12 @@ impl Reader {
         Ok(self.terms.push(term)?)
     }
 
+    /// Appends the term of the word in progress, if there is one.
     fn end_word(&mut self) -> Result<(), AllocError> {
         if self.word.is_empty() {
             return Ok(());
         }
-        let term = word(self.alloc, self.word.as_str())?;
+        let term = term_of_word(self.alloc, self.word.as_str())?;
         self.word.clear();
         Ok(self.terms.push(term)?)
     }
@@ -72,7 +77,7 @@ pub fn terms(alloc: Global, text: &str) -> Result<Vec<Term>, AllocError> {
         terms: Items::new(alloc),
         word: String::new(alloc),
     };
-    match reader.read(text) {
+    match reader.read_text(text) {
         Ok(()) => Ok(reader.terms.into_vec()),
         Err(error) => {
             drop(reader);
@@ -97,25 +102,27 @@ pub fn is_spelled(alloc: Global, value: &Term, text: &str) -> Result<bool, Alloc
     Ok(same)
 }
 
-fn word(alloc: Global, word: &str) -> Result<Term, AllocError> {
+/// Returns the term that a word spells: an integer, an identifier, a pid, a deep list or an atom.
+fn term_of_word(alloc: Global, word: &str) -> Result<Term, AllocError> {
     if let Ok(n) = word.parse::<Integer>() {
         return Ok(Term::Int(n));
     }
-    if let Some(n) = number(word, "#Tid<", ">") {
+    if let Some(n) = number_between(word, "#Tid<", ">") {
         return Ok(Term::Tid(n));
     }
-    if let Some(n) = number(word, "<0.", ".0>") {
+    if let Some(n) = number_between(word, "<0.", ".0>") {
         return Ok(Term::Pid(n));
     }
-    if let Some(depth) = number(word, "deep(", ")") {
-        return nest(alloc, depth);
+    if let Some(depth) = number_between(word, "deep(", ")") {
+        return nested_list(alloc, depth);
     }
-    match between(word, "'", "'") {
+    match text_between(word, "'", "'") {
         Some(quoted) => atom(alloc, quoted),
         None => atom(alloc, word),
     }
 }
 
+/// Returns the atom with this text.
 fn atom(alloc: Global, word: &str) -> Result<Term, AllocError> {
     match Atom::new(alloc, word) {
         Ok(atom) => Ok(Term::Atom(atom)),
@@ -123,17 +130,18 @@ fn atom(alloc: Global, word: &str) -> Result<Term, AllocError> {
     }
 }
 
-/// Returns the text between two signs.
-fn between<'a>(word: &'a str, start: &str, end: &str) -> Option<&'a str> {
+/// Returns the text between two texts.
+fn text_between<'a>(word: &'a str, start: &str, end: &str) -> Option<&'a str> {
     word.strip_prefix(start)?.strip_suffix(end)
 }
 
-/// Returns the number between two signs.
-fn number(word: &str, start: &str, end: &str) -> Option<u32> {
-    between(word, start, end)?.parse::<u32>().ok()
+/// Returns the number between two texts.
+fn number_between(word: &str, start: &str, end: &str) -> Option<u32> {
+    text_between(word, start, end)?.parse::<u32>().ok()
 }
 
-fn nest(alloc: Global, depth: u32) -> Result<Term, AllocError> {
+/// Returns the empty list in lists within lists, a term of this depth.
+fn nested_list(alloc: Global, depth: u32) -> Result<Term, AllocError> {
     let mut term = Term::List(Items::new(alloc));
     for _ in 1..depth {
         term = list_of_one(alloc, term)?;

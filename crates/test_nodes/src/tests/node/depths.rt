@@ -1,5 +1,5 @@
 use super::Event::{Ask, Enrol};
-use super::{Pid, Row, wrong};
+use super::{Pid, Row, first_wrong_row};
 use std::process::Abort;
 
 /// Arguments and stored objects are at most 128 deep. A step checks its process first, then the depth, then all else.
@@ -50,5 +50,5 @@ const DEEP: [Row; 27] = [
 
 #[test]
 fn arguments_are_at_most_128_deep(rt: HostRuntime) {
-    assert_eq!(rt; wrong(rt.alloc(), &DEEP), Ok(None));
+    assert_eq!(rt; first_wrong_row(rt.alloc(), &DEEP), Ok(None));
 }

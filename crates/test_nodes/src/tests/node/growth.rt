@@ -1,5 +1,5 @@
 use super::Event::{Ask, Enrol, Grow, Ready};
-use super::{Bucket, Pid, Row, Tid, wrong_in};
+use super::{Bucket, Pid, Row, Tid, first_wrong_row_in};
 use Pending::{Nothing, ToGrow, ToReady};
 use ets_term::{AllSame, Fnv, KeyHash};
 use node_core::{Limits, Node, Step};
@@ -30,6 +30,7 @@ fn first_pending<H: KeyHash + Copy + Drop>(node: &Node<H>) -> Pending {
     }
 }
 
+/// Returns the pending step that this step is.
 fn pending_of(step: &Step) -> Pending {
     match step {
         Step::Grow(id) => ToGrow(Tid(*id)),
@@ -41,6 +42,8 @@ fn pending_of(step: &Step) -> Pending {
 /// A step, its reply, and the pending step after it.
 type PendingRow = (Row, Pending);
 
+/// Two tables: the first one with a pending step is served first, a fixed table does not grow, and an emptied one has
+/// nothing to do.
 const STEPS: [PendingRow; 15] = [
     ((Enrol(Pid(0)), "<0.0.0>"), Nothing),
     (
@@ -80,34 +83,35 @@ const STEPS: [PendingRow; 15] = [
     ),
 ];
 
-/// Returns the place of the first row with another reply or another pending step.
-fn wrong_due_in<H: KeyHash + Copy + Drop>(
+/// Runs the rows in a node, and returns the index of the first one with another reply or another pending step.
+fn first_wrong_pending_in<H: KeyHash + Copy + Drop>(
     alloc: Global,
     node: &mut Node<H>,
     rows: &[PendingRow],
 ) -> Result<Option<usize>, AllocError> {
-    for (place, (row, wanted)) in rows.iter().enumerate() {
-        if wrong_in(alloc, node, &[*row])?.is_some() || first_pending(node) != *wanted {
-            return Ok(Some(place));
+    for (index, (row, wanted)) in rows.iter().enumerate() {
+        if first_wrong_row_in(alloc, node, &[*row])?.is_some() || first_pending(node) != *wanted {
+            return Ok(Some(index));
         }
     }
     Ok(None)
 }
 
-/// Does so with a new node.
-fn wrong_due<H: KeyHash + Copy + Drop>(
+/// Runs the rows in a new node with this hasher, and returns the index of the first one with another reply or another
+/// pending step.
+fn first_wrong_pending<H: KeyHash + Copy + Drop>(
     alloc: Global,
     hasher: H,
     rows: &[PendingRow],
 ) -> Result<Option<usize>, AllocError> {
     let mut node = Node::new(alloc, Limits::usual(), hasher);
-    let place = wrong_due_in(alloc, &mut node, rows);
+    let index = first_wrong_pending_in(alloc, &mut node, rows);
     drop(node);
-    place
+    index
 }
 
 #[test]
 fn the_first_table_with_work_is_due(rt: HostRuntime) {
-    assert_eq!(rt; wrong_due(rt.alloc(), Fnv, &STEPS), Ok(None));
-    assert_eq!(rt; wrong_due(rt.alloc(), AllSame, &STEPS), Ok(None));
+    assert_eq!(rt; first_wrong_pending(rt.alloc(), Fnv, &STEPS), Ok(None));
+    assert_eq!(rt; first_wrong_pending(rt.alloc(), AllSame, &STEPS), Ok(None));
 }

@@ -1,12 +1,12 @@
-// Inputs so long that no body passes that reports out of memory at a small size. A template is a text for each number,
-// which replaces each N.
+// Long inputs: a body that reports out of memory at a small size fails here. A template is a text for each number, which
+// replaces each N.
 mod growth;
 mod objects;
 mod processes;
 mod runs;
 
 use super::Event::{Ask, Enrol};
-use super::{Pid, Row, does, wrong_in};
+use super::{Pid, Row, event_has_reply, first_wrong_row_in};
 use crate::tests::keep_if_ok;
 use ets_term::Fnv;
 use node_core::{Limits, Node};
@@ -16,7 +16,7 @@ use std::process::Abort;
 /// More than 2,048, so that an array that doubles is moved.
 const COUNT: u32 = 2_100;
 
-/// Appends a template to a text, with the number for each N.
+/// Appends a template to a text, with the number in place of each N.
 fn push_template(
     alloc: Global,
     text: &mut String,
@@ -24,12 +24,13 @@ fn push_template(
     number: u32,
 ) -> Result<(), AllocError> {
     let digits = format!(in alloc; "{number}")?;
-    let pushed = push_with(text, template, digits.as_str());
+    let pushed = push_filled(text, template, digits.as_str());
     drop(digits);
     pushed
 }
 
-fn push_with(text: &mut String, template: &str, digits: &str) -> Result<(), AllocError> {
+/// Appends a template to a text, with these digits in place of each N.
+fn push_filled(text: &mut String, template: &str, digits: &str) -> Result<(), AllocError> {
     for letter in template.chars() {
         match letter {
             'N' => text.push_str(digits)?,
@@ -39,6 +40,7 @@ fn push_with(text: &mut String, template: &str, digits: &str) -> Result<(), Allo
     Ok(())
 }
 
+/// Returns a template with the number in place of each N.
 fn fill_template(alloc: Global, template: &str, number: u32) -> Result<String, AllocError> {
     let mut text = String::new(alloc);
     keep_if_ok(push_template(alloc, &mut text, template, number), text)
@@ -62,43 +64,44 @@ enum Trial {
     RunsThrough,
 }
 
-fn passes_on(alloc: Global, node: &mut Node<Fnv>, trial: Trial) -> Result<bool, AllocError> {
+/// Returns whether a new node passes a trial.
+fn node_passes(alloc: Global, node: &mut Node<Fnv>, trial: Trial) -> Result<bool, AllocError> {
     match trial {
-        Trial::Growth => growth::grows(alloc, node),
-        Trial::Objects => objects::has_objects(alloc, node),
-        Trial::Processes => processes::serves(alloc, node, 4_096),
-        Trial::Tables => processes::has_tables(alloc, node, COUNT),
-        Trial::Names => processes::takes_names(alloc, node),
-        Trial::Runs => runs::runs(alloc, node),
-        Trial::RunsThrough => runs::runs_through(alloc, node),
+        Trial::Growth => growth::replies_as_it_grows(alloc, node),
+        Trial::Objects => objects::stores_many_objects(alloc, node),
+        Trial::Processes => processes::exits_delete_tables(alloc, node, 4_096),
+        Trial::Tables => processes::exit_deletes_many_tables(alloc, node, COUNT),
+        Trial::Names => processes::tables_take_names(alloc, node),
+        Trial::Runs => runs::runs_many_steps(alloc, node),
+        Trial::RunsThrough => runs::runs_through_many_steps(alloc, node),
     }
 }
 
-/// Returns whether a new node passes a trial.
-fn passes(alloc: Global, trial: Trial) -> Result<bool, AllocError> {
+/// Creates a node, and returns whether it passes a trial.
+fn new_node_passes(alloc: Global, trial: Trial) -> Result<bool, AllocError> {
     let mut node = Node::new(alloc, Limits::usual(), Fnv);
-    let passed = passes_on(alloc, &mut node, trial);
+    let passed = node_passes(alloc, &mut node, trial);
     drop(node);
     passed
 }
 
-/// Returns whether process 0 and its table start in a node.
-fn starts(alloc: Global, node: &mut Node<Fnv>) -> Result<bool, AllocError> {
-    Ok(wrong_in(alloc, node, &STARTED)?.is_none())
+/// Enrols process 0 and makes its table, and returns whether both have their replies.
+fn starts_with_table(alloc: Global, node: &mut Node<Fnv>) -> Result<bool, AllocError> {
+    Ok(first_wrong_row_in(alloc, node, &STARTED)?.is_none())
 }
 
-/// Returns whether a call of process 0 has this reply.
-fn answers(
+/// Makes a call of process 0, and returns whether it has this reply.
+fn call_has_reply(
     alloc: Global,
     node: &mut Node<Fnv>,
     call: &str,
     wanted: &str,
 ) -> Result<bool, AllocError> {
-    does(alloc, node, Ask(Pid(0), call), wanted)
+    event_has_reply(alloc, node, Ask(Pid(0), call), wanted)
 }
 
-/// Returns whether a call has this reply, both templates filled in with a number.
-fn does_with_number(
+/// Makes a call of process 0, and returns whether it has this reply, both templates filled in with a number.
+fn filled_call_has_reply(
     alloc: Global,
     node: &mut Node<Fnv>,
     call: &str,
@@ -106,13 +109,13 @@ fn does_with_number(
     number: u32,
 ) -> Result<bool, AllocError> {
     let call = fill_template(alloc, call, number)?;
-    let answered = answers_with_number(alloc, node, call.as_str(), wanted, number);
+    let answered = call_has_filled_reply(alloc, node, call.as_str(), wanted, number);
     drop(call);
     answered
 }
 
-/// Returns whether the reply to a call is the template, filled in with a number.
-fn answers_with_number(
+/// Makes a call of process 0, and returns whether its reply is the template filled in with a number.
+fn call_has_filled_reply(
     alloc: Global,
     node: &mut Node<Fnv>,
     call: &str,
@@ -120,20 +123,20 @@ fn answers_with_number(
     number: u32,
 ) -> Result<bool, AllocError> {
     let wanted = fill_template(alloc, wanted, number)?;
-    let answered = answers(alloc, node, call, wanted.as_str());
+    let answered = call_has_reply(alloc, node, call, wanted.as_str());
     drop(wanted);
     answered
 }
 
-/// Returns the first number for which the call has another reply.
-fn wrong_number(
+/// Makes a call for each number, and returns the first number with another reply.
+fn first_wrong_number(
     alloc: Global,
     node: &mut Node<Fnv>,
     call: &str,
     wanted: &str,
 ) -> Result<Option<u32>, AllocError> {
     for number in 0..COUNT {
-        if !does_with_number(alloc, node, call, wanted, number)? {
+        if !filled_call_has_reply(alloc, node, call, wanted, number)? {
             return Ok(Some(number));
         }
     }

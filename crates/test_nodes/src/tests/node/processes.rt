@@ -1,8 +1,9 @@
 use super::Event::{Ask, End, Enrol};
-use super::{Pid, Row, wrong, wrong_within};
+use super::{Pid, Row, first_wrong_row, first_wrong_row_within_limits};
 use node_core::Limits;
 use std::process::Abort;
 
+/// A number is enrolled once, and ends once.
 const ONCE: [Row; 8] = [
     (Enrol(Pid(7)), "<0.7.0>"),
     (Enrol(Pid(7)), "** badarg"),
@@ -16,10 +17,11 @@ const ONCE: [Row; 8] = [
 
 #[test]
 fn a_process_enrols_and_ends_once(rt: HostRuntime) {
-    assert_eq!(rt; wrong(rt.alloc(), &ONCE), Ok(None));
+    assert_eq!(rt; first_wrong_row(rt.alloc(), &ONCE), Ok(None));
 }
 
-const AS_MANY: [Row; 6] = [
+/// Two processes are the limit, which counts those that have ended.
+const AT_LIMIT: [Row; 6] = [
     (Enrol(Pid(4)), "<0.4.0>"),
     (End(Pid(4)), "true"),
     (Enrol(Pid(5)), "<0.5.0>"),
@@ -35,5 +37,8 @@ fn as_many_enrol_as_the_limit(rt: HostRuntime) {
         tables: 1,
         objects: 1,
     };
-    assert_eq!(rt; wrong_within(rt.alloc(), limits, &AS_MANY), Ok(None));
+    assert_eq!(rt;
+        first_wrong_row_within_limits(rt.alloc(), limits, &AT_LIMIT),
+        Ok(None)
+    );
 }

@@ -1,12 +1,13 @@
 // `read` and `read_into` reply as `step` does, and only to calls that change nothing.
 use super::Event::{Ask, Enrol};
-use super::{Pid, Row, ask, is, wrong_in};
+use super::{Pid, Row, ask, first_wrong_row_in, reply_has_text};
 use ets_term::Fnv;
 use node_core::{Limits, Node, Reply, Step};
 use std::alloc::{AllocError, Global};
 use std::process::Abort;
 
-const MADE: [Row; 3] = [
+/// Makes a table with one object.
+const SETUP: [Row; 3] = [
     (Enrol(Pid(0)), "<0.0.0>"),
     (Ask(Pid(0), "new(t,[named_table])"), "t"),
     (Ask(Pid(0), "insert(t,{a,1})"), "true"),
@@ -18,6 +19,7 @@ type ReadRow = (Pid, &'static str, &'static str);
 /// In place of the reply to a call that `read` leaves to `step`.
 const LEFT_TO_STEP: &str = "";
 
+/// Reads and their replies, and calls that `read` leaves to `step`.
 const READS: [ReadRow; 25] = [
     (Pid(0), "lookup(t,a)", "[{a,1}]"),
     (Pid(0), "lookup(t,b)", "[]"),
@@ -46,16 +48,17 @@ const READS: [ReadRow; 25] = [
     (Pid(0), "lookups(t,a)", LEFT_TO_STEP),
 ];
 
-/// Returns whether a call by `read` has this reply.
-fn reads(alloc: Global, node: &Node<Fnv>, row: ReadRow) -> Result<bool, AllocError> {
+/// Makes a call by `read`, and returns whether it has the reply of its row.
+fn read_has_reply(alloc: Global, node: &Node<Fnv>, row: ReadRow) -> Result<bool, AllocError> {
     let (pid, call, wanted) = row;
     let step = ask(alloc, pid, call)?;
-    let same = reads_step(alloc, node, &step, wanted);
+    let same = read_of_step_has_reply(alloc, node, &step, wanted);
     drop(step);
     same
 }
 
-fn reads_step(
+/// Makes the call of a step by `read`, and returns whether it has this reply, or none if the wanted text is empty.
+fn read_of_step_has_reply(
     alloc: Global,
     node: &Node<Fnv>,
     step: &Step,
@@ -66,7 +69,7 @@ fn reads_step(
     };
     match node.read(*pid, call)? {
         Some(reply) => {
-            let same = is(alloc, &reply, wanted);
+            let same = reply_has_text(alloc, &reply, wanted);
             drop(reply);
             same
         }
@@ -74,8 +77,8 @@ fn reads_step(
     }
 }
 
-/// Returns whether a call by `read_into` writes this reply over the one before.
-fn reads_over(
+/// Makes a call by `read_into`, and returns whether it writes the reply of its row over the one before.
+fn overwriting_read_has_reply(
     alloc: Global,
     node: &Node<Fnv>,
     row: ReadRow,
@@ -84,12 +87,14 @@ fn reads_over(
 ) -> Result<bool, AllocError> {
     let (pid, call, wanted) = row;
     let step = ask(alloc, pid, call)?;
-    let same = reads_step_over(alloc, node, &step, wanted, before, reply);
+    let same = overwriting_read_of_step_has_reply(alloc, node, &step, wanted, before, reply);
     drop(step);
     same
 }
 
-fn reads_step_over(
+/// Makes the call of a step by `read_into`, and returns whether the reply is this one, or still the one before if the
+/// wanted text is empty.
+fn overwriting_read_of_step_has_reply(
     alloc: Global,
     node: &Node<Fnv>,
     step: &Step,
@@ -104,34 +109,35 @@ fn reads_step_over(
     if replied == wanted.is_empty() {
         return Ok(false);
     }
-    is(alloc, reply, if replied { wanted } else { before })
+    reply_has_text(alloc, reply, if replied { wanted } else { before })
 }
 
-/// Returns the place of the first row with another reply.
-fn wrong_read(
+/// Makes the calls by `read`, and returns the index of the first row with another reply.
+fn first_wrong_read(
     alloc: Global,
     node: &Node<Fnv>,
     rows: &[ReadRow],
 ) -> Result<Option<usize>, AllocError> {
-    for (place, row) in rows.iter().enumerate() {
-        if !reads(alloc, node, *row)? {
-            return Ok(Some(place));
+    for (index, row) in rows.iter().enumerate() {
+        if !read_has_reply(alloc, node, *row)? {
+            return Ok(Some(index));
         }
     }
     Ok(None)
 }
 
-/// Returns the place of the first row with another reply. Each reply is written over the one before.
-fn wrong_over(
+/// Makes the calls by `read_into`, each over the reply before, and returns the index of the first row with another
+/// reply.
+fn first_wrong_overwriting_read(
     alloc: Global,
     node: &Node<Fnv>,
     rows: &[ReadRow],
     reply: &mut Reply,
 ) -> Result<Option<usize>, AllocError> {
     let mut before = "** noproc";
-    for (place, row) in rows.iter().enumerate() {
-        if !reads_over(alloc, node, *row, before, reply)? {
-            return Ok(Some(place));
+    for (index, row) in rows.iter().enumerate() {
+        if !overwriting_read_has_reply(alloc, node, *row, before, reply)? {
+            return Ok(Some(index));
         }
         let (_, _, wanted) = *row;
         if !wanted.is_empty() {
@@ -145,13 +151,13 @@ fn wrong_over(
 fn a_read_replies_as_a_step(rt: HostRuntime) {
     let alloc = rt.alloc();
     let mut node = Node::new(alloc, Limits::usual(), Fnv);
-    let made = wrong_in(alloc, &mut node, &MADE);
-    let read = wrong_read(alloc, &node, &READS);
+    let setup = first_wrong_row_in(alloc, &mut node, &SETUP);
+    let read = first_wrong_read(alloc, &node, &READS);
     let mut reply = Reply::NoProcess;
-    let over = wrong_over(alloc, &node, &READS, &mut reply);
+    let overwriting = first_wrong_overwriting_read(alloc, &node, &READS, &mut reply);
     drop(reply);
     drop(node);
-    assert_eq!(rt; made, Ok(None));
+    assert_eq!(rt; setup, Ok(None));
     assert_eq!(rt; read, Ok(None));
-    assert_eq!(rt; over, Ok(None));
+    assert_eq!(rt; overwriting, Ok(None));
 }

@@ -1,19 +1,21 @@
 // Out of memory: run with each allocation refused in turn, by `rt try --test --fail-alloc N`. A step that runs out of
 // memory changes nothing, so it has the reply of a first run when it runs again. A test repeats its own allocations.
 use super::Event::{Ask, End, Enrol, Grow, Ready};
-use super::{Bucket, Event, Pid, Row, Tid, is, step};
+use super::{Bucket, Event, Pid, Row, Tid, build_step, reply_has_text};
 use ets_term::Fnv;
 use node_core::{Limits, Node, Reply, Step};
 use std::alloc::{AllocError, Global};
 use std::process::Abort;
 
-fn step_again(alloc: Global, event: Event) -> Result<Step, AllocError> {
-    match step(alloc, event) {
+/// Builds the step of an event, again if memory runs out.
+fn build_step_again(alloc: Global, event: Event) -> Result<Step, AllocError> {
+    match build_step(alloc, event) {
         Ok(step) => Ok(step),
-        Err(_) => step(alloc, event),
+        Err(_) => build_step(alloc, event),
     }
 }
 
+/// Returns the reply to a step, which runs again if memory runs out.
 fn reply_again(node: &mut Node<Fnv>, step: &Step) -> Result<Reply, AllocError> {
     match node.step(step) {
         Ok(reply) => Ok(reply),
@@ -21,38 +23,42 @@ fn reply_again(node: &mut Node<Fnv>, step: &Step) -> Result<Reply, AllocError> {
     }
 }
 
-fn is_again(alloc: Global, reply: &Reply, wanted: &str) -> Result<bool, AllocError> {
-    match is(alloc, reply, wanted) {
+/// Returns whether the text is that of the reply, compared again if memory runs out.
+fn reply_has_text_again(alloc: Global, reply: &Reply, wanted: &str) -> Result<bool, AllocError> {
+    match reply_has_text(alloc, reply, wanted) {
         Ok(same) => Ok(same),
-        Err(_) => is(alloc, reply, wanted),
+        Err(_) => reply_has_text(alloc, reply, wanted),
     }
 }
 
-fn does_again(
+/// Runs the step of an event, again if memory runs out, and returns whether it has this reply.
+fn event_has_reply_again(
     alloc: Global,
     node: &mut Node<Fnv>,
     event: Event,
     wanted: &str,
 ) -> Result<bool, AllocError> {
-    let step = step_again(alloc, event)?;
-    let answered = answers_again(alloc, node, &step, wanted);
+    let step = build_step_again(alloc, event)?;
+    let answered = step_has_reply_again(alloc, node, &step, wanted);
     drop(step);
     answered
 }
 
-fn answers_again(
+/// Runs a step, again if memory runs out, and returns whether it has this reply.
+fn step_has_reply_again(
     alloc: Global,
     node: &mut Node<Fnv>,
     step: &Step,
     wanted: &str,
 ) -> Result<bool, AllocError> {
     let reply = reply_again(node, step)?;
-    let same = is_again(alloc, &reply, wanted);
+    let same = reply_has_text_again(alloc, &reply, wanted);
     drop(reply);
     same
 }
 
-const LIFE: [Row; 27] = [
+/// Steps, each with its reply when memory suffices.
+const STEPS: [Row; 27] = [
     (Enrol(Pid(0)), "<0.0.0>"),
     (
         Ask(
@@ -97,35 +103,36 @@ const LIFE: [Row; 27] = [
     (Ask(Pid(2), "info(#Tid<0>,fixed)"), "false"),
 ];
 
-/// Returns the place of the first row with another reply. Runs each step that runs out of memory again.
-fn wrong_again_in(
+/// Runs the rows in a node, each again if memory runs out, and returns the index of the first one with another reply.
+fn first_wrong_row_again_in(
     alloc: Global,
     node: &mut Node<Fnv>,
     rows: &[Row],
 ) -> Result<Option<usize>, AllocError> {
-    for (place, (event, wanted)) in rows.iter().enumerate() {
-        if !does_again(alloc, node, *event, *wanted)? {
-            return Ok(Some(place));
+    for (index, (event, wanted)) in rows.iter().enumerate() {
+        if !event_has_reply_again(alloc, node, *event, *wanted)? {
+            return Ok(Some(index));
         }
     }
     Ok(None)
 }
 
-/// Does so with a new node.
-fn wrong_again(alloc: Global, rows: &[Row]) -> Result<Option<usize>, AllocError> {
+/// Runs the rows in a new node, each again if memory runs out, and returns the index of the first one with another
+/// reply.
+fn first_wrong_row_again(alloc: Global, rows: &[Row]) -> Result<Option<usize>, AllocError> {
     let mut node = Node::new(alloc, Limits::usual(), Fnv);
-    let place = wrong_again_in(alloc, &mut node, rows);
+    let index = first_wrong_row_again_in(alloc, &mut node, rows);
     drop(node);
-    place
+    index
 }
 
 #[test]
 fn a_refused_step_is_done_again(rt: HostRuntime) {
-    assert_eq!(rt; wrong_again(rt.alloc(), &LIFE), Ok(None));
+    assert_eq!(rt; first_wrong_row_again(rt.alloc(), &STEPS), Ok(None));
 }
 
-/// Lists over lists of the same and of another length, with objects of the same and of another shape.
-const OVER: [Row; 14] = [
+/// Lists written over lists of the same and of another length, with objects of the same and of another shape.
+const LISTS_OVER_LISTS: [Row; 14] = [
     (Enrol(Pid(0)), "<0.0.0>"),
     (Ask(Pid(0), "new(t,[named_table,bag])"), "t"),
     (
@@ -145,8 +152,9 @@ const OVER: [Row; 14] = [
     (Ask(Pid(0), "lookup(t,b)"), "[{b,2}]"),
 ];
 
-/// Returns whether a step writes this reply over another. After out of memory the reply must be `NoProcess`.
-fn writes_again(
+/// Runs a step, again if memory runs out, and returns whether it writes this reply over another. After out of memory
+/// the reply must be `NoProcess`.
+fn overwrites_reply(
     alloc: Global,
     node: &mut Node<Fnv>,
     step: &Step,
@@ -159,22 +167,22 @@ fn writes_again(
         }
         node.step_into(step, reply)?;
     }
-    is_again(alloc, reply, wanted)
+    reply_has_text_again(alloc, reply, wanted)
 }
 
-/// Returns the place of the first row with another reply. Each reply is written over the one before.
-fn wrong_over_in(
+/// Runs the rows, each over the reply before, and returns the index of the first one with another reply.
+fn first_wrong_overwriting_step(
     alloc: Global,
     node: &mut Node<Fnv>,
     reply: &mut Reply,
     rows: &[Row],
 ) -> Result<Option<usize>, AllocError> {
-    for (place, (event, wanted)) in rows.iter().enumerate() {
-        let step = step_again(alloc, *event)?;
-        let is_right = writes_again(alloc, node, &step, reply, *wanted);
+    for (index, (event, wanted)) in rows.iter().enumerate() {
+        let step = build_step_again(alloc, *event)?;
+        let is_right = overwrites_reply(alloc, node, &step, reply, *wanted);
         drop(step);
         if !is_right? {
-            return Ok(Some(place));
+            return Ok(Some(index));
         }
     }
     Ok(None)
@@ -185,8 +193,8 @@ fn a_reply_is_written_over_another(rt: HostRuntime) {
     let alloc = rt.alloc();
     let mut node = Node::new(alloc, Limits::usual(), Fnv);
     let mut reply = Reply::NoProcess;
-    let place = wrong_over_in(alloc, &mut node, &mut reply, &OVER);
+    let index = first_wrong_overwriting_step(alloc, &mut node, &mut reply, &LISTS_OVER_LISTS);
     drop(reply);
     drop(node);
-    assert_eq!(rt; place, Ok(None));
+    assert_eq!(rt; index, Ok(None));
 }

@@ -1,11 +1,12 @@
 use super::Event::{Ask, Enrol};
-use super::{Pid, Row, Tid, term, wrong_in, wrong_within};
+use super::{Pid, Row, Tid, first_wrong_row_in, first_wrong_row_within_limits, term};
 use ets_term::{Fnv, Term};
 use node_core::{Limits, Node};
 use std::alloc::{AllocError, Global};
 use std::process::Abort;
 
-const AS_MANY: [Row; 5] = [
+/// One table is the limit.
+const AT_LIMIT: [Row; 5] = [
     (Enrol(Pid(0)), "<0.0.0>"),
     (Ask(Pid(0), "new(t,[named_table])"), "t"),
     (Ask(Pid(0), "new(u,[])"), "** system_limit"),
@@ -20,42 +21,51 @@ fn as_many_are_made_as_the_limit(rt: HostRuntime) {
         tables: 1,
         objects: 1,
     };
-    assert_eq!(rt; wrong_within(rt.alloc(), limits, &AS_MANY), Ok(None));
+    assert_eq!(rt;
+        first_wrong_row_within_limits(rt.alloc(), limits, &AT_LIMIT),
+        Ok(None)
+    );
 }
 
-const TWO: [Row; 3] = [
+/// Makes a table named t, and one without a name.
+const TWO_TABLES: [Row; 3] = [
     (Enrol(Pid(0)), "<0.0.0>"),
     (Ask(Pid(0), "new(t,[named_table])"), "t"),
     (Ask(Pid(0), "new(u,[])"), "#Tid<1>"),
 ];
 
+/// Returns the identifier in its type, if there is one.
 fn tid_of(id: Option<u32>) -> Option<Tid> {
     Some(Tid(id?))
 }
 
-/// Returns the identifier of the table that a term names after these steps.
+/// Runs the rows in a node, and returns the identifier of the table that a term then names.
 fn resolve_after(
     alloc: Global,
     node: &mut Node<Fnv>,
     rows: &[Row],
     named: &Term,
 ) -> Result<Option<Tid>, AllocError> {
-    let _made = wrong_in(alloc, node, rows)?;
+    let _made = first_wrong_row_in(alloc, node, rows)?;
     Ok(tid_of(node.resolve(named)))
 }
 
-/// Does so with a new node.
-fn resolve_in_new(alloc: Global, rows: &[Row], named: &Term) -> Result<Option<Tid>, AllocError> {
+/// Runs the rows in a new node, and returns the identifier of the table that a term then names.
+fn resolve_in_new_node(
+    alloc: Global,
+    rows: &[Row],
+    named: &Term,
+) -> Result<Option<Tid>, AllocError> {
     let mut node = Node::new(alloc, Limits::usual(), Fnv);
     let resolved = resolve_after(alloc, &mut node, rows, named);
     drop(node);
     resolved
 }
 
-/// Does so after the steps that make a table named t, and one without a name.
-fn resolve(alloc: Global, named: &str) -> Result<Option<Tid>, AllocError> {
+/// Returns the identifier of the table that the term of a text names, in a new node with two tables.
+fn resolve_text(alloc: Global, named: &str) -> Result<Option<Tid>, AllocError> {
     let named = term(alloc, named)?;
-    let resolved = resolve_in_new(alloc, &TWO, &named);
+    let resolved = resolve_in_new_node(alloc, &TWO_TABLES, &named);
     drop(named);
     resolved
 }
@@ -71,13 +81,13 @@ const NAMED: [(&str, Option<Tid>); 7] = [
     ("[t]", None),
 ];
 
-/// Returns the first term that names another table.
-fn wrong_named(
+/// Returns the first text whose term names another table.
+fn first_wrong_name(
     alloc: Global,
     rows: &[(&'static str, Option<Tid>)],
 ) -> Result<Option<&'static str>, AllocError> {
     for (named, wanted) in rows {
-        if resolve(alloc, *named)? != *wanted {
+        if resolve_text(alloc, *named)? != *wanted {
             return Ok(Some(*named));
         }
     }
@@ -86,9 +96,10 @@ fn wrong_named(
 
 #[test]
 fn names_and_identifiers_are_resolved(rt: HostRuntime) {
-    assert_eq!(rt; wrong_named(rt.alloc(), &NAMED), Ok(None));
+    assert_eq!(rt; first_wrong_name(rt.alloc(), &NAMED), Ok(None));
 }
 
+/// Makes two tables; a third is refused.
 const REFUSED: [Row; 4] = [
     (Enrol(Pid(0)), "<0.0.0>"),
     (Ask(Pid(0), "new(t,[named_table])"), "t"),
@@ -96,21 +107,25 @@ const REFUSED: [Row; 4] = [
     (Ask(Pid(0), "new(t,[named_table])"), "** badarg"),
 ];
 
-/// Returns the next identifier after these steps.
-fn next_after(alloc: Global, node: &mut Node<Fnv>, rows: &[Row]) -> Result<Tid, AllocError> {
-    let _made = wrong_in(alloc, node, rows)?;
+/// Runs the rows in a node, and returns the identifier that the next table will get.
+fn next_identifier_after(
+    alloc: Global,
+    node: &mut Node<Fnv>,
+    rows: &[Row],
+) -> Result<Tid, AllocError> {
+    let _made = first_wrong_row_in(alloc, node, rows)?;
     Ok(Tid(node.next_identifier()))
 }
 
-/// Returns the next identifier of a node that made two tables and refused a third.
-fn next(alloc: Global) -> Result<Tid, AllocError> {
+/// Returns the next identifier of a new node that made two tables and refused a third.
+fn next_identifier_after_refusal(alloc: Global) -> Result<Tid, AllocError> {
     let mut node = Node::new(alloc, Limits::usual(), Fnv);
-    let next = next_after(alloc, &mut node, &REFUSED);
+    let identifier = next_identifier_after(alloc, &mut node, &REFUSED);
     drop(node);
-    next
+    identifier
 }
 
 #[test]
 fn a_refused_table_takes_no_identifier(rt: HostRuntime) {
-    assert!(rt; next(rt.alloc()) == Ok(Tid(2)));
+    assert!(rt; next_identifier_after_refusal(rt.alloc()) == Ok(Tid(2)));
 }

@@ -1,6 +1,6 @@
 // `run` and `run_through` answer each step, a refused one too, if there is memory.
 use super::Event::{Ask, End, Enrol, Grow, Ready};
-use super::{Bucket, Pid, Row, Tid, is, step};
+use super::{Bucket, Pid, Row, Tid, build_step, reply_has_text};
 use crate::tests::keep_if_ok;
 use ets_term::Fnv;
 use node_core::{Limits, Node, Reply, Step};
@@ -8,7 +8,7 @@ use std::alloc::{AllocError, Global};
 use std::process::Abort;
 
 /// Each kind of step, answered and refused.
-const LIFE: [Row; 16] = [
+const EACH_KIND: [Row; 16] = [
     (Enrol(Pid(0)), "<0.0.0>"),
     (Enrol(Pid(0)), "** badarg"),
     (Ask(Pid(0), "new(t,[named_table])"), "t"),
@@ -27,37 +27,39 @@ const LIFE: [Row; 16] = [
     (End(Pid(0)), "** noproc"),
 ];
 
+/// Appends the steps of the rows.
 fn push_steps(alloc: Global, steps: &mut Vec<Step>, rows: &[Row]) -> Result<(), AllocError> {
     for (event, _) in rows {
-        steps.push(step(alloc, *event)?)?;
+        steps.push(build_step(alloc, *event)?)?;
     }
     Ok(())
 }
 
+/// Returns the steps of the rows.
 fn steps_of(alloc: Global, rows: &[Row]) -> Result<Vec<Step>, AllocError> {
     let mut steps = Vec::new(alloc);
     keep_if_ok(push_steps(alloc, &mut steps, rows), steps)
 }
 
-/// Returns the place of the first row with another reply, or without one.
-fn wrong_answer(
+/// Returns the index of the first row with another reply, or without one, where a step may have none.
+fn first_wrong_answer(
     alloc: Global,
     rows: &[Row],
     answers: &[Option<Reply>],
 ) -> Result<Option<usize>, AllocError> {
-    for (place, (_, wanted)) in rows.iter().enumerate() {
-        let Some(Some(reply)) = answers.get(place) else {
-            return Ok(Some(place));
+    for (index, (_, wanted)) in rows.iter().enumerate() {
+        let Some(Some(reply)) = answers.get(index) else {
+            return Ok(Some(index));
         };
-        if !is(alloc, reply, *wanted)? {
-            return Ok(Some(place));
+        if !reply_has_text(alloc, reply, *wanted)? {
+            return Ok(Some(index));
         }
     }
     Ok(None)
 }
 
-/// Does so for a run through.
-fn wrong_through(
+/// Runs the rows by `run_through`, and returns the index of the first one with another reply, or without one.
+fn first_wrong_row_through(
     alloc: Global,
     node: &mut Node<Fnv>,
     rows: &[Row],
@@ -66,22 +68,28 @@ fn wrong_through(
     let answers = node.run_through(steps.as_slice());
     drop(steps);
     let answers = answers?;
-    let place = wrong_answer(alloc, rows, answers.as_slice());
+    let index = first_wrong_answer(alloc, rows, answers.as_slice());
     drop(answers);
-    place
+    index
 }
 
-/// Does so with a new node.
-fn wrong_of_new(alloc: Global, rows: &[Row]) -> Result<Option<usize>, AllocError> {
+/// Runs the rows by `run_through` in a new node, and returns the index of the first one with another reply.
+fn first_wrong_row_through_new_node(
+    alloc: Global,
+    rows: &[Row],
+) -> Result<Option<usize>, AllocError> {
     let mut node = Node::new(alloc, Limits::usual(), Fnv);
-    let place = wrong_through(alloc, &mut node, rows);
+    let index = first_wrong_row_through(alloc, &mut node, rows);
     drop(node);
-    place
+    index
 }
 
 #[test]
 fn every_step_is_answered_where_there_is_memory(rt: HostRuntime) {
-    assert_eq!(rt; wrong_of_new(rt.alloc(), &LIFE), Ok(None));
+    assert_eq!(rt;
+        first_wrong_row_through_new_node(rt.alloc(), &EACH_KIND),
+        Ok(None)
+    );
 }
 
 /// Starts a process twice and ends it twice.
@@ -92,25 +100,25 @@ const TWICE: [Row; 4] = [
     (End(Pid(0)), "** noproc"),
 ];
 
-/// Returns the place of the first row with another reply, or without one.
-fn wrong_reply(
+/// Returns the index of the first row with another reply, or without one.
+fn first_wrong_reply(
     alloc: Global,
     rows: &[Row],
     replies: &[Reply],
 ) -> Result<Option<usize>, AllocError> {
-    for (place, (_, wanted)) in rows.iter().enumerate() {
-        let Some(reply) = replies.get(place) else {
-            return Ok(Some(place));
+    for (index, (_, wanted)) in rows.iter().enumerate() {
+        let Some(reply) = replies.get(index) else {
+            return Ok(Some(index));
         };
-        if !is(alloc, reply, *wanted)? {
-            return Ok(Some(place));
+        if !reply_has_text(alloc, reply, *wanted)? {
+            return Ok(Some(index));
         }
     }
     Ok(None)
 }
 
-/// Runs the steps of these rows, and returns the place of the first row with another reply.
-fn wrong_run(
+/// Runs the rows by `run`, and returns the index of the first one with another reply.
+fn first_wrong_row_of_run(
     alloc: Global,
     node: &mut Node<Fnv>,
     rows: &[Row],
@@ -120,9 +128,9 @@ fn wrong_run(
     drop(steps);
     match ran {
         Ok(replies) => {
-            let place = wrong_reply(alloc, rows, replies.as_slice());
+            let index = first_wrong_reply(alloc, rows, replies.as_slice());
             drop(replies);
-            place
+            index
         }
         Err(fault) => {
             drop(fault);
@@ -131,16 +139,25 @@ fn wrong_run(
     }
 }
 
-/// Does so with a new node.
-fn wrong_run_of_new(alloc: Global, rows: &[Row]) -> Result<Option<usize>, AllocError> {
+/// Runs the rows by `run` in a new node, and returns the index of the first one with another reply.
+fn first_wrong_row_of_run_in_new_node(
+    alloc: Global,
+    rows: &[Row],
+) -> Result<Option<usize>, AllocError> {
     let mut node = Node::new(alloc, Limits::usual(), Fnv);
-    let place = wrong_run(alloc, &mut node, rows);
+    let index = first_wrong_row_of_run(alloc, &mut node, rows);
     drop(node);
-    place
+    index
 }
 
 #[test]
 fn a_run_answers_refused_steps(rt: HostRuntime) {
-    assert_eq!(rt; wrong_run_of_new(rt.alloc(), &TWICE), Ok(None));
-    assert_eq!(rt; wrong_run_of_new(rt.alloc(), &LIFE), Ok(None));
+    assert_eq!(rt;
+        first_wrong_row_of_run_in_new_node(rt.alloc(), &TWICE),
+        Ok(None)
+    );
+    assert_eq!(rt;
+        first_wrong_row_of_run_in_new_node(rt.alloc(), &EACH_KIND),
+        Ok(None)
+    );
 }

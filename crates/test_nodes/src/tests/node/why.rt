@@ -1,21 +1,22 @@
 // Why a step is refused: each kind of misuse with its reason in words, as the rules want it. A value has no reason.
 mod misuses;
 
-use super::{Event, Row, step};
+use super::{Event, Row, build_step};
 use ets_term::{Fnv, KeyHash};
 use node_core::{Limits, Node, Reply, Step};
 use node_reasons::{Reason, why};
 use std::alloc::{AllocError, Global};
 use std::process::Abort;
 
-fn is_in_words(alloc: Global, reason: Reason, wanted: &str) -> Result<bool, AllocError> {
+/// Returns whether a reason has these words.
+fn reason_has_words(alloc: Global, reason: Reason, wanted: &str) -> Result<bool, AllocError> {
     let words = reason.to_string(alloc)?;
     let same = words.as_str() == wanted;
     drop(words);
     Ok(same)
 }
 
-/// Returns whether the step with this reply has this reason. Without words, the reply must be a value.
+/// Returns whether a step with this reply has this reason. Without words, the reply must be a value.
 fn has_reason<H: KeyHash + Copy + Drop>(
     alloc: Global,
     node: &Node<H>,
@@ -24,25 +25,26 @@ fn has_reason<H: KeyHash + Copy + Drop>(
     wanted: &str,
 ) -> Result<bool, AllocError> {
     match why(node, step, reply) {
-        Some(reason) => is_in_words(alloc, reason, wanted),
+        Some(reason) => reason_has_words(alloc, reason, wanted),
         None => Ok(wanted.is_empty() && reply.is_value()),
     }
 }
 
-/// Does so for the reply to a step that runs now.
-fn is_explained<H: KeyHash + Copy + Drop>(
+/// Runs the step of an event, and returns whether its reply has this reason.
+fn event_has_reason<H: KeyHash + Copy + Drop>(
     alloc: Global,
     node: &mut Node<H>,
     event: Event,
     wanted: &str,
 ) -> Result<bool, AllocError> {
-    let step = step(alloc, event)?;
-    let explained = explains(alloc, node, &step, wanted);
+    let step = build_step(alloc, event)?;
+    let explained = step_has_reason(alloc, node, &step, wanted);
     drop(step);
     explained
 }
 
-fn explains<H: KeyHash + Copy + Drop>(
+/// Runs a step, and returns whether its reply has this reason.
+fn step_has_reason<H: KeyHash + Copy + Drop>(
     alloc: Global,
     node: &mut Node<H>,
     step: &Step,
@@ -54,32 +56,36 @@ fn explains<H: KeyHash + Copy + Drop>(
     explained
 }
 
-/// Returns the place of the first row with another reason.
-fn wrong_reason_in<H: KeyHash + Copy + Drop>(
+/// Runs the rows in a node, and returns the index of the first one with another reason.
+fn first_wrong_reason_in<H: KeyHash + Copy + Drop>(
     alloc: Global,
     node: &mut Node<H>,
     rows: &[Row],
 ) -> Result<Option<usize>, AllocError> {
-    for (place, (event, wanted)) in rows.iter().enumerate() {
-        if !is_explained(alloc, node, *event, *wanted)? {
-            return Ok(Some(place));
+    for (index, (event, wanted)) in rows.iter().enumerate() {
+        if !event_has_reason(alloc, node, *event, *wanted)? {
+            return Ok(Some(index));
         }
     }
     Ok(None)
 }
 
-/// Does so with a new node.
-fn wrong_reason(alloc: Global, limits: Limits, rows: &[Row]) -> Result<Option<usize>, AllocError> {
+/// Runs the rows in a new node with these limits, and returns the index of the first one with another reason.
+fn first_wrong_reason(
+    alloc: Global,
+    limits: Limits,
+    rows: &[Row],
+) -> Result<Option<usize>, AllocError> {
     let mut node = Node::new(alloc, limits, Fnv);
-    let place = wrong_reason_in(alloc, &mut node, rows);
+    let index = first_wrong_reason_in(alloc, &mut node, rows);
     drop(node);
-    place
+    index
 }
 
 #[test]
 fn misuses_of_steps_have_their_reasons(rt: HostRuntime) {
     assert_eq!(rt;
-        wrong_reason(rt.alloc(), Limits::usual(), &misuses::STEPS),
+        first_wrong_reason(rt.alloc(), Limits::usual(), &misuses::STEPS),
         Ok(None)
     );
 }
@@ -87,7 +93,7 @@ fn misuses_of_steps_have_their_reasons(rt: HostRuntime) {
 #[test]
 fn misuses_of_objects_have_their_reasons(rt: HostRuntime) {
     assert_eq!(rt;
-        wrong_reason(rt.alloc(), Limits::usual(), &misuses::OBJECTS),
+        first_wrong_reason(rt.alloc(), Limits::usual(), &misuses::OBJECTS),
         Ok(None)
     );
 }
@@ -95,7 +101,7 @@ fn misuses_of_objects_have_their_reasons(rt: HostRuntime) {
 #[test]
 fn misuses_of_updates_have_their_reasons(rt: HostRuntime) {
     assert_eq!(rt;
-        wrong_reason(rt.alloc(), Limits::usual(), &misuses::UPDATES),
+        first_wrong_reason(rt.alloc(), Limits::usual(), &misuses::UPDATES),
         Ok(None)
     );
 }
@@ -103,7 +109,7 @@ fn misuses_of_updates_have_their_reasons(rt: HostRuntime) {
 #[test]
 fn misuses_of_tables_have_their_reasons(rt: HostRuntime) {
     assert_eq!(rt;
-        wrong_reason(rt.alloc(), Limits::usual(), &misuses::TABLES),
+        first_wrong_reason(rt.alloc(), Limits::usual(), &misuses::TABLES),
         Ok(None)
     );
 }
@@ -116,7 +122,7 @@ fn each_limit_has_its_reason(rt: HostRuntime) {
         objects: 1,
     };
     assert_eq!(rt;
-        wrong_reason(rt.alloc(), limits, &misuses::LIMITED),
+        first_wrong_reason(rt.alloc(), limits, &misuses::LIMITED),
         Ok(None)
     );
 }

@@ -1,5 +1,5 @@
 use super::Event::{End, Enrol, Fix, Info, New, Receive, Resolve, Set};
-use super::{DONE, Pid, Row, Tid, wrong_life};
+use super::{DONE, Pid, Row, Tid, first_wrong_scenario};
 use std::process::Abort;
 
 /// A living heir inherits.
@@ -79,9 +79,10 @@ const ENROLLED: [Row; 8] = [
     (End(Pid(1)), "** noproc"),
 ];
 
-const LIVES: [&[Row]; 5] = [&INHERITED, &NO_HEIR, &IN_ORDER, &FIXES, &ENROLLED];
+const SCENARIOS: [&[Row]; 5] = [&INHERITED, &NO_HEIR, &IN_ORDER, &FIXES, &ENROLLED];
 
+/// Runs the rows about the ends of processes.
 #[test]
 fn processes_enrol_and_end(rt: HostRuntime) {
-    assert_eq!(rt; wrong_life(rt.alloc(), &LIVES), Ok(None));
+    assert_eq!(rt; first_wrong_scenario(rt.alloc(), &SCENARIOS), Ok(None));
 }

@@ -1,5 +1,6 @@
 // Worlds of hundreds of processes and tables, compared with a plain model.
-use super::{Tables, fix, new_table};
+use super::Tables;
+use super::single_calls::{fix_table, new_table};
 use ets_term::Term;
 use ownership::{World, WorldFault};
 use std::alloc::Global;
@@ -8,11 +9,19 @@ use std::process::Abort;
 /// How many processes enrol, and how many tables they make.
 const MANY: u32 = 300;
 
+/// How many tables one process makes, all with one heir.
+const TABLES: u32 = 70;
+
 /// In place of the owner of a table that does not exist.
 const GONE: u32 = 1_000;
 
 /// Makes a table of the process, with this heir.
-fn make(alloc: Global, world: &mut Tables, pid: u32, heir: u32) -> Result<(), WorldFault> {
+fn make_with_heir(
+    alloc: Global,
+    world: &mut Tables,
+    pid: u32,
+    heir: u32,
+) -> Result<(), WorldFault> {
     let options = format!(in alloc; "[{{heir,<0.{heir}.0>,1}}]")?;
     let made = new_table(alloc, world, pid, "t", options.as_str());
     drop(options);
@@ -20,7 +29,7 @@ fn make(alloc: Global, world: &mut Tables, pid: u32, heir: u32) -> Result<(), Wo
     Ok(())
 }
 
-/// Returns the owner of the table, and whether it is fixed; GONE if it does not exist.
+/// Returns the owner of a table and whether it is fixed, or `GONE` if the table does not exist.
 fn owner_and_fix(world: &Tables, id: u32) -> (u32, bool) {
     match (world.metadata(id), world.table(id)) {
         (Some(metadata), Some(table)) => (metadata.owner, table.is_fixed()),
@@ -28,32 +37,33 @@ fn owner_and_fix(world: &Tables, id: u32) -> (u32, bool) {
     }
 }
 
-/// Returns whether the messages are of the first tables, a number of them, in that order.
+/// Returns whether there are as many messages as wanted, about the tables from 0 on, in that order.
 fn is_in_order(messages: &[Term], wanted: u32) -> bool {
-    for (place, message) in messages.iter().enumerate() {
+    for (index, message) in messages.iter().enumerate() {
         let Term::Tuple(elements) = message else {
             return false;
         };
         match elements.as_slice().get(1) {
-            Some(Term::Tid(id)) if *id as usize == place => {}
+            Some(Term::Tid(id)) if *id as usize == index => {}
             _ => return false,
         }
     }
     messages.len() == wanted as usize
 }
 
-/// Makes seventy tables of process 0, whose heir is process 1.
-fn make_seventy(alloc: Global, world: &mut Tables) -> Result<(), WorldFault> {
+/// Makes `TABLES` tables of process 0, whose heir is process 1.
+fn make_all_with_one_heir(alloc: Global, world: &mut Tables) -> Result<(), WorldFault> {
     world.enrol(0)?;
     world.enrol(1)?;
-    for _ in 0..70 {
-        make(alloc, world, 0, 1)?;
+    for _ in 0..TABLES {
+        make_with_heir(alloc, world, 0, 1)?;
     }
     Ok(())
 }
 
-fn are_gone(world: &Tables) -> bool {
-    for id in 0..70 {
+/// Returns whether none of the `TABLES` tables exists.
+fn all_are_gone(world: &Tables) -> bool {
+    for id in 0..TABLES {
         if owner_and_fix(world, id) != (GONE, false) {
             return false;
         }
@@ -61,41 +71,45 @@ fn are_gone(world: &Tables) -> bool {
     true
 }
 
-/// Returns whether the owner's exit passes seventy tables to their heir, in order, and the heir's exit deletes them.
-fn hands_seventy_on(alloc: Global, world: &mut Tables) -> Result<bool, WorldFault> {
-    make_seventy(alloc, world)?;
+/// Returns whether the owner's exit passes all tables to their heir, in order, and the heir's exit deletes them.
+fn passes_tables_on(alloc: Global, world: &mut Tables) -> Result<bool, WorldFault> {
+    make_all_with_one_heir(alloc, world)?;
     world.end(0)?;
-    let come = is_in_order(world.mailbox(1), 70) && owner_and_fix(world, 69) == (1, false);
+    let last = owner_and_fix(world, TABLES - 1);
+    let is_inherited = is_in_order(world.mailbox(1), TABLES) && last == (1, false);
     world.end(1)?;
-    Ok(come && are_gone(world))
+    Ok(is_inherited && all_are_gone(world))
 }
 
-fn seventy(alloc: Global) -> Result<bool, WorldFault> {
-    let mut world = World::new(alloc, 2, 70);
-    let handed_on = hands_seventy_on(alloc, &mut world);
+/// Returns whether the exits of two processes in a new world pass all tables on, and then delete them.
+fn new_world_passes_tables_on(alloc: Global) -> Result<bool, WorldFault> {
+    let mut world = World::new(alloc, 2, TABLES);
+    let handed_on = passes_tables_on(alloc, &mut world);
     drop(world);
     handed_on
 }
 
 #[test]
 fn seventy_tables_go_to_one_heir(rt: HostRuntime) {
-    assert!(rt; seventy(rt.alloc()) == Ok(true));
+    assert!(rt; new_world_passes_tables_on(rt.alloc()) == Ok(true));
 }
 
-/// Returns the heir of a table.
+/// Returns the heir of a table: any process, different for each table.
 fn heir_of(id: u32) -> u32 {
     id.wrapping_mul(17).wrapping_add(1) % MANY
 }
 
+/// Returns the process that fixes a table: any process, different for each table.
 fn fixer_of(id: u32) -> u32 {
     id.wrapping_mul(11).wrapping_add(5) % MANY
 }
 
-/// Returns the process that exits in this turn.
+/// Returns the process that exits in a turn. Each process exits in one of `MANY` turns.
 fn process_to_end(turn: u32) -> u32 {
     turn.wrapping_mul(7) % MANY
 }
 
+/// Returns whether a process has exited after a number of turns.
 fn is_ended(pid: u32, turns: u32) -> bool {
     for turn in 0..turns {
         if process_to_end(turn) == pid {
@@ -119,22 +133,22 @@ fn owner_and_fix_after(id: u32, turns: u32) -> (u32, bool) {
     (owner, owner != GONE && !is_ended(fixer_of(id), turns))
 }
 
-/// Makes a table with an heir for each process, and fixes each table by a process.
-fn fill(alloc: Global, world: &mut Tables) -> Result<(), WorldFault> {
+/// Enrols all processes, makes a table with an heir for each, and fixes each table by some process.
+fn fill_world(alloc: Global, world: &mut Tables) -> Result<(), WorldFault> {
     for pid in 0..MANY {
         world.enrol(pid)?;
     }
     for id in 0..MANY {
-        make(alloc, world, id, heir_of(id))?;
+        make_with_heir(alloc, world, id, heir_of(id))?;
     }
     for id in 0..MANY {
-        drop(fix(alloc, world, fixer_of(id), id)?);
+        drop(fix_table(alloc, world, fixer_of(id), id)?);
     }
     Ok(())
 }
 
-/// Returns the first table with another owner or fix after a number of exits.
-fn wrong_after(world: &Tables, turns: u32) -> Option<u32> {
+/// Returns the first table with another owner or fix than it must have after a number of turns.
+fn first_wrong_table_after(world: &Tables, turns: u32) -> Option<u32> {
     for id in 0..MANY {
         if owner_and_fix(world, id) != owner_and_fix_after(id, turns) {
             return Some(id);
@@ -144,11 +158,12 @@ fn wrong_after(world: &Tables, turns: u32) -> Option<u32> {
 }
 
 /// Ends all processes one by one. Returns the first turn after which a table has another owner or fix, and the table.
-fn wrong_while_ending(world: &mut Tables) -> Result<Option<(u32, u32)>, WorldFault> {
+fn first_wrong_table_while_ending(world: &mut Tables) -> Result<Option<(u32, u32)>, WorldFault> {
     for turn in 0..MANY {
         world.end(process_to_end(turn))?;
+        // To compare all tables after each turn would take too long.
         if turn % 16 == 0 || turn + 1 == MANY {
-            if let Some(id) = wrong_after(world, turn + 1) {
+            if let Some(id) = first_wrong_table_after(world, turn + 1) {
                 return Ok(Some((turn, id)));
             }
         }
@@ -156,19 +171,21 @@ fn wrong_while_ending(world: &mut Tables) -> Result<Option<(u32, u32)>, WorldFau
     Ok(None)
 }
 
-fn wrong_in(alloc: Global, world: &mut Tables) -> Result<Option<(u32, u32)>, WorldFault> {
-    fill(alloc, world)?;
-    wrong_while_ending(world)
+/// Fills a world and ends all its processes. Returns the first wrong turn, and the table.
+fn first_wrong_turn(alloc: Global, world: &mut Tables) -> Result<Option<(u32, u32)>, WorldFault> {
+    fill_world(alloc, world)?;
+    first_wrong_table_while_ending(world)
 }
 
-fn wrong_of_many(alloc: Global) -> Result<Option<(u32, u32)>, WorldFault> {
+/// Ends all processes of a new world. Returns the first wrong turn, and the table.
+fn first_wrong_turn_of_new_world(alloc: Global) -> Result<Option<(u32, u32)>, WorldFault> {
     let mut world = World::new(alloc, MANY, MANY);
-    let wrong = wrong_in(alloc, &mut world);
+    let turn = first_wrong_turn(alloc, &mut world);
     drop(world);
-    wrong
+    turn
 }
 
 #[test]
 fn three_hundred_end(rt: HostRuntime) {
-    assert!(rt; wrong_of_many(rt.alloc()) == Ok(None));
+    assert!(rt; first_wrong_turn_of_new_world(rt.alloc()) == Ok(None));
 }

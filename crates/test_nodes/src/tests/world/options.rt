@@ -1,8 +1,8 @@
 use super::Event::{Info, New};
-use super::{Pid, Row, Tid, wrong_life};
+use super::{Pid, Row, Tid, first_wrong_scenario};
 use std::process::Abort;
 
-/// Options are read.
+/// All options are read, and the last one of a kind counts.
 const READ: [Row; 12] = [
     (
         New(
@@ -47,8 +47,8 @@ const TUNING: [Row; 4] = [
     (Info(Tid(1), "protection"), "protected"),
 ];
 
-/// As many tables are made as the limit.
-const AS_MANY: [Row; 6] = [
+/// Four tables are the limit. A taken name is refused before the limit.
+const AT_LIMIT: [Row; 6] = [
     (New(Pid(0), "a", "[]"), "#Tid<0>"),
     (New(Pid(0), "b", "[]"), "#Tid<1>"),
     (New(Pid(0), "c", "[named_table]"), "c"),
@@ -57,9 +57,10 @@ const AS_MANY: [Row; 6] = [
     (New(Pid(0), "e", "[]"), "** system_limit"),
 ];
 
-const LIVES: [&[Row]; 3] = [&READ, &TUNING, &AS_MANY];
+const SCENARIOS: [&[Row]; 3] = [&READ, &TUNING, &AT_LIMIT];
 
+/// Runs the rows about the options of tables.
 #[test]
 fn options_and_items(rt: HostRuntime) {
-    assert_eq!(rt; wrong_life(rt.alloc(), &LIVES), Ok(None));
+    assert_eq!(rt; first_wrong_scenario(rt.alloc(), &SCENARIOS), Ok(None));
 }

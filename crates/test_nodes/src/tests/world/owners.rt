@@ -1,5 +1,5 @@
 use super::Event::{Drop, End, Enrol, Give, Info, New, Receive, Resolve, Rights, Set};
-use super::{DONE, Pid, Row, Tid, wrong_life};
+use super::{DONE, Pid, Row, Tid, first_wrong_scenario};
 use std::process::Abort;
 
 /// An owner gives its table away.
@@ -66,9 +66,10 @@ const NAMES: [Row; 12] = [
     (Drop(Tid(0)), DONE),
 ];
 
-const LIVES: [&[Row]; 4] = [&GIVEN, &HEIRS, &RIGHTS, &NAMES];
+const SCENARIOS: [&[Row]; 4] = [&GIVEN, &HEIRS, &RIGHTS, &NAMES];
 
+/// Runs the rows about owners, heirs, rights and names.
 #[test]
 fn owners_names_and_rights(rt: HostRuntime) {
-    assert_eq!(rt; wrong_life(rt.alloc(), &LIVES), Ok(None));
+    assert_eq!(rt; first_wrong_scenario(rt.alloc(), &SCENARIOS), Ok(None));
 }

@@ -2,15 +2,16 @@
 // memory changes nothing that can be observed, and has the answer of a first call when it is made again. A test repeats
 // its own allocations.
 use super::Event::{End, Enrol, Fix, Give, Info, New, Receive, Set};
+use super::observations::observations;
 use super::{DONE, Event, Pid, Row, Tables, Tid, answer, refusal};
-use crate::tests::keep_if_ok;
-use crate::tests::text::{is_spelled, term};
-use ets_term::{Integer, Term};
-use ownership::{InfoItem, World, WorldFault};
+use crate::tests::text::is_spelled;
+use ets_term::Term;
+use ownership::{World, WorldFault};
 use std::alloc::{AllocError, Global};
 use std::process::Abort;
 
-const LIFE: [Row; 28] = [
+/// Calls, each with its answer when memory suffices.
+const CALLS: [Row; 28] = [
     (Enrol(Pid(0)), DONE),
     (Enrol(Pid(1)), DONE),
     (Enrol(Pid(1)), "** badarg"),
@@ -66,136 +67,15 @@ const LIFE: [Row; 28] = [
     (Info(Tid(0), "name"), "undefined"),
 ];
 
-const ITEMS: [InfoItem; 10] = [
-    InfoItem::Name,
-    InfoItem::NamedTable,
-    InfoItem::Owner,
-    InfoItem::Protection,
-    InfoItem::Heir,
-    InfoItem::Id,
-    InfoItem::Size,
-    InfoItem::Kind,
-    InfoItem::Keypos,
-    InfoItem::Fixed,
-];
-
-fn note(seen: &mut Vec<Term>, term: Term) -> Result<(), AllocError> {
-    Ok(seen.push(term)?)
-}
-
-fn note_flag(seen: &mut Vec<Term>, value: bool) -> Result<(), AllocError> {
-    note(seen, Term::Int(Integer::from(value)))
-}
-
-/// Notes whether the process lives, and what is in its mailbox.
-fn see_process(
-    alloc: Global,
-    world: &Tables,
-    pid: u32,
-    seen: &mut Vec<Term>,
-) -> Result<(), AllocError> {
-    note_flag(seen, world.lives(pid))?;
-    for message in world.mailbox(pid) {
-        note(seen, message.try_clone(alloc)?)?;
-    }
-    Ok(())
-}
-
-/// Returns whether the table is found by its identifier.
-fn is_there(world: &Tables, id: u32) -> bool {
-    let named = Term::Tid(id);
-    let found = world.resolve(&named);
-    drop(named);
-    found.is_some()
-}
-
-fn see_item(
-    world: &Tables,
-    id: u32,
-    item: InfoItem,
-    seen: &mut Vec<Term>,
-) -> Result<(), AllocError> {
-    match world.info(id, item)? {
-        Some(term) => note(seen, term),
-        None => Ok(()),
+/// Returns all that can be observed of a world, observed again if memory runs out.
+fn observations_again(alloc: Global, world: &Tables) -> Result<Vec<Term>, AllocError> {
+    match observations(alloc, world) {
+        Ok(observed) => Ok(observed),
+        Err(_) => observations(alloc, world),
     }
 }
 
-/// Notes the items of the table.
-fn see_items(
-    world: &Tables,
-    id: u32,
-    items: &[InfoItem],
-    seen: &mut Vec<Term>,
-) -> Result<(), AllocError> {
-    note_flag(seen, is_there(world, id))?;
-    for item in items {
-        see_item(world, id, *item, seen)?;
-    }
-    Ok(())
-}
-
-/// Notes who may use the table.
-fn see_rights(world: &Tables, id: u32, seen: &mut Vec<Term>) -> Result<(), AllocError> {
-    for pid in 0..4 {
-        note_flag(seen, world.may_read(pid, id))?;
-        note_flag(seen, world.may_write(pid, id))?;
-        note_flag(seen, world.is_owner(pid, id))?;
-    }
-    Ok(())
-}
-
-/// Notes which table has this name.
-fn see_name(
-    alloc: Global,
-    world: &Tables,
-    name: &str,
-    seen: &mut Vec<Term>,
-) -> Result<(), AllocError> {
-    let name = term(alloc, name)?;
-    let found = world.resolve(&name);
-    drop(name);
-    match found {
-        Some(id) => note(seen, Term::Tid(id)),
-        None => note_flag(seen, false),
-    }
-}
-
-const NAMES: [&str; 5] = ["a_name_longer_than_its_place", "u", "v", "w", "x"];
-
-/// Notes all that can be observed of processes, of these items of tables, and of these names.
-fn see(
-    alloc: Global,
-    world: &Tables,
-    items: &[InfoItem],
-    names: &[&'static str],
-    seen: &mut Vec<Term>,
-) -> Result<(), AllocError> {
-    note(seen, Term::Int(Integer::from(world.made())))?;
-    for number in 0..4 {
-        see_process(alloc, world, number, seen)?;
-        see_items(world, number, items, seen)?;
-        see_rights(world, number, seen)?;
-    }
-    for name in names {
-        see_name(alloc, world, *name, seen)?;
-    }
-    Ok(())
-}
-
-/// Returns all that can be observed of a world.
-fn observe(alloc: Global, world: &Tables) -> Result<Vec<Term>, AllocError> {
-    let mut seen = Vec::with_capacity(alloc, 128)?;
-    keep_if_ok(see(alloc, world, &ITEMS, &NAMES, &mut seen), seen)
-}
-
-fn observe_again(alloc: Global, world: &Tables) -> Result<Vec<Term>, AllocError> {
-    match observe(alloc, world) {
-        Ok(seen) => Ok(seen),
-        Err(_) => observe(alloc, world),
-    }
-}
-
+/// Returns whether a text spells this term, compared again if memory runs out.
 fn is_spelled_again(alloc: Global, value: &Term, wanted: &str) -> Result<bool, AllocError> {
     match is_spelled(alloc, value, wanted) {
         Ok(same) => Ok(same),
@@ -203,8 +83,8 @@ fn is_spelled_again(alloc: Global, value: &Term, wanted: &str) -> Result<bool, A
     }
 }
 
-/// Returns whether the answer has this text.
-fn is_answer(
+/// Returns whether an answer or a refusal has this text.
+fn answer_has_text(
     alloc: Global,
     answered: Result<Term, WorldFault>,
     wanted: &str,
@@ -219,16 +99,17 @@ fn is_answer(
     }
 }
 
+/// Returns whether all that can be observed is as before.
 fn is_unchanged(alloc: Global, world: &Tables, before: &[Term]) -> Result<bool, AllocError> {
-    let now = observe_again(alloc, world)?;
+    let now = observations_again(alloc, world)?;
     let same = now.as_slice() == before;
     drop(now);
     Ok(same)
 }
 
-/// Returns whether a call has this answer, at once or, if it runs out of memory and changes nothing that can be
-/// observed, when it is made again.
-fn does_after(
+/// Returns whether a call has this answer at once; or it runs out of memory, changes nothing that can be observed, and
+/// has this answer when it is made again.
+fn event_has_answer_after(
     alloc: Global,
     world: &mut Tables,
     before: &[Term],
@@ -237,49 +118,53 @@ fn does_after(
 ) -> Result<bool, AllocError> {
     let first = answer(alloc, world, event);
     if !matches!(&first, Err(WorldFault::Memory)) {
-        return is_answer(alloc, first, wanted);
+        return answer_has_text(alloc, first, wanted);
     }
     drop(first);
     Ok(
         is_unchanged(alloc, world, before)?
-            && is_answer(alloc, answer(alloc, world, event), wanted)?,
+            && answer_has_text(alloc, answer(alloc, world, event), wanted)?,
     )
 }
 
-fn does_again(
+/// Makes a call, again if memory runs out, and returns whether it has this answer and changed nothing before.
+fn event_has_answer_again(
     alloc: Global,
     world: &mut Tables,
     event: Event,
     wanted: &str,
 ) -> Result<bool, AllocError> {
-    let before = observe_again(alloc, world)?;
-    let done = does_after(alloc, world, before.as_slice(), event, wanted);
+    let before = observations_again(alloc, world)?;
+    let done = event_has_answer_after(alloc, world, before.as_slice(), event, wanted);
     drop(before);
     done
 }
 
-/// Returns the place of the first row with another answer.
-fn wrong_again_in(
+/// Makes the calls of the rows, each again if memory runs out, and returns the index of the first one with another
+/// answer.
+fn first_wrong_row_again_in(
     alloc: Global,
     world: &mut Tables,
     rows: &[Row],
 ) -> Result<Option<usize>, AllocError> {
-    for (place, (event, wanted)) in rows.iter().enumerate() {
-        if !does_again(alloc, world, *event, *wanted)? {
-            return Ok(Some(place));
+    for (index, (event, wanted)) in rows.iter().enumerate() {
+        if !event_has_answer_again(alloc, world, *event, *wanted)? {
+            return Ok(Some(index));
         }
     }
     Ok(None)
 }
 
-fn wrong_again(alloc: Global, rows: &[Row]) -> Result<Option<usize>, AllocError> {
+/// Makes the calls of the rows in a new world, each again if memory runs out, and returns the index of the first one
+/// with another answer.
+fn first_wrong_row_again(alloc: Global, rows: &[Row]) -> Result<Option<usize>, AllocError> {
     let mut world = World::new(alloc, 3, 4);
-    let place = wrong_again_in(alloc, &mut world, rows);
+    let index = first_wrong_row_again_in(alloc, &mut world, rows);
     drop(world);
-    place
+    index
 }
 
 #[test]
 fn a_refused_call_is_called_again(rt: HostRuntime) {
-    assert_eq!(rt; wrong_again(rt.alloc(), &LIFE), Ok(None));
+    assert_eq!(rt; first_wrong_row_again(rt.alloc(), &CALLS), Ok(None));
 }

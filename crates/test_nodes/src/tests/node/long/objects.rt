@@ -1,6 +1,6 @@
 use super::*;
 
-/// Calls, each made for each number, and their replies.
+/// Calls with their replies. Each is made for each number before the next one.
 const OBJECTS: [(&str, &str); 6] = [
     ("insert(t,{N,x})", "true"),
     ("lookup(t,N)", "[{N,x}]"),
@@ -10,38 +10,40 @@ const OBJECTS: [(&str, &str); 6] = [
     ("member(t,N)", "false"),
 ];
 
-/// Returns whether each call has its reply for each number.
-fn answers_each(
+/// Makes each call for each number, and returns whether all have their replies.
+fn calls_have_replies_for_each(
     alloc: Global,
     node: &mut Node<Fnv>,
     rows: &[(&str, &str)],
 ) -> Result<bool, AllocError> {
     for (call, wanted) in rows {
-        if wrong_number(alloc, node, *call, *wanted)?.is_some() {
+        if first_wrong_number(alloc, node, *call, *wanted)?.is_some() {
             return Ok(false);
         }
     }
     Ok(true)
 }
 
-pub fn has_objects(alloc: Global, node: &mut Node<Fnv>) -> Result<bool, AllocError> {
-    Ok(starts(alloc, node)? && answers_each(alloc, node, &OBJECTS)?)
+/// Returns whether a table stores, finds and deletes the object of each number.
+pub fn stores_many_objects(alloc: Global, node: &mut Node<Fnv>) -> Result<bool, AllocError> {
+    Ok(starts_with_table(alloc, node)? && calls_have_replies_for_each(alloc, node, &OBJECTS)?)
 }
 
 #[test]
 fn a_table_has_many_objects(rt: HostRuntime) {
-    assert!(rt; passes(rt.alloc(), Trial::Objects) == Ok(true));
+    assert!(rt; new_node_passes(rt.alloc(), Trial::Objects) == Ok(true));
 }
 
 /// A text: the middle, filled in with each of the numbers, between the two ends.
 #[derive(Clone, Copy)]
-struct Long<'a> {
+struct LongText<'a> {
     start: &'a str,
     middle: &'a str,
     end: &'a str,
 }
 
-fn push_long(alloc: Global, text: &mut String, long: Long) -> Result<(), AllocError> {
+/// Appends a long text.
+fn push_long_text(alloc: Global, text: &mut String, long: LongText) -> Result<(), AllocError> {
     text.push_str(long.start)?;
     for number in 0..COUNT {
         push_template(alloc, text, long.middle, number)?;
@@ -49,9 +51,10 @@ fn push_long(alloc: Global, text: &mut String, long: Long) -> Result<(), AllocEr
     text.push_str(long.end)
 }
 
-fn text_of(alloc: Global, long: Long) -> Result<String, AllocError> {
+/// Returns a long text.
+fn long_text(alloc: Global, long: LongText) -> Result<String, AllocError> {
     let mut text = String::new(alloc);
-    keep_if_ok(push_long(alloc, &mut text, long), text)
+    keep_if_ok(push_long_text(alloc, &mut text, long), text)
 }
 
 /// A trial of a new node with two long texts.
@@ -62,7 +65,8 @@ enum TextTrial {
     Counts,
 }
 
-fn passes_in(
+/// Returns whether a node passes a trial with these two texts.
+fn node_passes_with_texts(
     alloc: Global,
     node: &mut Node<Fnv>,
     trial: TextTrial,
@@ -71,49 +75,51 @@ fn passes_in(
 ) -> Result<bool, AllocError> {
     match trial {
         TextTrial::Inserts => inserts_and_lists(alloc, node, first, second),
-        TextTrial::Finds => finds(alloc, node, first, second),
-        TextTrial::Counts => answers_on_set(alloc, node, first, second),
+        TextTrial::Finds => finds_many_objects(alloc, node, first, second),
+        TextTrial::Counts => call_on_set_has_reply(alloc, node, first, second),
     }
 }
 
-fn passes_with(
+/// Creates a node, and returns whether it passes a trial with these two texts.
+fn new_node_passes_with_texts(
     alloc: Global,
     trial: TextTrial,
     first: &str,
     second: &str,
 ) -> Result<bool, AllocError> {
     let mut node = Node::new(alloc, Limits::usual(), Fnv);
-    let passed = passes_in(alloc, &mut node, trial, first, second);
+    let passed = node_passes_with_texts(alloc, &mut node, trial, first, second);
     drop(node);
     passed
 }
 
-fn passes_behind(
+/// Builds the second text, and returns whether a new node passes a trial with both texts.
+fn passes_with_second_text(
     alloc: Global,
     trial: TextTrial,
     first: &str,
-    second: Long,
+    second: LongText,
 ) -> Result<bool, AllocError> {
-    let second = text_of(alloc, second)?;
-    let passed = passes_with(alloc, trial, first, second.as_str());
+    let second = long_text(alloc, second)?;
+    let passed = new_node_passes_with_texts(alloc, trial, first, second.as_str());
     drop(second);
     passed
 }
 
-/// Returns whether a new node passes a trial with these two texts.
-fn passes_with_texts(
+/// Builds both texts, and returns whether a new node passes a trial with them.
+fn passes_with_long_texts(
     alloc: Global,
     trial: TextTrial,
-    first: Long,
-    second: Long,
+    first: LongText,
+    second: LongText,
 ) -> Result<bool, AllocError> {
-    let first = text_of(alloc, first)?;
-    let passed = passes_behind(alloc, trial, first.as_str(), second);
+    let first = long_text(alloc, first)?;
+    let passed = passes_with_second_text(alloc, trial, first.as_str(), second);
     drop(first);
     passed
 }
 
-/// Returns whether this call inserts all objects, and the table lists them.
+/// Returns whether a call inserts all objects, and the table lists them.
 fn inserts_and_lists(
     alloc: Global,
     node: &mut Node<Fnv>,
@@ -121,63 +127,65 @@ fn inserts_and_lists(
     listed: &str,
 ) -> Result<bool, AllocError> {
     Ok(
-        starts(alloc, node)?
-            && answers(alloc, node, insert, "true")?
-            && answers(alloc, node, "tab2list(t)", listed)?
-            && answers(alloc, node, "delete_all_objects(t)", "true")?
-            && answers(alloc, node, "tab2list(t)", "[]")?,
+        starts_with_table(alloc, node)?
+            && call_has_reply(alloc, node, insert, "true")?
+            && call_has_reply(alloc, node, "tab2list(t)", listed)?
+            && call_has_reply(alloc, node, "delete_all_objects(t)", "true")?
+            && call_has_reply(alloc, node, "tab2list(t)", "[]")?,
     )
 }
 
-/// Returns whether one call inserts many objects, of many keys or of one.
-fn inserts(alloc: Global, start: &str, object: &str) -> Result<bool, AllocError> {
-    let insert = Long {
+/// Returns whether one call inserts an object for each number, given as a template.
+fn inserts_at_once(alloc: Global, start: &str, object: &str) -> Result<bool, AllocError> {
+    let insert = LongText {
         start,
         middle: object,
         end: "])",
     };
-    let listed = Long {
+    let listed = LongText {
         start: "any order: [",
         middle: object,
         end: "]",
     };
-    passes_with_texts(alloc, TextTrial::Inserts, insert, listed)
+    passes_with_long_texts(alloc, TextTrial::Inserts, insert, listed)
 }
 
-fn inserts_both(alloc: Global, start: &str) -> Result<bool, AllocError> {
-    Ok(inserts(alloc, start, "{N,x},")? && inserts(alloc, start, "{x,N},")?)
+/// Returns whether one call inserts many objects of different keys, and one call many objects of one key.
+fn inserts_many_keys_and_one(alloc: Global, start: &str) -> Result<bool, AllocError> {
+    Ok(inserts_at_once(alloc, start, "{N,x},")? && inserts_at_once(alloc, start, "{x,N},")?)
 }
 
 #[test]
 fn many_objects_are_inserted_at_once(rt: HostRuntime) {
-    assert!(rt; inserts_both(rt.alloc(), "insert(t,[") == Ok(true));
-    assert!(rt; inserts_both(rt.alloc(), "insert_new(t,[") == Ok(true));
+    assert!(rt; inserts_many_keys_and_one(rt.alloc(), "insert(t,[") == Ok(true));
+    assert!(rt; inserts_many_keys_and_one(rt.alloc(), "insert_new(t,[") == Ok(true));
 }
 
-/// Returns whether a pattern and a match specification find these results in many objects.
-fn finds(
+/// Inserts many objects, and returns whether a pattern and a match specification find these results.
+fn finds_many_objects(
     alloc: Global,
     node: &mut Node<Fnv>,
     bound: &str,
     results: &str,
 ) -> Result<bool, AllocError> {
     Ok(
-        starts(alloc, node)?
-            && wrong_number(alloc, node, "insert(t,{N,x})", "true")?.is_none()
-            && answers(alloc, node, "match(t,{'$1',x})", bound)?
-            && answers(alloc, node, "select(t,[{{'$1',_},[],['$1']}])", results)?
-            && answers(alloc, node, "select_delete(t,[{_,[],[true]}])", "2100")?,
+        starts_with_table(alloc, node)?
+            && first_wrong_number(alloc, node, "insert(t,{N,x})", "true")?.is_none()
+            && call_has_reply(alloc, node, "match(t,{'$1',x})", bound)?
+            && call_has_reply(alloc, node, "select(t,[{{'$1',_},[],['$1']}])", results)?
+            && call_has_reply(alloc, node, "select_delete(t,[{_,[],[true]}])", "2100")?,
     )
 }
 
-/// The keys of many objects as bindings of a pattern, and as results.
-const BOUND: Long<'static> = Long {
+/// The keys of many objects, as bindings of a pattern.
+const BOUND: LongText<'static> = LongText {
     start: "any order: [",
     middle: "[N],",
     end: "]",
 };
 
-const RESULTS: Long<'static> = Long {
+/// The keys of many objects, as results of a match specification.
+const RESULTS: LongText<'static> = LongText {
     start: "any order: [",
     middle: "N,",
     end: "]",
@@ -185,31 +193,32 @@ const RESULTS: Long<'static> = Long {
 
 #[test]
 fn many_objects_are_found(rt: HostRuntime) {
-    assert!(rt; passes_with_texts(rt.alloc(), TextTrial::Finds, BOUND, RESULTS) == Ok(true));
+    assert!(rt; passes_with_long_texts(rt.alloc(), TextTrial::Finds, BOUND, RESULTS) == Ok(true));
 }
 
-/// Returns whether a call on a new table s has this reply.
-fn answers_on_set(
+/// Makes a call on a new table s, a set, and returns whether it has this reply.
+fn call_on_set_has_reply(
     alloc: Global,
     node: &mut Node<Fnv>,
     call: &str,
     wanted: &str,
 ) -> Result<bool, AllocError> {
     Ok(
-        starts(alloc, node)?
-            && answers(alloc, node, "new(s,[named_table])", "s")?
-            && answers(alloc, node, call, wanted)?,
+        starts_with_table(alloc, node)?
+            && call_has_reply(alloc, node, "new(s,[named_table])", "s")?
+            && call_has_reply(alloc, node, call, wanted)?,
     )
 }
 
-/// One call that counts a counter up many times.
-const COUNTED: Long<'static> = Long {
+/// One call that adds 1 to a counter many times. The counter starts at -1.
+const INCREMENTS: LongText<'static> = LongText {
     start: "update_counter(s,c,[",
     middle: "{2,1},",
     end: "],{c,-1})",
 };
 
-const VALUES: Long<'static> = Long {
+/// The values of the counter after each addition.
+const VALUES: LongText<'static> = LongText {
     start: "[",
     middle: "N,",
     end: "]",
@@ -217,5 +226,7 @@ const VALUES: Long<'static> = Long {
 
 #[test]
 fn many_operations_are_done_at_once(rt: HostRuntime) {
-    assert!(rt; passes_with_texts(rt.alloc(), TextTrial::Counts, COUNTED, VALUES) == Ok(true));
+    assert!(rt;
+        passes_with_long_texts(rt.alloc(), TextTrial::Counts, INCREMENTS, VALUES) == Ok(true)
+    );
 }

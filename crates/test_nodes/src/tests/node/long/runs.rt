@@ -1,27 +1,30 @@
-use super::super::{ask, is, step};
+use super::super::{ask, build_step, reply_has_text};
 use super::*;
 use node_core::{Reply, Step};
 
-/// Returns the steps of a process with a table, and then many times an insertion and a lookup.
-fn life(alloc: Global, count: u32) -> Result<Vec<Step>, AllocError> {
+/// Returns the steps of a process that makes a table, and then many times inserts an object and looks it up.
+fn steps_of_run(alloc: Global, count: u32) -> Result<Vec<Step>, AllocError> {
     let mut steps = Vec::new(alloc);
-    keep_if_ok(push_life(alloc, &mut steps, count), steps)
+    keep_if_ok(push_steps_of_run(alloc, &mut steps, count), steps)
 }
 
-fn push_life(alloc: Global, steps: &mut Vec<Step>, count: u32) -> Result<(), AllocError> {
-    push(steps, step(alloc, Enrol(Pid(0)))?)?;
-    push(steps, ask(alloc, Pid(0), "new(t,[])")?)?;
+/// Appends the steps of a process that makes a table, and then many times inserts an object and looks it up.
+fn push_steps_of_run(alloc: Global, steps: &mut Vec<Step>, count: u32) -> Result<(), AllocError> {
+    push_step(steps, build_step(alloc, Enrol(Pid(0)))?)?;
+    push_step(steps, ask(alloc, Pid(0), "new(t,[])")?)?;
     for number in 0..count {
-        push(steps, insertion(alloc, number)?)?;
-        push(steps, ask(alloc, Pid(0), "lookup(#Tid<0>,a)")?)?;
+        push_step(steps, insertion(alloc, number)?)?;
+        push_step(steps, ask(alloc, Pid(0), "lookup(#Tid<0>,a)")?)?;
     }
     Ok(())
 }
 
-fn push(steps: &mut Vec<Step>, step: Step) -> Result<(), AllocError> {
+/// Appends a step.
+fn push_step(steps: &mut Vec<Step>, step: Step) -> Result<(), AllocError> {
     Ok(steps.push(step)?)
 }
 
+/// Builds the step that inserts the object of a number, always under the same key.
 fn insertion(alloc: Global, number: u32) -> Result<Step, AllocError> {
     let call = fill_template(alloc, "insert(#Tid<0>,{a,N})", number)?;
     let step = ask(alloc, Pid(0), call.as_str());
@@ -30,25 +33,25 @@ fn insertion(alloc: Global, number: u32) -> Result<Step, AllocError> {
 }
 
 /// Returns whether the reply is the object that was inserted last.
-fn is_last(alloc: Global, reply: Option<&Reply>) -> Result<bool, AllocError> {
+fn is_last_object(alloc: Global, reply: Option<&Reply>) -> Result<bool, AllocError> {
     match reply {
-        Some(reply) => is(alloc, reply, "[{a,2099}]"),
+        Some(reply) => reply_has_text(alloc, reply, "[{a,2099}]"),
         None => Ok(false),
     }
 }
 
-/// Returns whether a run has a reply to each step, of which the last is the object inserted last.
-fn replies_to_each(
+/// Runs the steps by `run`, and returns whether each has a reply, and the last reply is the object inserted last.
+fn run_replies_to_each(
     alloc: Global,
     node: &mut Node<Fnv>,
     steps: &[Step],
 ) -> Result<bool, AllocError> {
     match node.run(steps) {
         Ok(replies) => {
-            let all = replies.len() == steps.len();
-            let last = is_last(alloc, replies.as_slice().last());
+            let has_all = replies.len() == steps.len();
+            let last = is_last_object(alloc, replies.as_slice().last());
             drop(replies);
-            Ok(last? && all)
+            Ok(last? && has_all)
         }
         Err(fault) => {
             drop(fault);
@@ -57,8 +60,13 @@ fn replies_to_each(
     }
 }
 
-/// Does so for a run through, which must skip no step.
-fn answers_each(alloc: Global, node: &mut Node<Fnv>, steps: &[Step]) -> Result<bool, AllocError> {
+/// Runs the steps by `run_through`, and returns whether each has a reply, and the last reply is the object inserted
+/// last.
+fn run_through_replies_to_each(
+    alloc: Global,
+    node: &mut Node<Fnv>,
+    steps: &[Step],
+) -> Result<bool, AllocError> {
     let answers = node.run_through(steps)?;
     let is_whole = answers.iter().all(|answer| answer.is_some());
     let last = is_last_answer(alloc, answers.as_slice());
@@ -66,33 +74,36 @@ fn answers_each(alloc: Global, node: &mut Node<Fnv>, steps: &[Step]) -> Result<b
     Ok(last? && is_whole)
 }
 
+/// Returns whether the last answer is the object inserted last.
 fn is_last_answer(alloc: Global, answers: &[Option<Reply>]) -> Result<bool, AllocError> {
     match answers.last() {
-        Some(answer) => is_last(alloc, answer.as_ref()),
+        Some(answer) => is_last_object(alloc, answer.as_ref()),
         None => Ok(false),
     }
 }
 
-pub fn runs(alloc: Global, node: &mut Node<Fnv>) -> Result<bool, AllocError> {
-    let steps = life(alloc, COUNT)?;
-    let replied = replies_to_each(alloc, node, steps.as_slice());
+/// Returns whether `run` replies to thousands of steps.
+pub fn runs_many_steps(alloc: Global, node: &mut Node<Fnv>) -> Result<bool, AllocError> {
+    let steps = steps_of_run(alloc, COUNT)?;
+    let replied = run_replies_to_each(alloc, node, steps.as_slice());
     drop(steps);
     replied
 }
 
-pub fn runs_through(alloc: Global, node: &mut Node<Fnv>) -> Result<bool, AllocError> {
-    let steps = life(alloc, COUNT)?;
-    let answered = answers_each(alloc, node, steps.as_slice());
+/// Returns whether `run_through` replies to thousands of steps.
+pub fn runs_through_many_steps(alloc: Global, node: &mut Node<Fnv>) -> Result<bool, AllocError> {
+    let steps = steps_of_run(alloc, COUNT)?;
+    let answered = run_through_replies_to_each(alloc, node, steps.as_slice());
     drop(steps);
     answered
 }
 
 #[test]
 fn a_run_is_long(rt: HostRuntime) {
-    assert!(rt; passes(rt.alloc(), Trial::Runs) == Ok(true));
+    assert!(rt; new_node_passes(rt.alloc(), Trial::Runs) == Ok(true));
 }
 
 #[test]
 fn a_run_past_want_of_memory_is_long(rt: HostRuntime) {
-    assert!(rt; passes(rt.alloc(), Trial::RunsThrough) == Ok(true));
+    assert!(rt; new_node_passes(rt.alloc(), Trial::RunsThrough) == Ok(true));
 }

@@ -2,7 +2,7 @@
 ghost use Rattle.std.specs.Prelude.{◌≡◌, []};
 
 use super::super::Event::{Ask, Grow, Ready};
-use super::super::{Bucket, Event, Pid, Tid, step};
+use super::super::{Bucket, Event, Pid, Tid, build_step};
 use crate::tests::keep_if_ok;
 use ets_term::{Integer, Term};
 use node_core::{Others, Step};
@@ -14,13 +14,14 @@ pub enum Plan {
     /// These, after each key.
     Always(&'static [Event<'static>]),
     /// Process 1 deletes the last key and inserts it again; the table grows, and the bucket of the turn becomes ready.
-    Again,
-    /// Process 1 inserts the turn and ten.
-    Further,
+    DeleteAndInsert,
+    /// Process 1 inserts the key that is the number of the turn and ten.
+    InsertFurther,
     /// None: memory runs out.
     NoMemory,
 }
 
+/// Others that follow a plan. They keep the keys they saw, and the steps they handed in with their turns.
 #[derive(Drop)]
 pub struct PlanFollower {
     alloc: Global,
@@ -30,6 +31,7 @@ pub struct PlanFollower {
 }
 
 impl PlanFollower {
+    /// Returns others with this plan that have seen no key.
     pub fn new(alloc: Global, plan: Plan) -> PlanFollower
         ensures keys { result.keys.items ≡ [] }
         ensures handed_in { result.handed_in.items ≡ [] }
@@ -70,7 +72,7 @@ impl Others for PlanFollower {
     }
 }
 
-/// Returns the steps of a turn.
+/// Returns the steps that the plan wants in a turn, after this key.
 fn plan_steps(
     alloc: Global,
     plan: Plan,
@@ -79,24 +81,27 @@ fn plan_steps(
 ) -> Result<Vec<Step>, AllocError> {
     match plan {
         Plan::Always(events) => steps_of(alloc, events),
-        Plan::Again => delete_and_insert(alloc, turn, last),
-        Plan::Further => insert_further(alloc, turn),
+        Plan::DeleteAndInsert => delete_and_insert(alloc, turn, last),
+        Plan::InsertFurther => insert_further(alloc, turn),
         Plan::NoMemory => Err(AllocError),
     }
 }
 
+/// Returns the steps of events.
 fn steps_of(alloc: Global, events: &[Event]) -> Result<Vec<Step>, AllocError> {
     let mut steps = Vec::with_capacity(alloc, events.len())?;
     keep_if_ok(push_steps(alloc, &mut steps, events), steps)
 }
 
+/// Appends the steps of events.
 fn push_steps(alloc: Global, steps: &mut Vec<Step>, events: &[Event]) -> Result<(), AllocError> {
     for event in events {
-        steps.push(step(alloc, *event)?)?;
+        steps.push(build_step(alloc, *event)?)?;
     }
     Ok(())
 }
 
+/// Returns the steps that delete a key and insert it again, double the buckets and make the bucket of the turn ready.
 fn delete_and_insert(alloc: Global, turn: usize, last: &Term) -> Result<Vec<Step>, AllocError> {
     let Term::Int(key) = last else {
         return Err(AllocError);
@@ -111,6 +116,7 @@ fn delete_and_insert(alloc: Global, turn: usize, last: &Term) -> Result<Vec<Step
     )
 }
 
+/// Appends the steps that delete a key and insert it again, double the buckets and make a bucket ready.
 fn push_delete_and_insert(
     alloc: Global,
     steps: &mut Vec<Step>,
@@ -129,6 +135,7 @@ fn push_ask(alloc: Global, steps: &mut Vec<Step>, call: String) -> Result<(), Al
     pushed
 }
 
+/// Returns the step that inserts the key of the turn and ten.
 fn insert_further(alloc: Global, turn: usize) -> Result<Vec<Step>, AllocError> {
     let key = turn.saturating_add(10);
     let call = format!(in alloc; "insert(t,{{{key}}})")?;

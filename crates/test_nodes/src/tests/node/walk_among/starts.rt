@@ -2,18 +2,18 @@
 use super::super::Event::{self, Ask, Enrol};
 use super::super::{Pid, Row};
 
-/// The table is fixed no more.
-pub const FREE: Row = (Ask(Pid(0), "info(t,fixed)"), "false");
+/// Asks whether the table is fixed, which it is not.
+pub const IS_FREE: Row = (Ask(Pid(0), "info(t,fixed)"), "false");
 
 /// The public table t of process 0, and process 1.
-pub const EMPTY: [Row; 3] = [
+pub const NO_KEYS: [Row; 3] = [
     (Enrol(Pid(0)), "<0.0.0>"),
     (Enrol(Pid(1)), "<0.1.0>"),
     (Ask(Pid(0), "new(t,[named_table,public])"), "t"),
 ];
 
 /// The same table with one key.
-pub const ONE: [Row; 4] = [
+pub const ONE_KEY: [Row; 4] = [
     (Enrol(Pid(0)), "<0.0.0>"),
     (Enrol(Pid(1)), "<0.1.0>"),
     (Ask(Pid(0), "new(t,[named_table,public])"), "t"),
@@ -21,7 +21,7 @@ pub const ONE: [Row; 4] = [
 ];
 
 /// The same table with two keys.
-pub const TWO: [Row; 4] = [
+pub const TWO_KEYS: [Row; 4] = [
     (Enrol(Pid(0)), "<0.0.0>"),
     (Enrol(Pid(1)), "<0.1.0>"),
     (Ask(Pid(0), "new(t,[named_table,public])"), "t"),
@@ -29,7 +29,7 @@ pub const TWO: [Row; 4] = [
 ];
 
 /// The same table with nine keys.
-pub const NINE: [Row; 4] = [
+pub const NINE_KEYS: [Row; 4] = [
     (Enrol(Pid(0)), "<0.0.0>"),
     (Enrol(Pid(1)), "<0.1.0>"),
     (Ask(Pid(0), "new(t,[named_table,public])"), "t"),
@@ -40,7 +40,7 @@ pub const NINE: [Row; 4] = [
 ];
 
 /// The protected table t of process 0 with seventy keys, and process 7.
-pub const SEVENTY: [Row; 4] = [
+pub const SEVENTY_KEYS: [Row; 4] = [
     (Enrol(Pid(0)), "<0.0.0>"),
     (Enrol(Pid(7)), "<0.7.0>"),
     (Ask(Pid(0), "new(t,[named_table])"), "t"),
@@ -54,48 +54,48 @@ pub const SEVENTY: [Row; 4] = [
 ];
 
 /// Others delete the table.
-pub const GONE: [Event; 1] = [Ask(Pid(1), "delete(t)")];
+pub const DELETES_TABLE: [Event; 1] = [Ask(Pid(1), "delete(t)")];
 
 /// Others delete the table and make another of its name.
-pub const MADE_ANEW: [Event; 3] = [
+pub const MAKES_TABLE_ANEW: [Event; 3] = [
     Ask(Pid(1), "delete(t)"),
     Ask(Pid(1), "new(t,[named_table,public])"),
     Ask(Pid(1), "insert(t,[{1,a},{2,b}])"),
 ];
 
 /// The walker enrols again, among the steps of another.
-pub const ENROLS: [Event; 3] = [
+pub const WALKER_ENROLS: [Event; 3] = [
     Ask(Pid(1), "insert(t,{3,c})"),
     Enrol(Pid(0)),
     Ask(Pid(1), "insert(t,{4,d})"),
 ];
 
 /// The walker exits, among the steps of another.
-pub const ENDS: [Event; 3] = [
+pub const WALKER_ENDS: [Event; 3] = [
     Ask(Pid(1), "insert(t,{3,c})"),
     Event::End(Pid(0)),
     Ask(Pid(1), "insert(t,{4,d})"),
 ];
 
 /// The walker deletes the table, among the steps of another.
-pub const ASKS: [Event; 3] = [
+pub const WALKER_ASKS: [Event; 3] = [
     Ask(Pid(1), "insert(t,{3,c})"),
     Ask(Pid(0), "delete(t)"),
     Ask(Pid(1), "insert(t,{4,d})"),
 ];
 
 /// Others delete all objects.
-pub const CLEARS: [Event; 1] = [Ask(Pid(1), "delete_all_objects(t)")];
+pub const DELETES_ALL_OBJECTS: [Event; 1] = [Ask(Pid(1), "delete_all_objects(t)")];
 
 /// The private table t of process 1.
-pub const HIDDEN: [Row; 3] = [
+pub const PRIVATE_OF_ANOTHER: [Row; 3] = [
     (Enrol(Pid(0)), "<0.0.0>"),
     (Enrol(Pid(1)), "<0.1.0>"),
     (Ask(Pid(1), "new(t,[named_table,private])"), "t"),
 ];
 
 /// The table t of process 1, and process 0, which has exited.
-pub const ENDED: [Row; 4] = [
+pub const WALKER_HAS_ENDED: [Row; 4] = [
     (Enrol(Pid(0)), "<0.0.0>"),
     (Enrol(Pid(1)), "<0.1.0>"),
     (Ask(Pid(1), "new(t,[named_table])"), "t"),

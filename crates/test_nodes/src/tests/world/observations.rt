@@ -1,0 +1,138 @@
+// All that can be observed of a world, as a list of terms.
+use super::Tables;
+use crate::tests::keep_if_ok;
+use crate::tests::text::term;
+use ets_term::{Integer, Term};
+use ownership::InfoItem;
+use std::alloc::{AllocError, Global};
+
+/// The items of tables that are observed.
+const ITEMS: [InfoItem; 10] = [
+    InfoItem::Name,
+    InfoItem::NamedTable,
+    InfoItem::Owner,
+    InfoItem::Protection,
+    InfoItem::Heir,
+    InfoItem::Id,
+    InfoItem::Size,
+    InfoItem::Kind,
+    InfoItem::Keypos,
+    InfoItem::Fixed,
+];
+
+/// Appends an observation.
+fn add_observation(observed: &mut Vec<Term>, term: Term) -> Result<(), AllocError> {
+    Ok(observed.push(term)?)
+}
+
+/// Appends 1 or 0 for true or false.
+fn add_flag(observed: &mut Vec<Term>, value: bool) -> Result<(), AllocError> {
+    add_observation(observed, Term::Int(Integer::from(value)))
+}
+
+/// Appends whether a process lives, and the messages in its mailbox.
+fn observe_process(
+    alloc: Global,
+    world: &Tables,
+    pid: u32,
+    observed: &mut Vec<Term>,
+) -> Result<(), AllocError> {
+    add_flag(observed, world.lives(pid))?;
+    for message in world.mailbox(pid) {
+        add_observation(observed, message.try_clone(alloc)?)?;
+    }
+    Ok(())
+}
+
+/// Returns whether a table is found by its identifier.
+fn is_resolved(world: &Tables, id: u32) -> bool {
+    let named = Term::Tid(id);
+    let found = world.resolve(&named);
+    drop(named);
+    found.is_some()
+}
+
+/// Appends an item of a table, if the table exists.
+fn observe_item(
+    world: &Tables,
+    id: u32,
+    item: InfoItem,
+    observed: &mut Vec<Term>,
+) -> Result<(), AllocError> {
+    match world.info(id, item)? {
+        Some(term) => add_observation(observed, term),
+        None => Ok(()),
+    }
+}
+
+/// Appends whether a table exists, and these items of it.
+fn observe_items(
+    world: &Tables,
+    id: u32,
+    items: &[InfoItem],
+    observed: &mut Vec<Term>,
+) -> Result<(), AllocError> {
+    add_flag(observed, is_resolved(world, id))?;
+    for item in items {
+        observe_item(world, id, *item, observed)?;
+    }
+    Ok(())
+}
+
+/// Appends for each process whether it may read and write a table, and owns it.
+fn observe_rights(world: &Tables, id: u32, observed: &mut Vec<Term>) -> Result<(), AllocError> {
+    for pid in 0..4 {
+        add_flag(observed, world.may_read(pid, id))?;
+        add_flag(observed, world.may_write(pid, id))?;
+        add_flag(observed, world.is_owner(pid, id))?;
+    }
+    Ok(())
+}
+
+/// Appends the table that has a name, or 0.
+fn observe_name(
+    alloc: Global,
+    world: &Tables,
+    name: &str,
+    observed: &mut Vec<Term>,
+) -> Result<(), AllocError> {
+    let name = term(alloc, name)?;
+    let found = world.resolve(&name);
+    drop(name);
+    match found {
+        Some(id) => add_observation(observed, Term::Tid(id)),
+        None => add_flag(observed, false),
+    }
+}
+
+/// The names of tables that are observed.
+const NAMES: [&str; 5] = ["a_name_longer_than_its_place", "u", "v", "w", "x"];
+
+/// Appends all that can be observed of the world: how many tables were made, each process, each table and each name.
+fn observe_all(
+    alloc: Global,
+    world: &Tables,
+    items: &[InfoItem],
+    names: &[&'static str],
+    observed: &mut Vec<Term>,
+) -> Result<(), AllocError> {
+    add_observation(observed, Term::Int(Integer::from(world.made())))?;
+    for number in 0..4 {
+        observe_process(alloc, world, number, observed)?;
+        observe_items(world, number, items, observed)?;
+        observe_rights(world, number, observed)?;
+    }
+    for name in names {
+        observe_name(alloc, world, *name, observed)?;
+    }
+    Ok(())
+}
+
+/// Returns all that can be observed of a world.
+pub fn observations(alloc: Global, world: &Tables) -> Result<Vec<Term>, AllocError> {
+    let mut observed = Vec::with_capacity(alloc, 128)?;
+    keep_if_ok(
+        observe_all(alloc, world, &ITEMS, &NAMES, &mut observed),
+        observed,
+    )
+}

@@ -1,0 +1,169 @@
+// One call of a world each, whose arguments are texts.
+use super::Tables;
+use crate::tests::text::term;
+use bucket_table::PlainRows;
+use ets_term::{Atom, Items, Term};
+use fixed_walk::Walked;
+use ownership::{InfoItem, NewOptions, WorldFault};
+use std::alloc::{AllocError, Global};
+use table_ops::Table;
+
+/// Returns the empty tuple, the answer of a call without a result.
+pub fn empty_tuple(alloc: Global) -> Term {
+    Term::Tuple(Items::new(alloc))
+}
+
+/// Makes a table, whose options are a text. Returns its name or its identifier.
+pub fn new_table(
+    alloc: Global,
+    world: &mut Tables,
+    pid: u32,
+    name: &str,
+    options: &str,
+) -> Result<Term, WorldFault> {
+    let options = options_of(alloc, options)?;
+    match Atom::new(alloc, name) {
+        Ok(name) => {
+            let named = add_table(alloc, world, pid, &name, options);
+            drop(name);
+            named
+        }
+        Err(_) => {
+            drop(options);
+            Err(WorldFault::Memory)
+        }
+    }
+}
+
+/// Returns the options of a table that a text spells.
+fn options_of(alloc: Global, options: &str) -> Result<NewOptions, WorldFault> {
+    let options = term(alloc, options)?;
+    let read = NewOptions::read(alloc, &options);
+    drop(options);
+    read
+}
+
+/// Puts an empty table for at most ten objects into the world. Returns its name or its identifier.
+fn add_table(
+    alloc: Global,
+    world: &mut Tables,
+    pid: u32,
+    name: &Atom,
+    options: NewOptions,
+) -> Result<Term, WorldFault> {
+    let rows = PlainRows::new(alloc);
+    let table = Table::new(alloc, rows, options.kind(), options.keypos().max(1), 10);
+    world.new_table(pid, name, options, Walked::new(alloc, table))
+}
+
+/// Returns an item of a table, or `undefined` if the table does not exist.
+pub fn info_or_undefined(
+    alloc: Global,
+    world: &Tables,
+    id: u32,
+    item: &str,
+) -> Result<Term, WorldFault> {
+    let Some(item) = item_of(alloc, item)? else {
+        return Err(WorldFault::Badarg);
+    };
+    match world.info(id, item)? {
+        Some(value) => Ok(value),
+        None => Ok(term(alloc, "undefined")?),
+    }
+}
+
+/// Returns the item that a text names, if it is one.
+fn item_of(alloc: Global, item: &str) -> Result<Option<InfoItem>, AllocError> {
+    let item = term(alloc, item)?;
+    let read = InfoItem::read(&item);
+    drop(item);
+    Ok(read)
+}
+
+/// Returns the identifier of the table that a text names, or `none`.
+pub fn tid_or_none(alloc: Global, world: &Tables, named: &str) -> Result<Term, WorldFault> {
+    let named = term(alloc, named)?;
+    let found = world.resolve(&named);
+    drop(named);
+    match found {
+        Some(id) => Ok(Term::Tid(id)),
+        None => Ok(term(alloc, "none")?),
+    }
+}
+
+/// Returns what a process may do with a table, as a list.
+pub fn list_of_rights(
+    alloc: Global,
+    world: &Tables,
+    pid: u32,
+    id: u32,
+) -> Result<Term, WorldFault> {
+    let mut rights = Items::new(alloc);
+    match push_rights(alloc, world, pid, id, &mut rights) {
+        Ok(()) => Ok(Term::List(rights)),
+        Err(_) => {
+            drop(rights);
+            Err(WorldFault::Memory)
+        }
+    }
+}
+
+/// Appends what a process may do with a table: `read`, `write` or `own`.
+fn push_rights(
+    alloc: Global,
+    world: &Tables,
+    pid: u32,
+    id: u32,
+    rights: &mut Items<Term>,
+) -> Result<(), AllocError> {
+    if world.may_read(pid, id) {
+        rights.push(term(alloc, "read")?)?;
+    }
+    if world.may_write(pid, id) {
+        rights.push(term(alloc, "write")?)?;
+    }
+    if world.is_owner(pid, id) {
+        rights.push(term(alloc, "own")?)?;
+    }
+    Ok(())
+}
+
+/// Fixes a table for a process.
+pub fn fix_table(alloc: Global, world: &mut Tables, pid: u32, id: u32) -> Result<Term, WorldFault> {
+    let Some(table) = world.table_mut(id) else {
+        return Err(WorldFault::Badarg);
+    };
+    match table.fix(pid) {
+        Ok(()) => Ok(empty_tuple(alloc)),
+        Err(_) => Err(WorldFault::Memory),
+    }
+}
+
+/// Gives a table to another process, with a gift that a text spells.
+pub fn give_away(
+    alloc: Global,
+    world: &mut Tables,
+    pid: u32,
+    id: u32,
+    to: u32,
+    gift: &str,
+) -> Result<(), WorldFault> {
+    let gift = term(alloc, gift)?;
+    let given = world.give_away(pid, id, to, &gift);
+    drop(gift);
+    given
+}
+
+/// Sets the options of a table that a text spells.
+pub fn set_options(
+    alloc: Global,
+    world: &mut Tables,
+    pid: u32,
+    id: u32,
+    options: &str,
+) -> Result<(), WorldFault> {
+    let options = term(alloc, options)?;
+    let done = world.set_options(pid, id, &options);
+    drop(options);
+    done
+}
