@@ -142,7 +142,7 @@ fn a_step_of_the_walker_is_not_done(rt: HostRuntime) {
 }
 
 #[test]
-fn want_of_memory_ends_the_walk(rt: HostRuntime) {
+fn out_of_memory_ends_the_walk(rt: HostRuntime) {
     let rows = [(Plan::NoMemory, IS_FREE)];
     assert_eq!(rt;
         first_wrong_stop(rt.alloc(), &WalkFault::Memory, &rows),

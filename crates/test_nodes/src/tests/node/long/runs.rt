@@ -104,6 +104,6 @@ fn a_run_is_long(rt: HostRuntime) {
 }
 
 #[test]
-fn a_run_past_want_of_memory_is_long(rt: HostRuntime) {
+fn a_run_through_is_long(rt: HostRuntime) {
     assert!(rt; new_node_passes(rt.alloc(), Trial::RunsThrough) == Ok(true));
 }
