@@ -10,7 +10,7 @@ mod rows;
 mod syntax;
 mod threads;
 
-use devices::{Devices, Seen, Source, Target};
+use devices::{Devices, FlushLog, Source, Target};
 use ets_script::{NodeSettings, ScriptFault, Streams, run_within};
 use ets_term::{AllSame, Fnv, KeyHash};
 use node_core::{Limits, Node};
@@ -19,9 +19,13 @@ use std::alloc::Global;
 /// How a script ends.
 #[derive(Clone, Copy, PartialEq, Eq)]
 enum End {
+    /// The end of its input was read and all answers were written.
     Whole,
+    /// A read failed.
     Read,
+    /// A write or a flush failed.
     Write,
+    /// Memory ran out.
     Memory,
     /// Its journal could not be closed.
     Unclosed,
@@ -32,27 +36,29 @@ enum End {
 struct Run {
     devices: Devices,
     limits: Limits,
-    /// The most reads.
+    /// The most reads that may be made.
     reads: u32,
 }
 
-/// With good devices, by the usual limits.
+/// Returns a run with good devices and the usual limits.
 fn usual_run() -> Run {
     Run {
-        devices: devices::GOOD,
+        devices: devices::GOOD_DEVICES,
         limits: Limits::usual(),
         reads: 1_000_000_000,
     }
 }
 
+/// Returns how a script ended.
 fn end_of<H: KeyHash + Copy + Drop>(done: Result<Node<H>, ScriptFault>) -> End {
     match done {
         Ok(_) => End::Whole,
-        Err(fault) => end_at(&fault),
+        Err(fault) => end_by_fault(&fault),
     }
 }
 
-fn end_at(fault: &ScriptFault) -> End {
+/// Returns how a script with this fault ended.
+fn end_by_fault(fault: &ScriptFault) -> End {
     match fault {
         ScriptFault::Read => End::Read,
         ScriptFault::Write => End::Write,
@@ -61,14 +67,16 @@ fn end_at(fault: &ScriptFault) -> End {
     }
 }
 
-/// Returns whether a script ends so, and these answers went out, whatever the hash.
-fn is_run(alloc: Global, run: &Run, script: &[u8], answers: &[u8], end: End) -> bool {
-    is_run_by(alloc, run, Fnv, script, answers, end)
-        && is_run_by(alloc, run, AllSame, script, answers, end)
+/// Runs a script with a hash that spreads keys and with one hash for all keys. Returns whether it ends so each time,
+/// and these answers went out.
+fn ends_with_answers(alloc: Global, run: &Run, script: &[u8], answers: &[u8], end: End) -> bool {
+    ends_with_answers_by_hash(alloc, run, Fnv, script, answers, end)
+        && ends_with_answers_by_hash(alloc, run, AllSame, script, answers, end)
 }
 
-/// The same by this hash. Answers are flushed before each read; at a write fault they need not be.
-fn is_run_by<H: KeyHash + Copy + Drop>(
+/// Runs a script with this hash, and returns whether it ends so and these answers went out. Answers must be flushed
+/// before each read, but not before a write fault.
+fn ends_with_answers_by_hash<H: KeyHash + Copy + Drop>(
     alloc: Global,
     run: &Run,
     hasher: H,
@@ -76,20 +84,20 @@ fn is_run_by<H: KeyHash + Copy + Drop>(
     answers: &[u8],
     end: End,
 ) -> bool {
-    let seen = Seen::new();
+    let log = FlushLog::new();
     let mut streams = Streams {
         input: Source {
             left: script,
             max: run.devices.max_read,
             good: run.devices.good_reads,
-            seen: &seen,
+            log: &log,
         },
         output: Target {
             taken: Vec::new(alloc),
             max: run.devices.max_written,
             good: run.devices.good_writes,
             fails_to_flush: run.devices.fails_to_flush,
-            seen: &seen,
+            log: &log,
         },
     };
     let settings = NodeSettings {
@@ -99,13 +107,13 @@ fn is_run_by<H: KeyHash + Copy + Drop>(
     let done = run_within(alloc, &mut streams, settings, run.reads);
     streams.output.taken.as_slice() == answers
         && end_of(done) == end
-        && (end == End::Write || seen.is_all_flushed(answers.len()))
+        && (end == End::Write || log.is_all_flushed(answers.len()))
 }
 
-/// How many of the scripts, from the first on, are answered so to their end.
-fn count_answered(alloc: Global, run: &Run, rows: &[(&[u8], &[u8])]) -> usize {
+/// Returns how many of the scripts, from the first on, have these answers and run to their end.
+fn count_answered_scripts(alloc: Global, run: &Run, rows: &[(&[u8], &[u8])]) -> usize {
     for (count, (script, answers)) in rows.iter().enumerate() {
-        if !is_run(alloc, run, *script, *answers, End::Whole) {
+        if !ends_with_answers(alloc, run, *script, *answers, End::Whole) {
             return count;
         }
     }

@@ -1,24 +1,56 @@
-//! What the program's command line asks, and the kinds of its refusals.
+//! What the program's command line asks for, and the kinds of its refusals.
 use clap::error::ErrorKind;
 use ets_script::{request, settings};
 use node_core::Limits;
 use std::alloc::Global;
 
-/// Returns whether there are threads, whether the hash is the one for all keys, and the most objects, as these words
-/// ask; or the kind of the refusal.
-fn parse_words(alloc: Global, words: &[&str]) -> Result<(bool, bool, u32), ErrorKind> {
+/// Whether each process runs in a thread of its own.
+#[derive(Clone, Copy, PartialEq, Eq)]
+enum Threads {
+    Off,
+    On,
+}
+
+/// The hash of keys.
+#[derive(Clone, Copy, PartialEq, Eq)]
+enum Hash {
+    Fnv,
+    /// One hash for all keys.
+    Same,
+}
+
+/// The greatest number of objects if no option says another.
+const USUAL_OBJECTS: u32 = 1_000_000;
+
+/// What `settings` parses: the threads, the hash, and the greatest number of objects.
+type Parsed = (Threads, Hash, u32);
+
+/// Returns what `settings` parses from these words, or the kind of the refusal.
+fn parse_words(alloc: Global, words: &[&str]) -> Result<Parsed, ErrorKind> {
     match settings(alloc, words) {
-        Ok(settings) => Ok((settings.threads, settings.same, settings.objects)),
+        Ok(settings) => {
+            let threads = if settings.threads {
+                Threads::On
+            } else {
+                Threads::Off
+            };
+            let hash = if settings.same { Hash::Same } else { Hash::Fnv };
+            Ok((threads, hash, settings.objects))
+        }
         Err(error) => Err(error.kind()),
     }
 }
 
+/// Parses words that `settings` accepts.
 #[test]
 fn settings_of_words(rt: HostRuntime) {
     let alloc = rt.alloc();
-    let rows: [(&[&str], (bool, bool, u32)); 11] = [
-        (&["ets_script"], (false, false, 1_000_000)),
-        (&["ets_script", "--threads"], (true, false, 1_000_000)),
+    let rows: [(&[&str], Parsed); 11] = [
+        (&["ets_script"], (Threads::Off, Hash::Fnv, USUAL_OBJECTS)),
+        (
+            &["ets_script", "--threads"],
+            (Threads::On, Hash::Fnv, USUAL_OBJECTS),
+        ),
         (
             &[
                 "ets_script",
@@ -27,24 +59,39 @@ fn settings_of_words(rt: HostRuntime) {
                 "--max-objects",
                 "3",
             ],
-            (true, true, 3),
+            (Threads::On, Hash::Same, 3),
         ),
-        (&["ets_script", "--hash", "fnv"], (false, false, 1_000_000)),
-        (&["ets_script", "--hash", "same"], (false, true, 1_000_000)),
-        (&["ets_script", "--hash=same"], (false, true, 1_000_000)),
-        (&["ets_script", "--max-objects", "3"], (false, false, 3)),
-        (&["ets_script", "--max-objects=0"], (false, false, 0)),
+        (
+            &["ets_script", "--hash", "fnv"],
+            (Threads::Off, Hash::Fnv, USUAL_OBJECTS),
+        ),
+        (
+            &["ets_script", "--hash", "same"],
+            (Threads::Off, Hash::Same, USUAL_OBJECTS),
+        ),
+        (
+            &["ets_script", "--hash=same"],
+            (Threads::Off, Hash::Same, USUAL_OBJECTS),
+        ),
+        (
+            &["ets_script", "--max-objects", "3"],
+            (Threads::Off, Hash::Fnv, 3),
+        ),
+        (
+            &["ets_script", "--max-objects=0"],
+            (Threads::Off, Hash::Fnv, 0),
+        ),
         (
             &["ets_script", "--max-objects", "4294967295"],
-            (false, false, u32::MAX),
+            (Threads::Off, Hash::Fnv, u32::MAX),
         ),
         (
             &["ets_script", "--max-objects", "007", "--hash", "same"],
-            (false, true, 7),
+            (Threads::Off, Hash::Same, 7),
         ),
         (
             &["another_name", "--hash", "same", "--max-objects", "3"],
-            (false, true, 3),
+            (Threads::Off, Hash::Same, 3),
         ),
     ];
     for (words, wanted) in rows {
@@ -52,6 +99,7 @@ fn settings_of_words(rt: HostRuntime) {
     }
 }
 
+/// Parses words that `settings` refuses.
 #[test]
 fn words_that_are_refused(rt: HostRuntime) {
     let alloc = rt.alloc();
@@ -92,20 +140,42 @@ fn words_that_are_refused(rt: HostRuntime) {
     }
 }
 
-/// The most processes, tables and objects that these words ask for; or the kind of the refusal.
-fn limits(alloc: Global, words: &[&str]) -> Result<(u32, u32, u32), ErrorKind> {
+/// The greatest number of processes.
+#[derive(Clone, Copy, PartialEq, Eq)]
+struct Processes(u32);
+
+/// The greatest number of tables.
+#[derive(Clone, Copy, PartialEq, Eq)]
+struct Tables(u32);
+
+/// The greatest number of objects in a table.
+#[derive(Clone, Copy, PartialEq, Eq)]
+struct Objects(u32);
+
+/// The limits that `request` parses.
+type ParsedLimits = (Processes, Tables, Objects);
+
+/// Returns the limits that `request` parses from these words, or the kind of the refusal.
+fn parse_limits(alloc: Global, words: &[&str]) -> Result<ParsedLimits, ErrorKind> {
     match request(alloc, words) {
-        Ok(asked) => Ok((asked.processes, asked.tables, asked.settings.objects)),
+        Ok(asked) => Ok((
+            Processes(asked.processes),
+            Tables(asked.tables),
+            Objects(asked.settings.objects),
+        )),
         Err(error) => Err(error.kind()),
     }
 }
 
+/// Parses words that `request` accepts.
 #[test]
 fn limits_of_words(rt: HostRuntime) {
     let alloc = rt.alloc();
     let usual = Limits::usual();
-    let (processes, tables, objects) = (usual.processes, usual.tables, usual.objects);
-    let rows: [(&[&str], (u32, u32, u32)); 7] = [
+    let processes = Processes(usual.processes);
+    let tables = Tables(usual.tables);
+    let objects = Objects(usual.objects);
+    let rows: [(&[&str], ParsedLimits); 7] = [
         (&["ets_script"], (processes, tables, objects)),
         (
             &["ets_script", "--threads", "--hash=same"],
@@ -113,10 +183,16 @@ fn limits_of_words(rt: HostRuntime) {
         ),
         (
             &["ets_script", "--max-processes", "2"],
-            (2, tables, objects),
+            (Processes(2), tables, objects),
         ),
-        (&["ets_script", "--max-tables=0"], (processes, 0, objects)),
-        (&["ets_script", "--max-objects=7"], (processes, tables, 7)),
+        (
+            &["ets_script", "--max-tables=0"],
+            (processes, Tables(0), objects),
+        ),
+        (
+            &["ets_script", "--max-objects=7"],
+            (processes, tables, Objects(7)),
+        ),
         (
             &[
                 "ets_script",
@@ -125,7 +201,7 @@ fn limits_of_words(rt: HostRuntime) {
                 "--max-processes=4294967294",
                 "--threads",
             ],
-            (4_294_967_294, 4_294_967_295, objects),
+            (Processes(4_294_967_294), Tables(4_294_967_295), objects),
         ),
         (
             &[
@@ -137,14 +213,15 @@ fn limits_of_words(rt: HostRuntime) {
                 "--max-tables",
                 "2",
             ],
-            (1, 2, 3),
+            (Processes(1), Tables(2), Objects(3)),
         ),
     ];
     for (words, wanted) in rows {
-        assert!(rt; limits(alloc, words) == Ok(wanted), "{words:?}");
+        assert!(rt; parse_limits(alloc, words) == Ok(wanted), "{words:?}");
     }
 }
 
+/// Parses words that `request` refuses.
 #[test]
 fn limits_that_are_refused(rt: HostRuntime) {
     let alloc = rt.alloc();
@@ -175,7 +252,7 @@ fn limits_that_are_refused(rt: HostRuntime) {
         (&["ets_script", "--help"], ErrorKind::DisplayHelp),
     ];
     for (words, wanted) in rows {
-        assert!(rt; limits(alloc, words) == Err(wanted), "{words:?}");
+        assert!(rt; parse_limits(alloc, words) == Err(wanted), "{words:?}");
     }
     let unknown: [&str; 3] = ["ets_script", "--max-tables", "3"];
     assert!(rt; parse_words(alloc, unknown.as_slice()) == Err(ErrorKind::UnknownArgument));

@@ -6,17 +6,20 @@ use std::io::{self, Error, ErrorKind, Read, Write};
 /// How the reader and the writer of a script behave.
 #[derive(Clone, Copy)]
 pub struct Devices {
-    /// The most bytes that one read gives, and one write takes.
+    /// The most bytes that one read gives.
     pub max_read: usize,
+    /// The most bytes that one write takes.
     pub max_written: usize,
-    /// How many reads and writes there are before one fails.
+    /// The number of reads before one fails.
     pub good_reads: u32,
+    /// The number of writes before one fails.
     pub good_writes: u32,
+    /// Whether each flush fails.
     pub fails_to_flush: bool,
 }
 
 /// Devices that give and take all, and never fail.
-pub const GOOD: Devices = Devices {
+pub const GOOD_DEVICES: Devices = Devices {
     max_read: usize::MAX,
     max_written: usize::MAX,
     good_reads: u32::MAX,
@@ -24,33 +27,35 @@ pub const GOOD: Devices = Devices {
     fails_to_flush: false,
 };
 
-/// What a reader and a writer have seen of each other.
+/// What a writer wrote and flushed, as the reader finds it at each read.
 #[derive(Drop)]
-pub struct Seen {
-    /// How many bytes were written, and how many of these at the last flush.
+pub struct FlushLog {
+    /// How many bytes were written.
     written: Cell<usize>,
+    /// How many of them had been written at the last flush.
     flushed: Cell<usize>,
-    /// How many were flushed when a read failed.
+    /// How many had been flushed when a read failed.
     flushed_at_fault: Cell<Option<usize>>,
     /// Whether a read came while something written was not flushed.
-    has_waited: Cell<bool>,
+    is_read_unflushed: Cell<bool>,
 }
 
-impl Seen {
-    pub fn new() -> Seen {
-        Seen {
+impl FlushLog {
+    /// Returns a log in which nothing was written.
+    pub fn new() -> FlushLog {
+        FlushLog {
             written: Cell::new(0),
             flushed: Cell::new(0),
             flushed_at_fault: Cell::new(None),
-            has_waited: Cell::new(false),
+            is_read_unflushed: Cell::new(false),
         }
     }
 
-    /// Returns whether a number of bytes were written, and all of them flushed; before a read that failed, too.
+    /// Returns whether as many bytes were written and all of them flushed, also before each read.
     pub fn is_all_flushed(&self, count: usize) -> bool {
         self.written.get() == count
             && self.flushed.get() == count
-            && !self.has_waited.get()
+            && !self.is_read_unflushed.get()
             && self.flushed_at_fault.get().unwrap_or(count) == count
     }
 }
@@ -58,20 +63,23 @@ impl Seen {
 /// A reader of a script.
 #[derive(Drop)]
 pub struct Source<'a> {
+    /// The part of the script that is not read yet.
     pub left: &'a [u8],
+    /// The most bytes that one read gives.
     pub max: usize,
+    /// The number of reads before one fails.
     pub good: u32,
-    pub seen: &'a Seen,
+    pub log: &'a FlushLog,
 }
 
 impl Read for Source<'_> {
     fn read(&mut self, buf: &mut [u8]) -> io::Result<usize> {
-        let seen = self.seen;
-        if seen.flushed.get() != seen.written.get() {
-            seen.has_waited.set(true);
+        let log = self.log;
+        if log.flushed.get() != log.written.get() {
+            log.is_read_unflushed.set(true);
         }
         if self.good == 0 {
-            seen.flushed_at_fault.set(Some(seen.flushed.get()));
+            log.flushed_at_fault.set(Some(log.flushed.get()));
             return Err(Error::from(ErrorKind::Other));
         }
         self.good -= 1;
@@ -85,11 +93,14 @@ impl Read for Source<'_> {
 /// A writer of answers.
 #[derive(Drop)]
 pub struct Target<'a> {
+    /// All bytes that were written.
     pub taken: Vec<u8>,
+    /// The most bytes that one write takes.
     pub max: usize,
+    /// The number of writes before one fails.
     pub good: u32,
     pub fails_to_flush: bool,
-    pub seen: &'a Seen,
+    pub log: &'a FlushLog,
 }
 
 impl Write for Target<'_> {
@@ -101,7 +112,7 @@ impl Write for Target<'_> {
         let count = buf.len().min(self.max);
         match self.taken.extend_from_slice(&buf[..count]) {
             Ok(()) => {
-                self.seen.written.set(self.taken.len());
+                self.log.written.set(self.taken.len());
                 Ok(count)
             }
             Err(_) => Err(Error::from(ErrorKind::Other)),
@@ -112,7 +123,7 @@ impl Write for Target<'_> {
         if self.fails_to_flush {
             return Err(Error::from(ErrorKind::Other));
         }
-        self.seen.flushed.set(self.taken.len());
+        self.log.flushed.set(self.taken.len());
         Ok(())
     }
 }

@@ -1,15 +1,23 @@
 //! What has gone out when a reader or a writer is slow, or fails.
-use super::devices::{Devices, GOOD};
-use super::{End, Run, is_run, is_run_by, usual_run};
+use super::devices::{Devices, GOOD_DEVICES};
+use super::{End, Run, ends_with_answers, ends_with_answers_by_hash, usual_run};
 use ets_term::Fnv;
 use std::alloc::{AllocError, Global};
 use std::test::Fail;
 
+/// A script of four lines of `LINE_BYTES` bytes each.
 const SCRIPT: &[u8] = b"spawn p\nspawn q\nspawn r\nspawn s\n";
 
+/// Its answers, of `LINE_BYTES` bytes each too.
 const ANSWERS: &[u8] = b"<0.0.0>\n<0.1.0>\n<0.2.0>\n<0.3.0>\n";
 
-/// The script by these devices, of which lines and answers both have eight bytes.
+/// The length of a line of the scripts, and of an answer to `spawn`.
+const LINE_BYTES: usize = 8;
+
+/// The length of the answer `** noproc`.
+const REFUSAL_BYTES: usize = 10;
+
+/// Returns a run with these devices and the usual limits.
 fn with_devices(devices: Devices) -> Run {
     Run {
         devices,
@@ -18,15 +26,15 @@ fn with_devices(devices: Devices) -> Run {
 }
 
 /// Returns whether the whole script is answered, however few bytes a read gives and a write takes.
-fn is_answered_slowly(alloc: Global) -> bool {
+fn all_slow_devices_answer(alloc: Global) -> bool {
     for max_read in [1, 3, 8, 31] {
         for max_written in [1, 3, 8, 31] {
             let run = with_devices(Devices {
                 max_read,
                 max_written,
-                ..GOOD
+                ..GOOD_DEVICES
             });
-            if !is_run(alloc, &run, SCRIPT, ANSWERS, End::Whole) {
+            if !ends_with_answers(alloc, &run, SCRIPT, ANSWERS, End::Whole) {
                 return false;
             }
         }
@@ -34,99 +42,103 @@ fn is_answered_slowly(alloc: Global) -> bool {
     true
 }
 
+/// Answers a script where each read gives few bytes and each write takes few.
 #[test]
 fn slow_devices(rt: HostRuntime) {
-    assert!(rt; is_answered_slowly(rt.alloc()));
+    assert!(rt; all_slow_devices_answer(rt.alloc()));
 }
 
-/// Returns whether the lines that came whole before a failing read are answered, and nothing else, when reads give a
-/// number bytes.
-fn answers_whole_lines(alloc: Global, max_read: usize) -> bool {
+/// Returns whether the lines that came whole before a failing read are answered, and nothing else, when a read gives at
+/// most as many bytes.
+fn whole_lines_are_answered(alloc: Global, max_read: usize) -> bool {
     for good_reads in 0..=10 {
-        let lines = max_read.saturating_mul(good_reads as usize) / 8;
+        let lines = max_read.saturating_mul(good_reads as usize) / LINE_BYTES;
         let run = with_devices(Devices {
             max_read,
             good_reads,
-            ..GOOD
+            ..GOOD_DEVICES
         });
-        let front = &ANSWERS[..ANSWERS.len().min(lines.saturating_mul(8))];
-        if !is_run(alloc, &run, SCRIPT, front, End::Read) {
+        let prefix = &ANSWERS[..ANSWERS.len().min(lines.saturating_mul(LINE_BYTES))];
+        if !ends_with_answers(alloc, &run, SCRIPT, prefix, End::Read) {
             return false;
         }
     }
     true
 }
 
+/// Answers the lines that came before a read fails.
 #[test]
 fn failing_reads(rt: HostRuntime) {
-    assert!(rt; answers_whole_lines(rt.alloc(), 1));
-    assert!(rt; answers_whole_lines(rt.alloc(), 3));
+    assert!(rt; whole_lines_are_answered(rt.alloc(), 1));
+    assert!(rt; whole_lines_are_answered(rt.alloc(), 3));
 }
 
-/// Returns whether a front of the answers went out before a failing write, when writes take a number of bytes, of lines
-/// that come one a read.
-fn answers_a_front(alloc: Global, max_written: usize) -> bool {
+/// Returns whether a prefix of the answers went out before a failing write, when a write takes at most as many bytes
+/// and each read gives one line.
+fn prefix_of_answers_is_written(alloc: Global, max_written: usize) -> bool {
     for good_writes in 0..4 {
         let run = with_devices(Devices {
-            max_read: 8,
+            max_read: LINE_BYTES,
             max_written,
             good_writes,
-            ..GOOD
+            ..GOOD_DEVICES
         });
         let written = max_written.saturating_mul(good_writes as usize);
-        let front = &ANSWERS[..ANSWERS.len().min(written)];
-        if !is_run(alloc, &run, SCRIPT, front, End::Write) {
+        let prefix = &ANSWERS[..ANSWERS.len().min(written)];
+        if !ends_with_answers(alloc, &run, SCRIPT, prefix, End::Write) {
             return false;
         }
     }
     true
 }
 
+/// Writes a prefix of the answers before a write fails.
 #[test]
 fn failing_writes(rt: HostRuntime) {
-    assert!(rt; answers_a_front(rt.alloc(), 8));
-    assert!(rt; answers_a_front(rt.alloc(), 1));
+    assert!(rt; prefix_of_answers_is_written(rt.alloc(), 8));
+    assert!(rt; prefix_of_answers_is_written(rt.alloc(), 1));
 }
 
-/// A writer that takes no byte, and one that fails to flush.
+/// Ends with a write fault if the writer takes no byte, and if it fails to flush.
 #[test]
 fn stuck_writers(rt: HostRuntime) {
     let stuck = with_devices(Devices {
         max_written: 0,
-        ..GOOD
+        ..GOOD_DEVICES
     });
-    assert!(rt; is_run(rt.alloc(), &stuck, SCRIPT, b"", End::Write));
+    assert!(rt; ends_with_answers(rt.alloc(), &stuck, SCRIPT, b"", End::Write));
     let unflushed = with_devices(Devices {
         fails_to_flush: true,
-        ..GOOD
+        ..GOOD_DEVICES
     });
-    assert!(rt; is_run(rt.alloc(), &unflushed, SCRIPT, b"", End::Write));
+    assert!(rt; ends_with_answers(rt.alloc(), &unflushed, SCRIPT, b"", End::Write));
 }
 
-/// How a script ends that may make a number of reads, of a line each.
+/// Returns whether a script that may make as many reads, of a line each, ends so.
 fn ends_within(alloc: Global, reads: u32, end: End) -> bool {
     let devices = Devices {
-        max_read: 8,
-        ..GOOD
+        max_read: LINE_BYTES,
+        ..GOOD_DEVICES
     };
     let run = Run {
         reads,
         ..with_devices(devices)
     };
-    is_run(alloc, &run, SCRIPT, ANSWERS, end)
+    ends_with_answers(alloc, &run, SCRIPT, ANSWERS, end)
 }
 
-/// Four lines that come one a read, and the read that finds the end.
+/// Reads four lines, one a read; a fifth read must find the end of the input.
 #[test]
 fn the_last_read_must_find_the_end(rt: HostRuntime) {
     assert!(rt; ends_within(rt.alloc(), 4, End::Read));
     assert!(rt; ends_within(rt.alloc(), 5, End::Whole));
 }
 
-/// A number of lines of eight bytes, whose answers have ten.
+/// The number of lines of a long script.
 const LINES: u32 = 120;
 
-fn repeat_line(alloc: Global, line: &[u8]) -> Result<Vec<u8>, AllocError> {
+/// Returns a line `LINES` times.
+fn repeat_lines(alloc: Global, line: &[u8]) -> Result<Vec<u8>, AllocError> {
     let mut text = Vec::new(alloc);
     for _ in 0..LINES {
         text.extend_from_slice(line)?;
@@ -134,11 +146,11 @@ fn repeat_line(alloc: Global, line: &[u8]) -> Result<Vec<u8>, AllocError> {
     Ok(text)
 }
 
-/// Devices that give a line a read, and of which a read or a write fails after a number of them, as the end says.
+/// Returns devices that give a line a read. For the end `Write` a write fails after as many lines, otherwise a read.
 fn failing_devices(end: End, lines: u32) -> Devices {
     let slow = Devices {
-        max_read: 8,
-        ..GOOD
+        max_read: LINE_BYTES,
+        ..GOOD_DEVICES
     };
     match end {
         End::Write => Devices {
@@ -152,26 +164,31 @@ fn failing_devices(end: End, lines: u32) -> Devices {
     }
 }
 
-/// The first number of lines after which the device fails, and the answers to them are not what went out.
-fn wrong_front(alloc: Global, script: &[u8], answers: &[u8], end: End) -> Option<u32> {
+/// Lets the device fail after each number of lines. Returns the first number of lines whose answers are not what went
+/// out.
+fn first_wrong_prefix(alloc: Global, script: &[u8], answers: &[u8], end: End) -> Option<u32> {
     for lines in 0..LINES {
-        let front = &answers[..answers.len().min(10 * lines as usize)];
+        let written = REFUSAL_BYTES.saturating_mul(lines as usize);
+        let prefix = &answers[..answers.len().min(written)];
         let run = with_devices(failing_devices(end, lines));
-        if !is_run_by(alloc, &run, Fnv, script, front, end) {
+        if !ends_with_answers_by_hash(alloc, &run, Fnv, script, prefix, end) {
             return Some(lines);
         }
     }
     None
 }
 
-/// Each read of a long script fails in turn, and each write.
+/// Lets each read of a long script fail in turn, and each write.
 #[test]
 fn each_call_of_a_device_fails(rt: HostRuntime) -> Result<(), Fail> {
     let alloc = rt.alloc();
-    let script = repeat_line(alloc, b"p a(10)\n")?;
-    let answers = repeat_line(alloc, b"** noproc\n")?;
+    let script = repeat_lines(alloc, b"p a(10)\n")?;
+    let answers = repeat_lines(alloc, b"** noproc\n")?;
     let (script, answers) = (script.as_slice(), answers.as_slice());
-    assert_eq!(rt; wrong_front(alloc, script, answers, End::Read), None);
-    assert_eq!(rt; wrong_front(alloc, script, answers, End::Write), None);
+    assert_eq!(rt; first_wrong_prefix(alloc, script, answers, End::Read), None);
+    assert_eq!(rt;
+        first_wrong_prefix(alloc, script, answers, End::Write),
+        None
+    );
     Ok(())
 }

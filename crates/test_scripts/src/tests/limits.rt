@@ -1,8 +1,8 @@
 //! Limits, and that the script goes on after a refusal.
-use super::{Run, count_answered, usual_run};
+use super::{Run, count_answered_scripts, usual_run};
 use node_core::Limits;
 
-/// By these limits.
+/// Returns a run with good devices and these limits.
 fn with_limits(processes: u32, tables: u32, objects: u32) -> Run {
     let limits = Limits {
         processes,
@@ -15,6 +15,7 @@ fn with_limits(processes: u32, tables: u32, objects: u32) -> Run {
     }
 }
 
+/// Answers a script that may make no table.
 #[test]
 fn limits_of_nothing(rt: HostRuntime) {
     let rows: [(&[u8], &[u8]); 1] = [(
@@ -22,11 +23,12 @@ fn limits_of_nothing(rt: HostRuntime) {
         b"<0.0.0>\n** system_limit\n** system_limit\n** badarg\ntrue\n",
     )];
     assert_eq!(rt;
-        count_answered(rt.alloc(), &with_limits(1, 0, 0), &rows),
+        count_answered_scripts(rt.alloc(), &with_limits(1, 0, 0), &rows),
         rows.len()
     );
 }
 
+/// Answers a script whose table may have three objects.
 #[test]
 fn three_objects(rt: HostRuntime) {
     let rows: [(&[u8], &[u8]); 1] = [(
@@ -34,11 +36,12 @@ fn three_objects(rt: HostRuntime) {
         b"<0.0.0>\nt\ntrue\n** system_limit\n[]\ntrue\n[{a,2}]\n** system_limit\n",
     )];
     assert_eq!(rt;
-        count_answered(rt.alloc(), &with_limits(1, 1, 3), &rows),
+        count_answered_scripts(rt.alloc(), &with_limits(1, 1, 3), &rows),
         rows.len()
     );
 }
 
+/// Answers a script that may have one process.
 #[test]
 fn one_process(rt: HostRuntime) {
     let rows: [(&[u8], &[u8]); 1] = [(
@@ -46,7 +49,7 @@ fn one_process(rt: HostRuntime) {
         b"<0.0.0>\n** system_limit\n** noproc\n",
     )];
     assert_eq!(rt;
-        count_answered(rt.alloc(), &with_limits(1, 1, 1), &rows),
+        count_answered_scripts(rt.alloc(), &with_limits(1, 1, 1), &rows),
         rows.len()
     );
 }

@@ -1,13 +1,13 @@
 //! Long scripts with known answers.
-use super::devices::{Devices, GOOD};
-use super::{End, Run, is_run, is_run_by, usual_run};
+use super::devices::{Devices, GOOD_DEVICES};
+use super::{End, Run, ends_with_answers, ends_with_answers_by_hash, usual_run};
 use ets_term::Fnv;
 use node_core::Limits;
 use std::alloc::{AllocError, Global};
 use std::test::Fail;
 
-/// Returns whether a line of a number of letters with this end, and one after it, are answered so.
-fn is_long_line(
+/// Runs a script of as many letters and then `end`, and returns whether it has these answers.
+fn long_line_is_answered(
     alloc: Global,
     run: &Run,
     letters: usize,
@@ -16,76 +16,85 @@ fn is_long_line(
 ) -> Result<bool, AllocError> {
     let mut script = vec![in alloc; b'a'; letters]?;
     script.extend_from_slice(end)?;
-    Ok(is_run(alloc, run, script.as_slice(), answers, End::Whole))
+    Ok(ends_with_answers(alloc, run, script.as_slice(), answers, End::Whole))
 }
 
-const SYNTAX: &[u8] = b"** syntax 0\n<0.0.0>\n";
+/// The length of the longest line that is read.
+const LONGEST: usize = 65_536;
 
-const TOO_LONG: &[u8] = b"** line too long\n<0.0.0>\n";
+/// The length of the shortest line that is too long.
+const PAST_LONGEST: usize = 65_537;
 
-/// A line of 65,536 bytes is looked at, one of 65,537 is not; a CR before the LF counts.
-fn are_long_lines(alloc: Global, run: &Run) -> Result<bool, AllocError> {
+/// The answers if the long line is read, and the line after it.
+const SYNTAX_FAULT: &[u8] = b"** syntax 0\n<0.0.0>\n";
+
+/// The answers if the long line is not read, but the line after it is.
+const LINE_TOO_LONG: &[u8] = b"** line too long\n<0.0.0>\n";
+
+/// Returns whether a line of `LONGEST` bytes is read, and a longer one is not. A CR before the LF counts.
+fn long_lines_are_answered(alloc: Global, run: &Run) -> Result<bool, AllocError> {
     let rows: [(usize, &[u8], &[u8]); 8] = [
-        (65_536, b"\nspawn p\n", SYNTAX),
-        (65_537, b"\nspawn p\n", TOO_LONG),
-        (65_535, b"\r\nspawn p\n", SYNTAX),
-        (65_536, b"\r\nspawn p\n", TOO_LONG),
-        (300_000, b"\nspawn p\n", TOO_LONG),
-        (65_536, b"", b"** syntax 0\n"),
-        (65_537, b"", b"** line too long\n"),
+        (LONGEST, b"\nspawn p\n", SYNTAX_FAULT),
+        (PAST_LONGEST, b"\nspawn p\n", LINE_TOO_LONG),
+        (65_535, b"\r\nspawn p\n", SYNTAX_FAULT),
+        (LONGEST, b"\r\nspawn p\n", LINE_TOO_LONG),
+        (300_000, b"\nspawn p\n", LINE_TOO_LONG),
+        (LONGEST, b"", b"** syntax 0\n"),
+        (PAST_LONGEST, b"", b"** line too long\n"),
         (200_000, b"", b"** line too long\n"),
     ];
     for (letters, end, answers) in rows {
-        if !is_long_line(alloc, run, letters, end, answers)? {
+        if !long_line_is_answered(alloc, run, letters, end, answers)? {
             return Ok(false);
         }
     }
     Ok(true)
 }
 
+/// Answers long lines, where a read gives all bytes.
 #[test]
 fn long_lines(rt: HostRuntime) -> Result<(), Fail> {
-    assert!(rt; are_long_lines(rt.alloc(), &usual_run())?);
+    assert!(rt; long_lines_are_answered(rt.alloc(), &usual_run())?);
     Ok(())
 }
 
-/// The same, where each read gives a part of a line.
+/// Answers long lines, where each read gives a part of a line.
 #[test]
 fn long_lines_in_parts(rt: HostRuntime) -> Result<(), Fail> {
     let devices = Devices {
         max_read: 5_000,
-        ..GOOD
+        ..GOOD_DEVICES
     };
     let run = Run {
         devices,
         ..usual_run()
     };
-    assert!(rt; are_long_lines(rt.alloc(), &run)?);
+    assert!(rt; long_lines_are_answered(rt.alloc(), &run)?);
     Ok(())
 }
 
-/// Returns whether a line is answered before the next read, where the first brought it and a number of letters of a
+/// Returns whether a line is answered before the next read, where the first read gave it and a number of letters of a
 /// further line.
-fn is_answered_first(alloc: Global, letters: usize) -> Result<bool, AllocError> {
+fn line_is_answered_before_next_read(alloc: Global, letters: usize) -> Result<bool, AllocError> {
     let script = with_repeats(alloc, b"spawn p\n", b"a", letters, b"")?;
     let devices = Devices {
         good_reads: 1,
-        ..GOOD
+        ..GOOD_DEVICES
     };
     let run = Run {
         devices,
         ..usual_run()
     };
-    Ok(is_run(alloc, &run, script.as_slice(), b"<0.0.0>\n", End::Read))
+    Ok(ends_with_answers(alloc, &run, script.as_slice(), b"<0.0.0>\n", End::Read))
 }
 
 #[test]
 fn answers_go_out_within_a_long_line(rt: HostRuntime) -> Result<(), Fail> {
-    assert!(rt; is_answered_first(rt.alloc(), 70_000)?);
+    assert!(rt; line_is_answered_before_next_read(rt.alloc(), 70_000)?);
     Ok(())
 }
 
-/// A text, a number of times one more, and an end.
+/// Returns a text, then a number of times another, and then an end.
 fn with_repeats(
     alloc: Global,
     front: &[u8],
@@ -102,7 +111,7 @@ fn with_repeats(
 }
 
 /// Returns whether a binary of a number of bytes is stored and found.
-fn is_long_binary(alloc: Global, bytes: usize) -> Result<bool, AllocError> {
+fn long_binary_is_found(alloc: Global, bytes: usize) -> Result<bool, AllocError> {
     let script = with_repeats(
         alloc,
         b"spawn p\np new(t,[named_table])\np insert(t,{'A',<<\"a",
@@ -117,7 +126,7 @@ fn is_long_binary(alloc: Global, bytes: usize) -> Result<bool, AllocError> {
         bytes,
         b">>}]\n",
     )?;
-    Ok(is_run(
+    Ok(ends_with_answers(
         alloc,
         &usual_run(),
         script.as_slice(),
@@ -126,25 +135,26 @@ fn is_long_binary(alloc: Global, bytes: usize) -> Result<bool, AllocError> {
     ))
 }
 
+/// Stores a long binary that is spelled in quotes.
 #[test]
 fn long_texts_in_quotes(rt: HostRuntime) -> Result<(), Fail> {
-    assert!(rt; is_long_binary(rt.alloc(), 60_000)?);
+    assert!(rt; long_binary_is_found(rt.alloc(), 60_000)?);
     Ok(())
 }
 
-/// Returns whether a script of a number of lines is answered, of which each read gives one byte.
-fn is_read_by_bytes(alloc: Global, lines: usize) -> Result<bool, AllocError> {
+/// Returns whether a script of a number of lines is answered when each read gives one byte.
+fn script_is_read_by_bytes(alloc: Global, lines: usize) -> Result<bool, AllocError> {
     let script = with_repeats(alloc, b"spawn p\n", b"spawn p\n", lines, b"")?;
     let answers = with_repeats(alloc, b"<0.0.0>\n", b"** badarg\n", lines, b"")?;
     let devices = Devices {
         max_read: 1,
-        ..GOOD
+        ..GOOD_DEVICES
     };
     let run = Run {
         devices,
         ..usual_run()
     };
-    Ok(is_run(
+    Ok(ends_with_answers(
         alloc,
         &run,
         script.as_slice(),
@@ -153,13 +163,14 @@ fn is_read_by_bytes(alloc: Global, lines: usize) -> Result<bool, AllocError> {
     ))
 }
 
+/// Answers a script that is read byte by byte.
 #[test]
 fn thousands_of_reads(rt: HostRuntime) -> Result<(), Fail> {
-    assert!(rt; is_read_by_bytes(rt.alloc(), 2_500)?);
+    assert!(rt; script_is_read_by_bytes(rt.alloc(), 2_500)?);
     Ok(())
 }
 
-/// Adds the line that spawns the process of a number, and its pid.
+/// Appends the line that spawns the process of a number to the script, and its pid to the answers.
 fn add_spawn(
     alloc: Global,
     number: u32,
@@ -170,8 +181,8 @@ fn add_spawn(
     answers.extend_from_slice(format!(in alloc; "<0.{number}.0>\n")?.as_bytes())
 }
 
-/// Returns whether a number of names are spawned, and one more is past the limit.
-fn are_names(alloc: Global, count: u32) -> Result<bool, AllocError> {
+/// Returns whether as many processes are spawned, and one more is past the limit.
+fn processes_are_spawned(alloc: Global, count: u32) -> Result<bool, AllocError> {
     let mut script = Vec::new(alloc);
     let mut answers = Vec::new(alloc);
     for number in 0..count {
@@ -188,7 +199,7 @@ fn are_names(alloc: Global, count: u32) -> Result<bool, AllocError> {
         limits,
         ..usual_run()
     };
-    Ok(is_run_by(
+    Ok(ends_with_answers_by_hash(
         alloc,
         &run,
         Fnv,
@@ -198,10 +209,10 @@ fn are_names(alloc: Global, count: u32) -> Result<bool, AllocError> {
     ))
 }
 
-/// As many as the program allows, and more than 2 to the 16.
+/// Spawns as many processes as the program allows, and more than 2^16.
 #[test]
 fn many_names(rt: HostRuntime) -> Result<(), Fail> {
-    assert!(rt; are_names(rt.alloc(), Limits::usual().processes)?);
-    assert!(rt; are_names(rt.alloc(), 66_000)?);
+    assert!(rt; processes_are_spawned(rt.alloc(), Limits::usual().processes)?);
+    assert!(rt; processes_are_spawned(rt.alloc(), 66_000)?);
     Ok(())
 }

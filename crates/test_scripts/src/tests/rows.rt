@@ -1,6 +1,7 @@
 //! Scripts with their answers: what the calls do is in docs/calls.md.
-use super::{count_answered, usual_run};
+use super::{count_answered_scripts, usual_run};
 
+/// Answers scripts about processes, tables and names.
 #[test]
 fn names_and_tables(rt: HostRuntime) {
     let rows: [(&[u8], &[u8]); 7] = [
@@ -27,9 +28,13 @@ fn names_and_tables(rt: HostRuntime) {
             b"<0.0.0>\nt\ntrue\n<0.1.0>\n** badarg\nt\n",
         ),
     ];
-    assert_eq!(rt; count_answered(rt.alloc(), &usual_run(), &rows), rows.len());
+    assert_eq!(rt;
+        count_answered_scripts(rt.alloc(), &usual_run(), &rows),
+        rows.len()
+    );
 }
 
+/// Answers scripts about insertions and look-ups in each kind of table.
 #[test]
 fn objects(rt: HostRuntime) {
     let rows: [(&[u8], &[u8]); 6] = [
@@ -58,5 +63,8 @@ fn objects(rt: HostRuntime) {
             b"<0.0.0>\nt\ntrue\n[{'A b',<<104,105>>,[97,98],0}]\n",
         ),
     ];
-    assert_eq!(rt; count_answered(rt.alloc(), &usual_run(), &rows), rows.len());
+    assert_eq!(rt;
+        count_answered_scripts(rt.alloc(), &usual_run(), &rows),
+        rows.len()
+    );
 }

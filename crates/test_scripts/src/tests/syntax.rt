@@ -1,6 +1,7 @@
 //! Lines that are no command, and how lines end.
-use super::{count_answered, usual_run};
+use super::{count_answered_scripts, usual_run};
 
+/// Answers each wrong line with the place of its first fault.
 #[test]
 fn first_faults(rt: HostRuntime) {
     let rows: [(&[u8], &[u8]); 10] = [
@@ -30,9 +31,13 @@ fn first_faults(rt: HostRuntime) {
             b"** syntax 4\n** syntax 5\n",
         ),
     ];
-    assert_eq!(rt; count_answered(rt.alloc(), &usual_run(), &rows), rows.len());
+    assert_eq!(rt;
+        count_answered_scripts(rt.alloc(), &usual_run(), &rows),
+        rows.len()
+    );
 }
 
+/// Answers lines with blanks, with CR, LF or both at their end, and comments.
 #[test]
 fn ends_of_lines(rt: HostRuntime) {
     let rows: [(&[u8], &[u8]); 5] = [
@@ -45,5 +50,8 @@ fn ends_of_lines(rt: HostRuntime) {
         (b"p lookup(t,\ra)\n", b"** syntax 11\n"),
         (b"\n\n \t spawn \t p \t\n\n%spawn q\n", b"<0.0.0>\n"),
     ];
-    assert_eq!(rt; count_answered(rt.alloc(), &usual_run(), &rows), rows.len());
+    assert_eq!(rt;
+        count_answered_scripts(rt.alloc(), &usual_run(), &rows),
+        rows.len()
+    );
 }

@@ -1,6 +1,6 @@
 //! Scripts whose processes run in threads of their own.
-use super::devices::{Devices, GOOD, Seen, Source, Target};
-use super::{End, end_at};
+use super::devices::{Devices, FlushLog, GOOD_DEVICES, Source, Target};
+use super::{End, end_by_fault};
 use ets_script::{NodeSettings, Streams, run_threads};
 use ets_term::Fnv;
 use node_core::Limits;
@@ -8,7 +8,7 @@ use std::alloc::Global;
 use std::sync::Wait;
 use std::thread::Threads;
 
-/// A script by devices and a most of processes, what it prints and how it ends.
+/// A script with its devices and its greatest number of processes, what it prints, and how it ends.
 #[derive(Clone, Copy)]
 struct Row<'a> {
     devices: Devices,
@@ -18,10 +18,10 @@ struct Row<'a> {
     end: End,
 }
 
-/// With good devices, to its end.
+/// Returns a row with good devices whose script runs to its end.
 fn whole_row<'a>(processes: u32, script: &'a [u8], output: &'a [u8]) -> Row<'a> {
     Row {
-        devices: GOOD,
+        devices: GOOD_DEVICES,
         processes,
         script,
         output,
@@ -29,21 +29,22 @@ fn whole_row<'a>(processes: u32, script: &'a [u8], output: &'a [u8]) -> Row<'a> 
     }
 }
 
-fn is_run<T: Threads + Wait + Sync>(rt: &T, alloc: Global, row: &Row<'_>) -> bool {
-    let seen = Seen::new();
+/// Runs the script of a row with each process in a thread, and returns whether it prints and ends as the row says.
+fn row_holds<T: Threads + Wait + Sync>(rt: &T, alloc: Global, row: &Row<'_>) -> bool {
+    let log = FlushLog::new();
     let mut streams = Streams {
         input: Source {
             left: row.script,
             max: row.devices.max_read,
             good: row.devices.good_reads,
-            seen: &seen,
+            log: &log,
         },
         output: Target {
             taken: Vec::new(alloc),
             max: row.devices.max_written,
             good: row.devices.good_writes,
             fails_to_flush: row.devices.fails_to_flush,
-            seen: &seen,
+            log: &log,
         },
     };
     let limits = Limits {
@@ -56,7 +57,7 @@ fn is_run<T: Threads + Wait + Sync>(rt: &T, alloc: Global, row: &Row<'_>) -> boo
     };
     let end = match run_threads(rt, alloc, &mut streams, settings) {
         Ok(()) => End::Whole,
-        Err(fault) => end_at(&fault),
+        Err(fault) => end_by_fault(&fault),
     };
     streams.output.taken.as_slice() == row.output && end == row.end
 }
@@ -77,7 +78,7 @@ fn no_more_processes_than_the_most(rt: HostRuntime) {
         ),
     ];
     for row in rows {
-        assert!(rt; is_run(&rt, rt.alloc(), &row), "{:?}", row.script);
+        assert!(rt; row_holds(&rt, rt.alloc(), &row), "{:?}", row.script);
     }
 }
 
@@ -86,14 +87,14 @@ fn nothing_before_the_end_of_the_input(rt: HostRuntime) {
     let devices = Devices {
         max_read: 8,
         good_reads: 1,
-        ..GOOD
+        ..GOOD_DEVICES
     };
     let row = Row {
         devices,
         end: End::Read,
         ..whole_row(1, b"spawn p\nspawn p\n", b"")
     };
-    assert!(rt; is_run(&rt, rt.alloc(), &row));
+    assert!(rt; row_holds(&rt, rt.alloc(), &row));
 }
 
 #[test]
@@ -101,12 +102,12 @@ fn a_writer_that_fails(rt: HostRuntime) {
     let devices = Devices {
         max_written: 3,
         good_writes: 2,
-        ..GOOD
+        ..GOOD_DEVICES
     };
     let row = Row {
         devices,
         end: End::Write,
         ..whole_row(1, b"spawn p\n", b"p <0.0")
     };
-    assert!(rt; is_run(&rt, rt.alloc(), &row));
+    assert!(rt; row_holds(&rt, rt.alloc(), &row));
 }
