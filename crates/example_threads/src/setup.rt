@@ -11,8 +11,7 @@ use std::sync::ledger::Ledger;
 /// The fifth creates the tables and traverses the bag; the other four count and insert.
 pub(crate) const CLIENTS: usize = 5;
 
-/// How often each client counts, and how often it inserts. The bag starts with as many objects, whose keys are the
-/// numbers below this one.
+/// How often each client counts, and how often it inserts. The bag starts with the keys below this number.
 pub(crate) const TIMES: u32 = 100;
 
 /// Returns the fifth client, which has created the tables, and the four others with their jobs.

@@ -51,7 +51,7 @@ impl FlushLog {
         }
     }
 
-    /// Returns whether as many bytes were written and all of them flushed, also before each read.
+    /// Returns whether `count` bytes were written and all of them flushed, also before each read.
     pub fn is_all_flushed(&self, count: usize) -> bool {
         self.written.get() == count
             && self.flushed.get() == count

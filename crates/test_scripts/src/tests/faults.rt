@@ -49,7 +49,7 @@ fn slow_devices(rt: HostRuntime) {
 }
 
 /// Returns whether the lines that came whole before a failing read are answered, and nothing else, when a read gives at
-/// most as many bytes.
+/// most `max_read` bytes.
 fn whole_lines_are_answered(alloc: Global, max_read: usize) -> bool {
     for good_reads in 0..=10 {
         let lines = max_read.saturating_mul(good_reads as usize) / LINE_BYTES;
@@ -73,8 +73,8 @@ fn failing_reads(rt: HostRuntime) {
     assert!(rt; whole_lines_are_answered(rt.alloc(), 3));
 }
 
-/// Returns whether a prefix of the answers went out before a failing write, when a write takes at most as many bytes
-/// and each read gives one line.
+/// Returns whether a prefix of the answers went out before a failing write, when a write takes at most `max_written`
+/// bytes and each read gives one line.
 fn prefix_of_answers_is_written(alloc: Global, max_written: usize) -> bool {
     for good_writes in 0..4 {
         let run = with_devices(Devices {
@@ -95,7 +95,7 @@ fn prefix_of_answers_is_written(alloc: Global, max_written: usize) -> bool {
 /// Writes a prefix of the answers before a write fails.
 #[test]
 fn failing_writes(rt: HostRuntime) {
-    assert!(rt; prefix_of_answers_is_written(rt.alloc(), 8));
+    assert!(rt; prefix_of_answers_is_written(rt.alloc(), LINE_BYTES));
     assert!(rt; prefix_of_answers_is_written(rt.alloc(), 1));
 }
 
@@ -114,7 +114,7 @@ fn stuck_writers(rt: HostRuntime) {
     assert!(rt; ends_with_answers(rt.alloc(), &unflushed, SCRIPT, b"", End::Write));
 }
 
-/// Returns whether a script that may make as many reads, of a line each, ends so.
+/// Returns whether a script that may make `reads` reads, of a line each, has this end.
 fn ends_within(alloc: Global, reads: u32, end: End) -> bool {
     let devices = Devices {
         max_read: LINE_BYTES,
@@ -146,7 +146,7 @@ fn repeat_lines(alloc: Global, line: &[u8]) -> Result<Vec<u8>, AllocError> {
     Ok(text)
 }
 
-/// Returns devices that give a line a read. For the end `Write` a write fails after as many lines, otherwise a read.
+/// Returns devices that give a line a read. For the end `Write` a write fails after `lines` of them, otherwise a read.
 fn failing_devices(end: End, lines: u32) -> Devices {
     let slow = Devices {
         max_read: LINE_BYTES,

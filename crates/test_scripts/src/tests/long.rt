@@ -6,7 +6,7 @@ use node_core::Limits;
 use std::alloc::{AllocError, Global};
 use std::test::Fail;
 
-/// Runs a script of as many letters and then `end`, and returns whether it has these answers.
+/// Runs a script of `letters` letters and then `end`, and returns whether it has these answers.
 fn long_line_is_answered(
     alloc: Global,
     run: &Run,
@@ -181,7 +181,7 @@ fn add_spawn(
     answers.extend_from_slice(format!(in alloc; "<0.{number}.0>\n")?.as_bytes())
 }
 
-/// Returns whether as many processes are spawned, and one more is past the limit.
+/// Returns whether `count` processes are spawned, and one more is past the limit.
 fn processes_are_spawned(alloc: Global, count: u32) -> Result<bool, AllocError> {
     let mut script = Vec::new(alloc);
     let mut answers = Vec::new(alloc);

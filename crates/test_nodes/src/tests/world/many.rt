@@ -37,7 +37,7 @@ fn owner_and_fix(world: &Tables, id: u32) -> (u32, bool) {
     }
 }
 
-/// Returns whether there are as many messages as wanted, about the tables from 0 on, in that order.
+/// Returns whether `wanted` messages are there, about the tables from 0 on, in that order.
 fn is_in_order(messages: &[Term], wanted: u32) -> bool {
     for (index, message) in messages.iter().enumerate() {
         let Term::Tuple(elements) = message else {

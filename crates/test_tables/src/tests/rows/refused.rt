@@ -53,8 +53,8 @@ fn hash_of_rows<R: Rows>(rows: &R) -> u64 {
     hash
 }
 
-/// Puts three rows, and again if memory runs out; the first call must then have changed nothing. Returns whether it is
-/// so.
+/// Puts three rows, and again if memory runs out. Returns whether they are put, and a call that ran out of memory
+/// changed nothing.
 fn put_again<R: Rows>(rows: &mut R, alloc: Global, time: u32) -> Result<bool, AllocError> {
     let before = hash_of_rows(rows);
     match put_three(rows, alloc, three_keys(time)) {
@@ -63,8 +63,8 @@ fn put_again<R: Rows>(rows: &mut R, alloc: Global, time: u32) -> Result<bool, Al
     }
 }
 
-/// Doubles the buckets, and again if memory runs out; the first call must then have changed nothing. Returns whether it
-/// is so.
+/// Doubles the buckets, and again if memory runs out. Returns whether they are doubled, and a call that ran out of
+/// memory changed nothing.
 fn grow_again<R: Rows>(rows: &mut R) -> Result<bool, AllocError> {
     let before = hash_of_rows(rows);
     match rows.grow() {
@@ -73,8 +73,8 @@ fn grow_again<R: Rows>(rows: &mut R) -> Result<bool, AllocError> {
     }
 }
 
-/// Makes a bucket ready, and again if memory runs out; the first call must then have changed nothing. Returns whether
-/// it is so.
+/// Makes a bucket ready, and again if memory runs out. Returns whether it becomes ready, and a call that ran out of
+/// memory changed nothing.
 fn ready_again<R: Rows>(rows: &mut R, bucket: u32) -> Result<bool, AllocError> {
     let before = hash_of_rows(rows);
     match rows.ready(bucket) {
@@ -83,8 +83,8 @@ fn ready_again<R: Rows>(rows: &mut R, bucket: u32) -> Result<bool, AllocError> {
     }
 }
 
-/// Inserts a new key, and again if memory runs out; the first call must then have changed nothing. Returns whether it
-/// is so.
+/// Inserts a new key, and again if memory runs out. Returns whether it is inserted, and a call that ran out of memory
+/// changed nothing.
 fn insert_again<R: Rows>(rows: &mut R, alloc: Global, key: Integer) -> Result<bool, AllocError> {
     let before = hash_of_rows(rows);
     match insert(rows, alloc, key, key) {

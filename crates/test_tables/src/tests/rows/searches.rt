@@ -21,7 +21,7 @@ fn count_slot<H: KeyHash + Copy + Drop>(counts: &mut [u64], hash: H, buckets: u3
     }
 }
 
-/// Returns a vector of as many zeros.
+/// Returns a vector of `count` zeros.
 fn zeros(alloc: Global, count: usize) -> Result<Vec<u64>, AllocError> {
     let mut zeros: Vec<u64> = Vec::new(alloc);
     match zeros.resize(count, 0) {

@@ -31,7 +31,7 @@ const BUCKETS: u32 = 8;
 /// The keys that are searched for. Those from `BUCKETS` on are missing.
 const SEARCHED: u32 = 64;
 
-/// A search in a ready bucket of one key visits at most as many nodes: n + 2.
+/// The most nodes that a search in a ready bucket of one key visits: n + 2.
 const MOST_VISITS: u64 = 3;
 
 /// Returns whether searches are short if each of eight ready buckets has one key.

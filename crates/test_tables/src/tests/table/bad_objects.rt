@@ -19,7 +19,7 @@ fn object_at(alloc: Global, index: usize, bad_index: usize, bad: &Term) -> Optio
     }
 }
 
-/// Appends as many objects, with the bad term at one index.
+/// Appends `length` objects, with the bad term at one index.
 fn push_objects(
     alloc: Global,
     objects: &mut Items<Term>,

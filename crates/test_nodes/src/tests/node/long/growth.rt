@@ -13,7 +13,7 @@ fn run_pending_step(node: &mut Node<Fnv>) -> Result<bool, AllocError> {
     }
 }
 
-/// Runs at most as many pending steps, and returns how many it ran.
+/// Runs at most `max_steps` pending steps, and returns how many it ran.
 fn run_pending_steps(node: &mut Node<Fnv>, max_steps: u32) -> Result<u32, AllocError> {
     for done in 0..max_steps {
         if !run_pending_step(node)? {
