@@ -22,7 +22,7 @@ mod reading;
 mod serving;
 mod stressing;
 
-/// The call of this name, with the terms of this list.
+/// Returns the call of this name, with the terms that the text of a list spells.
 fn call(alloc: Global, name: &str, arguments: &str) -> Result<Call, Fail> {
     let name = Atom::new(alloc, name).map_err(|_| "a name")?;
     let (term, _) = read_term(alloc, arguments).map_err(|_| "a term")?;
@@ -32,7 +32,7 @@ fn call(alloc: Global, name: &str, arguments: &str) -> Result<Call, Fail> {
     }
 }
 
-/// The jobs in which these calls are asked.
+/// Returns the jobs that ask these calls.
 fn asks(alloc: Global, calls: &[(&str, &str)]) -> Result<Vec<Job>, Fail> {
     let mut jobs = Vec::new(alloc);
     for (name, arguments) in calls {
@@ -41,7 +41,7 @@ fn asks(alloc: Global, calls: &[(&str, &str)]) -> Result<Vec<Job>, Fail> {
     Ok(jobs)
 }
 
-/// A number of processes, and all else as usual.
+/// Returns limits with this number of processes, and all else as usual.
 fn limits(processes: u32) -> Limits
     ensures { result.processes ≡ processes }
 {
@@ -51,7 +51,7 @@ fn limits(processes: u32) -> Limits
     }
 }
 
-/// Two numbers are open; a seat for each.
+/// Opens two numbers, and returns a seat for each.
 fn two_seats(alloc: Global) -> Result<(Pids, Seat, Seat), Fail>
     ensures one { IfOk result (λ opened. opened.1.seat.table_id ≡ opened.0.table.shared.table_id) }
     ensures other { IfOk result (λ opened. opened.2.seat.table_id ≡ opened.0.table.shared.table_id) }
@@ -62,7 +62,7 @@ fn two_seats(alloc: Global) -> Result<(Pids, Seat, Seat), Fail>
     Ok((pids, one, other))
 }
 
-/// A number of clients, which join by the numbers from 0 on.
+/// Joins `count` clients, by the numbers from 0 on.
 fn join_clients<L: Ledger, H: KeyHash + Copy + Drop, R: Wait>(
     rt: &R,
     alloc: Global,
@@ -80,8 +80,11 @@ fn join_clients<L: Ledger, H: KeyHash + Copy + Drop, R: Wait>(
     Ok(clients)
 }
 
-/// The clients that did all their jobs.
-fn clients_of<L: Ledger>(alloc: Global, workers: Vec<Worked<L>>) -> Result<Vec<Client<L>>, Fail> {
+/// Returns the clients of the workers, if they did all their jobs.
+fn clients_of_workers<L: Ledger>(
+    alloc: Global,
+    workers: Vec<Worked<L>>,
+) -> Result<Vec<Client<L>>, Fail> {
     if workers.iter().any(|worker| worker.left > 0) {
         return Err("a job is left")?;
     }
@@ -92,8 +95,8 @@ fn clients_of<L: Ledger>(alloc: Global, workers: Vec<Worked<L>>) -> Result<Vec<C
     Ok(clients)
 }
 
-/// How many entries of the process the transcript has, with which the sharing ends.
-fn entries_of<L: Ledger, H: KeyHash + Copy + Drop>(
+/// Closes the sharing, and returns how many entries of the process the transcript has.
+fn count_entries<L: Ledger, H: KeyHash + Copy + Drop>(
     shared: Shared<L, H>,
     clients: Vec<Client<L>>,
     pid: u32,

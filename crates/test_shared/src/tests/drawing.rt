@@ -2,7 +2,7 @@
 ghost use Rattle.std.specs.Prelude.{◌≡◌};
 ghost use Rattle.std.specs.Thread.{IsSync};
 
-use super::{call, entries_of, limits, two_seats};
+use super::{call, count_entries, limits, two_seats};
 use ets_term::{Fnv, KeyHash};
 use node_core::Call;
 use node_shared::{Client, Pids, Seat, Shared};
@@ -14,7 +14,7 @@ use std::test::Fail;
 use std::thread;
 use std::thread::Threads;
 
-/// The client of the seat's number, after its first call.
+/// Joins by the number of a seat and makes a call. Returns the client.
 fn visit<L: Ledger, H: KeyHash + Copy + Drop, R: Wait>(
     rt: &R,
     shared: &Shared<L, H>,
@@ -29,7 +29,7 @@ fn visit<L: Ledger, H: KeyHash + Copy + Drop, R: Wait>(
     Some(client)
 }
 
-/// The clients of two seats, each from a thread of its own.
+/// Joins by the numbers of two seats, each in a thread of its own, and makes a call by each. Returns both clients.
 fn visits<
     L: Ledger + Send + Sync,
     H: KeyHash + Copy + Drop + Send + Sync,
@@ -57,7 +57,7 @@ fn visits<
     (one_client, other_client)
 }
 
-/// The two clients.
+/// Returns two clients that joined in threads of their own.
 fn visitors<L: Ledger + Send + Sync, R: Threads + Wait + Sync>(
     rt: &R,
     alloc: Global,
@@ -66,11 +66,11 @@ fn visitors<L: Ledger + Send + Sync, R: Threads + Wait + Sync>(
     let (pids, one, other) = two_seats(alloc)?;
     let request = call(alloc, "receive", "[]")?;
     let (one, other) = visits(rt, shared, &pids, one, other, &request);
-    both(alloc, one, other)
+    both_clients(alloc, one, other)
 }
 
-/// Both clients, if there are two, with the numbers 0 and 1.
-fn both<L: Ledger>(
+/// Returns both clients, if there are two, with the numbers 0 and 1.
+fn both_clients<L: Ledger>(
     alloc: Global,
     one: Option<Client<L>>,
     other: Option<Client<L>>,
@@ -84,6 +84,7 @@ fn both<L: Ledger>(
     Ok(clients)
 }
 
+/// Returns whether two clients have the numbers 0 and 1, in any order.
 fn are_numbered<L: Ledger>(clients: &[Client<L>]) -> bool {
     match clients {
         [one, other] => matches!((one.pid(), other.pid()), (0, 1) | (1, 0)),
@@ -91,7 +92,8 @@ fn are_numbered<L: Ledger>(clients: &[Client<L>]) -> bool {
     }
 }
 
-fn two_visit<L: Ledger + Send + Sync, R: Threads + Wait + Sync>(
+/// Lets two clients join and call at once. Returns how many entries process 0 has: its enrolment and its call.
+fn entries_after_two_visits<L: Ledger + Send + Sync, R: Threads + Wait + Sync>(
     rt: &R,
     alloc: Global,
     blank: Blank,
@@ -102,11 +104,14 @@ fn two_visit<L: Ledger + Send + Sync, R: Threads + Wait + Sync>(
 {
     let shared = Shared::<L, Fnv>::new(alloc, blank, limits(2), Fnv);
     let clients = visitors(rt, alloc, &shared)?;
-    entries_of(shared, clients, 0)
+    count_entries(shared, clients, 0)
 }
 
 #[test]
 fn two_threads_draw_join_and_ask(rt: HostRuntime) -> Result<(), Fail> {
-    assert_eq!(rt; two_visit::<Brand, _>(&rt, rt.alloc(), Blank::new(3))?, 2);
+    assert_eq!(rt;
+        entries_after_two_visits::<Brand, _>(&rt, rt.alloc(), Blank::new(3))?,
+        2
+    );
     Ok(())
 }

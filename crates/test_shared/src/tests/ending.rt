@@ -14,13 +14,14 @@ use std::sync::ledger::{Blank, Ledger};
 use std::test::Fail;
 use std::thread::Threads;
 
-const TEN: &str = "[t,[{0},{1},{2},{3},{4},{5},{6},{7},{8},{9}]]";
+/// The arguments that insert ten objects.
+const INSERT_TEN: &str = "[t,[{0},{1},{2},{3},{4},{5},{6},{7},{8},{9}]]";
 
-/// Three calls, the end of the process, and the same calls again.
+/// Returns three calls, the end of the process, and the same calls again.
 fn jobs(alloc: Global) -> Result<Vec<Job>, Fail> {
     let calls = [
         ("new", "[t,[named_table]]"),
-        ("insert", TEN),
+        ("insert", INSERT_TEN),
         ("lookup", "[t,7]"),
     ];
     let mut jobs = asks(alloc, &calls)?;
@@ -29,7 +30,7 @@ fn jobs(alloc: Global) -> Result<Vec<Job>, Fail> {
     Ok(jobs)
 }
 
-/// Two clients, after their jobs.
+/// Returns two clients after their jobs.
 fn run_two<L: Ledger + Send + Sync, R: Threads + Wait + Sync>(
     rt: &R,
     alloc: Global,
@@ -42,18 +43,24 @@ fn run_two<L: Ledger + Send + Sync, R: Threads + Wait + Sync>(
     run_while_keeping(rt, alloc, shared, work)
 }
 
-/// Returns whether the process is let in, asks three calls and ends, and all that it asks then has the reply
-/// `NoProcess`.
-fn is_silent(own: &[&Entry]) -> bool {
+/// The entries of a process: its enrolment, three calls, its end, and three calls.
+const ENTRIES: usize = 8;
+
+/// The index of the end among the entries.
+const END: usize = 4;
+
+/// Returns whether a process is enrolled, makes its calls and ends, and all later calls have the reply `NoProcess`.
+fn is_refused_after_end(entries: &[&Entry]) -> bool {
     let is_refused = |entry: &Entry| matches!(entry.reply, Reply::NoProcess);
-    own.len() == 8
-        && own
+    entries.len() == ENTRIES
+        && entries
             .iter()
             .enumerate()
-            .all(|(at, entry)| is_refused(entry) == (at > 4))
+            .all(|(index, entry)| is_refused(entry) == (index > END))
 }
 
-fn two_end<L: Ledger + Send + Sync, R: Threads + Wait + Sync>(
+/// Runs two clients that end and call on. Returns whether all calls after the end are refused.
+fn both_are_refused_after_end<L: Ledger + Send + Sync, R: Threads + Wait + Sync>(
     rt: &R,
     alloc: Global,
     blank: Blank,
@@ -65,11 +72,14 @@ fn two_end<L: Ledger + Send + Sync, R: Threads + Wait + Sync>(
     let shared = Shared::<L, AllSame>::new(alloc, blank, limits(2), AllSame);
     let clients = run_two(rt, alloc, &shared)?;
     let transcript = close(shared, clients).map_err(|_| "close")?;
-    Ok(is_silent(transcript.of(0)?.as_slice()) && is_silent(transcript.of(1)?.as_slice()))
+    Ok(
+        is_refused_after_end(transcript.of(0)?.as_slice())
+            && is_refused_after_end(transcript.of(1)?.as_slice()),
+    )
 }
 
 #[test]
 fn a_process_that_has_ended_is_answered_so(rt: HostRuntime) -> Result<(), Fail> {
-    assert!(rt; two_end::<Brand, _>(&rt, rt.alloc(), Blank::new(3))?);
+    assert!(rt; both_are_refused_after_end::<Brand, _>(&rt, rt.alloc(), Blank::new(3))?);
     Ok(())
 }

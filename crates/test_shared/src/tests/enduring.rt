@@ -12,22 +12,30 @@ use std::sync::ledger::{Blank, Ledger};
 use std::test::Fail;
 use std::thread::Threads;
 
+/// The number of clients.
+const CLIENTS: usize = 8;
+
+/// The number of jobs of each client.
 const JOBS: u32 = 20_000;
 
-/// From this job on, clients of even numbers have ended.
-const LAST: u32 = 15_000;
+/// In place of this job, clients of even numbers end.
+const END: u32 = 15_000;
 
-/// A job of a client: at first it makes its table, with its neighbour as the heir; then it writes to both tables, reads
-/// the neighbour's, and takes its messages, in turn.
-fn job(alloc: Global, own: u32, number: u32) -> Result<Job, Fail> {
-    if number == LAST && own % 2 == 0 {
+/// The enrolments and jobs of all clients. A transcript has growth steps too, and so more entries.
+const CLIENT_STEPS: usize = 160_008;
+
+/// Returns a job of a client. First it makes its table, with its neighbour as the heir. Then it writes to both tables,
+/// reads the neighbour's, and takes its messages, in turn.
+fn job(alloc: Global, pid: u32, number: u32) -> Result<Job, Fail> {
+    if number == END && pid % 2 == 0 {
         return Ok(Job::End);
     }
-    let arguments = arguments(alloc, own, own ^ 1, number)?;
-    Ok(Job::Ask(call(alloc, name(number), arguments.as_str())?))
+    let arguments = arguments_of_call(alloc, pid, pid ^ 1, number)?;
+    Ok(Job::Ask(call(alloc, name_of_call(number), arguments.as_str())?))
 }
 
-fn name(number: u32) -> &'static str {
+/// Returns the name of the call of a job.
+fn name_of_call(number: u32) -> &'static str {
     match number % 4 {
         _ if number == 0 => "new",
         0 | 1 => "insert",
@@ -36,7 +44,13 @@ fn name(number: u32) -> &'static str {
     }
 }
 
-fn arguments(alloc: Global, own: u32, neighbour: u32, number: u32) -> Result<String, AllocError> {
+/// Returns the arguments of the call of a job, on the table of the client or of its neighbour.
+fn arguments_of_call(
+    alloc: Global,
+    own: u32,
+    neighbour: u32,
+    number: u32,
+) -> Result<String, AllocError> {
     match number % 4 {
         _ if number == 0 => {
             format!(in alloc; "[t{own},[named_table,public,{{heir,<0.{neighbour}.0>,gift}}]]")
@@ -48,31 +62,31 @@ fn arguments(alloc: Global, own: u32, neighbour: u32, number: u32) -> Result<Str
     }
 }
 
-/// All jobs of a client.
-fn jobs(alloc: Global, own: u32) -> Result<Vec<Job>, Fail> {
-    let mut jobs = Vec::with_capacity(alloc, 20_000)?;
+/// Returns all jobs of a client.
+fn jobs(alloc: Global, pid: u32) -> Result<Vec<Job>, Fail> {
+    let mut jobs = Vec::with_capacity(alloc, JOBS as usize)?;
     for number in 0..JOBS {
-        jobs.push(job(alloc, own, number)?)?;
+        jobs.push(job(alloc, pid, number)?)?;
     }
     Ok(jobs)
 }
 
-/// Eight clients, each with its jobs.
-fn eight<L: Ledger, R: Wait>(
+/// Joins eight clients, and returns each with its jobs.
+fn clients_with_jobs<L: Ledger, R: Wait>(
     rt: &R,
     alloc: Global,
     shared: &Shared<L, Fnv>,
 ) -> Result<Vec<(Client<L>, Vec<Job>)>, Fail> {
-    let mut work = Vec::with_capacity(alloc, 8)?;
-    for client in join_clients(rt, alloc, shared, 8)? {
+    let mut work = Vec::with_capacity(alloc, CLIENTS)?;
+    for client in join_clients(rt, alloc, shared, CLIENTS)? {
         let jobs = jobs(alloc, client.pid())?;
         work.push((client, jobs))?;
     }
     Ok(work)
 }
 
-/// How many entries the transcript has.
-fn steps_of_eight<L: Ledger + Send + Sync, R: Threads + Wait + Sync>(
+/// Runs eight clients until all jobs are done. Returns how many entries the transcript has.
+fn entries_of_round<L: Ledger + Send + Sync, R: Threads + Wait + Sync>(
     rt: &R,
     alloc: Global,
     blank: Blank,
@@ -82,51 +96,56 @@ fn steps_of_eight<L: Ledger + Send + Sync, R: Threads + Wait + Sync>(
     requires enough { blank.parts ≡ 9 }
 {
     let shared = Shared::<L, Fnv>::new(alloc, blank, limits(8), Fnv);
-    let work = eight(rt, alloc, &shared)?;
+    let work = clients_with_jobs(rt, alloc, &shared)?;
     let clients = run_while_keeping(rt, alloc, &shared, work)?;
     let transcript = close(shared, clients).map_err(|_| "close")?;
     Ok(transcript.entries.len())
 }
 
-/// Returns whether each of two rounds has all steps of the clients, and due ones.
-fn are_two_whole<R: Threads + Wait + Sync>(rt: &R, alloc: Global) -> Result<bool, Fail> {
+/// Runs two rounds, and returns whether the transcript of each has all steps of the clients, and growth steps.
+fn two_rounds_are_complete<R: Threads + Wait + Sync>(rt: &R, alloc: Global) -> Result<bool, Fail> {
     for _ in 0..2 {
-        let steps = steps_of_eight::<Brand, R>(rt, alloc, Blank::new(9))?;
-        if steps <= 160_008 {
+        let entries = entries_of_round::<Brand, R>(rt, alloc, Blank::new(9))?;
+        if entries <= CLIENT_STEPS {
             return Ok(false);
         }
     }
     Ok(true)
 }
 
-// (ten rounds in a row, in five tests, since a test has a minute)
+// Ten rounds, in five tests, since a test may take one minute.
 
+/// Runs the first two of ten rounds.
 #[test]
 fn rounds_one_and_two(rt: HostRuntime) -> Result<(), Fail> {
-    assert!(rt; are_two_whole(&rt, rt.alloc())?);
+    assert!(rt; two_rounds_are_complete(&rt, rt.alloc())?);
     Ok(())
 }
 
+/// Runs two more rounds.
 #[test]
 fn rounds_three_and_four(rt: HostRuntime) -> Result<(), Fail> {
-    assert!(rt; are_two_whole(&rt, rt.alloc())?);
+    assert!(rt; two_rounds_are_complete(&rt, rt.alloc())?);
     Ok(())
 }
 
+/// Runs two more rounds.
 #[test]
 fn rounds_five_and_six(rt: HostRuntime) -> Result<(), Fail> {
-    assert!(rt; are_two_whole(&rt, rt.alloc())?);
+    assert!(rt; two_rounds_are_complete(&rt, rt.alloc())?);
     Ok(())
 }
 
+/// Runs two more rounds.
 #[test]
 fn rounds_seven_and_eight(rt: HostRuntime) -> Result<(), Fail> {
-    assert!(rt; are_two_whole(&rt, rt.alloc())?);
+    assert!(rt; two_rounds_are_complete(&rt, rt.alloc())?);
     Ok(())
 }
 
+/// Runs the last two rounds.
 #[test]
 fn rounds_nine_and_ten(rt: HostRuntime) -> Result<(), Fail> {
-    assert!(rt; are_two_whole(&rt, rt.alloc())?);
+    assert!(rt; two_rounds_are_complete(&rt, rt.alloc())?);
     Ok(())
 }

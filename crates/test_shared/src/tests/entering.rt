@@ -1,4 +1,4 @@
-// Steps of a process, and due steps, are done and entered.
+// Steps of a process, and pending growth steps, are run and entered in the journal.
 ghost use Rattle.std.specs.Prelude.{◌≡◌};
 
 use super::{call, limits};
@@ -10,9 +10,10 @@ use std::marker::Brand;
 use std::sync::ledger::{Blank, Ledger};
 use std::test::Fail;
 
-const NINE: &str = "[t,[{1},{2},{3},{4},{5},{6},{7},{8},{9}]]";
+/// The arguments that insert nine objects, for which a table doubles its buckets.
+const INSERT_NINE: &str = "[t,[{1},{2},{3},{4},{5},{6},{7},{8},{9}]]";
 
-/// The share's process asks a call.
+/// Makes a call of the share's process.
 fn ask<L: Ledger>(
     alloc: Global,
     book: &mut Book<L, Fnv>,
@@ -28,26 +29,30 @@ fn ask<L: Ledger>(
     Ok(())
 }
 
-/// Returns whether four steps are pending, and the journal then has seven entries.
-fn is_tended<L: Ledger>(book: &mut Book<L, Fnv>) -> Result<bool, AllocError> {
-    let tended = book.tend()? && book.tend()? && book.tend()? && book.tend()?;
-    Ok(tended && !book.tend()? && book.journal().len() == 7)
+/// Returns whether four steps are pending, and the journal has seven entries after they are run.
+fn four_pending_steps_run<L: Ledger>(book: &mut Book<L, Fnv>) -> Result<bool, AllocError> {
+    let ran = book.tend()? && book.tend()? && book.tend()? && book.tend()?;
+    Ok(ran && !book.tend()? && book.journal().len() == 7)
 }
 
-/// Returns whether it is so of a table that got nine objects.
-fn is_grown<L: Ledger>(alloc: Global, book: &mut Book<L, Fnv>) -> Result<bool, Fail> {
+/// Inserts nine objects into a new table, and returns whether it grows in four pending steps, all entered.
+fn table_grows_in_four_steps<L: Ledger>(
+    alloc: Global,
+    book: &mut Book<L, Fnv>,
+) -> Result<bool, Fail> {
     let (mut share, _reply) = book.join(0).map_err(|_| "join")?;
     ask(alloc, book, &mut share, "new", "[t,[named_table]]")?;
-    ask(alloc, book, &mut share, "insert", NINE)?;
-    Ok(is_tended(book)?)
+    ask(alloc, book, &mut share, "insert", INSERT_NINE)?;
+    Ok(four_pending_steps_run(book)?)
 }
 
-fn is_entered<L: Ledger>(alloc: Global, blank: Blank) -> Result<bool, Fail>
+/// Creates a book, and returns whether it enters all steps of a process and all growth steps.
+fn new_book_enters_steps<L: Ledger>(alloc: Global, blank: Blank) -> Result<bool, Fail>
     requires name { blank.name ≡ L.name }
     requires parts { blank.parts ≡ L.parts }
     requires enough { blank.parts ≡ 2 }
 {
-    is_grown(
+    table_grows_in_four_steps(
         alloc,
         &mut Book::<L, Fnv>::new(alloc, blank, limits(1), Fnv),
     )
@@ -55,6 +60,6 @@ fn is_entered<L: Ledger>(alloc: Global, blank: Blank) -> Result<bool, Fail>
 
 #[test]
 fn steps_and_due_steps_are_entered(rt: HostRuntime) -> Result<(), Fail> {
-    assert!(rt; is_entered::<Brand>(rt.alloc(), Blank::new(2))?);
+    assert!(rt; new_book_enters_steps::<Brand>(rt.alloc(), Blank::new(2))?);
     Ok(())
 }

@@ -1,4 +1,5 @@
-// Numbers are opened, a process is let in once and up to the limit, and one that is missing at the end is reported.
+// Numbers are opened, a process is enrolled once and up to the limit, and a client that is missing at the end is
+// reported.
 ghost use Rattle.std.specs.Prelude.{◌≡◌};
 
 use super::{join_clients, limits, two_seats};
@@ -11,17 +12,25 @@ use std::sync::Wait;
 use std::sync::ledger::{Blank, Ledger};
 use std::test::Fail;
 
+/// The greatest number of numbers that can be opened.
+const MOST: usize = 4_096;
+
+/// One number more.
+const TOO_MANY: usize = 4_097;
+
+/// Returns whether as many numbers as possible are opened.
 fn opens_the_most(alloc: Global) -> bool {
-    Pids::open(alloc, 4_096).is_ok()
+    Pids::open(alloc, MOST).is_ok()
 }
 
 #[test]
 fn no_more_numbers_than_the_most(rt: HostRuntime) {
     assert!(rt; opens_the_most(rt.alloc()));
-    assert!(rt; matches!(Pids::open(rt.alloc(), 4_097), Err(PidsFault::TooMany)));
+    assert!(rt; matches!(Pids::open(rt.alloc(), TOO_MANY), Err(PidsFault::TooMany)));
 }
 
-fn twice_the_same<L: Ledger>(alloc: Global, blank: Blank) -> bool
+/// Returns whether a number joins a new book once, and is refused the second time.
+fn second_join_is_refused<L: Ledger>(alloc: Global, blank: Blank) -> bool
     requires name { blank.name ≡ L.name }
     requires parts { blank.parts ≡ L.parts }
     requires enough { blank.parts ≡ 3 }
@@ -32,10 +41,10 @@ fn twice_the_same<L: Ledger>(alloc: Global, blank: Blank) -> bool
 
 #[test]
 fn a_number_joins_once(rt: HostRuntime) {
-    assert!(rt; twice_the_same::<Brand>(rt.alloc(), Blank::new(3)));
+    assert!(rt; second_join_is_refused::<Brand>(rt.alloc(), Blank::new(3)));
 }
 
-/// The number that comes back where the second client is refused by the limit.
+/// Joins two clients, and returns the number that comes back if the second one is refused by the limit.
 fn refused_number<L: Ledger, R: Wait>(
     rt: &R,
     alloc: Global,
@@ -49,7 +58,8 @@ fn refused_number<L: Ledger, R: Wait>(
     }
 }
 
-fn second_of_one<L: Ledger, R: Wait>(
+/// Returns the number that a new node with one process refuses.
+fn number_past_limit_of_one<L: Ledger, R: Wait>(
     rt: &R,
     alloc: Global,
     blank: Blank,
@@ -68,14 +78,14 @@ fn second_of_one<L: Ledger, R: Wait>(
 #[test]
 fn a_process_past_the_limit_is_refused(rt: HostRuntime) -> Result<(), Fail> {
     assert_eq!(rt;
-        second_of_one::<Brand, _>(&rt, rt.alloc(), Blank::new(2))?,
+        number_past_limit_of_one::<Brand, _>(&rt, rt.alloc(), Blank::new(2))?,
         Some(1)
     );
     Ok(())
 }
 
-/// Of two clients the second.
-fn second_of_two<L: Ledger, R: Wait>(
+/// Joins two clients, and returns the second one alone.
+fn second_client<L: Ledger, R: Wait>(
     rt: &R,
     alloc: Global,
     shared: &Shared<L, Fnv>,
@@ -85,6 +95,7 @@ fn second_of_two<L: Ledger, R: Wait>(
     Ok(vec![in alloc; second]?)
 }
 
+/// Closes a sharing of two clients with the second one alone, and returns the fault.
 fn fault_without_the_first<L: Ledger, R: Wait>(
     rt: &R,
     alloc: Global,
@@ -95,7 +106,7 @@ fn fault_without_the_first<L: Ledger, R: Wait>(
     requires enough { blank.parts ≡ 3 }
 {
     let shared = Shared::<L, Fnv>::new(alloc, blank, limits(2), Fnv);
-    let clients = second_of_two(rt, alloc, &shared)?;
+    let clients = second_client(rt, alloc, &shared)?;
     Ok(close(shared, clients).err())
 }
 

@@ -1,7 +1,7 @@
 // Clients that work while another thread runs pending steps.
 ghost use Rattle.std.specs.Thread.{IsSync};
 
-use super::clients_of;
+use super::clients_of_workers;
 use ets_term::KeyHash;
 use node_shared::{Client, Gate, Job, Shared, Worked, keep, run_clients};
 use std::alloc::{AllocError, Global};
@@ -12,15 +12,18 @@ use std::test::Fail;
 use std::thread;
 use std::thread::Threads;
 
-/// Lets each call go on at once.
+/// A gate that does nothing.
 #[derive(Drop)]
-struct Open;
+struct OpenGate;
 
-impl Gate for Open {
+impl Gate for OpenGate {
     fn before(&self, _client: usize, _call: usize) {}
 
     fn after(&self, _client: usize, _call: usize) {}
 }
+
+/// More turns than there are pending steps at once.
+const MANY_TURNS: u32 = 1_000_000;
 
 /// Runs pending steps until the others are through, and once more then.
 fn keep_until<L: Ledger, H: KeyHash + Copy + Drop, R: Wait>(
@@ -30,7 +33,7 @@ fn keep_until<L: Ledger, H: KeyHash + Copy + Drop, R: Wait>(
 ) {
     for _ in rt.forever() {
         let is_last = are_through.load(Ordering::SeqCst);
-        let _kept = keep(rt, shared, 1_000_000);
+        let _kept = keep(rt, shared, MANY_TURNS);
         if is_last {
             return;
         }
@@ -38,7 +41,8 @@ fn keep_until<L: Ledger, H: KeyHash + Copy + Drop, R: Wait>(
     }
 }
 
-/// The clients, after all their jobs. The steps that are pending then are run, too.
+/// Runs all jobs of the clients while another thread runs pending steps, and also those that are pending at the end.
+/// Returns the clients.
 pub(super) fn run_while_keeping<
     L: Ledger + Send + Sync,
     H: KeyHash + Copy + Drop + Send + Sync,
@@ -50,11 +54,15 @@ pub(super) fn run_while_keeping<
     work: Vec<(Client<L>, Vec<Job>)>,
 ) -> Result<Vec<Client<L>>, Fail> {
     let are_through = AtomicBool::new(false);
-    clients_of(alloc, beside(rt, alloc, shared, work, &are_through)?)
+    clients_of_workers(
+        alloc,
+        run_side_by_side(rt, alloc, shared, work, &are_through)?,
+    )
 }
 
-/// What came of the clients. Another thread runs pending steps until they are through.
-fn beside<
+/// Runs the jobs in one thread, and in another one pending steps until the jobs are done. Returns the results of the
+/// clients.
+fn run_side_by_side<
     L: Ledger + Send + Sync,
     H: KeyHash + Copy + Drop + Send + Sync,
     R: Threads + Wait + Sync,
@@ -73,7 +81,7 @@ fn beside<
         move || -> Result<Vec<Worked<L>>, AllocError>
             requires { IsSync R.row }
         {
-            let workers = run_clients(rt, alloc, shared, work, &Open);
+            let workers = run_clients(rt, alloc, shared, work, &OpenGate);
             are_through.store(true, Ordering::SeqCst);
             workers
         },

@@ -1,4 +1,4 @@
-// Due steps are done in turns.
+// Pending growth steps are run in turns.
 ghost use Rattle.std.specs.Prelude.{◌≡◌};
 
 use super::{call, join_clients, limits};
@@ -10,19 +10,30 @@ use std::sync::Wait;
 use std::sync::ledger::{Blank, Ledger};
 use std::test::Fail;
 
-/// The arguments that make a table, and those that give it nine objects.
+/// The arguments that make a table, and those that insert nine objects, after which four growth steps are pending.
 const TABLE: [&str; 2] = [
     "[t,[named_table]]",
     "[t,[{1},{2},{3},{4},{5},{6},{7},{8},{9}]]",
 ];
 
+/// The same for another table.
 const OTHER: [&str; 2] = [
     "[u,[named_table]]",
     "[u,[{1},{2},{3},{4},{5},{6},{7},{8},{9}]]",
 ];
 
-/// The client makes a table, and gives it nine objects.
-fn fill<L: Ledger, R: Wait>(
+/// How many pending steps were run, in calls of `keep`.
+#[derive(Clone, Copy, PartialEq, Eq)]
+struct StepsRun {
+    in_three_turns: u32,
+    in_nine_turns: u32,
+    in_nine_more_turns: u32,
+    /// In nine turns after another table was filled.
+    of_other_table: u32,
+}
+
+/// Makes a table of a client, and inserts nine objects.
+fn fill_table<L: Ledger, R: Wait>(
     rt: &R,
     alloc: Global,
     shared: &Shared<L, Fnv>,
@@ -35,28 +46,39 @@ fn fill<L: Ledger, R: Wait>(
     Ok(())
 }
 
-/// Returns how many pending steps are done in 3, 9 and 9 turns, and then in 9 turns for another table.
-fn keep_in_turns<L: Ledger, R: Wait>(
+/// Fills two tables, and returns how many pending steps are run in some turns after each.
+fn run_pending_in_turns<L: Ledger, R: Wait>(
     rt: &R,
     alloc: Global,
     shared: &Shared<L, Fnv>,
-) -> Result<[u32; 4], Fail> {
+) -> Result<StepsRun, Fail> {
     let mut clients = join_clients(rt, alloc, shared, 1)?;
     let client = clients.first_mut().ok_or("a client")?;
-    fill(rt, alloc, shared, client, TABLE)?;
-    let three = keep(rt, shared, 3);
-    let rest = keep(rt, shared, 9);
-    let none = keep(rt, shared, 9);
-    fill(rt, alloc, shared, client, OTHER)?;
-    Ok([three, rest, none, keep(rt, shared, 9)])
+    fill_table(rt, alloc, shared, client, TABLE)?;
+    let in_three_turns = keep(rt, shared, 3);
+    let in_nine_turns = keep(rt, shared, 9);
+    let in_nine_more_turns = keep(rt, shared, 9);
+    fill_table(rt, alloc, shared, client, OTHER)?;
+    let of_other_table = keep(rt, shared, 9);
+    Ok(StepsRun {
+        in_three_turns,
+        in_nine_turns,
+        in_nine_more_turns,
+        of_other_table,
+    })
 }
 
-fn due_steps<L: Ledger, R: Wait>(rt: &R, alloc: Global, blank: Blank) -> Result<[u32; 4], Fail>
+/// Returns how many pending steps of a new node are run in turns.
+fn pending_steps_run<L: Ledger, R: Wait>(
+    rt: &R,
+    alloc: Global,
+    blank: Blank,
+) -> Result<StepsRun, Fail>
     requires name { blank.name ≡ L.name }
     requires parts { blank.parts ≡ L.parts }
     requires enough { blank.parts ≡ 2 }
 {
-    keep_in_turns(
+    run_pending_in_turns(
         rt,
         alloc,
         &Shared::<L, Fnv>::new(alloc, blank, limits(1), Fnv),
@@ -65,9 +87,12 @@ fn due_steps<L: Ledger, R: Wait>(rt: &R, alloc: Global, blank: Blank) -> Result<
 
 #[test]
 fn due_steps_are_done_in_turns(rt: HostRuntime) -> Result<(), Fail> {
-    assert_eq!(rt;
-        due_steps::<Brand, _>(&rt, rt.alloc(), Blank::new(2))?,
-        [3, 1, 0, 4]
-    );
+    let wanted = StepsRun {
+        in_three_turns: 3,
+        in_nine_turns: 1,
+        in_nine_more_turns: 0,
+        of_other_table: 4,
+    };
+    assert!(rt; pending_steps_run::<Brand, _>(&rt, rt.alloc(), Blank::new(2))? == wanted);
     Ok(())
 }

@@ -1,8 +1,8 @@
-// Two clients run at once: the first call of each waits until the other is at its own, and a later one until a reply is
-// there.
+// Two clients run at once. The first call of each waits until the other client is at its first call. A later call waits
+// until the other client has a reply.
 ghost use Rattle.std.specs.Prelude.{◌≡◌};
 
-use super::{asks, call, clients_of, entries_of, join_clients, limits};
+use super::{asks, call, clients_of_workers, count_entries, join_clients, limits};
 use ets_term::Fnv;
 use node_core::Reply;
 use node_shared::{Client, Gate, Job, Shared, run_clients};
@@ -16,7 +16,11 @@ use std::thread;
 use std::thread::Threads;
 use term_text::read_term;
 
-/// The first calls of the clients 0 and 1 wait for each other, and the second of 0 for the reply to the second of 1.
+/// How often a client looks for a flag before the test fails.
+const MOST_LOOKS: u32 = 1_000_000;
+
+/// A gate: the first calls of the clients 0 and 1 wait for each other, and the second call of client 0 waits for the
+/// reply to the second call of client 1.
 #[derive(Drop)]
 struct Meeting {
     zero_is_there: AtomicBool,
@@ -26,6 +30,7 @@ struct Meeting {
 }
 
 impl Meeting {
+    /// Returns a gate at which nobody is yet.
     fn new() -> Meeting {
         Meeting {
             zero_is_there: AtomicBool::new(false),
@@ -35,9 +40,9 @@ impl Meeting {
         }
     }
 
-    /// Waits for a flag, and fails after a million turns.
+    /// Waits for a flag, and fails after `MOST_LOOKS` looks.
     fn wait_for(&self, flag: &AtomicBool) {
-        for _ in 0..1_000_000u32 {
+        for _ in 0..MOST_LOOKS {
             if flag.load(Ordering::SeqCst) {
                 return;
             }
@@ -70,7 +75,7 @@ impl Gate for Meeting {
     }
 }
 
-/// Two clients with their jobs: the first, which has made the table, reads what the second inserts.
+/// Returns two clients with their jobs. The first one, which has made the table, reads what the second one inserts.
 fn reader_and_writer<L: Ledger, R: Wait>(
     rt: &R,
     alloc: Global,
@@ -86,8 +91,8 @@ fn reader_and_writer<L: Ledger, R: Wait>(
     Ok(vec![in alloc; (reader, reads), (writer, writes)]?)
 }
 
-/// Returns whether the last reply to the client is this term.
-fn is_last<L: Ledger>(alloc: Global, client: &Client<L>, wanted: &str) -> Result<bool, Fail> {
+/// Returns whether the last reply to the client is the term that a text spells.
+fn last_reply_is<L: Ledger>(alloc: Global, client: &Client<L>, wanted: &str) -> Result<bool, Fail> {
     let (wanted, _) = read_term(alloc, wanted).map_err(|_| "a term")?;
     match client.entries().last() {
         Some(entry) => Ok(matches!(&entry.reply, Reply::Value(term) if *term == wanted)),
@@ -95,7 +100,7 @@ fn is_last<L: Ledger>(alloc: Global, client: &Client<L>, wanted: &str) -> Result
     }
 }
 
-/// The clients, after the first has read what the second inserted meanwhile.
+/// Runs both clients, and returns them if the first one read what the second one inserted meanwhile.
 fn run_meeting<L: Ledger + Send + Sync, R: Threads + Wait + Sync>(
     rt: &R,
     alloc: Global,
@@ -103,17 +108,18 @@ fn run_meeting<L: Ledger + Send + Sync, R: Threads + Wait + Sync>(
 ) -> Result<Vec<Client<L>>, Fail> {
     let work = reader_and_writer(rt, alloc, shared)?;
     let meeting = Meeting::new();
-    let clients = clients_of(alloc, run_clients(rt, alloc, shared, work, &meeting)?)?;
+    let clients = clients_of_workers(alloc, run_clients(rt, alloc, shared, work, &meeting)?)?;
     if meeting.failed.load(Ordering::SeqCst) {
         return Err("one client waited in vain")?;
     }
-    if !is_last(alloc, clients.first().ok_or("a client")?, "[{a,1}]")? {
+    if !last_reply_is(alloc, clients.first().ok_or("a client")?, "[{a,1}]")? {
         return Err("the object is not read")?;
     }
     Ok(clients)
 }
 
-fn two_meet<L: Ledger + Send + Sync, R: Threads + Wait + Sync>(
+/// Lets two clients meet in a new node. Returns how many entries process 0 has: its enrolment and three calls.
+fn entries_after_meeting<L: Ledger + Send + Sync, R: Threads + Wait + Sync>(
     rt: &R,
     alloc: Global,
     blank: Blank,
@@ -124,11 +130,14 @@ fn two_meet<L: Ledger + Send + Sync, R: Threads + Wait + Sync>(
 {
     let shared = Shared::<L, Fnv>::new(alloc, blank, limits(2), Fnv);
     let clients = run_meeting(rt, alloc, &shared)?;
-    entries_of(shared, clients, 0)
+    count_entries(shared, clients, 0)
 }
 
 #[test]
 fn one_client_reads_what_another_inserts_meanwhile(rt: HostRuntime) -> Result<(), Fail> {
-    assert_eq!(rt; two_meet::<Brand, _>(&rt, rt.alloc(), Blank::new(3))?, 4);
+    assert_eq!(rt;
+        entries_after_meeting::<Brand, _>(&rt, rt.alloc(), Blank::new(3))?,
+        4
+    );
     Ok(())
 }

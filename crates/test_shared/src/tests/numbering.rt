@@ -1,7 +1,8 @@
-// Four clients run at once. `Gate` is called before and after each job, with the numbers of client and job.
+// Four clients run at once. The methods of `Gate` are called before and after each job, with the numbers of client and
+// job.
 ghost use Rattle.std.specs.Prelude.{◌≡◌};
 
-use super::{call, clients_of, entries_of, join_clients, limits};
+use super::{call, clients_of_workers, count_entries, join_clients, limits};
 use ets_term::Fnv;
 use node_shared::{Client, Gate, Job, Shared, run_clients};
 use std::alloc::Global;
@@ -12,8 +13,8 @@ use std::sync::ledger::{Blank, Ledger};
 use std::test::Fail;
 use std::thread::Threads;
 
-/// Has a number for each client. Its digits are the calls of `Gate`, in order: `before` and `after` are 1 and 2 for
-/// job 0, 3 and 4 for job 1.
+/// A gate with a number for each client. Its digits are the calls of `Gate`, in order: 1 and 2 for `before` and `after`
+/// job 0, 3 and 4 for job 1, and so on.
 #[derive(Drop)]
 struct Log {
     zero: AtomicU64,
@@ -24,6 +25,7 @@ struct Log {
 }
 
 impl Log {
+    /// Returns a gate that was not called yet.
     fn new() -> Log {
         Log {
             zero: AtomicU64::new(0),
@@ -34,7 +36,8 @@ impl Log {
         }
     }
 
-    fn note(&self, client: usize, digit: usize) {
+    /// Appends a digit to the number of a client.
+    fn add_digit(&self, client: usize, digit: usize) {
         match client {
             0 => push_digit(&self.zero, digit),
             1 => push_digit(&self.one, digit),
@@ -56,6 +59,7 @@ impl Log {
     }
 }
 
+/// Appends a digit to a number.
 fn push_digit(number: &AtomicU64, digit: usize) {
     let digits = number.load(Ordering::SeqCst).wrapping_mul(10);
     number.store(digits.wrapping_add(digit as u64), Ordering::SeqCst);
@@ -63,15 +67,16 @@ fn push_digit(number: &AtomicU64, digit: usize) {
 
 impl Gate for Log {
     fn before(&self, client: usize, call: usize) {
-        self.note(client, call.wrapping_mul(2).wrapping_add(1));
+        self.add_digit(client, call.wrapping_mul(2).wrapping_add(1));
     }
 
     fn after(&self, client: usize, call: usize) {
-        self.note(client, call.wrapping_mul(2).wrapping_add(2));
+        self.add_digit(client, call.wrapping_mul(2).wrapping_add(2));
     }
 }
 
-fn receives(alloc: Global, count: usize) -> Result<Vec<Job>, Fail> {
+/// Returns a number of jobs that ask `receive`.
+fn receive_jobs(alloc: Global, count: usize) -> Result<Vec<Job>, Fail> {
     let mut jobs = Vec::new(alloc);
     for _ in 0..count {
         jobs.push(Job::Ask(call(alloc, "receive", "[]")?))?;
@@ -79,8 +84,8 @@ fn receives(alloc: Global, count: usize) -> Result<Vec<Job>, Fail> {
     Ok(jobs)
 }
 
-/// Returns clients with their jobs: one for the first, two for the second, and so on.
-fn more_for_each<L: Ledger>(
+/// Returns clients with their jobs: one job for the first client, two for the second one, and so on.
+fn with_growing_jobs<L: Ledger>(
     alloc: Global,
     clients: Vec<Client<L>>,
 ) -> Result<Vec<(Client<L>, Vec<Job>)>, Fail> {
@@ -88,12 +93,12 @@ fn more_for_each<L: Ledger>(
     let mut count = 0usize;
     for client in clients {
         count = count.wrapping_add(1);
-        work.push((client, receives(alloc, count)?))?;
+        work.push((client, receive_jobs(alloc, count)?))?;
     }
     Ok(work)
 }
 
-/// Runs four clients, and notes each call of `Gate`.
+/// Runs four clients, and logs each call of `Gate`.
 fn run_with_log<L: Ledger + Send + Sync, R: Threads + Wait + Sync>(
     rt: &R,
     alloc: Global,
@@ -101,11 +106,11 @@ fn run_with_log<L: Ledger + Send + Sync, R: Threads + Wait + Sync>(
     log: &Log,
 ) -> Result<Vec<Client<L>>, Fail> {
     let clients = join_clients(rt, alloc, shared, 4)?;
-    let work = more_for_each(alloc, clients)?;
-    clients_of(alloc, run_clients(rt, alloc, shared, work, log)?)
+    let work = with_growing_jobs(alloc, clients)?;
+    clients_of_workers(alloc, run_clients(rt, alloc, shared, work, log)?)
 }
 
-/// Returns the calls of `Gate`, and the number of entries of the last client.
+/// Runs four clients in a new node. Returns the calls of `Gate`, and the number of entries of the last client.
 fn log_of_four<L: Ledger + Send + Sync, R: Threads + Wait + Sync>(
     rt: &R,
     alloc: Global,
@@ -118,13 +123,15 @@ fn log_of_four<L: Ledger + Send + Sync, R: Threads + Wait + Sync>(
     let shared = Shared::<L, Fnv>::new(alloc, blank, limits(4), Fnv);
     let log = Log::new();
     let clients = run_with_log(rt, alloc, &shared, &log)?;
-    Ok((log.digits(), entries_of(shared, clients, 3)?))
+    Ok((log.digits(), count_entries(shared, clients, 3)?))
 }
 
 #[test]
 fn the_gate_is_called_before_and_after_each_job(rt: HostRuntime) -> Result<(), Fail> {
     let (calls, entries) = log_of_four::<Brand, _>(&rt, rt.alloc(), Blank::new(5))?;
+    // Client 0 has one job, client 1 has two, and so on. There is no other client.
     assert_eq!(rt; calls, [12, 1_234, 123_456, 12_345_678, 0]);
+    // The enrolment and four jobs.
     assert_eq!(rt; entries, 5);
     Ok(())
 }

@@ -23,7 +23,7 @@ fn push_reply(alloc: Global, reply: Option<&Reply>, text: &mut String) -> Result
     Ok(())
 }
 
-/// What a read replies.
+/// Reads, and returns the reply as text.
 fn text_of_read<B: HistoryId, R: Wait>(
     rt: &R,
     alloc: Global,
@@ -38,7 +38,8 @@ fn text_of_read<B: HistoryId, R: Wait>(
     Ok(text)
 }
 
-/// What two reads reply over one reply, and whether an insertion leaves it.
+/// Makes two reads and an insertion by `read_into`, each over the reply before, and returns the replies as text. The
+/// insertion must leave the reply as it is.
 fn text_of_reads_over<B: HistoryId, R: Wait>(
     rt: &R,
     alloc: Global,
@@ -60,7 +61,7 @@ fn text_of_reads_over<B: HistoryId, R: Wait>(
     Ok(text)
 }
 
-/// What a list of reads replies.
+/// Makes a list of reads by `read_all`, and returns the replies as text.
 fn text_of_reads<B: HistoryId, R: Wait>(
     rt: &R,
     alloc: Global,
@@ -83,8 +84,9 @@ fn text_of_reads<B: HistoryId, R: Wait>(
     Ok(text)
 }
 
-/// Returns whether a caller that made two calls at once reads the object of the second, until it ends.
-fn is_read<B: HistoryId, R: Wait>(
+/// Makes two calls at once, reads what they did, and ends. Returns whether each read has the right reply, also after
+/// the end.
+fn reads_what_it_inserted<B: HistoryId, R: Wait>(
     rt: &R,
     alloc: Global,
     server: &Server<B, Fnv>,
@@ -99,22 +101,25 @@ fn is_read<B: HistoryId, R: Wait>(
     let unknown = text_of_read(rt, alloc, server, caller, ("lookup", "[u,1]"))?;
     let insertion = text_of_read(rt, alloc, server, caller, ("insert", "[t,{2}]"))?;
     let size = text_of_read(rt, alloc, server, caller, ("info", "[t,size]"))?;
-    let listed = text_of_reads(rt, alloc, server, caller)?;
-    let over = text_of_reads_over(rt, alloc, server, caller)?;
+    let from_list = text_of_reads(rt, alloc, server, caller)?;
+    let overwritten = text_of_reads_over(rt, alloc, server, caller)?;
     caller.end(rt, server)?;
-    let late = text_of_read(rt, alloc, server, caller, lookup)?;
-    let living = replies.len() == 2 && found.as_str() == "[{1,a}]" && unknown.as_str() == "badarg";
+    let after_end = text_of_read(rt, alloc, server, caller, lookup)?;
+    let lookups_are_right = replies.len() == 2
+        && found.as_str() == "[{1,a}]"
+        && unknown.as_str() == "badarg";
     Ok(
-        living
+        lookups_are_right
             && insertion.as_str() == "no read"
             && size.as_str() == "1"
-            && listed.as_str() == "[{1,a}];badarg;no read;1;"
-            && over.as_str() == "[{1,a}];1;1 stays"
-            && late.as_str() == "no process",
+            && from_list.as_str() == "[{1,a}];badarg;no read;1;"
+            && overwritten.as_str() == "[{1,a}];1;1 stays"
+            && after_end.as_str() == "no process",
     )
 }
 
-fn is_served<B: HistoryId, R: Wait>(
+/// Creates a server, and returns whether a caller reads what it inserted.
+fn new_server_is_right<B: HistoryId, R: Wait>(
     rt: &R,
     alloc: Global,
     locking: Locking,
@@ -127,14 +132,14 @@ fn is_served<B: HistoryId, R: Wait>(
     let (pids, seat, _other) = two_seats(alloc)?;
     let server = Server::<B, Fnv>::new(alloc, locking, history, limits, Fnv)?;
     let mut caller = server.client(rt, pids.draw(seat)).map_err(|_| "a caller")?;
-    is_read(rt, alloc, &server, &mut caller)
+    reads_what_it_inserted(rt, alloc, &server, &mut caller)
 }
 
 #[test]
 fn a_caller_reads_what_it_inserted(rt: HostRuntime) -> Result<(), Fail> {
     for locking in [Locking::Single, Locking::Sharded] {
         let history = NewHistory::new(rt.alloc())?;
-        assert!(rt; is_served::<Brand, _>(&rt, rt.alloc(), locking, history, limits(1))?);
+        assert!(rt; new_server_is_right::<Brand, _>(&rt, rt.alloc(), locking, history, limits(1))?);
     }
     Ok(())
 }

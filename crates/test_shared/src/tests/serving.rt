@@ -13,17 +13,19 @@ use std::test::Fail;
 use std::thread;
 use std::thread::Threads;
 
-/// The arguments that make a table, and those that give it nine objects.
+/// The arguments that make a table, and those that insert nine objects, after which four growth steps are pending.
 const TABLE: [&str; 2] = [
     "[t,[named_table]]",
     "[t,[{1},{2},{3},{4},{5},{6},{7},{8},{9}]]",
 ];
 
+/// The same for a second table.
 const OTHER: [&str; 2] = [
     "[u,[named_table]]",
     "[u,[{1},{2},{3},{4},{5},{6},{7},{8},{9}]]",
 ];
 
+/// The same for a third table.
 const THIRD: [&str; 2] = [
     "[v,[named_table]]",
     "[v,[{1},{2},{3},{4},{5},{6},{7},{8},{9}]]",
@@ -36,8 +38,8 @@ fn draw_two(alloc: Global) -> Result<(Drawn, Drawn), Fail> {
     Ok((one, pids.draw(other)))
 }
 
-/// The caller makes a table, and gives it nine objects.
-fn fill<B: HistoryId, R: Wait>(
+/// Makes a table of a caller, and inserts nine objects.
+fn fill_table<B: HistoryId, R: Wait>(
     rt: &R,
     alloc: Global,
     server: &Server<B, Fnv>,
@@ -50,8 +52,9 @@ fn fill<B: HistoryId, R: Wait>(
     Ok(())
 }
 
-/// Makes a table and gives it nine objects under one lock, with three pending growth steps.
-fn fill_at_once<B: HistoryId, R: Wait>(
+/// Makes a table and inserts nine objects under one lock, and then runs three growth steps. Returns the number of
+/// replies.
+fn fill_table_at_once<B: HistoryId, R: Wait>(
     rt: &R,
     alloc: Global,
     server: &Server<B, Fnv>,
@@ -66,34 +69,34 @@ fn fill_at_once<B: HistoryId, R: Wait>(
     Ok(replies.len())
 }
 
-/// Returns whether four steps are pending after nine insertions: three turns leave one, and nine turns none.
-fn is_kept<B: HistoryId, R: Wait>(
+/// Returns whether four steps are pending after nine insertions: three turns leave one of them, and nine turns none.
+fn pending_steps_run_in_turns<B: HistoryId, R: Wait>(
     rt: &R,
     alloc: Global,
     server: &Server<B, Fnv>,
     caller: &mut Caller<B>,
 ) -> Result<bool, Fail> {
-    fill(rt, alloc, server, caller, TABLE)?;
-    let three = server.keep(rt, 3) == 3 && server.keep(rt, 9) == 1 && server.keep(rt, 9) == 0;
-    fill(rt, alloc, server, caller, OTHER)?;
-    let four = server.keep(rt, 9) == 4;
-    let is_filled = fill_at_once(rt, alloc, server, caller, THIRD)? == 2;
-    Ok(three && four && is_filled && server.keep(rt, 9) == 1)
+    fill_table(rt, alloc, server, caller, TABLE)?;
+    let first_table = server.keep(rt, 3) == 3 && server.keep(rt, 9) == 1 && server.keep(rt, 9) == 0;
+    fill_table(rt, alloc, server, caller, OTHER)?;
+    let second_table = server.keep(rt, 9) == 4;
+    let is_filled = fill_table_at_once(rt, alloc, server, caller, THIRD)? == 2;
+    Ok(first_table && second_table && is_filled && server.keep(rt, 9) == 1)
 }
 
-/// Returns whether the process asks in vain once it has ended.
-fn is_silent<B: HistoryId, R: Wait>(
+/// Ends a process, and returns whether its next call has the reply `NoProcess`.
+fn is_refused_after_end<B: HistoryId, R: Wait>(
     rt: &R,
     alloc: Global,
     server: &Server<B, Fnv>,
     caller: &mut Caller<B>,
 ) -> Result<bool, Fail> {
     caller.end(rt, server)?;
-    let late = caller.ask(rt, server, call(alloc, "receive", "[]")?)?;
-    Ok(matches!(late, Reply::NoProcess))
+    let after_end = caller.ask(rt, server, call(alloc, "receive", "[]")?)?;
+    Ok(matches!(after_end, Reply::NoProcess))
 }
 
-/// Returns whether the server refuses to start the process of a number, since there are as many as the limit allows.
+/// Returns whether the server refuses to enrol the process of a number, since the limit is reached.
 fn is_past_the_limit<B: HistoryId, R: Wait>(rt: &R, server: &Server<B, Fnv>, drawn: Drawn) -> bool {
     let joined = server.client(rt, drawn);
     let is_past = matches!(&joined, Err(JoinFault::Refused(Reply::SystemLimit, _)));
@@ -101,8 +104,8 @@ fn is_past_the_limit<B: HistoryId, R: Wait>(rt: &R, server: &Server<B, Fnv>, dra
     is_past
 }
 
-/// Returns whether pending steps are done, a second process is refused, and a process that has ended asks in vain.
-fn is_asked<B: HistoryId, R: Wait>(
+/// Returns whether pending steps are run, a second process is refused, and a process that has ended is refused.
+fn server_is_right<B: HistoryId, R: Wait>(
     rt: &R,
     alloc: Global,
     server: &Server<B, Fnv>,
@@ -110,12 +113,13 @@ fn is_asked<B: HistoryId, R: Wait>(
 ) -> Result<bool, Fail> {
     let (one, other) = drawn;
     let mut caller = server.client(rt, one).map_err(|_| "a caller")?;
-    let kept = is_past_the_limit(rt, server, other) && is_kept(rt, alloc, server, &mut caller)?;
-    Ok(kept && is_silent(rt, alloc, server, &mut caller)?)
+    let is_kept = is_past_the_limit(rt, server, other)
+        && pending_steps_run_in_turns(rt, alloc, server, &mut caller)?;
+    Ok(is_kept && is_refused_after_end(rt, alloc, server, &mut caller)?)
 }
 
-/// Returns whether it is so of a server with these limits.
-fn is_served<B: HistoryId, R: Wait>(
+/// Creates a server with these limits, and returns whether it runs pending steps and refuses what it must.
+fn new_server_is_right<B: HistoryId, R: Wait>(
     rt: &R,
     alloc: Global,
     history: NewHistory,
@@ -125,7 +129,7 @@ fn is_served<B: HistoryId, R: Wait>(
     requires table { history.word.shared.table_id ≡ B.table }
     requires limits { limits ≡ B.limits }
 {
-    is_asked(
+    server_is_right(
         rt,
         alloc,
         &Server::<B, Fnv>::new(alloc, Locking::Single, history, limits, Fnv)?,
@@ -138,11 +142,11 @@ fn a_server_does_what_is_asked_and_due(rt: HostRuntime) -> Result<(), Fail> {
     let alloc = rt.alloc();
     let drawn = draw_two(alloc)?;
     let history = NewHistory::new(alloc)?;
-    assert!(rt; is_served::<Brand, _>(&rt, alloc, history, limits(1), drawn)?);
+    assert!(rt; new_server_is_right::<Brand, _>(&rt, alloc, history, limits(1), drawn)?);
     Ok(())
 }
 
-/// The callers of two numbers.
+/// Joins two callers.
 fn two_callers<B: HistoryId, R: Wait>(
     rt: &R,
     alloc: Global,
@@ -154,10 +158,13 @@ fn two_callers<B: HistoryId, R: Wait>(
     Ok((one, other))
 }
 
-/// Fifty insertions, of keys from this one on, and then a call for the number of objects.
+/// The number of objects that each of two callers inserts.
+const INSERTIONS: u32 = 50;
+
+/// Returns insertions of the keys from `first` on, and then a call for the number of objects.
 fn insertions(alloc: Global, first: u32) -> Result<Vec<Call>, Fail> {
     let mut calls = Vec::new(alloc);
-    for number in 0..50u32 {
+    for number in 0..INSERTIONS {
         let key = first.wrapping_add(number);
         let object = format!(in alloc; "[t,{{{key}}}]")?;
         calls.push(call(alloc, "insert", object.as_str())?)?;
@@ -166,7 +173,7 @@ fn insertions(alloc: Global, first: u32) -> Result<Vec<Call>, Fail> {
     Ok(calls)
 }
 
-/// Asks all these calls, and returns the number that the last reply is; 0 for any other reply.
+/// Makes calls in order, and returns the integer that is the last reply, or 0 for any other reply.
 fn ask_all<B: HistoryId, H: KeyHash + Copy + Drop, R: Wait>(
     rt: &R,
     server: &Server<B, H>,
@@ -183,7 +190,7 @@ fn ask_all<B: HistoryId, H: KeyHash + Copy + Drop, R: Wait>(
     last
 }
 
-/// Two callers ask at once, each in a thread of its own. Returns the greater of the numbers that they end with.
+/// Lets two callers make their calls at once, each in a thread of its own. Returns the greater of their last replies.
 fn both_ask<
     B: HistoryId + Send + Sync,
     H: KeyHash + Copy + Drop + Send + Sync,
@@ -208,7 +215,7 @@ fn both_ask<
     one_caller.max(other_caller)
 }
 
-/// The number of objects that the later of two callers finds, once both have inserted fifty each.
+/// Lets two callers insert at once, and returns how many objects the later one finds at the end.
 fn objects_of_both<B: HistoryId + Send + Sync, R: Threads + Wait + Sync>(
     rt: &R,
     alloc: Global,
@@ -216,11 +223,12 @@ fn objects_of_both<B: HistoryId + Send + Sync, R: Threads + Wait + Sync>(
 ) -> Result<u64, Fail> {
     let (mut one, other) = two_callers(rt, alloc, server)?;
     let _name = one.ask(rt, server, call(alloc, "new", "[t,[named_table,public]]")?)?;
-    let calls = (insertions(alloc, 0)?, insertions(alloc, 50)?);
+    let calls = (insertions(alloc, 0)?, insertions(alloc, INSERTIONS)?);
     Ok(both_ask(rt, server, (one, calls.0), (other, calls.1)))
 }
 
-fn is_shared<B: HistoryId + Send + Sync, R: Threads + Wait + Sync>(
+/// Creates a server, lets two callers insert at once, and returns how many objects there are at the end.
+fn objects_of_new_server<B: HistoryId + Send + Sync, R: Threads + Wait + Sync>(
     rt: &R,
     alloc: Global,
     history: NewHistory,
@@ -239,7 +247,7 @@ fn is_shared<B: HistoryId + Send + Sync, R: Threads + Wait + Sync>(
 #[test]
 fn two_callers_insert_at_once(rt: HostRuntime) -> Result<(), Fail> {
     let history = NewHistory::new(rt.alloc())?;
-    let objects = is_shared::<Brand, _>(&rt, rt.alloc(), history, limits(2))?;
+    let objects = objects_of_new_server::<Brand, _>(&rt, rt.alloc(), history, limits(2))?;
     assert_eq!(rt; objects, 100);
     Ok(())
 }

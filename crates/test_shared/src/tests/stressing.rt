@@ -1,5 +1,5 @@
 // Four readers and two writers call one server over a million times, while tables grow, are fixed and traversed, and
-// processes end and leave their tables to heirs. Each checks the replies against its own writes.
+// processes end and leave their tables to heirs. Each of them checks the replies against its own writes.
 ghost use Rattle.std.specs.Prelude.{◌≡◌, ◌<◌, All};
 ghost use Rattle.std.specs.Thread.{IsSync};
 
@@ -20,25 +20,35 @@ use std::thread;
 use std::thread::Threads;
 use term_text::read_term;
 
-/// The calls of a reader. A traversal makes more.
+/// The number of calls of a reader. A traversal makes more.
 const READS: u32 = 200_000;
 
-/// The batches of a writer, with ten calls each. An inheritance makes more.
+/// The number of batches of a writer, with ten calls each. An inheritance makes more.
 const BATCHES: u32 = 10_000;
 
-/// The keys of a writer's table that it never deletes: those below this one.
-const KEPT: u32 = 1_000;
+/// A writer never deletes the keys below this one from its table.
+const KEPT_KEYS: u32 = 1_000;
 
-/// How many processes a writer inherits from.
+/// The number of processes that a writer inherits from.
 const GUESTS: u32 = 20;
 
-/// All callers: four readers, and two writers with their guests. They are taken from the last on, so the writers are
-/// the processes 25 and 4.
+/// The number of callers: four readers, and two writers with their guests.
 const CALLERS: usize = 46;
 
+/// The numbers of the writers. The callers are taken from the last one on: 21 for each writer's team, whose last one
+/// is the writer.
 const WRITERS: [u32; 2] = [25, 4];
 
-/// The call of this name, with the terms of this list.
+/// The number of teams: two with a writer, four with a reader.
+const TEAMS: u32 = 6;
+
+/// How many guests the team of a writer has, and how many keys its table starts with.
+const WRITER: (u32, u32) = (GUESTS, KEPT_KEYS);
+
+/// The same for a reader.
+const READER: (u32, u32) = (0, 0);
+
+/// Returns the call of this name, with the terms that the text of a list spells.
 fn call(alloc: Global, asked: (&str, &str)) -> Option<Call> {
     let name = Atom::new(alloc, asked.0).ok()?;
     let (term, _) = read_term(alloc, asked.1).ok()?;
@@ -48,7 +58,7 @@ fn call(alloc: Global, asked: (&str, &str)) -> Option<Call> {
     }
 }
 
-/// Makes a call and returns whether its reply is a value.
+/// Makes a call, and returns whether its reply is a value.
 fn is_done<B: HistoryId, H: KeyHash + Copy + Drop, R: Wait>(
     rt: &R,
     alloc: Global,
@@ -60,8 +70,8 @@ fn is_done<B: HistoryId, H: KeyHash + Copy + Drop, R: Wait>(
     Some(matches!(reply, Reply::Value(_)))
 }
 
-/// Returns whether a read lists as many objects.
-fn lists<B: HistoryId, H: KeyHash + Copy + Drop, R: Wait>(
+/// Makes a read, and returns whether it lists `count` objects.
+fn read_lists<B: HistoryId, H: KeyHash + Copy + Drop, R: Wait>(
     rt: &R,
     alloc: Global,
     server: &Server<B, H>,
@@ -83,7 +93,7 @@ fn is_list(reply: &Reply, count: usize) -> bool {
 }
 
 /// Joins a caller for each seat.
-fn join_all<B: HistoryId, R: Wait>(
+fn join_callers<B: HistoryId, R: Wait>(
     rt: &R,
     alloc: Global,
     server: &Server<B, Fnv>,
@@ -100,7 +110,7 @@ fn join_all<B: HistoryId, R: Wait>(
     Ok(callers)
 }
 
-/// Takes a team from the callers: the last of it is its caller, and the others are those from whom it inherits.
+/// Takes a team from the callers. Its last one makes the calls, and the others are guests, from whom it inherits.
 fn take_team<B: HistoryId>(
     alloc: Global,
     callers: &mut Vec<Caller<B>>,
@@ -113,7 +123,7 @@ fn take_team<B: HistoryId>(
     Ok(team)
 }
 
-/// Makes the table of a team: of a writer with the kept keys, of a reader with none.
+/// Makes the table of a caller, and inserts the keys below `keys`.
 fn set_up<B: HistoryId, R: Wait>(
     rt: &R,
     alloc: Global,
@@ -131,23 +141,16 @@ fn set_up<B: HistoryId, R: Wait>(
     Some(())
 }
 
-/// Returns the teams, each with its table.
-fn teams<B: HistoryId, R: Wait>(
+/// Joins all callers, and returns the teams, each with its table.
+fn form_teams<B: HistoryId, R: Wait>(
     rt: &R,
     alloc: Global,
     server: &Server<B, Fnv>,
 ) -> Result<Vec<Vec<Caller<B>>>, Fail> {
     let (pids, seats) = Pids::open(alloc, CALLERS).map_err(|_| "open")?;
-    let mut callers = join_all(rt, alloc, server, &pids, seats)?;
+    let mut callers = join_callers(rt, alloc, server, &pids, seats)?;
     let mut teams = Vec::new(alloc);
-    for (guests, keys) in [
-        (GUESTS, KEPT),
-        (GUESTS, KEPT),
-        (0, 0),
-        (0, 0),
-        (0, 0),
-        (0, 0),
-    ] {
+    for (guests, keys) in [WRITER, WRITER, READER, READER, READER, READER] {
         let mut team = take_team(alloc, &mut callers, guests)?;
         set_up(rt, alloc, server, team.last_mut().ok_or("a caller")?, keys).ok_or("a table")?;
         teams.push(team)?;
@@ -155,7 +158,7 @@ fn teams<B: HistoryId, R: Wait>(
     Ok(teams)
 }
 
-/// Runs each team in a thread, and returns how many had only right replies.
+/// Runs each team in a thread of its own, and returns how many had only right replies.
 fn count_right<
     B: HistoryId + Send + Sync,
     H: KeyHash + Copy + Drop + Send + Sync,
@@ -163,7 +166,7 @@ fn count_right<
 >(rt: &R, server: &Server<B, H>, mut teams: Vec<Vec<Caller<B>>>) -> u32 {
     if teams.len() < 2 {
         return match teams.pop() {
-            Some(team) => u32::from(matches!(is_right(rt, server, team), Some(true))),
+            Some(team) => u32::from(matches!(team_is_right(rt, server, team), Some(true))),
             None => 0,
         };
     }
@@ -183,8 +186,8 @@ fn count_right<
     front.wrapping_add(back)
 }
 
-/// Makes all calls of a team, and returns whether all replies were right.
-fn is_right<B: HistoryId, H: KeyHash + Copy + Drop, R: Wait>(
+/// Makes all calls of a team, and returns whether all replies are right.
+fn team_is_right<B: HistoryId, H: KeyHash + Copy + Drop, R: Wait>(
     rt: &R,
     server: &Server<B, H>,
     mut team: Vec<Caller<B>>,
@@ -198,7 +201,8 @@ fn is_right<B: HistoryId, H: KeyHash + Copy + Drop, R: Wait>(
     }
 }
 
-fn is_served<B: HistoryId + Send + Sync, R: Threads + Wait + Sync>(
+/// Creates a server, and returns whether all teams have only right replies.
+fn new_server_is_right<B: HistoryId + Send + Sync, R: Threads + Wait + Sync>(
     rt: &R,
     alloc: Global,
     locking: Locking,
@@ -209,49 +213,54 @@ fn is_served<B: HistoryId + Send + Sync, R: Threads + Wait + Sync>(
     requires limits { limits ≡ B.limits }
 {
     let server = Server::<B, Fnv>::new(alloc, locking, history, limits, Fnv)?;
-    let teams = teams(rt, alloc, &server)?;
-    Ok(count_right(rt, &server, teams) == 6)
+    let teams = form_teams(rt, alloc, &server)?;
+    Ok(count_right(rt, &server, teams) == TEAMS)
 }
 
-/// Returns whether two rounds have only right replies, one with each lock.
-fn are_two_right<R: Threads + Wait + Sync>(rt: &R, alloc: Global) -> Result<bool, Fail> {
+/// Runs two rounds, one with each lock, and returns whether both have only right replies.
+fn two_rounds_are_right<R: Threads + Wait + Sync>(rt: &R, alloc: Global) -> Result<bool, Fail> {
     for locking in [Locking::Single, Locking::Sharded] {
         let history = NewHistory::new(alloc)?;
-        if !is_served::<Brand, R>(rt, alloc, locking, history, limits(46))? {
+        if !new_server_is_right::<Brand, R>(rt, alloc, locking, history, limits(46))? {
             return Ok(false);
         }
     }
     Ok(true)
 }
 
-// (ten rounds in five tests, since a test has a minute)
+// Ten rounds, in five tests, since a test may take one minute.
 
+/// Runs the first two of ten rounds.
 #[test]
 fn stress_one_and_two(rt: HostRuntime) -> Result<(), Fail> {
-    assert!(rt; are_two_right(&rt, rt.alloc())?);
+    assert!(rt; two_rounds_are_right(&rt, rt.alloc())?);
     Ok(())
 }
 
+/// Runs two more rounds.
 #[test]
 fn stress_three_and_four(rt: HostRuntime) -> Result<(), Fail> {
-    assert!(rt; are_two_right(&rt, rt.alloc())?);
+    assert!(rt; two_rounds_are_right(&rt, rt.alloc())?);
     Ok(())
 }
 
+/// Runs two more rounds.
 #[test]
 fn stress_five_and_six(rt: HostRuntime) -> Result<(), Fail> {
-    assert!(rt; are_two_right(&rt, rt.alloc())?);
+    assert!(rt; two_rounds_are_right(&rt, rt.alloc())?);
     Ok(())
 }
 
+/// Runs two more rounds.
 #[test]
 fn stress_seven_and_eight(rt: HostRuntime) -> Result<(), Fail> {
-    assert!(rt; are_two_right(&rt, rt.alloc())?);
+    assert!(rt; two_rounds_are_right(&rt, rt.alloc())?);
     Ok(())
 }
 
+/// Runs the last two rounds.
 #[test]
 fn stress_nine_and_ten(rt: HostRuntime) -> Result<(), Fail> {
-    assert!(rt; are_two_right(&rt, rt.alloc())?);
+    assert!(rt; two_rounds_are_right(&rt, rt.alloc())?);
     Ok(())
 }

@@ -1,13 +1,16 @@
 // A reader: it reads the tables of the writers and its own, and traverses fixed tables.
-use super::{KEPT, READS, WRITERS, call, is_done, lists};
+use super::{KEPT_KEYS, READS, WRITERS, call, is_done, read_lists};
 use ets_term::{KeyHash, Term};
 use node_core::Reply;
 use node_shared::{Caller, HistoryId, Server};
 use std::alloc::Global;
 use std::sync::Wait;
 
-/// More than the keys of a table.
+/// More keys than a table has.
 const MAX_KEYS: u32 = 1_000_000;
+
+/// The number of turns in which a reader traverses the table of each writer once.
+const PERIOD: u32 = 50_000;
 
 /// Makes all calls, and returns whether all replies are right.
 pub(super) fn read_all<B: HistoryId, H: KeyHash + Copy + Drop, R: Wait>(
@@ -17,15 +20,16 @@ pub(super) fn read_all<B: HistoryId, H: KeyHash + Copy + Drop, R: Wait>(
     mut caller: Caller<B>,
 ) -> Option<bool> {
     for turn in 0..READS {
-        if !is_read(rt, alloc, server, &mut caller, turn)? {
+        if !turn_is_right(rt, alloc, server, &mut caller, turn)? {
             return Some(false);
         }
     }
     Some(true)
 }
 
-/// Makes the call of a turn: a traversal, a write, a read of what was written, or mostly a lookup of a kept key.
-fn is_read<B: HistoryId, H: KeyHash + Copy + Drop, R: Wait>(
+/// Makes the call of a turn: a traversal, a write, a read of what was written, or mostly a lookup of a kept key. Returns
+/// whether its reply is right.
+fn turn_is_right<B: HistoryId, H: KeyHash + Copy + Drop, R: Wait>(
     rt: &R,
     alloc: Global,
     server: &Server<B, H>,
@@ -43,7 +47,7 @@ fn is_read<B: HistoryId, H: KeyHash + Copy + Drop, R: Wait>(
         1 => {
             let written = turn.wrapping_sub(1);
             let pattern = format!(in alloc; "[t{own},{{own,{written}}}]").ok()?;
-            lists(
+            read_lists(
                 rt,
                 alloc,
                 server,
@@ -52,18 +56,18 @@ fn is_read<B: HistoryId, H: KeyHash + Copy + Drop, R: Wait>(
                 1,
             )
         }
-        _ if turn % 50_000 == 25_002 => is_whole(rt, alloc, server, caller, one),
-        _ if turn % 50_000 == 45_002 => is_whole(rt, alloc, server, caller, other),
+        _ if turn % PERIOD == 25_002 => traversal_is_whole(rt, alloc, server, caller, one),
+        _ if turn % PERIOD == 45_002 => traversal_is_whole(rt, alloc, server, caller, other),
         _ => {
-            let key = turn.wrapping_mul(7) % KEPT;
+            let key = turn.wrapping_mul(7) % KEPT_KEYS;
             let arguments = format!(in alloc; "[t{writer},{key}]").ok()?;
-            lists(rt, alloc, server, caller, ("lookup", arguments.as_str()), 1)
+            read_lists(rt, alloc, server, caller, ("lookup", arguments.as_str()), 1)
         }
     }
 }
 
 /// Fixes the table of a writer and traverses it. Returns whether each kept key was visited once.
-fn is_whole<B: HistoryId, H: KeyHash + Copy + Drop, R: Wait>(
+fn traversal_is_whole<B: HistoryId, H: KeyHash + Copy + Drop, R: Wait>(
     rt: &R,
     alloc: Global,
     server: &Server<B, H>,
@@ -73,7 +77,7 @@ fn is_whole<B: HistoryId, H: KeyHash + Copy + Drop, R: Wait>(
     let fix = format!(in alloc; "[t{writer},true]").ok()?;
     let release = format!(in alloc; "[t{writer},false]").ok()?;
     let is_fixed = is_done(rt, alloc, server, caller, ("safe_fixtable", fix.as_str()))?;
-    let visits = visits(rt, alloc, server, caller, writer)?;
+    let visits = count_visits(rt, alloc, server, caller, writer)?;
     let is_free = is_done(
         rt,
         alloc,
@@ -85,7 +89,7 @@ fn is_whole<B: HistoryId, H: KeyHash + Copy + Drop, R: Wait>(
 }
 
 /// Traverses the table of a writer, and returns how often each kept key was visited.
-fn visits<B: HistoryId, H: KeyHash + Copy + Drop, R: Wait>(
+fn count_visits<B: HistoryId, H: KeyHash + Copy + Drop, R: Wait>(
     rt: &R,
     alloc: Global,
     server: &Server<B, H>,
@@ -93,7 +97,7 @@ fn visits<B: HistoryId, H: KeyHash + Copy + Drop, R: Wait>(
     writer: u32,
 ) -> Option<Vec<u8>> {
     let mut visits = Vec::new(alloc);
-    for _ in 0..KEPT {
+    for _ in 0..KEPT_KEYS {
         visits.push(0).ok()?;
     }
     let first = format!(in alloc; "[t{writer}]").ok()?;
@@ -111,7 +115,7 @@ fn visits<B: HistoryId, H: KeyHash + Copy + Drop, R: Wait>(
     Some(visits)
 }
 
-/// Returns the key that a read replies, if it is a number.
+/// Makes a read, and returns the key that it replies. The inner `None` is a reply that is no number.
 fn key_of<B: HistoryId, H: KeyHash + Copy + Drop, R: Wait>(
     rt: &R,
     alloc: Global,

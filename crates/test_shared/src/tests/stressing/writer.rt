@@ -1,17 +1,18 @@
 // A writer: its table grows while it inserts and deletes in batches, and it inherits the tables of others.
-use super::{BATCHES, GUESTS, KEPT, call, is_done, is_list, lists};
+use super::{BATCHES, GUESTS, KEPT_KEYS, call, is_done, is_list, read_lists};
 use ets_term::KeyHash;
 use node_core::Call;
 use node_shared::{Caller, HistoryId, Server};
 use std::alloc::Global;
 use std::sync::Wait;
 
-/// The insertions of a batch, and the deletions after them.
+/// The number of keys that a batch inserts.
 const INSERTED: u32 = 8;
 
+/// The number of keys that a batch deletes then, the first ones that it inserted.
 const DELETED: u32 = 2;
 
-/// Makes all calls, in batches, and returns whether all replies are right. Inherits from each guest.
+/// Makes all calls, in batches, and inherits from each guest. Returns whether all replies are right.
 pub(super) fn write_all<B: HistoryId, H: KeyHash + Copy + Drop, R: Wait>(
     rt: &R,
     alloc: Global,
@@ -22,19 +23,19 @@ pub(super) fn write_all<B: HistoryId, H: KeyHash + Copy + Drop, R: Wait>(
     for number in 0..BATCHES {
         if number % (BATCHES / GUESTS) == 0 {
             let guest = guests.pop()?;
-            if !is_inherited(rt, alloc, server, &mut caller, guest)? {
+            if !inherits_from_guest(rt, alloc, server, &mut caller, guest)? {
                 return Some(false);
             }
         }
-        if !is_written(rt, alloc, server, &mut caller, number)? {
+        if !batch_is_right(rt, alloc, server, &mut caller, number)? {
             return Some(false);
         }
     }
     Some(true)
 }
 
-/// Makes the calls of a batch at once, and then reads the last object of it.
-fn is_written<B: HistoryId, H: KeyHash + Copy + Drop, R: Wait>(
+/// Makes the calls of a batch at once, and then reads its last object. Returns whether all replies are right.
+fn batch_is_right<B: HistoryId, H: KeyHash + Copy + Drop, R: Wait>(
     rt: &R,
     alloc: Global,
     server: &Server<B, H>,
@@ -42,7 +43,7 @@ fn is_written<B: HistoryId, H: KeyHash + Copy + Drop, R: Wait>(
     number: u32,
 ) -> Option<bool> {
     let own = caller.pid();
-    let first = number.wrapping_mul(INSERTED).wrapping_add(KEPT);
+    let first = number.wrapping_mul(INSERTED).wrapping_add(KEPT_KEYS);
     let last = first.wrapping_add(INSERTED - 1);
     let calls = batch(alloc, own, first)?;
     let count = calls.len();
@@ -51,7 +52,7 @@ fn is_written<B: HistoryId, H: KeyHash + Copy + Drop, R: Wait>(
     Some(
         replies.len() == count
             && replies.iter().all(|reply| reply.is_value())
-            && lists(
+            && read_lists(
                 rt,
                 alloc,
                 server,
@@ -65,7 +66,7 @@ fn is_written<B: HistoryId, H: KeyHash + Copy + Drop, R: Wait>(
 /// Returns the insertions of the keys from this one on, whose values are the number of the batch, and the deletions of
 /// the first of them.
 fn batch(alloc: Global, own: u32, first: u32) -> Option<Vec<Call>> {
-    let number = first.wrapping_sub(KEPT) / INSERTED;
+    let number = first.wrapping_sub(KEPT_KEYS) / INSERTED;
     let mut calls = Vec::new(alloc);
     for place in 0..INSERTED {
         let key = first.wrapping_add(place);
@@ -85,12 +86,16 @@ fn batch(alloc: Global, own: u32, first: u32) -> Option<Vec<Call>> {
 /// The arguments of the calls that make, fill, read and delete a table with an heir.
 #[derive(Drop)]
 struct Bequest {
+    /// The name of the table and its options.
     options: String,
+    /// The name and three objects.
     objects: String,
+    /// The name alone.
     table: String,
 }
 
 impl Bequest {
+    /// Returns the arguments for a table of this number with this heir.
     fn new(alloc: Global, heir: u32, table: u32) -> Option<Bequest> {
         Some(Bequest {
             options: format!(in alloc; "[t{table},[named_table,{{heir,<0.{heir}.0>,gift}}]]").ok()?,
@@ -100,8 +105,8 @@ impl Bequest {
     }
 }
 
-/// A guest makes a table, fills it and ends. Returns whether the caller gets the table with its objects.
-fn is_inherited<B: HistoryId, H: KeyHash + Copy + Drop, R: Wait>(
+/// Lets a guest make a table, fill it and end. Returns whether the caller gets the table with its objects.
+fn inherits_from_guest<B: HistoryId, H: KeyHash + Copy + Drop, R: Wait>(
     rt: &R,
     alloc: Global,
     server: &Server<B, H>,
@@ -114,7 +119,7 @@ fn is_inherited<B: HistoryId, H: KeyHash + Copy + Drop, R: Wait>(
     Some(is_left && is_right)
 }
 
-/// Makes the table, fills it, and ends.
+/// Makes the table, fills it and ends. Returns whether both calls have a value.
 fn leaves_table<B: HistoryId, H: KeyHash + Copy + Drop, R: Wait>(
     rt: &R,
     alloc: Global,
@@ -139,7 +144,7 @@ fn leaves_table<B: HistoryId, H: KeyHash + Copy + Drop, R: Wait>(
     Some(is_made)
 }
 
-/// Returns whether there is one message and the table has its objects. Deletes the table.
+/// Returns whether the caller has one message and the table has its objects. Deletes the table.
 fn inherits<B: HistoryId, H: KeyHash + Copy + Drop, R: Wait>(
     rt: &R,
     alloc: Global,
@@ -152,7 +157,7 @@ fn inherits<B: HistoryId, H: KeyHash + Copy + Drop, R: Wait>(
     let messages = caller.ask(rt, server, receive).ok()?;
     Some(
         is_list(&messages, 1)
-            && lists(rt, alloc, server, caller, ("tab2list", table), 3)?
+            && read_lists(rt, alloc, server, caller, ("tab2list", table), 3)?
             && is_done(rt, alloc, server, caller, ("delete", table))?,
     )
 }

@@ -1,4 +1,4 @@
 use Rattle.test_shared.proofs.tests.joining.a_process_past_the_limit_is_refused.Given as goal
 
-abbrev pub ghosts-second_of_one : goal.ghosts-second_of_one
-ghosts-second_of_one g a = record { name = a.blank.name; parts = a.blank.parts }
+abbrev pub ghosts-number_past_limit_of_one : goal.ghosts-number_past_limit_of_one
+ghosts-number_past_limit_of_one g a = record { name = a.blank.name; parts = a.blank.parts }
