@@ -3,14 +3,16 @@
 ghost use Rattle.std.specs.Prelude.{◌≡◌, ◌<◌, All};
 ghost use Rattle.std.specs.Thread.{IsSync};
 
+mod calls;
 mod reader;
 mod writer;
 
 use super::limits;
+use crate::tests::stressing::calls::is_done;
 use crate::tests::stressing::reader::read_all;
 use crate::tests::stressing::writer::write_all;
-use ets_term::{Atom, Fnv, KeyHash, Term};
-use node_core::{Call, Limits, Reply};
+use ets_term::{Fnv, KeyHash};
+use node_core::Limits;
 use node_shared::{Caller, HistoryId, Locking, NewHistory, Pids, Seat, Server};
 use std::alloc::Global;
 use std::marker::Brand;
@@ -18,7 +20,6 @@ use std::sync::Wait;
 use std::test::Fail;
 use std::thread;
 use std::thread::Threads;
-use term_text::read_term;
 
 /// The number of calls of a reader. A traversal makes more.
 const READS: u32 = 200_000;
@@ -47,50 +48,6 @@ const WRITER: (u32, u32) = (GUESTS, KEPT_KEYS);
 
 /// The same for a reader.
 const READER: (u32, u32) = (0, 0);
-
-/// Returns the call of this name, with the terms that the text of a list spells.
-fn call(alloc: Global, asked: (&str, &str)) -> Option<Call> {
-    let name = Atom::new(alloc, asked.0).ok()?;
-    let (term, _) = read_term(alloc, asked.1).ok()?;
-    match term {
-        Term::List(arguments) => Some(Call::new(name, arguments.into_vec())),
-        _ => None,
-    }
-}
-
-/// Makes a call, and returns whether its reply is a value.
-fn is_done<B: HistoryId, H: KeyHash + Copy + Drop, R: Wait>(
-    rt: &R,
-    alloc: Global,
-    server: &Server<B, H>,
-    caller: &mut Caller<B>,
-    asked: (&str, &str),
-) -> Option<bool> {
-    let reply = caller.ask(rt, server, call(alloc, asked)?).ok()?;
-    Some(matches!(reply, Reply::Value(_)))
-}
-
-/// Makes a read, and returns whether it lists `count` objects.
-fn read_lists<B: HistoryId, H: KeyHash + Copy + Drop, R: Wait>(
-    rt: &R,
-    alloc: Global,
-    server: &Server<B, H>,
-    caller: &Caller<B>,
-    asked: (&str, &str),
-    count: usize,
-) -> Option<bool> {
-    let asked = call(alloc, asked)?;
-    let reply = caller.read(rt, server, &asked).ok()??;
-    Some(is_list(&reply, count))
-}
-
-/// Returns whether a reply is a list of this length.
-fn is_list(reply: &Reply, count: usize) -> bool {
-    match reply {
-        Reply::Value(Term::List(terms)) => terms.len() == count,
-        _ => false,
-    }
-}
 
 /// Joins a caller for each seat.
 fn join_callers<B: HistoryId, R: Wait>(

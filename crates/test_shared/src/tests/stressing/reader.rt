@@ -1,5 +1,6 @@
 // A reader: it reads the tables of the writers and its own, and traverses fixed tables.
-use super::{KEPT_KEYS, READS, WRITERS, call, is_done, read_lists};
+use super::calls::{call, is_done, read_lists};
+use super::{KEPT_KEYS, READS, WRITERS};
 use ets_term::{KeyHash, Term};
 use node_core::Reply;
 use node_shared::{Caller, HistoryId, Server};

@@ -1,5 +1,6 @@
 // A writer: its table grows while it inserts and deletes in batches, and it inherits the tables of others.
-use super::{BATCHES, GUESTS, KEPT_KEYS, call, is_done, is_list, read_lists};
+use super::calls::{call, is_done, is_list, read_lists};
+use super::{BATCHES, GUESTS, KEPT_KEYS};
 use ets_term::KeyHash;
 use node_core::Call;
 use node_shared::{Caller, HistoryId, Server};
