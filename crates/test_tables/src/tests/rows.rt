@@ -24,9 +24,10 @@ use self::hashes::{Even, Greatest, PidNumber};
 /// The first state of the generator; any number would do.
 const SEED: u64 = 20_261_122;
 
-/// The multiplier and the increment of Knuth's linear congruential generator, MMIX.
+/// The multiplier of Knuth's linear congruential generator, MMIX.
 const MULTIPLIER: u64 = 6_364_136_223_846_793_005;
 
+/// The increment of the same generator.
 const INCREMENT: u64 = 1_442_695_040_888_963_407;
 
 /// Pseudo-random numbers, the same in each run.

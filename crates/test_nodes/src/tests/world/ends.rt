@@ -79,6 +79,7 @@ const ENROLLED: [Row; 8] = [
     (End(Pid(1)), "** noproc"),
 ];
 
+/// The rows of each world.
 const SCENARIOS: [&[Row]; 5] = [&INHERITED, &NO_HEIR, &IN_ORDER, &FIXES, &ENROLLED];
 
 /// Runs the rows about the ends of processes.

@@ -23,9 +23,9 @@ fn make_with_heir(
     heir: u32,
 ) -> Result<(), WorldFault> {
     let options = format!(in alloc; "[{{heir,<0.{heir}.0>,1}}]")?;
-    let made = new_table(alloc, world, pid, "t", options.as_str());
+    let name_or_tid = new_table(alloc, world, pid, "t", options.as_str());
     drop(options);
-    drop(made?);
+    drop(name_or_tid?);
     Ok(())
 }
 

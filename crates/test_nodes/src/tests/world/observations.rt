@@ -129,7 +129,7 @@ fn observe_all(
 }
 
 /// Returns all that can be observed of a world.
-pub fn observations(alloc: Global, world: &Tables) -> Result<Vec<Term>, AllocError> {
+pub fn observe_world(alloc: Global, world: &Tables) -> Result<Vec<Term>, AllocError> {
     let mut observed = Vec::with_capacity(alloc, 128)?;
     keep_if_ok(
         observe_all(alloc, world, &ITEMS, &NAMES, &mut observed),

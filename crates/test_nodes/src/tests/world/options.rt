@@ -57,6 +57,7 @@ const AT_LIMIT: [Row; 6] = [
     (New(Pid(0), "e", "[]"), "** system_limit"),
 ];
 
+/// The rows of each world.
 const SCENARIOS: [&[Row]; 3] = [&READ, &TUNING, &AT_LIMIT];
 
 /// Runs the rows about the options of tables.

@@ -66,6 +66,7 @@ const NAMES: [Row; 12] = [
     (Drop(Tid(0)), DONE),
 ];
 
+/// The rows of each world.
 const SCENARIOS: [&[Row]; 4] = [&GIVEN, &HEIRS, &RIGHTS, &NAMES];
 
 /// Runs the rows about owners, heirs, rights and names.

@@ -2,7 +2,7 @@
 // memory changes nothing that can be observed, and has the answer of a first call when it is made again. A test repeats
 // its own allocations.
 use super::Event::{End, Enrol, Fix, Give, Info, New, Receive, Set};
-use super::observations::observations;
+use super::observations::observe_world;
 use super::{DONE, Event, Pid, Row, Tables, Tid, answer, refusal};
 use crate::tests::text::is_spelled;
 use ets_term::Term;
@@ -68,10 +68,10 @@ const CALLS: [Row; 28] = [
 ];
 
 /// Returns all that can be observed of a world, observed again if memory runs out.
-fn observations_again(alloc: Global, world: &Tables) -> Result<Vec<Term>, AllocError> {
-    match observations(alloc, world) {
+fn observe_world_again(alloc: Global, world: &Tables) -> Result<Vec<Term>, AllocError> {
+    match observe_world(alloc, world) {
         Ok(observed) => Ok(observed),
-        Err(_) => observations(alloc, world),
+        Err(_) => observe_world(alloc, world),
     }
 }
 
@@ -101,9 +101,9 @@ fn answer_has_text(
 
 /// Returns whether all that can be observed is as before.
 fn is_unchanged(alloc: Global, world: &Tables, before: &[Term]) -> Result<bool, AllocError> {
-    let now = observations_again(alloc, world)?;
-    let same = now.as_slice() == before;
-    drop(now);
+    let after = observe_world_again(alloc, world)?;
+    let same = after.as_slice() == before;
+    drop(after);
     Ok(same)
 }
 
@@ -134,7 +134,7 @@ fn event_has_answer_again(
     event: Event,
     wanted: &str,
 ) -> Result<bool, AllocError> {
-    let before = observations_again(alloc, world)?;
+    let before = observe_world_again(alloc, world)?;
     let done = event_has_answer_after(alloc, world, before.as_slice(), event, wanted);
     drop(before);
     done

@@ -39,15 +39,15 @@ fn turn_is_right<B: HistoryId, H: KeyHash + Copy + Drop, R: Wait>(
 ) -> Option<bool> {
     let [one, other] = WRITERS;
     let writer = if turn % 2 == 0 { one } else { other };
-    let own = caller.pid();
+    let own_table = caller.pid();
     match turn % 20 {
         0 => {
-            let object = format!(in alloc; "[t{own},{{own,{turn}}}]").ok()?;
+            let object = format!(in alloc; "[t{own_table},{{own,{turn}}}]").ok()?;
             is_done(rt, alloc, server, caller, ("insert", object.as_str()))
         }
         1 => {
             let written = turn.wrapping_sub(1);
-            let pattern = format!(in alloc; "[t{own},{{own,{written}}}]").ok()?;
+            let pattern = format!(in alloc; "[t{own_table},{{own,{written}}}]").ok()?;
             read_lists(
                 rt,
                 alloc,

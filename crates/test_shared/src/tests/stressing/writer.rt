@@ -43,13 +43,13 @@ fn batch_is_right<B: HistoryId, H: KeyHash + Copy + Drop, R: Wait>(
     caller: &mut Caller<B>,
     number: u32,
 ) -> Option<bool> {
-    let own = caller.pid();
+    let own_table = caller.pid();
     let first = number.wrapping_mul(INSERTED).wrapping_add(KEPT_KEYS);
     let last = first.wrapping_add(INSERTED - 1);
-    let calls = batch(alloc, own, first)?;
+    let calls = batch(alloc, own_table, first)?;
     let count = calls.len();
     let replies = caller.ask_all(rt, server, calls, 2 * INSERTED).ok()?;
-    let pattern = format!(in alloc; "[t{own},{{{last},{number}}}]").ok()?;
+    let pattern = format!(in alloc; "[t{own_table},{{{last},{number}}}]").ok()?;
     Some(
         replies.len() == count
             && replies.iter().all(|reply| reply.is_value())
@@ -66,17 +66,17 @@ fn batch_is_right<B: HistoryId, H: KeyHash + Copy + Drop, R: Wait>(
 
 /// Returns the insertions of the keys from this one on, whose values are the number of the batch, and the deletions of
 /// the first of them.
-fn batch(alloc: Global, own: u32, first: u32) -> Option<Vec<Call>> {
+fn batch(alloc: Global, own_table: u32, first: u32) -> Option<Vec<Call>> {
     let number = first.wrapping_sub(KEPT_KEYS) / INSERTED;
     let mut calls = Vec::new(alloc);
     for place in 0..INSERTED {
         let key = first.wrapping_add(place);
-        let object = format!(in alloc; "[t{own},{{{key},{number}}}]").ok()?;
+        let object = format!(in alloc; "[t{own_table},{{{key},{number}}}]").ok()?;
         calls.push(call(alloc, ("insert", object.as_str()))?).ok()?;
     }
     for place in 0..DELETED {
         let key = first.wrapping_add(place);
-        let arguments = format!(in alloc; "[t{own},{key}]").ok()?;
+        let arguments = format!(in alloc; "[t{own_table},{key}]").ok()?;
         calls
             .push(call(alloc, ("delete", arguments.as_str()))?)
             .ok()?;

@@ -5,9 +5,10 @@ use super::*;
 /// The number of keys that calls are made with.
 const KEYS: u32 = 150;
 
-/// The number of rounds, and of the calls in each. After a round all keys are compared.
+/// The number of rounds. After each one all keys are compared.
 const ROUNDS: u32 = 200;
 
+/// The number of calls in a round.
 const CALLS_IN_ROUND: u32 = 25;
 
 /// A call on one key.

@@ -22,7 +22,7 @@ fn fill_with_keys<R: Rows>(rows: &mut R, alloc: Global) -> Result<(), AllocError
 }
 
 /// Returns the integer that is the first object of a slot, or 0.
-fn first_of(slot: Option<(&Term, &[Term])>) -> Integer {
+fn first_integer_of_slot(slot: Option<(&Term, &[Term])>) -> Integer {
     match slot {
         Some((_key, objects)) => number_of(objects.first()),
         None => 0,
@@ -38,12 +38,12 @@ fn number_of(object: Option<&Term>) -> Integer {
 }
 
 /// Returns the sum of the first objects of all slots, which it visits in order.
-fn sum<R: Rows>(rows: &R) -> Integer {
-    let mut total = first_of(rows.first_at());
+fn sum_of_objects<R: Rows>(rows: &R) -> Integer {
+    let mut total = first_integer_of_slot(rows.first_at());
     for key in 1..5u32 {
         let key = Term::Int(Integer::from(key));
         if let Some(slot) = rows.next_at(&key) {
-            total = total.wrapping_add(first_of(slot));
+            total = total.wrapping_add(first_integer_of_slot(slot));
         }
         drop(key);
     }
@@ -62,22 +62,22 @@ struct Observed {
 
 /// Replaces the object of key 1 by 10, removes key 2, and then removes all keys. Returns what rows have in between.
 fn run_free_calls<R: Rows>(rows: &mut R, alloc: Global) -> Option<Observed> {
-    let before = sum(rows);
-    let one = Term::Int(1);
-    let old_state = state_of_removed(rows.replace(&one, Chain::one(alloc, Term::Int(10))));
-    drop(one);
-    let replaced = sum(rows);
+    let sum = sum_of_objects(rows);
+    let key = Term::Int(1);
+    let old_state = state_of_removed(rows.replace(&key, Chain::one(alloc, Term::Int(10))));
+    drop(key);
+    let sum_replaced = sum_of_objects(rows);
     let removed_state = remove(rows, 2);
-    let removed = sum(rows);
+    let sum_removed = sum_of_objects(rows);
     rows.clear(true);
     rows.purge();
     if old_state != KeyState::Object(1) || removed_state != KeyState::Object(2) {
         return None;
     }
     Some(Observed {
-        sum: before,
-        sum_replaced: replaced,
-        sum_removed: removed,
+        sum,
+        sum_replaced,
+        sum_removed,
         slots_cleared: rows.len(),
     })
 }

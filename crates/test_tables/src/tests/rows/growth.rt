@@ -36,9 +36,9 @@ const DOUBLINGS: usize = 19;
 
 /// Returns whether rows double from two buckets to the most, and then grow no more.
 fn doubles<R: Rows>(rows: &mut R) -> Result<bool, AllocError> {
-    let two = rows.buckets() == 2;
+    let starts_with_two = rows.buckets() == 2;
     let grown = grows(rows, DOUBLINGS, Growth::Grown)? && grows(rows, 2, Growth::AtMost)?;
-    Ok(two && grown && rows.buckets() == MAX_BUCKETS)
+    Ok(starts_with_two && grown && rows.buckets() == MAX_BUCKETS)
 }
 
 /// Returns whether new split rows double from two buckets to the most.

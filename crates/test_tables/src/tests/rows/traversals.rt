@@ -43,14 +43,14 @@ fn is_key_after<R: Rows>(rows: &R, key: Integer, next: Option<Integer>) -> bool 
 /// and then ends.
 pub(super) fn traverses<R: Rows>(rows: &R) -> bool {
     let mut all_right = true;
-    let mut at = first_key(rows);
+    let mut next_key = first_key(rows);
     for _ in 0..rows.len() {
-        if let Some(key) = at {
-            at = key_after(rows, key);
-            all_right = is_key_after(rows, key, at) && all_right;
+        if let Some(key) = next_key {
+            next_key = key_after(rows, key);
+            all_right = is_key_after(rows, key, next_key) && all_right;
         } else {
             all_right = false;
         }
     }
-    all_right && at == None
+    all_right && next_key == None
 }

@@ -94,9 +94,10 @@ fn readying_sets_hints(rt: HostRuntime) {
     assert!(rt; new_rows_set_hints(rt.alloc()) == Ok(true));
 }
 
-/// The number of keys with one hash, and the most nodes that a search among them visits: two more.
+/// The number of keys with one hash.
 const SAME_HASH_KEYS: u32 = 1_000;
 
+/// The most nodes that a search among them visits: n + 2.
 const MOST_SAME_HASH_VISITS: u64 = 1_002;
 
 /// Returns whether searches among keys of one hash visit at most all of them, and for a missing key all.
