@@ -23,6 +23,7 @@ use std::thread::Threads;
 
 /// Runs five clients on a shared node, and prints what they counted, inserted and visited.
 fn main(rt: HostRuntime) -> io::Result<ExitCode> {
+    // The ledger has a part for each of five clients, and one more.
     let Some(totals) = share_node::<Brand, _>(&rt, rt.alloc(), Blank::new(6)) else {
         eprintln!(rt; "out of memory")?;
         return Ok(ExitCode::FAILURE);

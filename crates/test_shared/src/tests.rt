@@ -1,3 +1,5 @@
+// Tests of a node that threads share, and of a server. A ledger has a part for each process and one more: for two
+// processes a test passes `Blank::new(3)`.
 ghost use Rattle.std.specs.Prelude.{◌≡◌, ◌<◌, IfOk};
 
 use ets_term::{Atom, KeyHash, Term};

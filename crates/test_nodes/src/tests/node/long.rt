@@ -13,8 +13,12 @@ use node_core::{Limits, Node};
 use std::alloc::{AllocError, Global};
 use std::process::Abort;
 
-/// More than 2,048, so that an array that doubles is moved.
+/// The number of repetitions, and the end of the numbers that replace N: replies spell it as 2100, and the last number
+/// as 2099. It is more than 2,048, so that an array that doubles is moved.
 const COUNT: u32 = 2_100;
+
+/// The usual limit of processes.
+const PROCESSES: u32 = 4_096;
 
 /// Appends a template to a text, with the number in place of each N.
 fn push_template(
@@ -69,7 +73,7 @@ fn node_passes(alloc: Global, node: &mut Node<Fnv>, trial: Trial) -> Result<bool
     match trial {
         Trial::Growth => growth::replies_as_it_grows(alloc, node),
         Trial::Objects => objects::stores_many_objects(alloc, node),
-        Trial::Processes => processes::exits_delete_tables(alloc, node, 4_096),
+        Trial::Processes => processes::exits_delete_tables(alloc, node, PROCESSES),
         Trial::Tables => processes::exit_deletes_many_tables(alloc, node, COUNT),
         Trial::Names => processes::tables_take_names(alloc, node),
         Trial::Runs => runs::runs_many_steps(alloc, node),

@@ -10,9 +10,12 @@ fn mark(alloc: Global) -> bool {
     Vec::<u8>::with_capacity(alloc, MARK).is_err()
 }
 
+/// The keys are the numbers from 1 on that are below this one.
+const PAST_KEYS: u32 = 5;
+
 /// Inserts the keys 1 to 4, each with itself as its object.
 fn fill_with_keys<R: Rows>(rows: &mut R, alloc: Global) -> Result<(), AllocError> {
-    for key in 1..5u32 {
+    for key in 1..PAST_KEYS {
         let key = Integer::from(key);
         insert(rows, alloc, key, key)?;
     }
@@ -40,7 +43,7 @@ fn number_of(object: Option<&Term>) -> Integer {
 /// Returns the sum of the first objects of all slots, which it visits in order.
 fn sum_of_objects<R: Rows>(rows: &R) -> Integer {
     let mut total = first_integer_of_slot(rows.first_at());
-    for key in 1..5u32 {
+    for key in 1..PAST_KEYS {
         let key = Term::Int(Integer::from(key));
         if let Some(slot) = rows.next_at(&key) {
             total = total.wrapping_add(first_integer_of_slot(slot));
