@@ -16,7 +16,7 @@ use Rattle.external_term.specs.Fields.{after, number_at}
 use Rattle.external_term.specs.Texts.{code}
 use Rattle.external_term.specs.Reader.{items, items_at, tuple_at, tail_if, term_at}
 use Rattle.external_term.proofs.LeafTrips.{Reads, dispatch}
-use Rattle.external_term.proofs.Standing.{At, tail, front, room, behind, ok, ends, after_ok, one_at, four_at}
+use Rattle.external_term.proofs.BytesAt.{At, tail, front, room, behind, ok, ends, after_ok, one_at, four_at}
 use Rattle.external_term.proofs.Steps.{item_read, enough}
 
 -- what is known of a term: it takes a byte, it has a level, and it reads back, also as a byte of a string

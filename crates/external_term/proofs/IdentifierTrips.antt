@@ -9,7 +9,7 @@ use Rattle.external_term.specs.Fields.{after, big32, number_at, piece_at}
 use Rattle.external_term.specs.Identifiers.{node_form, node_at, node_if, are_zero, is_own, identifier_if, identifier_in, identifier_at, reference_if}
 use Rattle.external_term.specs.Tags.{tag_of}
 use Rattle.external_term.proofs.LeafTrips.{Reads, dispatch, both, name_reads}
-use Rattle.external_term.proofs.Standing.{At, head, inside, tail, front, behind, range, ok, ends, after_ok, two_at, value32, piece}
+use Rattle.external_term.proofs.BytesAt.{At, head, inside, tail, front, behind, range, ok, ends, after_ok, two_at, value32, piece}
 
 abbrev name : List ℕ
 name = codes "nonode@nohost"

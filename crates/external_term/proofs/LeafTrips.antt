@@ -18,7 +18,7 @@ use Rattle.external_term.specs.Reader.{form, form_if, term_at}
 use Rattle.external_term.specs.Tags.{tag_of}
 use Rattle.external_term.proofs.Digits.{low_short, low_little}
 use Rattle.external_term.proofs.SmallIntegers.{byte_bytes, word_bytes, wide_bytes, negative_word, negative_wide}
-use Rattle.external_term.proofs.Standing.{At, head, inside, tail, behind, range, ok, ends, after_ok, one_at, four_at, piece}
+use Rattle.external_term.proofs.BytesAt.{At, head, inside, tail, behind, range, ok, ends, after_ok, one_at, four_at, piece}
 
 -- at the offset of these bytes, the reader finds the term
 abbrev pub Reads : Term → ℕ → List ℕ → Type 0

@@ -8,6 +8,6 @@ pub mod RoundTrip
 pub mod EncodedTerms
 pub mod SentPieces
 pub mod SmallIntegers
-pub mod Standing
+pub mod BytesAt
 pub mod Steps
 mod WrittenExamples

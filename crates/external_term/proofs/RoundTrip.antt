@@ -24,7 +24,7 @@ use Rattle.external_term.proofs.IdentifierTrips.{pid_reads, reference_reads}
 use Rattle.external_term.proofs.LeafTrips.{Reads, dispatch, reads_as, integer_reads, atom_reads, binary_reads}
 use Rattle.external_term.proofs.EncodedTerms.{IsRead, Known, bare, terms, encoded_terms, levels_of, AllFit, encoded_terms-long, tuple_reads, long_list_reads, codes_are}
 use Rattle.external_term.proofs.SmallIntegers.{byte_char, large_not_small, negative_not_small, some_bytes}
-use Rattle.external_term.proofs.Standing.{At, tail, behind, range, ok, ends, after_ok, one_at, two_at, four_at, piece}
+use Rattle.external_term.proofs.BytesAt.{At, tail, behind, range, ok, ends, after_ok, one_at, two_at, four_at, piece}
 
 -- a term is read, if its tree, bytes and depth are known
 by_parts : (t : Term) (z : Data) (xs : List ℕ) (inner : ℕ) → data_of t ≡ z → encode t ≡ xs → depth t ≡ inner + 1

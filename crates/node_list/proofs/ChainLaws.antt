@@ -61,11 +61,11 @@ starts-dummy-with at w (c ∷ cs) d =
       | inr other ↦ subst P (sym (cell-other at w c other)) d
     ]
 
-pub record Lent (s t : Slab ListNode) (at : ℕ) (w : List Term) : Type 0 where
+pub record Borrowed (s t : Slab ListNode) (at : ℕ) (w : List Term) : Type 0 where
   pub list : ListInvariant t
   pub cells : cells_from t (Some 0) ≡ cells_with at w (cells_from s (Some 0))
 
-pub chain_mut-list : (s : Slab ListNode) (at : ℕ) (w : List Term) (n : ListNode) → ListInvariant s → get s at ≡ Some n → Lent s (with_value s at (node_with n w)) at w
+pub chain_mut-list : (s : Slab ListNode) (at : ℕ) (w : List Term) (n : ListNode) → ListInvariant s → get s at ≡ Some n → Borrowed s (with_value s at (node_with n w)) at w
 chain_mut-list s at w n l was =
     let P : Option ListNode → Type 0 = λ o. IsSome o in
     let u = Updates-with_value s at (node_with n w) (subst P (sym was) refl) in
@@ -89,8 +89,8 @@ chain_mut-list s at w n l was =
     }
 
 -- the same for the nodes
-pub chain_mut-nodes : (s : Slab ListNode) (at : ℕ) (w : List Term) (n : ListNode) → ListInvariant s → get s at ≡ Some n → Lent s (nodes_with at w s) at w
+pub chain_mut-nodes : (s : Slab ListNode) (at : ℕ) (w : List Term) (n : ListNode) → ListInvariant s → get s at ≡ Some n → Borrowed s (nodes_with at w s) at w
 chain_mut-nodes s at w n l was =
-    let P : Slab ListNode → Type 0 = λ t. Lent s t at w in
+    let P : Slab ListNode → Type 0 = λ t. Borrowed s t at w in
     let is : nodes_with at w s ≡ with_value s at (node_with n w) = ap (λ (o : Option ListNode). let z : Slab ListNode = record s { slots = slice_set s.slots at (option_map (λ (m : ListNode). node_with m w) o) } in z) was in
     subst P (sym is) (chain_mut-list s at w n l was)

@@ -13,8 +13,8 @@ predecessor-before-requires-clause-linked c = (search-linked c.args.nodes.now c.
 pub predecessor-before-requires-clause-after : goal.predecessor-before-requires-clause-after
 predecessor-before-requires-clause-after c = (search-linked c.args.nodes.now c.args.start c.args.at c.requires.linked c.requires.after).1
 
-stands : (c : After-predecessor-before) → IsPredecessor c.predecessor-before.result c.args.at (cells_from c.args.nodes.now (Some 0))
-stands c = predecessor-in_whole c.args.nodes.now c.args.start c.predecessor-before.result c.args.at c.requires.linked c.requires.after c.predecessor-before.ensures
+is_predecessor : (c : After-predecessor-before) → IsPredecessor c.predecessor-before.result c.args.at (cells_from c.args.nodes.now (Some 0))
+is_predecessor c = predecessor-in_whole c.args.nodes.now c.args.start c.predecessor-before.result c.args.at c.requires.linked c.requires.after c.predecessor-before.ensures
 
 -- the list after the link leads past the node
 done : (c : After-set_next) → IsPredecessor c.predecessor-before.result c.args.at (cells_from c.args.nodes.now (Some 0)) → Unlinked c.args.nodes.now c.set_next.new.self c.args.at
@@ -30,24 +30,24 @@ done c b =
 
 pub remove-node-requires : goal.remove-node-requires
 remove-node-requires c =
-    let b = stands (goal.at.remove-node-requires c).After-predecessor-before in
+    let b = is_predecessor (goal.at.remove-node-requires c).After-predecessor-before in
     let n = has-node (get c.args.nodes.now) c.args.at (Some 0) (cells_from c.args.nodes.now (Some 0)) c.requires.linked.links (predecessor-has_place c.predecessor-before.result c.args.at (cells_from c.args.nodes.now (Some 0)) b) in
     let O : Option ListNode → Type 0 = λ o. IsSome o in
     subst O (sym n.1) refl
 
 pub set_next-requires-clause-has : goal.set_next-requires-clause-has
 set_next-requires-clause-has c =
-    let b = stands (goal.at.set_next-requires-clause-has c).After-predecessor-before in
+    let b = is_predecessor (goal.at.set_next-requires-clause-has c).After-predecessor-before in
     let n = predecessor-node (get c.args.nodes.now) c.predecessor-before.result c.args.at (Some 0) (cells_from c.args.nodes.now (Some 0)) c.requires.linked.links b in
     let other = predecessor-differs (get c.args.nodes.now) c.predecessor-before.result c.args.at (Some 0) (cells_from c.args.nodes.now (Some 0)) c.requires.linked.links b in
     let O : Option ListNode → Type 0 = λ o. IsSome o in
     subst O (sym (c.remove-node.ensures.updates.others c.predecessor-before.result other ∙ n.1)) refl
 
 pub returns-clause-linked : goal.returns-clause-linked
-returns-clause-linked c = let here = goal.at.returns-clause-linked c in (done here.After-set_next (stands here.After-predecessor-before)).linked
+returns-clause-linked c = let here = goal.at.returns-clause-linked c in (done here.After-set_next (is_predecessor here.After-predecessor-before)).linked
 
 pub returns-clause-cells : goal.returns-clause-cells
-returns-clause-cells c = let here = goal.at.returns-clause-cells c in (done here.After-set_next (stands here.After-predecessor-before)).cells
+returns-clause-cells c = let here = goal.at.returns-clause-cells c in (done here.After-set_next (is_predecessor here.After-predecessor-before)).cells
 
 pub returns-clause-capacity : goal.returns-clause-capacity
 returns-clause-capacity c = ap (λ (v : Slab ListNode). v.capacity) c.set_next.ensures.now ∙ c.remove-node.ensures.capacity
