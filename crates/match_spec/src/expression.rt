@@ -1,8 +1,10 @@
 // Compiled expressions.
+pub(crate) mod apply;
 pub(crate) mod arithmetic;
 pub(crate) mod check;
 pub(crate) mod comparison;
 pub(crate) mod compile;
+pub(crate) mod connectives;
 pub(crate) mod evaluate;
 pub(crate) mod function;
 pub(crate) mod guards;

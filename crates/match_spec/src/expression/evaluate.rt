@@ -2,13 +2,13 @@
 ghost use Rattle.std.specs.Prelude.{◌≡◌, [], ◌∷◌, Some, map, IfOk, IfSome};
 ghost use Rattle.std.specs.Option.{option_map, option_and_then};
 ghost use Rattle.ets_term.specs.Data.{data_of};
-ghost use Rattle.match_spec.specs.Functions.{boolean, head, element};
+ghost use Rattle.match_spec.specs.Functions.{boolean};
 ghost use Rattle.match_spec.specs.inside.CompiledExpressions.{value_data, expression_value, all_of, strict_of, apply_of, short_circuit_of};
-ghost use Rattle.match_spec.specs.inside.Functions.{apply, neutral, combine, decides};
 
-use crate::expression::function::{Function, eval_binary, eval_unary};
+use crate::expression::apply::{apply_to_one, apply_to_two};
+use crate::expression::connectives::{combine, decides, identity_of};
+use crate::expression::function::Function;
 use crate::expression::guards::{boolean, truth};
-use crate::expression::lists::{element, head};
 use crate::expression::{Connective, Expression};
 use crate::pattern::path::{clone_subterms, subterm_at};
 use ets_term::{Items, Term};
@@ -190,36 +190,6 @@ fn eval_strict(
     Ok(Some(all))
 }
 
-/// Returns the truth value that changes no combination: true for `and`, false for `or`.
-fn identity_of(connective: Connective) -> bool
-    ensures { result ≡ neutral connective }
-{
-    match connective {
-        Connective::And => true,
-        Connective::Or => false,
-    }
-}
-
-/// Combines the truth value so far with that of the next argument.
-fn combine(connective: Connective, x: bool, y: bool) -> bool
-    ensures { result ≡ combine connective x y }
-{
-    match connective {
-        Connective::And => x && y,
-        Connective::Or => x || y,
-    }
-}
-
-/// Checks whether an argument with this truth value decides `andalso` or `orelse`.
-fn decides(connective: Connective, truth: bool) -> bool
-    ensures { result ≡ decides connective truth }
-{
-    match connective {
-        Connective::And => !truth,
-        Connective::Or => truth,
-    }
-}
-
 /// Drops a value. A drop inside a loop would repeat all its cases in each later goal.
 pub(crate) fn discard(_value: ExprValue) {}
 
@@ -257,80 +227,4 @@ fn eval_short_circuit<'a>(
         discard(x);
     }
     Ok(None)
-}
-
-/// Returns a term as an owned value.
-fn owned_value<'a>(term: Option<Term>) -> Option<ExprValue<'a>>
-    ensures { option_map value_data result ≡ option_map data_of term }
-{
-    match term {
-        Some(term) => Some(ExprValue::Owned(term)),
-        None => None,
-    }
-}
-
-/// Applies a function to one value.
-fn apply_to_one<'a>(
-    alloc: Global,
-    function: Function,
-    x: ExprValue<'a>,
-) -> Result<Option<ExprValue<'a>>, AllocError>
-    ensures { IfOk result (λ v. option_map value_data v ≡ apply function (value_data x.entry ∷ [])) }
-{
-    if let Function::Hd = function {
-        return eval_hd(alloc, x);
-    }
-    Ok(owned_value(eval_unary(alloc, function, x.term())?))
-}
-
-/// Applies a function to two values.
-pub(crate) fn apply_to_two<'a>(
-    alloc: Global,
-    function: Function,
-    x: ExprValue<'a>,
-    y: ExprValue<'a>,
-) -> Result<Option<ExprValue<'a>>, AllocError>
-    ensures { IfOk result (λ v. option_map value_data v
-        ≡ apply function (value_data x.entry ∷ value_data y.entry ∷ [])) }
-{
-    if let Function::Element = function {
-        return eval_element(alloc, x, y);
-    }
-    Ok(owned_value(eval_binary(alloc, function, x.term(), y.term())?))
-}
-
-/// Returns the first element of a list, or `None` if there is none.
-fn eval_hd<'a>(alloc: Global, x: ExprValue<'a>) -> Result<Option<ExprValue<'a>>, AllocError>
-    ensures { IfOk result (λ v. option_map value_data v ≡ head (value_data x.entry)) }
-{
-    match x {
-        ExprValue::Borrowed(list) => match head(list) {
-            Some(first) => Ok(Some(ExprValue::Borrowed(first))),
-            None => Ok(None),
-        },
-        ExprValue::Owned(list) => match head(&list) {
-            Some(first) => Ok(Some(ExprValue::Owned(first.try_clone(alloc)?))),
-            None => Ok(None),
-        },
-    }
-}
-
-/// Returns element `n` of a tuple, counted from 1, or `None` if there is none.
-fn eval_element<'a>(
-    alloc: Global,
-    n: ExprValue<'a>,
-    x: ExprValue<'a>,
-) -> Result<Option<ExprValue<'a>>, AllocError>
-    ensures { IfOk result (λ v. option_map value_data v ≡ element (value_data n.entry) (value_data x.entry)) }
-{
-    match x {
-        ExprValue::Borrowed(tuple) => match element(n.term(), tuple) {
-            Some(part) => Ok(Some(ExprValue::Borrowed(part))),
-            None => Ok(None),
-        },
-        ExprValue::Owned(tuple) => match element(n.term(), &tuple) {
-            Some(part) => Ok(Some(ExprValue::Owned(part.try_clone(alloc)?))),
-            None => Ok(None),
-        },
-    }
 }

@@ -8,10 +8,9 @@ ghost use Rattle.match_spec.specs.inside.CompiledClauses.{all_hold_of};
 ghost use Rattle.match_spec.specs.inside.CompiledExpressions.{value_data, apply_of, expression_value};
 
 use crate::expression::Expression;
+use crate::expression::apply::apply_to_two;
 use crate::expression::comparison::compares;
-use crate::expression::evaluate::{
-    Env, ExprValue, apply_to_two, borrowed_value, evaluate, value_of,
-};
+use crate::expression::evaluate::{Env, ExprValue, borrowed_value, evaluate, value_of};
 use crate::expression::function::Function;
 use ets_term::Term;
 use std::alloc::{AllocError, Global};

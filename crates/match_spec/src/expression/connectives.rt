@@ -1,0 +1,35 @@
+// How connectives combine truth values.
+ghost use Rattle.std.specs.Prelude.{◌≡◌};
+ghost use Rattle.match_spec.specs.inside.Functions.{neutral, combine, decides};
+
+use crate::expression::Connective;
+
+/// Returns the truth value that changes no combination: true for `and`, false for `or`.
+pub(crate) fn identity_of(connective: Connective) -> bool
+    ensures { result ≡ neutral connective }
+{
+    match connective {
+        Connective::And => true,
+        Connective::Or => false,
+    }
+}
+
+/// Combines the truth value so far with that of the next argument.
+pub(crate) fn combine(connective: Connective, x: bool, y: bool) -> bool
+    ensures { result ≡ combine connective x y }
+{
+    match connective {
+        Connective::And => x && y,
+        Connective::Or => x || y,
+    }
+}
+
+/// Checks whether an argument with this truth value decides `andalso` or `orelse`.
+pub(crate) fn decides(connective: Connective, truth: bool) -> bool
+    ensures { result ≡ decides connective truth }
+{
+    match connective {
+        Connective::And => !truth,
+        Connective::Or => truth,
+    }
+}
