@@ -1,9 +1,10 @@
-ghost use Rattle.std.specs.Prelude.{◌≡◌, ◌≤◌, false, if◌then◌else◌, Some, None, [], length, vec_capacity, IfOk, IfErr, OnOk, OnErr};
-ghost use Rattle.node_core.specs.declared.step.Reply.TheVariants.{NoProcess};
+ghost use Rattle.std.specs.Prelude.{◌≡◌, ◌≤◌, [], length, vec_capacity, IfOk, IfErr, OnErr};
 ghost use Rattle.node_core.specs.declared.step.Step.TheVariants.{End, Ask};
 ghost use Rattle.node_shared.specs.Records.{with_entry};
 ghost use Rattle.node_shared.specs.Calling.{HasAsked};
-ghost use Rattle.node_shared.specs.Serving.{AnswersRead, AnswersReads, ContinuesTo};
+ghost use Rattle.node_shared.specs.Serving.{ContinuesTo};
+
+mod reads;
 
 use crate::history::{HistoryId, HistoryWord, HistoryWriter};
 use crate::served::ServedNode;
@@ -157,126 +158,6 @@ impl<B: HistoryId> Caller<B> {
     {
         let event = Step::End(self.pid);
         self.step(rt, server, event)
-    }
-
-    /// Replies to a call that changes nothing, in parallel with other readers. Returns `None` for any other call. Some
-    /// run of a node with these limits leads to the state that it reads. That run has at least as many entries as the
-    /// history had at this caller's last own step. It may wait for the lock. `Err` is out of memory, or a history with
-    /// fewer entries, which no server has for its own caller.
-    pub fn read<H: KeyHash + Copy + Drop, R: Wait>(
-        &self,
-        rt: &R,
-        server: &Server<B, H>,
-        call: &Call,
-    ) -> Result<Option<Reply>, AllocError>
-        ensures { IfOk result (AnswersRead B.limits self.now.own.pid self.now.seen call.now) }
-    {
-        match &server.lock.kind {
-            LockKind::Single(lock) => self.read_on(&*lock.read(rt), call),
-            LockKind::Sharded(lock) => self.read_on(&**lock.read(rt, self.shard()), call),
-        }
-    }
-
-    /// Answers a call that changes nothing from a node under the lock.
-    fn read_on<H: KeyHash + Copy + Drop>(
-        &self,
-        served: &ServedNode<B, H>,
-        call: &Call,
-    ) -> Result<Option<Reply>, AllocError>
-        ensures { IfOk result (AnswersRead B.limits self.now.own.pid self.now.seen call.now) }
-    {
-        self.check_seen(served.count())?;
-        served.read(self.pid, call)
-    }
-
-    /// Like `read`, but writes the reply over another and uses its memory again, as `Node::read_into` does. Returns
-    /// whether it replied: `false` for any other call, which leaves the reply as it is. After an error the reply is
-    /// `NoProcess`.
-    pub fn read_into<H: KeyHash + Copy + Drop, R: Wait>(
-        &self,
-        rt: &R,
-        server: &Server<B, H>,
-        call: &Call,
-        reply: &mut Reply,
-    ) -> Result<bool, AllocError>
-        ensures ok { IfOk result (λ replied. AnswersRead B.limits self.now.own.pid self.now.seen call.now
-            (if replied then Some reply.new else None)) }
-        ensures reply { IfOk result (λ replied. replied ≡ false → reply.new ≡ reply.old) }
-        ensures err { OnErr result (reply.new ≡ NoProcess) }
-    {
-        match &server.lock.kind {
-            LockKind::Single(lock) => self.read_into_on(&*lock.read(rt), call, reply),
-            LockKind::Sharded(lock) => {
-                self.read_into_on(&**lock.read(rt, self.shard()), call, reply)
-            }
-        }
-    }
-
-    /// Writes the reply of a call that changes nothing, from a node under the lock. Returns whether it did.
-    fn read_into_on<H: KeyHash + Copy + Drop>(
-        &self,
-        served: &ServedNode<B, H>,
-        call: &Call,
-        reply: &mut Reply,
-    ) -> Result<bool, AllocError>
-        ensures ok { IfOk result (λ replied. AnswersRead B.limits self.now.own.pid self.now.seen call.now
-            (if replied then Some reply.new else None)) }
-        ensures reply { IfOk result (λ replied. replied ≡ false → reply.new ≡ reply.old) }
-        ensures err { OnErr result (reply.new ≡ NoProcess) }
-    {
-        if let Err(error) = self.check_seen(served.count()) {
-            *reply = Reply::NoProcess;
-            return Err(error);
-        }
-        served.read_into(self.pid, call, reply)
-    }
-
-    /// Replies to several calls that change nothing, in order and all from one state, under one hold of the lock. `read`
-    /// says what holds of that state, for which calls there is no reply, and what `Err` is.
-    pub fn read_all<H: KeyHash + Copy + Drop, R: Wait>(
-        &self,
-        rt: &R,
-        alloc: Global,
-        server: &Server<B, H>,
-        calls: &[Call],
-    ) -> Result<Vec<Option<Reply>>, AllocError>
-        ensures { IfOk result (λ replies. AnswersReads B.limits self.now.own.pid self.now.seen calls.now replies.items) }
-    {
-        match &server.lock.kind {
-            LockKind::Single(lock) => self.read_all_on(alloc, &*lock.read(rt), calls),
-            LockKind::Sharded(lock) => {
-                self.read_all_on(alloc, &**lock.read(rt, self.shard()), calls)
-            }
-        }
-    }
-
-    /// Answers each call that changes nothing from one state of a node under the lock.
-    fn read_all_on<H: KeyHash + Copy + Drop>(
-        &self,
-        alloc: Global,
-        served: &ServedNode<B, H>,
-        calls: &[Call],
-    ) -> Result<Vec<Option<Reply>>, AllocError>
-        ensures { IfOk result (λ replies. AnswersReads B.limits self.now.own.pid self.now.seen calls.now replies.items) }
-    {
-        self.check_seen(served.count())?;
-        served.read_all(alloc, self.pid, calls)
-    }
-
-    /// Returns the number that chooses the shard of a sharded lock for a read. Callers with other numbers modulo 8 change
-    /// other words of memory.
-    fn shard(&self) -> usize {
-        self.pid as usize
-    }
-
-    /// Returns an error if a history of `count` entries has not all of this caller's own.
-    fn check_seen(&self, count: u64) -> Result<(), AllocError>
-        ensures { OnOk result (self.now.seen ≤ count) }
-    {
-        if self.seen > count {
-            return Err(AllocError);
-        }
-        Ok(())
     }
 
     /// Takes the lock of either kind for one step.
