@@ -93,7 +93,7 @@ impl PendingTables {
         self.dirty = None;
     }
 
-    /// Reserves capacity for `room` identifiers.
+    /// Reserves capacity for `len` identifiers in all.
     pub fn reserve(&mut self, len: usize) -> Result<(), AllocError>
         ensures same { self.new.ordered ≡ self.old.ordered }
         ensures dirty { self.new.dirty ≡ self.old.dirty }

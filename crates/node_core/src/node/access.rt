@@ -36,6 +36,8 @@ impl<H: KeyHash + Copy + Drop> Node<H> {
     }
 
     /// Borrows the table that a term names for a change, if the process may use it in this way.
+    // `lends`: when the borrow ends, this table has what the borrower wrote, and the rest of the node's state is as
+    // before. If the result is `None`, all of it is as before.
     pub(crate) fn usable_table_mut(
         &mut self,
         access: Access,

@@ -174,7 +174,7 @@ fn answers_reply(found: Items<Term>) -> Reply
     Reply::Value(Term::List(found))
 }
 
-/// Returns the number of objects of a table as an integer, whose range always suffices.
+/// Makes the reply of a count, of the objects that a call selected or deleted.
 fn count_reply(count: usize) -> Reply
     requires { count < 2 ^ 32 }
     ensures { result ≡ count_reply count }
