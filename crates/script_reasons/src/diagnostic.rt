@@ -59,7 +59,7 @@ impl fmt::Display for Diagnostic<'_> {
     }
 }
 
-/// Returns the name of a step: the command's word, or the call.
+/// Displays as the name of a step: the command's word, or the call.
 #[derive(Clone, Copy)]
 struct StepSubject<'a> {
     step: &'a Step,
@@ -82,7 +82,7 @@ impl fmt::Display for StepSubject<'_> {
     }
 }
 
-/// Returns the name of a call with its number of arguments: `lookup/2`.
+/// Displays as the name of a call with its number of arguments: `lookup/2`.
 #[derive(Clone, Copy)]
 struct CallSubject<'a> {
     call: &'a Call,
@@ -99,7 +99,7 @@ impl fmt::Display for CallSubject<'_> {
     }
 }
 
-/// Returns a process's name as the line has it.
+/// Returns a process's name as the line has it, or `the name` for bytes that are not UTF-8.
 fn name_text(name: &[u8]) -> &str
     ensures { result.now ≡ name_text name.now }
 {

@@ -10,7 +10,7 @@ use crate::lex_state::{LexState, QuoteState};
 use ets_term::{MAX_CHARACTERS, MAX_DEPTH};
 use term_text::{is_digit_byte, is_lowercase_byte};
 
-/// A number with this many digits can be out of range in any position.
+/// A number of ten digits can exceed 2^32 - 1, the greatest number of a pid or table identifier.
 const LONG_NUMBER: usize = 10;
 
 /// The problem at the fault of a line.
@@ -141,7 +141,7 @@ fn diagnose_term_start(state: &LexState, before: &[u8], byte: u8, after: &[u8]) 
     }
 }
 
-/// Diagnoses a byte of a kind that cannot come here.
+/// Diagnoses a byte that cannot follow the text before it.
 fn diagnose_unexpected_byte(before: &[u8], byte: u8, after: &[u8]) -> SyntaxProblem
     ensures { result ≡ spec.diagnose_unexpected_byte before.now byte after.now }
 {

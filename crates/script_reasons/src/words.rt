@@ -27,6 +27,7 @@ impl SyntaxProblem {
             SyntaxProblem::ImproperList => "improper lists are not supported",
             SyntaxProblem::Colon => "unexpected ':' (calls have no module)",
             SyntaxProblem::PlusSign => "unexpected '+'",
+            // The end of a sentence: `fmt` writes `only`, the quote and the backslash before it.
             SyntaxProblem::Escape(_) => "can be escaped",
             SyntaxProblem::PastRange => "integer out of range",
             SyntaxProblem::LongName => "atom longer than 255 characters",
