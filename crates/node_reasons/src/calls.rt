@@ -1,4 +1,5 @@
-//! The last reason of each call.
+//! The last rule of each call. If a call is refused with badarg, and it breaks none of its earlier rules, it breaks
+//! this one.
 
 ghost use Rattle.std.specs.Prelude.{◌≡◌, [], ◌∷◌, option_copied};
 ghost use Rattle.node_reasons.specs.Reasons.{argument};
@@ -25,7 +26,7 @@ pub fn limit_of(name: CallName) -> Rule
     }
 }
 
-/// Returns the last reason of a call that is badarg.
+/// Returns the reason with the last rule of a call, for a call that is refused with badarg.
 pub fn last_rule_of_call<R: Rows>(
     world: &World<R>,
     pid: u32,
