@@ -3,7 +3,7 @@ ghost use Rattle.node_list.specs.Ticks.{tick};
 
 use std::marker::Model;
 
-/// Counts the objects that searches test: one for each object and test, up to the greatest `u64`. It never falls.
+/// A counter of the objects that searches test: one for each object and test, up to the greatest `u64`. It never falls.
 #[derive(Drop)]
 pub struct Looks {
     count: u64,

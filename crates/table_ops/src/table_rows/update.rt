@@ -28,7 +28,7 @@ impl<R: Rows> TableRows<R> {
         0 < position && position != self.keypos as Position
     }
 
-    /// Returns whether an update may name the positions of all operations.
+    /// Returns whether no operation updates the key, and each position is at least 1.
     pub(crate) fn ops_avoid_key(&self, ops: &Ops) -> bool
         ensures { result ≡ ops_avoid_key self.now.keypos ops.now }
     {
@@ -38,14 +38,14 @@ impl<R: Rows> TableRows<R> {
         }
     }
 
-    /// Returns whether an update may name the positions of all operations of a list.
+    /// Returns whether no operation of a list updates the key, and each position is at least 1.
     fn all_avoid_key(&self, ops: &[Op]) -> bool
         ensures { result ≡ list_all (λ op. may_update self.now.keypos op.position) ops.now }
     {
         ops.iter().all(|op| self.may_update(op.position))
     }
 
-    /// Returns whether an update may name the positions of all values.
+    /// Returns whether no value is for the key, and each position is at least 1.
     pub(crate) fn specs_avoid_key(&self, specs: &ElementSpecs) -> bool
         ensures { result ≡ specs_avoid_key self.now.keypos specs.now }
     {
@@ -58,7 +58,7 @@ impl<R: Rows> TableRows<R> {
         }
     }
 
-    /// Returns whether the Default is absent, or is an object with `key` at keypos.
+    /// Returns whether the default object is absent, or is an object with `key` at keypos.
     pub(crate) fn default_is_object(&self, key: &Term, default: Option<&Term>) -> bool
         ensures { result ≡ default_is_object self.now.keypos key.now (option_copied default.entry) }
     {
