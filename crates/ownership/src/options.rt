@@ -13,7 +13,7 @@ use read::read_all;
 use std::alloc::Global;
 use table_ops::Kind;
 
-/// The options of a new table.
+/// The table options of ets:new/2.
 #[derive(Drop)]
 pub struct NewOptions {
     kind: Kind,

@@ -58,6 +58,7 @@ impl<R: Rows> OwnedTable<R> {
     }
 
     /// Borrows the table without its metadata for a change.
+    // `lends`: when the borrow ends, the table has what the borrower wrote, and its metadata is as before.
     pub fn table_mut(&mut self) -> &mut Walked<R>
         ensures* lends { sem 𝓛 (LendsFixed R.row R.Rows self.entry result) }
         ensures value { result.now ≡ self.old.fixed }

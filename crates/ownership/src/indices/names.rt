@@ -12,7 +12,7 @@ use ets_term::Atom;
 use std::alloc::{AllocError, Global};
 
 impl Indices {
-    /// Returns the identifier of the table with this name, or `None`. The table that was named last needs no hash.
+    /// Returns the identifier of the table with this name, or `None`. The last entry of the index needs no hash.
     pub fn find(&self, name: &Atom) -> Option<u32>
         ensures { (tables : Tables) → IndicesInvariant self.now tables → result ≡ whereis tables name.now }
     {
@@ -22,7 +22,7 @@ impl Indices {
         }
     }
 
-    /// Returns the identifier of the table that was named last, if this is its name.
+    /// Returns the identifier in the last entry of the index, if the entry has this name.
     #[inline(always)]
     fn last_named(&self, name: &Atom) -> Option<u32>
         ensures { IfSome result (λ id. get_by_text self.now.names name.now ≡ Some id) }
@@ -64,6 +64,7 @@ impl Indices {
             → IndicesInvariant self.old tables → IndicesInvariant self.new (slice_set tables t None) }
     {
         if metadata.named {
+            // The order of the index does not matter: `if_last_entry` checks the name.
             let _ = self.names.swap_remove(metadata.name.text());
         }
     }

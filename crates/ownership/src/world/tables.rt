@@ -72,6 +72,8 @@ impl<R: Rows> World<R> {
     }
 
     /// Borrows the table with this identifier for a change of its objects and fixes.
+    // `lends`: when the borrow ends, this table has what the borrower wrote, and the rest of the world is as before. If
+    // the result is `None`, all of it is as before.
     pub fn table_mut(&mut self, id: u32) -> Option<&mut Walked<R>>
         ensures* lends { sem 𝓛 (LendsTable R.row R.Rows self.entry id result) }
         ensures value { option_copied_mut result ≡ fixed_at self.old.tables id }
