@@ -101,7 +101,7 @@ impl<'a, W: Write> Output<'a, W> {
         self.add(b"\n")
     }
 
-    /// Adds the text of a term; if there is no memory for it, writes it after the buffered bytes.
+    /// Adds the text of a term. If the buffer cannot grow, writes the buffered bytes and then the text to the writer.
     fn put_term(&mut self, term: &Term) -> Result<(), WriteFault>
         ensures same_writer { HasWriterOf self.old self.new }
         ensures ok { OnOk result (Adds W.contents self.old self.new (printed term.now)) }

@@ -26,7 +26,7 @@ const MAX_KEPT: usize = 65_536;
 struct Server {
     alloc: Global,
     store: Store,
-    /// Memory for the rest of a reply's body.
+    /// The body of a reply after its status byte. Its memory is kept for the next reply.
     rest: Vec<u8>,
 }
 
@@ -160,7 +160,7 @@ fn add_reply<W: Write>(
     output.add(rest)
 }
 
-/// Returns the length of a reply's body, and its status.
+/// Returns the first five bytes of a reply: the length of its body, big-endian, and the status.
 fn reply_prefix(status: u8, rest: &[u8]) -> [u8; 5]
     requires { length rest.now < 2 ^ 32 - 1 }
     ensures { result ≡ big4 (length (status ∷ rest.now)) ++ status ∷ [] }
