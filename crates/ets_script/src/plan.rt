@@ -24,7 +24,8 @@ pub struct PlannedAnswers {
     pub names: Names,
 }
 
-/// The work: the jobs of each process, in the order of the processes, and the number of turns for pending growth steps.
+/// The work: the jobs of each process, in the order of the processes, and the turns: the greatest number of pending
+/// growth steps, one for each line.
 #[derive(Drop)]
 pub struct ProcessJobs {
     pub jobs: Items<Items<Job>>,
@@ -148,7 +149,7 @@ impl Plan {
         self.names.get_index_of(name)
     }
 
-    /// Adds a job for the process of this name.
+    /// Adds a job for the process of this name, or the answer `noproc` if no process has it.
     fn add_job_for(&mut self, name: &[u8], job: Job) -> Result<(), AllocError>
         ensures { IfOk result (λ _. self.new
             ≡ with_job (number_of self.old.plan name.now) job self.old) }
@@ -167,7 +168,8 @@ impl Plan {
         add_job(self.alloc, &mut self.jobs, number, job)
     }
 
-    /// Adds a new name, if it is new and there may be more. Reserves capacity for it first.
+    /// Adds a process for a name. The answer is `badarg` if the name is taken, and `system_limit` if there are too many.
+    /// Reserves capacity first.
     fn add_spawn(&mut self, name: &[u8]) -> Result<(), AllocError>
         ensures { IfOk result (λ _. self.new ≡ with_name name.now self.old) }
     {
