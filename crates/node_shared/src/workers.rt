@@ -33,8 +33,8 @@ pub fn run_clients<
     run_from(rt, alloc, shared, 0, work, gate)
 }
 
-/// Does the same for clients that are numbered from `first` on: for one half of them in a new thread, for the other
-/// here.
+/// Runs the jobs as `run_clients` does, for clients numbered from `first` on: of one half of them in a new thread, of
+/// the other here.
 fn run_from<
     L: Ledger + Send + Sync,
     H: KeyHash + Copy + Drop + Send + Sync,
@@ -62,10 +62,12 @@ fn run_from<
     let next = first.wrapping_add(half);
     let (front_done, back_done) = thread::join(
         rt,
+        // The front half.
         move || -> Result<Vec<Worked<L>>, AllocError>
             requires { IsSync R.row × IsSync G.row }
             ensures { IfOk result (λ workers. AllWorked work.items workers.items) }
         { run_from(rt, alloc, shared, first, work, gate) },
+        // The back half.
         move || -> Result<Vec<Worked<L>>, AllocError>
             requires { IsSync R.row × IsSync G.row }
             ensures { IfOk result (λ workers. AllWorked back.items workers.items) }

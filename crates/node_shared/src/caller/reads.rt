@@ -118,8 +118,8 @@ impl<B: HistoryId> Caller<B> {
         served.read_all(alloc, self.pid, calls)
     }
 
-    /// Returns the number that chooses the shard of a sharded lock for a read. Callers with other numbers modulo 8 change
-    /// other words of memory.
+    /// Returns the number that chooses the shard of a sharded lock for a read. Callers whose numbers differ modulo the
+    /// shards of the lock, of which there are 8, change different words of memory.
     fn shard(&self) -> usize {
         self.pid as usize
     }
@@ -129,6 +129,7 @@ impl<B: HistoryId> Caller<B> {
         ensures { OnOk result (self.now.seen ≤ count) }
     {
         if self.seen > count {
+            // No server has so short a history for its own caller. `AllocError` is the only error of a read.
             return Err(AllocError);
         }
         Ok(())
