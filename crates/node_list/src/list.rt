@@ -220,6 +220,7 @@ impl NodeList {
     }
 
     /// Borrows the chain of an item for a change.
+    // `lends`: when the borrow ends, the item has the chain that the borrower wrote, and the rest is as before.
     pub fn chain_mut(&mut self, at: At) -> &mut Chain
         requires { HasItem at self.old.cells }
         ensures* lends { sem 𝓛 (LendsChainAt at self.entry result) }

@@ -21,7 +21,8 @@ use std::mem;
 
 /// Nodes by place: a slab of headers and an array of items. A search that passes a node reads its header alone. A
 /// contract sees one slab of nodes. A place is added to the slab only after there is capacity for its item, and never
-/// goes back. Places without a node form the *free list*: each leads to the next.
+/// goes back. Places without a node form the *free list*: each leads to the next. The slab's
+/// `vacant_key` is the first free place.
 #[derive(Drop)]
 pub struct Nodes {
     nodes: Slab<PackedHeader>,
@@ -58,6 +59,7 @@ impl Model for Nodes {
 }
 
 impl Nodes {
+    /// Makes a list of no nodes, which takes no memory.
     pub fn new(alloc: Global) -> Nodes
         ensures empty { result.slots ≡ [] }
         ensures first { result.vacant_key ≡ 0 }
@@ -237,6 +239,7 @@ impl Nodes {
         None
     }
 
+    /// Returns the number of nodes.
     #[inline]
     pub fn len(&self) -> usize
         ensures value { result ≡ slab_len self.now }
@@ -263,6 +266,8 @@ impl Nodes {
         *packed = packed.with_next(next);
     }
 
+    /// Borrows the chain of the item at a place for a change.
+    // `lends`: when the borrow ends, the item has the chain that the borrower wrote, and the rest is as before.
     pub fn chain_mut(&mut self, at: usize) -> &mut Chain
         requires { HasItemIn self.old at }
         ensures* lends { sem 𝓛 (LendsChainIn at self.entry result) }
