@@ -16,7 +16,7 @@ impl Indices {
     pub fn find(&self, name: &Atom) -> Option<u32>
         ensures { (tables : Tables) → IndicesInvariant self.now tables → result ≡ whereis tables name.now }
     {
-        match self.last_named(name) {
+        match self.if_last_entry(name) {
             Some(id) => Some(id),
             None => self.names.get(name.text()).copied(),
         }
@@ -24,7 +24,7 @@ impl Indices {
 
     /// Returns the identifier in the last entry of the index, if the entry has this name.
     #[inline(always)]
-    fn last_named(&self, name: &Atom) -> Option<u32>
+    fn if_last_entry(&self, name: &Atom) -> Option<u32>
         ensures { IfSome result (λ id. get_by_text self.now.names name.now ≡ Some id) }
     {
         match self.names.get_index(self.names.len().saturating_sub(1)) {
