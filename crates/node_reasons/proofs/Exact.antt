@@ -121,8 +121,8 @@ module _ (old : State) where
   enrol-explained p =
       asks-explained old (if is_some (process_at old.world.processes p) then Some (about_whole_call rule.AlreadyEnrolled) else None) (λ _. Value (Pid p)) (tables.Enrol old.world p)
       (where-explained old None (Some (about_whole_call rule.AlreadyEnrolled)) (λ _. Value (Pid p)) (is_some (process_at old.world.processes p))
-      (refuse old.world (nat_le old.world.most_processes (length old.world.processes)) (Err fault.SystemLimit) (gives (Ok (tt {0})) (after_enrol old.world p))) (λ reply e. (e, refl))
-      (within-explained old (λ _. Value (Pid p)) (nat_le old.world.most_processes (length old.world.processes)) (tt {0}) (after_enrol old.world p) refl))
+      (refuse old.world (nat_le old.world.max_processes (length old.world.processes)) (Err fault.SystemLimit) (gives (Ok (tt {0})) (after_enrol old.world p))) (λ reply e. (e, refl))
+      (within-explained old (λ _. Value (Pid p)) (nat_le old.world.max_processes (length old.world.processes)) (tt {0}) (after_enrol old.world p) refl))
 
   ended : (after : World) (result : _) (reply : Reply) (new : World) (b : Bool) → refuse old.world (not b) (Err fault.NoProcess) (gives (Ok (tt {0})) after) result new → WorldResultToReply (λ _. true_reply) result reply
       → Right (if b then None else Some (about_whole_call rule.NoProcess)) (about_whole_call rule.NoProcess) (about_whole_call rule.NoProcess) reply

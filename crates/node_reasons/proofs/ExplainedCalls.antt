@@ -119,10 +119,10 @@ module _ (old : State) where
   enters-explained : (p : ℕ) (text : List ℕ) (options : NewOptions) → ReasonExplainsWorld (why_new_with old.world.tables text (Some options)) Value (Enters p text options)
   enters-explained p text options =
       where-explained None (Some (argument 1 rule.NameIsTaken)) Value (options.named && is_some (whereis old.world.tables text))
-      (refuse old.world (nat_le old.world.most_tables (length old.world.tables)) (Err fault.SystemLimit)
+      (refuse old.world (nat_le old.world.max_tables (length old.world.tables)) (Err fault.SystemLimit)
       (gives (Ok (name_or_identifier options.named text (length old.world.tables))) (with_table old.world (new_metadata p text options) (new_table_of old.limits.objects options))))
       (λ reply e. (e, refl))
-      (within-explained Value (nat_le old.world.most_tables (length old.world.tables)) (name_or_identifier options.named text (length old.world.tables)) (with_table old.world (new_metadata p text options) (new_table_of old.limits.objects options)) refl)
+      (within-explained Value (nat_le old.world.max_tables (length old.world.tables)) (name_or_identifier options.named text (length old.world.tables)) (with_table old.world (new_metadata p text options) (new_table_of old.limits.objects options)) refl)
 
   abbrev Makes : ℕ → List ℕ → NewOptions → Outcome Reply State
   Makes p text options reply new = asks old Value (Enters p text options) reply new

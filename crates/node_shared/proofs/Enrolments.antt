@@ -26,7 +26,7 @@ differs answer r a b same is was = sym is ∙ sym (ap is_value same) ∙ was
 
 -- a reply that is no refusal is the number
 pub enrol-granted : (old new : State) (p : ℕ) (r : Reply) → is_value r ≡ true → step old (Enrol p) r new → r ≡ Value (Pid p)
-enrol-granted old new p r granted h = by (is_some (process_at old.world.processes p)) (nat_le old.world.most_processes (length old.world.processes)) h.0 h.1 h.2
+enrol-granted old new p r granted h = by (is_some (process_at old.world.processes p)) (nat_le old.world.max_processes (length old.world.processes)) h.0 h.1 h.2
   where
     by : (known full : Bool) (x : Result (Unit {0}) WorldFault) → Enrols old.world new.world p known full x → WorldResultToReply (λ _. Value (Pid p)) x r → r ≡ Value (Pid p)
     by true full x a b = let same : r ≡ Badarg = rw a.0 at b in let bad : false ≡ true = differs Badarg r false true same refl granted in absurd (cc)
@@ -35,7 +35,7 @@ enrol-granted old new p r granted h = by (is_some (process_at old.world.processe
 
 -- and a refusal is one of two
 pub enrol-refused : (old new : State) (p : ℕ) (r : Reply) → is_value r ≡ false → step old (Enrol p) r new → IsEnrolRefusal r
-enrol-refused old new p r refused h = by (is_some (process_at old.world.processes p)) (nat_le old.world.most_processes (length old.world.processes)) h.0 h.1 h.2
+enrol-refused old new p r refused h = by (is_some (process_at old.world.processes p)) (nat_le old.world.max_processes (length old.world.processes)) h.0 h.1 h.2
   where
     by : (known full : Bool) (x : Result (Unit {0}) WorldFault) → Enrols old.world new.world p known full x → WorldResultToReply (λ _. Value (Pid p)) x r → IsEnrolRefusal r
     by true full x a b = let same : r ≡ Badarg = rw a.0 at b in inl same

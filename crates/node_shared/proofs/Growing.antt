@@ -89,7 +89,7 @@ module _ (limits : Limits) (all : ℕ) (es : List Entry) (old new : State) (tota
   pub invariant-step : (s : Step) (r : Reply) (more : ℕ) → BookInvariant limits all old es total parts → TakesStep old s r new → weight s ≡ more → BookInvariant limits all new (es ++ entry s r ∷ []) (total + more) parts
   invariant-step s r more was does adds =
       let m = step-remembers (observable old) (observable new) s r does.0 in
-      let most : new.world.most_processes ≡ old.world.most_processes = m.most in
+      let most : new.world.max_processes ≡ old.world.max_processes = m.most in
       let known : length old.world.processes ≤ length new.world.processes = m.known in
       let enough = was.enough in
       let counted = was.counted in
@@ -106,7 +106,7 @@ module _ (limits : Limits) (all : ℕ) (es : List Entry) (old new : State) (tota
     -- there is a part to give
     pub part-left : 1 < parts
     part-left =
-        let room : length old.world.processes < old.world.most_processes = (enrolled (observable old) (observable new) p r granted does.0).1 in
+        let room : length old.world.processes < old.world.max_processes = (enrolled (observable old) (observable new) p r granted does.0).1 in
         let enough = was.enough in
         omega arith
 
@@ -115,7 +115,7 @@ module _ (limits : Limits) (all : ℕ) (es : List Entry) (old new : State) (tota
     invariant-join left gave =
         let s = invariant-step (Enrol p) r 1 was does refl in
         let m = step-remembers (observable old) (observable new) (Enrol p) r does.0 in
-        let most : new.world.most_processes ≡ old.world.most_processes = m.most in
+        let most : new.world.max_processes ≡ old.world.max_processes = m.most in
         let one_more : length new.world.processes ≡ length old.world.processes + 1 = (enrolled (observable old) (observable new) p r granted does.0).0 in
         let enough = was.enough in
         record { most = s.most; same = s.same; run = s.run; counted = s.counted; enough = omega arith }

@@ -14,4 +14,4 @@ pub record BookInvariant
   pub same : state.limits ≡ limits
   pub run : IsRun limits journal state
   pub counted : total ≡ process_entries journal
-  pub enough : state.world.most_processes + 1 ≤ length state.world.processes + parts
+  pub enough : state.world.max_processes + 1 ≤ length state.world.processes + parts

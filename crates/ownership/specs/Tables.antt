@@ -23,7 +23,7 @@ after_enrol w p =
 abbrev pub Enrol : World → ℕ → Outcome (Result (Unit {0}) WorldFault) World
 Enrol old p =
     refuse old (is_some (process_at old.processes p)) (Err Badarg) (
-    refuse old (nat_le old.most_processes (length old.processes)) (Err SystemLimit) (
+    refuse old (nat_le old.max_processes (length old.processes)) (Err SystemLimit) (
     gives (Ok tt) (after_enrol old p)))
 
 -- the metadata of a new table of this name with these options
@@ -46,7 +46,7 @@ with_table w metadata fixed =
 abbrev pub New : World → ℕ → List ℕ → NewOptions → TableState → Outcome (Result Term WorldFault) World
 New old p name options fixed =
     refuse old (options.named && is_some (whereis old.tables name)) (Err Badarg) (
-    refuse old (nat_le old.most_tables (length old.tables)) (Err SystemLimit) (
+    refuse old (nat_le old.max_tables (length old.tables)) (Err SystemLimit) (
     gives (Ok (name_or_identifier options.named name (length old.tables)))
     (with_table old (new_metadata p name options) fixed)))
 

@@ -24,15 +24,15 @@ Processes = List (ℕ × Process)
 
 -- the limits of processes and tables, and all that were ever made
 pub record World : Type 0 where
-  pub most_processes : ℕ
-  pub most_tables : ℕ
+  pub max_processes : ℕ
+  pub max_tables : ℕ
   pub processes : Processes
   pub tables : Tables
 
 -- no process and no table
 abbrev pub empty : ℕ → ℕ → World
 empty processes tables =
-    record { most_processes = processes; most_tables = tables; processes = []; tables = [] }
+    record { max_processes = processes; max_tables = tables; processes = []; tables = [] }
 
 abbrev pub process_at : Processes → ℕ → Option Process
 process_at processes p = lookup (λ q. p == q) processes

@@ -22,8 +22,8 @@ use std::marker::Model;
 #[derive(Drop)]
 pub struct World<R: Rows> {
     alloc: Global,
-    most_processes: u32,
-    most_tables: u32,
+    max_processes: u32,
+    max_tables: u32,
     processes: IndexMap<u32, Process>,
     // By identifier. A deleted table leaves an empty place of 16 bytes.
     tables: Vec<Option<OwnedTable<R>>>,
@@ -40,8 +40,8 @@ impl<R: Rows> Model for World<R> {
     ghost coded = { world_code };
 
     ghost view = { λ w. record {
-      most_processes = w.most_processes;
-      most_tables = w.most_tables;
+      max_processes = w.max_processes;
+      max_tables = w.max_tables;
       processes = w.processes.entries;
       tables = w.tables.items;
     } };
@@ -50,15 +50,15 @@ impl<R: Rows> Model for World<R> {
 }
 
 impl<R: Rows> World<R> {
-    /// Creates a world without processes and tables. At most `processes` and `tables` can ever be made. This takes no
-    /// memory.
-    pub fn new(alloc: Global, processes: u32, tables: u32) -> Self
-        ensures { result ≡ empty processes tables }
+    /// Creates a world without processes and tables. At most `max_processes` and `max_tables` can ever be made. This
+    /// takes no memory.
+    pub fn new(alloc: Global, max_processes: u32, max_tables: u32) -> Self
+        ensures { result ≡ empty max_processes max_tables }
     {
         World {
             alloc,
-            most_processes: processes,
-            most_tables: tables,
+            max_processes,
+            max_tables,
             processes: IndexMap::new(alloc),
             tables: Vec::new(alloc),
             indices: Indices::new(alloc),

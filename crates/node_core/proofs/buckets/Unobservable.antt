@@ -45,8 +45,8 @@ unobservable-same old new e k =
     λ i. record {
       limits = (ap (λ (s : State). s.limits) e) i;
       world = record {
-        most_processes = (ap (λ (s : State). s.world.most_processes) e) i;
-        most_tables = (ap (λ (s : State). s.world.most_tables) e) i;
+        max_processes = (ap (λ (s : State). s.world.max_processes) e) i;
+        max_tables = (ap (λ (s : State). s.world.max_tables) e) i;
         processes = (ap (λ (s : State). s.world.processes) e) i;
         tables = tables i;
       };

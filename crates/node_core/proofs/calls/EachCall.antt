@@ -148,7 +148,7 @@ module _ (old new : State) (s : Step) (reply : Reply) (h : step old s reply new)
 -- no process is forgotten, and the limits stay
 pub record Remembers (old new : State) : Type 0 where
   pub limits : new.limits ≡ old.limits
-  pub most : new.world.most_processes ≡ old.world.most_processes
+  pub most : new.world.max_processes ≡ old.world.max_processes
   pub known : length old.world.processes ≤ length new.world.processes
 
 pub step-remembers : (old new : State) (s : Step) (reply : Reply) → step old s reply new → Remembers old new

@@ -29,21 +29,21 @@ no-value answer r is refused granted = let both : true ≡ false = sym granted �
 
 -- an enrolled process is one more, and the limit was not reached before
 pub enrolled : (old new : State) (p : ℕ) (r : Reply) → is_value r ≡ true → step old (Enrol p) r new
-    → (length new.world.processes ≡ length old.world.processes + 1) × (length old.world.processes < old.world.most_processes)
-enrolled old new p r granted h = by (is_some (process_at old.world.processes p)) (nat_le old.world.most_processes (length old.world.processes)) refl h.0 h.1 h.2
+    → (length new.world.processes ≡ length old.world.processes + 1) × (length old.world.processes < old.world.max_processes)
+enrolled old new p r granted h = by (is_some (process_at old.world.processes p)) (nat_le old.world.max_processes (length old.world.processes)) refl h.0 h.1 h.2
   where
-    by : (known full : Bool) → nat_le old.world.most_processes (length old.world.processes) ≡ full → (x : Result (Unit {0}) WorldFault) → Enrols old.world new.world p known full x
-        → WorldResultToReply (λ _. Value (Pid p)) x r → (length new.world.processes ≡ length old.world.processes + 1) × (length old.world.processes < old.world.most_processes)
+    by : (known full : Bool) → nat_le old.world.max_processes (length old.world.processes) ≡ full → (x : Result (Unit {0}) WorldFault) → Enrols old.world new.world p known full x
+        → WorldResultToReply (λ _. Value (Pid p)) x r → (length new.world.processes ≡ length old.world.processes + 1) × (length old.world.processes < old.world.max_processes)
     by true full f x a b = let is : r ≡ Badarg = rw a.0 at b in absurd (no-value Badarg r is refl granted)
     by false true f x a b = let is : r ≡ SystemLimit = rw a.0 at b in absurd (no-value SystemLimit r is refl granted)
     by false false f x a b =
         let more : length new.world.processes ≡ length (after_enrol old.world p).processes = ap (λ (w : World). length w.processes) a.1 in
-        (more ∙ length-append old.world.processes ((p, record { lives = true; mailbox = [] }) ∷ []), leb-false old.world.most_processes (length old.world.processes) f)
+        (more ∙ length-append old.world.processes ((p, record { lives = true; mailbox = [] }) ∷ []), leb-false old.world.max_processes (length old.world.processes) f)
 
 -- a refused one changes nothing, not even buckets
 pub not-enrolled : (old new : State) (p : ℕ) (r : Reply) → is_value r ≡ false → step (observable old) (Enrol p) r (observable new) → step_on_buckets old (Enrol p) r new → new ≡ old
 not-enrolled old new p r refused h kept =
-    unobservable-same old new (by (is_some (process_at (observable old).world.processes p)) (nat_le (observable old).world.most_processes (length (observable old).world.processes)) h.0 h.1 h.2 h.3) kept.0
+    unobservable-same old new (by (is_some (process_at (observable old).world.processes p)) (nat_le (observable old).world.max_processes (length (observable old).world.processes)) h.0 h.1 h.2 h.3) kept.0
   where
     same : (observable new).world ≡ (observable old).world → observable new ≡ record (observable old) { world = (observable new).world } → observable new ≡ observable old
     same w e = e ∙ ap (λ (x : World). record (observable old) { world = x }) w

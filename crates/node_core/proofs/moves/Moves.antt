@@ -68,7 +68,7 @@ module _ (own : ℕ → Bool) where
 
   -- no process is forgotten either
   pub record Moves (old new : World) : Type 0 where
-    pub most : new.most_processes ≡ old.most_processes
+    pub most : new.max_processes ≡ old.max_processes
     pub known : length old.processes ≤ length new.processes
     pub tables : Follows old.tables new.tables
 

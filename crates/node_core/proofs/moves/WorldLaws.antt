@@ -78,7 +78,7 @@ module _ (P : World → Type 0) (old : World) (same : P old) where
       → Lawful (Unit {0}) (tables.Enrol old p) (tables.Enrol (observable_world old) p)
   enrol-lawful p after =
       refuse-lawful (is_some (process_at old.processes p)) Badarg (λ fresh.
-      refuse-lawful (nat_le old.most_processes (length old.processes)) SystemLimit (λ room.
+      refuse-lawful (nat_le old.max_processes (length old.processes)) SystemLimit (λ room.
       gives-lawful tt (after_enrol old p) (after_enrol (observable_world old) p) refl after))
 
   -- ---- tables are made
@@ -86,7 +86,7 @@ module _ (P : World → Type 0) (old : World) (same : P old) where
     abbrev Makes : World → Option ℕ → ℕ → TableState → Outcome (Result Term WorldFault) World
     Makes w found count fixed =
         refuse w (options.named && is_some found) (Err Badarg) (
-        refuse w (nat_le w.most_tables count) (Err SystemLimit) (
+        refuse w (nat_le w.max_tables count) (Err SystemLimit) (
         gives (Ok (name_or_identifier options.named name count)) (with_table w (new_metadata p name options) fixed)))
 
     made : (fixed : TableState)
@@ -94,7 +94,7 @@ module _ (P : World → Type 0) (old : World) (same : P old) where
         → Lawful Term (Makes old (whereis old.tables name) (length old.tables) fixed) (Makes (observable_world old) (whereis old.tables name) (length old.tables) (observable_fixed fixed))
     made fixed after =
         refuse-lawful (options.named && is_some (whereis old.tables name)) Badarg (λ fresh.
-        refuse-lawful (nat_le old.most_tables (length old.tables)) SystemLimit (λ room.
+        refuse-lawful (nat_le old.max_tables (length old.tables)) SystemLimit (λ room.
         gives-lawful (name_or_identifier options.named name (length old.tables)) (with_table old (new_metadata p name options) fixed) (with_table (observable_world old) (new_metadata p name options) (observable_fixed fixed))
         (ap (λ ts. record old { tables = ts }) (sym (push-observable old.tables (record { metadata = new_metadata p name options; fixed = fixed })))) (after fresh)))
 

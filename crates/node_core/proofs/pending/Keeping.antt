@@ -47,14 +47,14 @@ module _ (old new : World) (p : ℕ) (name : List ℕ) (options : NewOptions) (f
 
   -- a table that is refused changes nothing
   pub new-refused : (fault : WorldFault) → RefinesWorld (New old p name options fixed) old (Err fault) new → new ≡ old
-  new-refused Badarg h = refused-same (options.named && is_some (whereis old.tables name)) (nat_le old.most_tables (length old.tables)) Badarg h
-  new-refused SystemLimit h = refused-same (options.named && is_some (whereis old.tables name)) (nat_le old.most_tables (length old.tables)) SystemLimit h
-  new-refused NoProcess h = refused-same (options.named && is_some (whereis old.tables name)) (nat_le old.most_tables (length old.tables)) NoProcess h
+  new-refused Badarg h = refused-same (options.named && is_some (whereis old.tables name)) (nat_le old.max_tables (length old.tables)) Badarg h
+  new-refused SystemLimit h = refused-same (options.named && is_some (whereis old.tables name)) (nat_le old.max_tables (length old.tables)) SystemLimit h
+  new-refused NoProcess h = refused-same (options.named && is_some (whereis old.tables name)) (nat_le old.max_tables (length old.tables)) NoProcess h
   new-refused Memory h = h
 
   -- else there is one more
   pub new-made : (x : Term) → RefinesWorld (New old p name options fixed) old (Ok x) new → new ≡ made
-  new-made x h = by (options.named && is_some (whereis old.tables name)) (nat_le old.most_tables (length old.tables)) h
+  new-made x h = by (options.named && is_some (whereis old.tables name)) (nat_le old.max_tables (length old.tables)) h
     where
       by : (taken full : Bool) → refuse old taken (Err Badarg) (refuse old full (Err SystemLimit) (gives (Ok answer) made)) (Ok x) new → new ≡ made
       by true full h = let e = h.0 in cc

@@ -26,8 +26,8 @@ abbrev old : State
 old = record {
   limits = record { processes = 1; tables = 1; objects = 1 };
   world = record {
-    most_processes = 1;
-    most_tables = 1;
+    max_processes = 1;
+    max_tables = 1;
     processes = (7, record { lives = true; mailbox = [] }) ∷ [];
     tables = Some (record {
       metadata = record { name = codes "t"; named = false; owner = 7; heir = None; protection = Public };

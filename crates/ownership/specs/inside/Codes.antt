@@ -20,6 +20,6 @@ world_code =
     (coded× (coded× coded_ℕ coded_ℕ)
     (coded× (coded_list (coded× coded_ℕ process.the_row.coded))
     (coded_list (coded_option table_code))))
-    (λ w. ((w.most_processes, w.most_tables), (w.processes, w.tables)))
-    (λ p. record { most_processes = p.0.0; most_tables = p.0.1; processes = p.1.0; tables = p.1.1 })
+    (λ w. ((w.max_processes, w.max_tables), (w.processes, w.tables)))
+    (λ p. record { max_processes = p.0.0; max_tables = p.0.1; processes = p.1.0; tables = p.1.1 })
     (λ _. refl)

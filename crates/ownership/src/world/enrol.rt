@@ -36,7 +36,7 @@ impl<R: Rows> World<R> {
         if self.was_enrolled(pid) {
             return Err(WorldFault::Badarg);
         }
-        if self.has_most_processes() {
+        if self.has_max_processes() {
             return Err(WorldFault::SystemLimit);
         }
         self.push_process(pid)?;
@@ -51,10 +51,10 @@ impl<R: Rows> World<R> {
     }
 
     /// Checks whether the limit of processes is reached. Ended processes count.
-    fn has_most_processes(&self) -> bool
-        ensures { result ≡ nat_le self.now.most_processes (length self.now.processes) }
+    fn has_max_processes(&self) -> bool
+        ensures { result ≡ nat_le self.now.max_processes (length self.now.processes) }
     {
-        self.enrolled() >= self.most_processes as usize
+        self.enrolled() >= self.max_processes as usize
     }
 
     /// Adds a process. Its number must be new.

@@ -101,7 +101,7 @@ impl<R: Rows> World<R> {
             drop(table);
             return Err(WorldFault::Badarg);
         }
-        if self.has_most_tables() {
+        if self.has_max_tables() {
             drop(options);
             drop(table);
             return Err(WorldFault::SystemLimit);
@@ -120,11 +120,11 @@ impl<R: Rows> World<R> {
     }
 
     /// Checks whether the limit of tables is reached. Deleted tables count.
-    fn has_most_tables(&self) -> bool
-        ensures full { result ≡ nat_le self.now.most_tables (length self.now.tables) }
+    fn has_max_tables(&self) -> bool
+        ensures full { result ≡ nat_le self.now.max_tables (length self.now.tables) }
         ensures few { result ≡ false → length self.now.tables + 1 < 2 ^ 32 }
     {
-        self.made() >= self.most_tables
+        self.made() >= self.max_tables
     }
 
     /// Creates a table that is not refused.

@@ -24,7 +24,7 @@ returns g c =
     let items = c.self.inside.tables.items in
     let at : table_at items c.args.id ≡ Some c.in_ok-owned.owned.now = sym (c.in_ok-found.ensures.item.3.1 None) ∙ sym c.in_ok-owned.ensures.value in
     let ends : (w : TableState) → _ = λ w.
-    ap (λ tables. record { most_processes = c.self.inside.most_processes; most_tables = c.self.inside.most_tables; processes = c.self.inside.processes.entries; tables = tables }) (fixed-there items c.args.id c.in_ok-owned.owned.now w at)
+    ap (λ tables. record { max_processes = c.self.inside.max_processes; max_tables = c.self.inside.max_tables; processes = c.self.inside.processes.entries; tables = tables }) (fixed-there items c.args.id c.in_ok-owned.owned.now w at)
     ∙ ap (λ (v : World). record v { tables = with_fixed v.tables c.args.id w }) c.self.view_is in (
       λ i. inl (c.table_mut.result.ghost_name, λ w. ends w i),
       record { lends = tt; value = ap Some (c.table_mut.ensures.value) ∙ ap (λ (o : Option Table). option_map (λ table. table.fixed) o) (sym at ∙ ap (λ (v : World). table_at v.tables c.args.id) c.self.view_is) },

@@ -57,5 +57,5 @@ returns-clause-ok g c =
     let processes : c.post_transfers.new.processes.entries ≡ push_messages start (messages_from start p 0 items) = posts ∙ ap (push_messages start) (sym found) in
     let tables : c.reassign_tables.new.tables.items ≡ map (table_after_exit start p) items =
     c.reassign_tables.ensures.after ∙ ap (λ (ps : Processes). map (table_after_exit ps p) items) posts ∙ all-after-same (after_transfers start p items own) start p items (posted-lives start p items own) in
-    (λ i. record { most_processes = c.self.inside.most_processes; most_tables = c.self.inside.most_tables; processes = processes i; tables = tables i })
+    (λ i. record { max_processes = c.self.inside.max_processes; max_tables = c.self.inside.max_tables; processes = processes i; tables = tables i })
     ∙ ap (λ (v : World). after_exit v (with_ended v.processes p) p) c.self.view_is
