@@ -100,7 +100,11 @@ pub(crate) fn identifier_at(text: &[u8], at: usize) -> Result<(Term, usize), Tex
 }
 
 /// Reads a pid or a binary after its `<`.
-pub(crate) fn angle_at(alloc: Global, text: &[u8], at: usize) -> Result<(Term, usize), TextFault>
+pub(crate) fn pid_or_binary_at(
+    alloc: Global,
+    text: &[u8],
+    at: usize,
+) -> Result<(Term, usize), TextFault>
     requires { at ≤ length text.now }
     ensures within { EndsWithin text.now at result }
     ensures reads { (os : List OpenBracket) → ReadsTerm text.now at (reads_on angle os) os result }

@@ -6,7 +6,7 @@ ghost use Rattle.term_text.specs.Grammar.{Front};
 ghost use Rattle.term_text.specs.Reading.{ReaderReturns};
 ghost use Rattle.term_text.specs.inside.Parts.{EndsWithin, ReadsTerm, is_square};
 
-use crate::binary::{angle_at, identifier_at};
+use crate::binary::{identifier_at, pid_or_binary_at};
 use crate::bracket::Bracket;
 use crate::bytes::{is_digit_byte, is_first_byte, is_lowercase_byte, past_blanks};
 use crate::fault::TextFault;
@@ -111,7 +111,7 @@ fn any_form_at(
         b'-' => integer_at(text, at + 1, at, true),
         b'\'' => quoted_atom_at(alloc, text, at),
         b'"' => string_at(alloc, text, at + 1, levels_left == 1),
-        b'<' => angle_at(alloc, text, at + 1),
+        b'<' => pid_or_binary_at(alloc, text, at + 1),
         b'#' => identifier_at(text, at + 1),
         _ => {
             if is_digit_byte(b) {

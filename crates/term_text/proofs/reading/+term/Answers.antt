@@ -46,7 +46,7 @@ any_form_at-returns-in-34-clause-reads t c = λ os e.
 pub any_form_at-returns-in-60-clause-reads : goal.any_form_at-returns-in-60-clause-reads
 any_form_at-returns-in-60-clause-reads t c = λ os e.
     let at = c.args.at in
-    begins.begun c.args.text.now at os (get_or c.args.text.now at 0) _ c.angle_at.result (ap (begin at os) c.in-60.is ∙ begins.begin-angle at os (omega (arith, e))) (c.angle_at.ensures.reads os)
+    begins.begun c.args.text.now at os (get_or c.args.text.now at 0) _ c.pid_or_binary_at.result (ap (begin at os) c.in-60.is ∙ begins.begin-angle at os (omega (arith, e))) (c.pid_or_binary_at.ensures.reads os)
 
 pub any_form_at-returns-in-35-clause-reads : goal.any_form_at-returns-in-35-clause-reads
 any_form_at-returns-in-35-clause-reads t c = λ os e.

@@ -2,7 +2,7 @@ use Rattle.std.proofs.Common.{rules, arith, ◌∙◌, ◌∷◌, [], ◌+◌, r
 use Rattle.term_text.specs.inside.Reader.{reads_on, angle, opened_binary, expect, digits, pid}
 use Rattle.term_text.specs.declared.fault.TextFault.TheVariants.{Unexpected}
 use Rattle.term_text.proofs.Offsets.{read-at, fails-at, reads_along, if-false}
-use Rattle.term_text.proofs.binary.angle_at.Goals as goal
+use Rattle.term_text.proofs.binary.pid_or_binary_at.Goals as goal
 
 pub returns-in-60-clause-reads : goal.returns-in-60-clause-reads
 returns-in-60-clause-reads c = λ os. reads_along c.args.text.now c.args.at (c.args.at + 1) (reads_on angle os) (reads_on opened_binary os) os c.binary_at.result (read-at c.args.text.now c.args.at (reads_on angle os) (reads_on opened_binary os) (omega arith) (rw c.in-60.is refl)) (c.binary_at.ensures.reads os)
