@@ -10,4 +10,4 @@ named b low = rw low refl
 pub returns-clause-len : goal.returns-clause-len
 returns-clause-len c =
     let text = c.args.text.now in
-    rw c.letters_len-letters.ensures.len (rw c.name_bytes_len.ensures.len (rw c.split_at.ensures.back (rw c.letters_len-letters.ensures.len (sym (front-after is_lowercase is_name named text)))))
+    rw c.lowercase_len-letters.ensures.len (rw c.name_bytes_len.ensures.len (rw c.split_at.ensures.back (rw c.lowercase_len-letters.ensures.len (sym (front-after is_lowercase is_name named text)))))
