@@ -90,19 +90,19 @@ impl<'a, W: Write> Output<'a, W> {
     }
 
     /// Adds the text of a term and an LF, and writes the buffer if it has a block.
-    pub fn add_term(&mut self, term: &Term) -> Result<(), WriteFault>
+    pub fn add_term_line(&mut self, term: &Term) -> Result<(), WriteFault>
         ensures same_writer { HasWriterOf self.old self.new }
         ensures ok { OnOk result (Adds W.contents self.old self.new
             (printed term.now ++ 10 ∷ [])) }
         ensures err { OnErr result (Fails W.contents self.old self.new
             (printed term.now ++ 10 ∷ [])) }
     {
-        self.put_term(term)?;
+        self.add_term_text(term)?;
         self.add(b"\n")
     }
 
     /// Adds the text of a term. If the buffer cannot grow, writes the buffered bytes and then the text to the writer.
-    fn put_term(&mut self, term: &Term) -> Result<(), WriteFault>
+    fn add_term_text(&mut self, term: &Term) -> Result<(), WriteFault>
         ensures same_writer { HasWriterOf self.old self.new }
         ensures ok { OnOk result (Adds W.contents self.old self.new (printed term.now)) }
         ensures err { OnErr result (Fails W.contents self.old self.new (printed term.now)) }

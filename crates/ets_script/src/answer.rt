@@ -69,7 +69,7 @@ pub fn print_reply<W: Write>(reply: &Reply, output: &mut Output<'_, W>) -> Resul
 {
     match reply {
         Reply::Value(term) if is_true(term) => output.add(b"true\n"),
-        Reply::Value(term) => output.add_term(term),
+        Reply::Value(term) => output.add_term_line(term),
         Reply::Badarg => output.add(b"** badarg\n"),
         Reply::SystemLimit => output.add(b"** system_limit\n"),
         Reply::NoProcess => output.add(b"** noproc\n"),

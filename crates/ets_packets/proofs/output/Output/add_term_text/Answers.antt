@@ -4,7 +4,7 @@ use Rattle.std.specs.Io.KnownBytes.{Appends}
 use Rattle.term_text.specs.Printed.{printed}
 use Rattle.ets_packets.specs.Output.{Breaks}
 use Rattle.ets_packets.proofs.KnownBytes.{between, breaks-longer, sends-behind, breaks-behind}
-use Rattle.ets_packets.proofs.output.Output.put_term.Goals as goal
+use Rattle.ets_packets.proofs.output.Output.add_term_text.Goals as goal
 
 pub returns-in_err-send-clause-err : goal.returns-in_err-send-clause-err
 returns-in_err-send-clause-err g c =
