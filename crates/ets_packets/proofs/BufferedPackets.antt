@@ -7,7 +7,7 @@ use Rattle.node_text.specs.StoreState.{StoreState}
 use Rattle.ets_packets.specs.Packets.{packet}
 use Rattle.ets_packets.specs.Replies.{PacketReply, reply_body}
 use Rattle.ets_packets.specs.Exchanges.{Exchange, Run, requests, replies}
-use Rattle.ets_packets.specs.inside.Answering.{AnswersBuffered, AnswersPacket, BreaksBuffered, BreaksPacket, IsRest}
+use Rattle.ets_packets.specs.inside.Answering.{AnswersBufferedPackets, AnswersPacket, BreaksBufferedPackets, BreaksPacket, IsRest}
 use Rattle.ets_packets.specs.inside.Buffer.{BeginsWith}
 use Rattle.ets_packets.specs.Output.{Sends, Breaks}
 use Rattle.ets_packets.proofs.Exchanges.{one, run-join, run-one, requests-one, replies-one}
@@ -65,7 +65,7 @@ buffered-packet old w1 w2 before p1 p2 buffered rest start s1 s2 len g f a =
     }
 
 pub buffered-broken : (old w1 w2 : Option (List ℕ)) (before p1 buffered rest : List ℕ) (start s1 s2 : StoreState) (len : ℕ) → HasAnswered old w1 before p1 buffered rest start s1 → BeginsWith rest len
-    → BreaksPacket (between w1 w2) p1 (slice_range rest 4 (len + 4)) s1 s2 → BreaksBuffered (between old w2) before buffered start
+    → BreaksPacket (between w1 w2) p1 (slice_range rest 4 (len + 4)) s1 s2 → BreaksBufferedPackets (between old w2) before buffered start
 buffered-broken old w1 w2 before p1 buffered rest start s1 s2 len g f a =
     let body = slice_range rest 4 (len + 4) in
     record {
@@ -79,7 +79,7 @@ buffered-broken old w1 w2 before p1 buffered rest start s1 s2 len g f a =
     }
 
 pub buffered-end : (old new : Option (List ℕ)) (before after buffered rest : List ℕ) (start now : StoreState) (is_long : Bool) → HasAnswered old new before after buffered rest start now → IsRest is_long rest
-    → AnswersBuffered (between old new) before after buffered rest start now is_long
+    → AnswersBufferedPackets (between old new) before after buffered rest start now is_long
 buffered-end old new before after buffered rest start now is_long g is = record {
   exchanges = g.exchanges;
   run = g.run;

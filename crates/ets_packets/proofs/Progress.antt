@@ -10,7 +10,7 @@ use Rattle.ets_packets.specs.Stops.{Answered, Completes, Stops}
 use Rattle.ets_packets.specs.Traffic.{Traffic, traffic}
 use Rattle.ets_packets.specs.declared.fault.PacketFault.{PacketFault}
 use Rattle.ets_packets.specs.declared.fault.PacketFault.TheVariants as faults
-use Rattle.ets_packets.specs.inside.Answering.{AnswersBuffered, BreaksBuffered, EndsAfter}
+use Rattle.ets_packets.specs.inside.Answering.{AnswersBufferedPackets, BreaksBufferedPackets, EndsAfter}
 use Rattle.ets_packets.specs.inside.Buffer.{Refills, RefillStops, fault_of}
 use Rattle.ets_packets.specs.declared.buffer.RefillFault.{RefillFault}
 use Rattle.ets_packets.specs.declared.buffer.RefillFault.TheVariants as refill
@@ -127,7 +127,7 @@ joined-consumed start before m old w buffered rest fs a parts =
     a.consumed
 
 -- and the writer failed
-pub write-stops : (start s1 : StoreState) (before m old w1 w2 : Option (List ℕ)) (buffered p : List ℕ) (g : Answered start (passed before m old w1) buffered) → g.end ≡ s1 → p ≡ [] → BreaksBuffered (between w1 w2) p buffered s1
+pub write-stops : (start s1 : StoreState) (before m old w1 w2 : Option (List ℕ)) (buffered p : List ℕ) (g : Answered start (passed before m old w1) buffered) → g.end ≡ s1 → p ≡ [] → BreaksBufferedPackets (between w1 w2) p buffered s1
     → Stops start (passed before m old w2) faults.Write
 write-stops start s1 before m old w1 w2 buffered p a is none b =
     let breaks = subst (λ (k : List ℕ). Breaks (between w1 w2) (k ++ replies b.exchanges)) none b.breaks in
@@ -145,14 +145,14 @@ write-stops start s1 before m old w1 w2 buffered p a is none b =
 
 -- the flush failed after packets were answered
 pub flush-stops : (start s1 s2 : StoreState) (before m old w1 w2 w3 : Option (List ℕ)) (buffered rest p1 p2 : List ℕ) (is_long : Bool) (g : Answered start (passed before m old w1) buffered) → g.end ≡ s1 → p1 ≡ []
-    → AnswersBuffered (between w1 w2) p1 p2 buffered rest s1 s2 is_long → Breaks (between w2 w3) p2 → Stops start (passed before m old w3) faults.Write
+    → AnswersBufferedPackets (between w1 w2) p1 p2 buffered rest s1 s2 is_long → Breaks (between w2 w3) p2 → Stops start (passed before m old w3) faults.Write
 flush-stops start s1 s2 before m old w1 w2 w3 buffered rest p1 p2 is_long a is none h b =
     write-stops start s1 before m old w1 w3 buffered p1 a is none
     (record { exchanges = h.exchanges; end = s2; rest = rest; run = h.run; parts = h.parts; breaks = breaks-on w1 w2 w3 (p1 ++ replies h.exchanges) p2 h.adds b })
 
 -- packets were answered, and all replies were written
 pub all-answered : (start s1 s2 : StoreState) (before m old w1 w2 w3 : Option (List ℕ)) (buffered rest p1 p2 p3 : List ℕ) (is_long : Bool) (g : Answered start (passed before m old w1) buffered) → g.end ≡ s1 → p1 ≡ []
-    → AnswersBuffered (between w1 w2) p1 p2 buffered rest s1 s2 is_long → Sends (between w2 w3) p2 p3 → p3 ≡ [] → (a : Answered start (passed before m old w3) rest) × (a.end ≡ s2)
+    → AnswersBufferedPackets (between w1 w2) p1 p2 buffered rest s1 s2 is_long → Sends (between w2 w3) p2 p3 → p3 ≡ [] → (a : Answered start (passed before m old w3) rest) × (a.end ≡ s2)
 all-answered start s1 s2 before m old w1 w2 w3 buffered rest p1 p2 p3 is_long a is none h sent empty =
     let whole = sends-on w1 w2 w3 (p1 ++ replies h.exchanges) p2 p3 h.adds sent in
     let all : replies h.exchanges ≡ whole.sent = ap (λ k. k ++ replies h.exchanges) (sym none) ∙ whole.parts ∙ ap (λ k. whole.sent ++ k) empty ∙ append-nil whole.sent in (

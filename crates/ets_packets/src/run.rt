@@ -4,7 +4,7 @@ ghost use Rattle.node_text.specs.Calls.{new_store};
 ghost use Rattle.ets_packets.specs.Packets.{big4, max_packet, packet};
 ghost use Rattle.ets_packets.specs.Stops.{Completes, Stops};
 ghost use Rattle.ets_packets.specs.Traffic.{flow, traffic};
-ghost use Rattle.ets_packets.specs.inside.Answering.{AnswersBuffered, AnswersPacket, BreaksBuffered, BreaksPacket, EndsAfter};
+ghost use Rattle.ets_packets.specs.inside.Answering.{AnswersBufferedPackets, AnswersPacket, BreaksBufferedPackets, BreaksPacket, EndsAfter};
 ghost use Rattle.ets_packets.specs.Output.{Adds, Fails, HasWriterOf, buffered_bytes, writer_flow};
 
 use crate::buffer::Buffer;
@@ -102,9 +102,9 @@ fn answer_buffered<W: Write>(
     server: &mut Server,
 ) -> Result<bool, WriteFault>
     ensures same_writer { HasWriterOf output.old output.new }
-    ensures ok { IfOk result (AnswersBuffered (writer_flow W.contents output.old output.new)
+    ensures ok { IfOk result (AnswersBufferedPackets (writer_flow W.contents output.old output.new)
         (buffered_bytes output.old) (buffered_bytes output.new) buffer.old buffer.new server.old.store server.new.store) }
-    ensures err { OnErr result (BreaksBuffered (writer_flow W.contents output.old output.new)
+    ensures err { OnErr result (BreaksBufferedPackets (writer_flow W.contents output.old output.new)
         (buffered_bytes output.old) buffer.old server.old.store) }
 {
     loop {

@@ -29,7 +29,7 @@ IsRest false rest = IsPart rest
 IsRest true rest = IsTooLong rest
 
 -- of the buffered bytes, whole packets are answered
-pub record AnswersBuffered (writer : Flow) (before after buffered rest : List ℕ) (old new : StoreState) (is_long : Bool) : Type 0 where
+pub record AnswersBufferedPackets (writer : Flow) (before after buffered rest : List ℕ) (old new : StoreState) (is_long : Bool) : Type 0 where
   pub exchanges : List Exchange
   pub run : Run old exchanges new
   pub parts : buffered ≡ requests exchanges ++ rest
@@ -37,7 +37,7 @@ pub record AnswersBuffered (writer : Flow) (before after buffered rest : List �
   pub follows : IsRest is_long rest
 
 -- the same, and the writer failed
-pub record BreaksBuffered (writer : Flow) (before buffered : List ℕ) (old : StoreState) : Type 0 where
+pub record BreaksBufferedPackets (writer : Flow) (before buffered : List ℕ) (old : StoreState) : Type 0 where
   pub exchanges : List Exchange
   pub end : StoreState
   pub rest : List ℕ
