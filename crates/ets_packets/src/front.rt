@@ -11,7 +11,7 @@ pub const MAX_PACKET: usize = 16_777_216;
 #[derive(Clone, Copy)]
 pub(crate) enum Front {
     /// A part of a packet, or nothing.
-    Part,
+    Incomplete,
     /// A packet that is too long.
     TooLong,
     /// A whole packet, whose body has this length.
@@ -19,18 +19,18 @@ pub(crate) enum Front {
 }
 
 /// Returns what bytes begin with.
-pub(crate) fn front_of(bytes: &[u8]) -> Front
+pub(crate) fn first_packet(bytes: &[u8]) -> Front
     ensures { IsFront bytes.now result }
 {
     if bytes.len() < 4 {
-        return Front::Part;
+        return Front::Incomplete;
     }
     let len = number_at(bytes, 0) as usize;
     if len > MAX_PACKET {
         return Front::TooLong;
     }
     if bytes.len() - 4 < len {
-        return Front::Part;
+        return Front::Incomplete;
     }
     Front::Packet(len)
 }

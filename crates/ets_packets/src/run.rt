@@ -9,7 +9,7 @@ ghost use Rattle.ets_packets.specs.Output.{Adds, Fails, HasWriterOf, buffered_by
 
 use crate::buffer::Buffer;
 use crate::fault::PacketFault;
-use crate::front::{Front, MAX_PACKET, front_of};
+use crate::front::{Front, MAX_PACKET, first_packet};
 use crate::number::bytes_of;
 use crate::output::{Output, WriteFault, output_buffer};
 use crate::reply::answer;
@@ -108,11 +108,12 @@ fn answer_buffered<W: Write>(
         (buffered_bytes output.old) buffer.old server.old.store) }
 {
     loop {
-        let len = match front_of(buffer.bytes()) {
+        let len = match first_packet(buffer.bytes()) {
             Front::Packet(len) => len,
-            Front::Part => return Ok(false),
+            Front::Incomplete => return Ok(false),
             Front::TooLong => return Ok(true),
         };
+        // The first four bytes are the length of the body.
         answer_packet(&buffer.bytes()[4..len + 4], output, server)?;
         buffer.consume(len + 4);
     }

@@ -8,7 +8,7 @@ use Rattle.ets_packets.specs.declared.buffer.RefillFault.TheVariants.{Read, Memo
 use Rattle.ets_packets.specs.declared.fault.PacketFault.{PacketFault}
 use Rattle.ets_packets.specs.declared.fault.PacketFault.TheVariants as faults
 use Rattle.ets_packets.specs.declared.front.Front.{Front}
-use Rattle.ets_packets.specs.declared.front.Front.TheVariants.{Part, TooLong, Packet}
+use Rattle.ets_packets.specs.declared.front.Front.TheVariants.{Incomplete, TooLong, Packet}
 
 -- one read returned `count` bytes, 0 only at the end of the input, and they are buffered after the others
 pub record Refills (old new : List ℕ) (reader : Flow) (count : ℕ) : Type 0 where
@@ -31,7 +31,7 @@ pub record BeginsWith (bytes : List ℕ) (len : ℕ) : Type 0 where
 
 -- what bytes begin with
 abbrev pub IsFront : List ℕ → Front → Type 0
-IsFront bytes Part = IsPart bytes
+IsFront bytes Incomplete = IsPart bytes
 IsFront bytes TooLong = IsTooLong bytes
 IsFront bytes (Packet len) = BeginsWith bytes len
 
