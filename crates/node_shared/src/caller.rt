@@ -137,7 +137,7 @@ impl<B: HistoryId> Caller<B> {
     {
         for call in calls {
             let next = Step::Ask(self.pid, call);
-            match self.step_on(word, served, next) {
+            match self.step_locked(word, served, next) {
                 Ok(reply) => replies.push_reserved(reply),
                 Err(_) => return Err(fault_after(replies)),
             }
@@ -172,13 +172,13 @@ impl<B: HistoryId> Caller<B> {
         ensures err { OnErr result (self.new ≡ self.old) }
     {
         match &server.lock.kind {
-            LockKind::Single(lock) => self.step_on(&server.word, &mut *lock.write(rt), event),
-            LockKind::Sharded(lock) => self.step_on(&server.word, &mut **lock.write(rt), event),
+            LockKind::Single(lock) => self.step_locked(&server.word, &mut *lock.write(rt), event),
+            LockKind::Sharded(lock) => self.step_locked(&server.word, &mut **lock.write(rt), event),
         }
     }
 
     /// Runs a step on a node under the lock, and keeps the number of entries of its history.
-    fn step_on<H: KeyHash + Copy + Drop>(
+    fn step_locked<H: KeyHash + Copy + Drop>(
         &mut self,
         word: &HistoryWord,
         served: &mut ServedNode<B, H>,

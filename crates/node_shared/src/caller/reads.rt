@@ -27,13 +27,13 @@ impl<B: HistoryId> Caller<B> {
         ensures { IfOk result (AnswersRead B.limits self.now.own.pid self.now.seen call.now) }
     {
         match &server.lock.kind {
-            LockKind::Single(lock) => self.read_on(&*lock.read(rt), call),
-            LockKind::Sharded(lock) => self.read_on(&**lock.read(rt, self.shard()), call),
+            LockKind::Single(lock) => self.read_locked(&*lock.read(rt), call),
+            LockKind::Sharded(lock) => self.read_locked(&**lock.read(rt, self.shard()), call),
         }
     }
 
     /// Answers a call that changes nothing from a node under the lock.
-    fn read_on<H: KeyHash + Copy + Drop>(
+    fn read_locked<H: KeyHash + Copy + Drop>(
         &self,
         served: &ServedNode<B, H>,
         call: &Call,
@@ -60,15 +60,15 @@ impl<B: HistoryId> Caller<B> {
         ensures err { OnErr result (reply.new ≡ NoProcess) }
     {
         match &server.lock.kind {
-            LockKind::Single(lock) => self.read_into_on(&*lock.read(rt), call, reply),
+            LockKind::Single(lock) => self.read_into_locked(&*lock.read(rt), call, reply),
             LockKind::Sharded(lock) => {
-                self.read_into_on(&**lock.read(rt, self.shard()), call, reply)
+                self.read_into_locked(&**lock.read(rt, self.shard()), call, reply)
             }
         }
     }
 
     /// Writes the reply of a call that changes nothing, from a node under the lock. Returns whether it did.
-    fn read_into_on<H: KeyHash + Copy + Drop>(
+    fn read_into_locked<H: KeyHash + Copy + Drop>(
         &self,
         served: &ServedNode<B, H>,
         call: &Call,
@@ -98,15 +98,15 @@ impl<B: HistoryId> Caller<B> {
         ensures { IfOk result (λ replies. AnswersReads B.limits self.now.own.pid self.now.seen calls.now replies.items) }
     {
         match &server.lock.kind {
-            LockKind::Single(lock) => self.read_all_on(alloc, &*lock.read(rt), calls),
+            LockKind::Single(lock) => self.read_all_locked(alloc, &*lock.read(rt), calls),
             LockKind::Sharded(lock) => {
-                self.read_all_on(alloc, &**lock.read(rt, self.shard()), calls)
+                self.read_all_locked(alloc, &**lock.read(rt, self.shard()), calls)
             }
         }
     }
 
     /// Answers each call that changes nothing from one state of a node under the lock.
-    fn read_all_on<H: KeyHash + Copy + Drop>(
+    fn read_all_locked<H: KeyHash + Copy + Drop>(
         &self,
         alloc: Global,
         served: &ServedNode<B, H>,
