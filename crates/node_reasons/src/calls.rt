@@ -36,10 +36,10 @@ pub fn last_rule_of_call<R: Rows>(
     ensures { result ≡ last_rule_of_call world.now pid name args.now }
 {
     match args {
-        [x] => last_rule_of_one(&TableUse::find(world, pid, x), name),
-        [x, y] => last_rule_of_two(&TableUse::find(world, pid, x), name, y),
-        [x, y, z] => last_rule_of_three(&TableUse::find(world, pid, x), name, y, z),
-        [x, y, z, default] => last_rule_of_four(
+        [x] => last_rule_of_unary_call(&TableUse::find(world, pid, x), name),
+        [x, y] => last_rule_of_binary_call(&TableUse::find(world, pid, x), name, y),
+        [x, y, z] => last_rule_of_ternary_call(&TableUse::find(world, pid, x), name, y, z),
+        [x, y, z, default] => last_rule_of_quaternary_call(
             &TableUse::find(world, pid, x),
             name,
             y,
@@ -51,7 +51,7 @@ pub fn last_rule_of_call<R: Rows>(
 }
 
 /// Returns the last rule of a refused call of one argument.
-fn last_rule_of_one<R: Rows>(used: &TableUse<R>, name: CallName) -> Reason
+fn last_rule_of_unary_call<R: Rows>(used: &TableUse<R>, name: CallName) -> Reason
     ensures { result ≡ last_rule_of_known used.now.pid (option_copied used.now.metadata)
         (content_in (option_copied used.now.table)) name (used.now.term.now ∷ []) }
 {
@@ -67,7 +67,7 @@ fn last_rule_of_one<R: Rows>(used: &TableUse<R>, name: CallName) -> Reason
 }
 
 /// Returns the last rule of a refused call of two arguments.
-fn last_rule_of_two<R: Rows>(used: &TableUse<R>, name: CallName, y: &Term) -> Reason
+fn last_rule_of_binary_call<R: Rows>(used: &TableUse<R>, name: CallName, y: &Term) -> Reason
     ensures { result ≡ last_rule_of_known used.now.pid (option_copied used.now.metadata)
         (content_in (option_copied used.now.table)) name (used.now.term.now ∷ y.now ∷ []) }
 {
@@ -96,7 +96,12 @@ fn last_rule_of_two<R: Rows>(used: &TableUse<R>, name: CallName, y: &Term) -> Re
 }
 
 /// Returns the last rule of a refused call of three arguments.
-fn last_rule_of_three<R: Rows>(used: &TableUse<R>, name: CallName, y: &Term, z: &Term) -> Reason
+fn last_rule_of_ternary_call<R: Rows>(
+    used: &TableUse<R>,
+    name: CallName,
+    y: &Term,
+    z: &Term,
+) -> Reason
     ensures { result ≡ last_rule_of_known used.now.pid (option_copied used.now.metadata)
         (content_in (option_copied used.now.table)) name (used.now.term.now ∷ y.now ∷ z.now ∷ []) }
 {
@@ -110,7 +115,7 @@ fn last_rule_of_three<R: Rows>(used: &TableUse<R>, name: CallName, y: &Term, z: 
 }
 
 /// Returns the last rule of a refused call of four arguments, of which the last is a default.
-fn last_rule_of_four<R: Rows>(
+fn last_rule_of_quaternary_call<R: Rows>(
     used: &TableUse<R>,
     name: CallName,
     y: &Term,

@@ -29,19 +29,19 @@ found ts name rest a b d e = λ i. last_rule_of_known (a i) (d i) (content_in (e
 pub returns-in-len1 : goal.returns-in-len1
 returns-in-len1 g c =
     rw (one c.args.args.now c.x-item.result c.in-len1.len_at_least c.in-len1.len_below c.x-item.is)
-    (c.last_rule_of_one.ensures ∙ found c.args.world.now.tables c.args.name _ c.find.ensures.pid c.find.ensures.term c.find.ensures.metadata c.find.ensures.table)
+    (c.last_rule_of_unary_call.ensures ∙ found c.args.world.now.tables c.args.name _ c.find.ensures.pid c.find.ensures.term c.find.ensures.metadata c.find.ensures.table)
 
 pub returns-in-len2 : goal.returns-in-len2
 returns-in-len2 g c =
     rw (two c.args.args.now c.x-item-then-args-lt3.result c.y-item.result c.in-len2.len_at_least c.in-len2.len_below c.x-item-then-args-lt3.is c.y-item.is)
-    (c.last_rule_of_two.ensures ∙ found c.args.world.now.tables c.args.name _ c.find-in-len2.ensures.pid c.find-in-len2.ensures.term c.find-in-len2.ensures.metadata c.find-in-len2.ensures.table)
+    (c.last_rule_of_binary_call.ensures ∙ found c.args.world.now.tables c.args.name _ c.find-in-len2.ensures.pid c.find-in-len2.ensures.term c.find-in-len2.ensures.metadata c.find-in-len2.ensures.table)
 
 pub returns-in-len3 : goal.returns-in-len3
 returns-in-len3 g c =
     rw (three c.args.args.now c.x-item-then-args-lt4.result c.y-item-then-args-lt4.result c.z-item.result c.in-len3.len_at_least c.in-len3.len_below c.x-item-then-args-lt4.is c.y-item-then-args-lt4.is c.z-item.is)
-    (c.last_rule_of_three.ensures ∙ found c.args.world.now.tables c.args.name _ c.find-in-len3.ensures.pid c.find-in-len3.ensures.term c.find-in-len3.ensures.metadata c.find-in-len3.ensures.table)
+    (c.last_rule_of_ternary_call.ensures ∙ found c.args.world.now.tables c.args.name _ c.find-in-len3.ensures.pid c.find-in-len3.ensures.term c.find-in-len3.ensures.metadata c.find-in-len3.ensures.table)
 
 pub returns-in-len4 : goal.returns-in-len4
 returns-in-len4 g c =
     rw (four c.args.args.now c.x-item-then-args-lt5.result c.y-item-then-args-lt5.result c.z-item-then-args-lt5.result c.default-item.result c.in-len4.len_at_least c.in-len4.len_below c.x-item-then-args-lt5.is c.y-item-then-args-lt5.is c.z-item-then-args-lt5.is c.default-item.is)
-    (c.last_rule_of_four.ensures ∙ found c.args.world.now.tables c.args.name _ c.find-in-len4.ensures.pid c.find-in-len4.ensures.term c.find-in-len4.ensures.metadata c.find-in-len4.ensures.table)
+    (c.last_rule_of_quaternary_call.ensures ∙ found c.args.world.now.tables c.args.name _ c.find-in-len4.ensures.pid c.find-in-len4.ensures.term c.find-in-len4.ensures.metadata c.find-in-len4.ensures.table)
