@@ -30,7 +30,7 @@ impl<H: KeyHash + Copy + Drop> Node<H> {
             self.now result self.now }
     {
         let table = self.readable_table(pid, table).ok_or(Refusal::Badarg)?;
-        let pattern = pattern_of(self.alloc, pattern)?;
+        let pattern = compile_pattern(self.alloc, pattern)?;
         let found = table.matches(&pattern);
         drop(pattern);
         Ok(answers_reply(found?))
@@ -47,7 +47,7 @@ impl<H: KeyHash + Copy + Drop> Node<H> {
             self.now result self.now }
     {
         let table = self.readable_table(pid, table).ok_or(Refusal::Badarg)?;
-        let pattern = pattern_of(self.alloc, pattern)?;
+        let pattern = compile_pattern(self.alloc, pattern)?;
         let found = table.match_objects(&pattern);
         drop(pattern);
         Ok(Reply::Value(Term::List(found?)))
@@ -77,7 +77,7 @@ impl<H: KeyHash + Copy + Drop> Node<H> {
             self.now result self.now }
     {
         let table = self.readable_table(pid, table).ok_or(Refusal::Badarg)?;
-        let spec = spec_of(self.alloc, spec)?;
+        let spec = compile_spec(self.alloc, spec)?;
         let found = table.select(&spec);
         drop(spec);
         Ok(answers_reply(found?))
@@ -89,7 +89,7 @@ impl<H: KeyHash + Copy + Drop> Node<H> {
             self.now result self.now }
     {
         let table = self.readable_table(pid, table).ok_or(Refusal::Badarg)?;
-        let spec = spec_of(self.alloc, spec)?;
+        let spec = compile_spec(self.alloc, spec)?;
         let count = table.select_count(&spec);
         drop(spec);
         Ok(count_reply(count?))
@@ -109,13 +109,13 @@ impl<H: KeyHash + Copy + Drop> Node<H> {
         let Some(table) = self.usable_table_mut(Access::Write, pid, table) else {
             return Err(Refusal::Badarg);
         };
-        let deleted = delete_chosen(alloc, table, spec)?;
+        let deleted = delete_selected(alloc, table, spec)?;
         Ok(count_reply(deleted))
     }
 }
 
 /// Compiles the pattern of an argument.
-fn pattern_of(alloc: Global, argument: &Term) -> Result<Pattern, Refusal>
+fn compile_pattern(alloc: Global, argument: &Term) -> Result<Pattern, Refusal>
     ensures same { IfOk result (λ pattern. pattern ≡ argument.now) }
     ensures good { OnOk result (is_pattern (data_of argument.now) ≡ true) }
     ensures badarg { IsErrOf result Refusal.Badarg → is_pattern (data_of argument.now) ≡ false }
@@ -126,7 +126,7 @@ fn pattern_of(alloc: Global, argument: &Term) -> Result<Pattern, Refusal>
 }
 
 /// Compiles the match specification of an argument.
-fn spec_of(alloc: Global, argument: &Term) -> Result<Spec, Refusal>
+fn compile_spec(alloc: Global, argument: &Term) -> Result<Spec, Refusal>
     ensures same { IfOk result (λ spec. spec ≡ argument.now) }
     ensures good { OnOk result (is_spec (data_of argument.now) ≡ true) }
     ensures badarg { IsErrOf result Refusal.Badarg → is_spec (data_of argument.now) ≡ false }
@@ -145,14 +145,14 @@ fn delete_matching<R: Rows>(
     ensures { table_refusals.RefinesChange (DeletesMatching pattern.now table.old)
         table.old result table.new }
 {
-    let pattern = pattern_of(alloc, pattern)?;
+    let pattern = compile_pattern(alloc, pattern)?;
     let done = table.match_delete(&pattern);
     drop(pattern);
     Ok(done?)
 }
 
 /// Deletes the objects for which a match specification gives `true`, and returns their number.
-fn delete_chosen<R: Rows>(
+fn delete_selected<R: Rows>(
     alloc: Global,
     table: &mut Walked<R>,
     spec: &Term,
@@ -161,7 +161,7 @@ fn delete_chosen<R: Rows>(
         table.old result table.new }
     ensures few { IfOk result (λ count. count < 2 ^ 32) }
 {
-    let spec = spec_of(alloc, spec)?;
+    let spec = compile_spec(alloc, spec)?;
     let deleted = table.select_delete(&spec);
     drop(spec);
     Ok(deleted?)
