@@ -39,7 +39,7 @@ impl<B: HistoryId> Model for Caller<B> {
 
 impl<B: HistoryId> Caller<B> {
     /// Makes the caller of a process, with its part of the history.
-    pub(crate) fn of(pid: u32, writer: HistoryWriter<B>, seen: u64) -> Self
+    pub(crate) fn new(pid: u32, writer: HistoryWriter<B>, seen: u64) -> Self
         ensures { result ≡ record { own = record { pid = pid; entries = writer }; seen = seen } }
     {
         Caller { pid, writer, seen }
@@ -69,14 +69,15 @@ impl<B: HistoryId> Caller<B> {
     }
 
     /// Makes these calls in order, with no step of another process between them, and returns their replies. `ask` says
-    /// what holds of each. Then runs at most `growth` pending growth steps, which no call observes, before it releases
-    /// the lock. If memory runs out, it stops and returns the replies to the calls before. It may wait for the lock.
+    /// what holds of each. Then runs at most `max_growth_steps` pending growth steps, which no call observes, before it
+    /// releases the lock. If memory runs out, it stops and returns the replies to the calls before. It may wait for the
+    /// lock.
     pub fn ask_all<H: KeyHash + Copy + Drop, R: Wait>(
         &mut self,
         rt: &R,
         server: &Server<B, H>,
         calls: Vec<Call>,
-        growth: u32,
+        max_growth_steps: u32,
     ) -> Result<Vec<Reply>, RunFault>
         ensures ok { IfOk result (λ replies. HasAsked B.limits self.old calls.items replies.items self.new) }
         ensures all { IfOk result (λ replies. length replies.items ≡ length calls.items) }
@@ -84,21 +85,21 @@ impl<B: HistoryId> Caller<B> {
     {
         match &server.lock.kind {
             LockKind::Single(lock) => {
-                self.ask_and_grow(&server.word, &mut *lock.write(rt), calls, growth)
+                self.ask_and_grow(&server.word, &mut *lock.write(rt), calls, max_growth_steps)
             }
             LockKind::Sharded(lock) => {
-                self.ask_and_grow(&server.word, &mut **lock.write(rt), calls, growth)
+                self.ask_and_grow(&server.word, &mut **lock.write(rt), calls, max_growth_steps)
             }
         }
     }
 
-    /// Makes calls under one lock, then runs at most `growth` pending steps.
+    /// Makes calls under one lock, then runs at most `max_growth_steps` pending steps.
     fn ask_and_grow<H: KeyHash + Copy + Drop>(
         &mut self,
         word: &HistoryWord,
         served: &mut ServedNode<B, H>,
         calls: Vec<Call>,
-        growth: u32,
+        max_growth_steps: u32,
     ) -> Result<Vec<Reply>, RunFault>
         requires table { word.now.shared.table_id ≡ B.table }
         requires one { word.now.shared.table_id.words ≡ 1 }
@@ -111,7 +112,7 @@ impl<B: HistoryId> Caller<B> {
             return Err(fault_after(replies));
         }
         let asked = self.ask_each(word, served, calls, replies)?;
-        for _ in 0..growth {
+        for _ in 0..max_growth_steps {
             if !served.try_tend(word) {
                 break;
             }

@@ -86,7 +86,7 @@ impl<B: HistoryId, H: KeyHash + Copy + Drop> Server<B, H> {
         ensures refused_run { IfErr result (RefusesWith (RefusesCaller B.limits pid)) }
     {
         let (writer, _reply) = served.join(&self.word, pid)?;
-        Ok(Caller::of(pid, writer, served.count()))
+        Ok(Caller::new(pid, writer, served.count()))
     }
 
     /// Runs pending growth steps, taking the lock anew for each, until none is pending, memory runs out, or `turns`
