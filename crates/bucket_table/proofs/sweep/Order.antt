@@ -6,7 +6,7 @@ use Rattle.node_list.specs.Cells.{Cell}
 use Rattle.node_list.specs.Places.{item_at, HasDistinctPlaces}
 use Rattle.node_list.specs.Changes.{without, cells_with, item_with}
 use Rattle.bucket_table.specs.declared.split.sweep.SweepMode.{SweepMode}
-use Rattle.bucket_table.specs.declared.split.sweep.SweepMode.TheVariants.{RemoveTombstones, RemoveFilled, EmptyAll}
+use Rattle.bucket_table.specs.declared.split.sweep.SweepMode.TheVariants.{RemoveTombstones, RemoveSlotsWithObjects, MakeAllTombstones}
 use Rattle.bucket_table.specs.Slots.{Slot, has_objects}
 use Rattle.bucket_table.specs.inside.Nodes.{slots_of, with_slot}
 use Rattle.bucket_table.specs.inside.Order.{slots_from, above, content_of}
@@ -28,17 +28,17 @@ alike-gone mode gone cs new a e h at =
       | inr other ↦ ap S (without-apart gone at cs other)
     ])
 
-emptied-again : (o : Option Item) → swept EmptyAll (with_slot (item_with o []) []) ≡ swept EmptyAll (with_slot o [])
+emptied-again : (o : Option Item) → swept MakeAllTombstones (with_slot (item_with o []) []) ≡ swept MakeAllTombstones (with_slot o [])
 emptied-again None = refl
 emptied-again (Some item) = refl
 
-pub alike-emptied : (own : ℕ) (cs : List Cell) → HaveSameSweep EmptyAll cs (cells_with own [] cs)
+pub alike-emptied : (own : ℕ) (cs : List Cell) → HaveSameSweep MakeAllTombstones cs (cells_with own [] cs)
 alike-emptied own cs at =
-    let S : Option Item → List Slot = λ o. swept EmptyAll (with_slot o []) in
+    let S : Option Item → List Slot = λ o. swept MakeAllTombstones (with_slot o []) in
     elim (cases_eq own at) [
       | inl here ↦
-          ap (λ (z : ℕ). swept EmptyAll (slot_at z (cells_with own [] cs))) (sym here)
-          ∙ (ap S (with-own own [] cs) ∙ (emptied-again (item_at own cs) ∙ ap (λ (z : ℕ). swept EmptyAll (slot_at z cs)) here))
+          ap (λ (z : ℕ). swept MakeAllTombstones (slot_at z (cells_with own [] cs))) (sym here)
+          ∙ (ap S (with-own own [] cs) ∙ (emptied-again (item_at own cs) ∙ ap (λ (z : ℕ). swept MakeAllTombstones (slot_at z cs)) here))
       | inr other ↦ ap S (with-apart own at [] cs other)
     ]
 
@@ -50,8 +50,8 @@ kept-first false s ss = refl
 
 swept-first : (mode : SweepMode) (s : Slot) (ss : List Slot) → swept mode (s ∷ ss) ≡ swept mode (s ∷ []) ++ swept mode ss
 swept-first RemoveTombstones s ss = kept-first (has_objects s.1) s (swept RemoveTombstones ss)
-swept-first RemoveFilled s ss = kept-first (not (has_objects s.1)) s (swept RemoveFilled ss)
-swept-first EmptyAll s ss = refl
+swept-first RemoveSlotsWithObjects s ss = kept-first (not (has_objects s.1)) s (swept RemoveSlotsWithObjects ss)
+swept-first MakeAllTombstones s ss = refl
 
 swept-parts : (mode : SweepMode) (o : Option Item) (ss : List Slot) → swept mode (with_slot o ss) ≡ swept mode (with_slot o []) ++ swept mode ss
 swept-parts mode None ss = ap (λ (zs : List Slot). zs ++ swept mode ss) (sym (swept-none mode))
@@ -71,17 +71,17 @@ purged-swept : (s : Slot) (ss : List Slot) (b : Bool) → has_objects s.1 ≡ b 
 purged-swept s ss true e h = (ap (λ (b : Bool). cond b (s ∷ []) []) e, h)
 purged-swept s ss false e h = h
 
-dropped-swept : (s : Slot) (ss : List Slot) (b : Bool) → not (has_objects s.1) ≡ b → AreSwept RemoveFilled ss → AreSwept RemoveFilled (cond b (s ∷ ss) ss)
+dropped-swept : (s : Slot) (ss : List Slot) (b : Bool) → not (has_objects s.1) ≡ b → AreSwept RemoveSlotsWithObjects ss → AreSwept RemoveSlotsWithObjects (cond b (s ∷ ss) ss)
 dropped-swept s ss true e h = (ap (λ (b : Bool). cond b (s ∷ []) []) e, h)
 dropped-swept s ss false e h = h
 
 sweep-swept : (mode : SweepMode) (ss : List Slot) → AreSwept mode (swept mode ss)
 sweep-swept RemoveTombstones [] = tt
-sweep-swept RemoveFilled [] = tt
-sweep-swept EmptyAll [] = tt
+sweep-swept RemoveSlotsWithObjects [] = tt
+sweep-swept MakeAllTombstones [] = tt
 sweep-swept RemoveTombstones (s ∷ ss) = purged-swept s (swept RemoveTombstones ss) (has_objects s.1) refl (sweep-swept RemoveTombstones ss)
-sweep-swept RemoveFilled (s ∷ ss) = dropped-swept s (swept RemoveFilled ss) (not (has_objects s.1)) refl (sweep-swept RemoveFilled ss)
-sweep-swept EmptyAll (s ∷ ss) = (refl, sweep-swept EmptyAll ss)
+sweep-swept RemoveSlotsWithObjects (s ∷ ss) = dropped-swept s (swept RemoveSlotsWithObjects ss) (not (has_objects s.1)) refl (sweep-swept RemoveSlotsWithObjects ss)
+sweep-swept MakeAllTombstones (s ∷ ss) = (refl, sweep-swept MakeAllTombstones ss)
 
 swept-slot-first : (mode : SweepMode) (o : Option Item) (ss : List Slot) → AreSwept mode (with_slot o ss) → swept mode (with_slot o []) ≡ with_slot o []
 swept-slot-first mode None ss h = swept-none mode

@@ -10,7 +10,7 @@ use Rattle.node_list.specs.Places.{from, cells_after, all_but_first, first_place
 use Rattle.node_list.specs.Changes.{without, cells_with, item_with}
 use Rattle.node_list.proofs.CellLaws.{from-here, from-on, without-here, without-on}
 use Rattle.bucket_table.specs.declared.split.sweep.SweepMode.{SweepMode}
-use Rattle.bucket_table.specs.declared.split.sweep.SweepMode.TheVariants.{RemoveTombstones, RemoveFilled, EmptyAll}
+use Rattle.bucket_table.specs.declared.split.sweep.SweepMode.TheVariants.{RemoveTombstones, RemoveSlotsWithObjects, MakeAllTombstones}
 use Rattle.bucket_table.specs.Slots.{Slot}
 use Rattle.bucket_table.specs.inside.Nodes.{slots_of, with_slot}
 use Rattle.bucket_table.specs.inside.Sweeps.{swept, up_to, slots_after_sweep, SweepsNext}
@@ -186,8 +186,8 @@ append-none (s ∷ ss) = ap (λ (zs : List Slot). s ∷ zs) (append-none ss)
 
 pub swept-none : (mode : SweepMode) → swept mode [] ≡ []
 swept-none RemoveTombstones = refl
-swept-none RemoveFilled = refl
-swept-none EmptyAll = refl
+swept-none RemoveSlotsWithObjects = refl
+swept-none MakeAllTombstones = refl
 
 -- At the end of the list all slots are swept.
 pub end-end : (mode : SweepMode) (at : ℕ) (cs : List Cell) → IsPlaceOf at cs → place_after at cs ≡ None → slots_of cs ≡ slots_after_sweep mode at cs
@@ -215,11 +215,11 @@ gone-tombstone o t chain e f ss = ap (λ (z : Option Item). swept RemoveTombston
 pub purge-goes : (mode : SweepMode) (at : ℕ) (cs : List Cell) (t : Term) (chain : List Term) → mode ≡ RemoveTombstones → item_at at cs ≡ Some (new_item t chain) → length chain ≡ 0 → (ss : List Slot) → swept mode (with_slot (item_at at cs) ss) ≡ swept mode ss
 purge-goes mode at cs t chain h e l ss = let P : SweepMode → Type 0 = λ z. swept z (with_slot (item_at at cs) ss) ≡ swept z ss in subst P (sym h) (gone-tombstone (item_at at cs) t chain e (none-left chain l) ss)
 
-gone-full : (o : Option Item) (t : Term) (chain : List Term) → o ≡ Some (new_item t chain) → length chain ≢ 0 → (ss : List Slot) → swept RemoveFilled (with_slot o ss) ≡ swept RemoveFilled ss
+gone-full : (o : Option Item) (t : Term) (chain : List Term) → o ≡ Some (new_item t chain) → length chain ≢ 0 → (ss : List Slot) → swept RemoveSlotsWithObjects (with_slot o ss) ≡ swept RemoveSlotsWithObjects ss
 gone-full o t [] e f ss = absurd (f refl)
-gone-full o t (x ∷ xs) e f ss = ap (λ (z : Option Item). swept RemoveFilled (with_slot z ss)) e
+gone-full o t (x ∷ xs) e f ss = ap (λ (z : Option Item). swept RemoveSlotsWithObjects (with_slot z ss)) e
 
-pub drop-goes : (mode : SweepMode) (at : ℕ) (cs : List Cell) (t : Term) (chain : List Term) → mode ≡ RemoveFilled → item_at at cs ≡ Some (new_item t chain) → length chain ≢ 0 → (ss : List Slot) → swept mode (with_slot (item_at at cs) ss) ≡ swept mode ss
+pub drop-goes : (mode : SweepMode) (at : ℕ) (cs : List Cell) (t : Term) (chain : List Term) → mode ≡ RemoveSlotsWithObjects → item_at at cs ≡ Some (new_item t chain) → length chain ≢ 0 → (ss : List Slot) → swept mode (with_slot (item_at at cs) ss) ≡ swept mode ss
 drop-goes mode at cs t chain h e l ss = let P : SweepMode → Type 0 = λ z. swept z (with_slot (item_at at cs) ss) ≡ swept z ss in subst P (sym h) (gone-full (item_at at cs) t chain e l ss)
 
 -- ---- a node that is emptied
@@ -256,25 +256,25 @@ front-emptied at (c ∷ cs) d e ds a h =
           ∙ ap (λ (zs : List Cell). zs ++ emptied e ∷ []) (sym (to-on at c cs miss))))
     ]
 
-emptied-slot : (o : Option Item) (front ss : List Slot) → front ++ swept EmptyAll (with_slot o ss) ≡ (front ++ with_slot (item_with o []) []) ++ swept EmptyAll ss
-emptied-slot None front ss = sym (append_assoc front [] (swept EmptyAll ss))
-emptied-slot (Some item) front ss = sym (append_assoc front ((item.term, []) ∷ []) (swept EmptyAll ss))
+emptied-slot : (o : Option Item) (front ss : List Slot) → front ++ swept MakeAllTombstones (with_slot o ss) ≡ (front ++ with_slot (item_with o []) []) ++ swept MakeAllTombstones ss
+emptied-slot None front ss = sym (append_assoc front [] (swept MakeAllTombstones ss))
+emptied-slot (Some item) front ss = sym (append_assoc front ((item.term, []) ∷ []) (swept MakeAllTombstones ss))
 
-pub empties : (at next : ℕ) (cs : List Cell) (n : Neighbour at next cs) → HasDistinctPlaces cs → SweepsNext EmptyAll at cs next (cells_with next [] cs)
+pub empties : (at next : ℕ) (cs : List Cell) (n : Neighbour at next cs) → HasDistinctPlaces cs → SweepsNext MakeAllTombstones at cs next (cells_with next [] cs)
 empties at next cs n a =
     let new = cells_with n.other.at [] cs in
     let f : from n.other.at new ≡ emptied n.other ∷ n.later = from-emptied at cs n.cell n.other n.later a n.pair in
     let b : cells_after n.other.at new ≡ n.later = ap all_but_first f in
     let was : cells_after at cs ≡ n.other ∷ n.later = ap all_but_first n.pair.is in
-    let P : ℕ → Type 0 = λ z. SweepsNext EmptyAll at cs z (cells_with z [] cs) in
+    let P : ℕ → Type 0 = λ z. SweepsNext MakeAllTombstones at cs z (cells_with z [] cs) in
     subst P n.place (record {
       is_place = record { cell = emptied n.other; later = n.later; is = f };
       same_end =
-          ap (λ (zs : List Cell). slots_of zs ++ swept EmptyAll (slots_of (cells_after n.other.at new))) (front-emptied at cs n.cell n.other n.later a n.pair.is)
-          ∙ (ap (λ (zs : List Slot). zs ++ swept EmptyAll (slots_of (cells_after n.other.at new))) (slots-append (up_to at cs) (emptied n.other ∷ []))
-          ∙ (ap (λ (zs : List Cell). (slots_of (up_to at cs) ++ with_slot (item_with n.other.item []) []) ++ swept EmptyAll (slots_of zs)) b
+          ap (λ (zs : List Cell). slots_of zs ++ swept MakeAllTombstones (slots_of (cells_after n.other.at new))) (front-emptied at cs n.cell n.other n.later a n.pair.is)
+          ∙ (ap (λ (zs : List Slot). zs ++ swept MakeAllTombstones (slots_of (cells_after n.other.at new))) (slots-append (up_to at cs) (emptied n.other ∷ []))
+          ∙ (ap (λ (zs : List Cell). (slots_of (up_to at cs) ++ with_slot (item_with n.other.item []) []) ++ swept MakeAllTombstones (slots_of zs)) b
           ∙ (sym (emptied-slot n.other.item (slots_of (up_to at cs)) (slots_of n.later))
-          ∙ ap (λ (zs : List Cell). slots_of (up_to at cs) ++ swept EmptyAll (slots_of zs)) (sym was))));
+          ∙ ap (λ (zs : List Cell). slots_of (up_to at cs) ++ swept MakeAllTombstones (slots_of zs)) (sym was))));
       rest = b ∙ ap all_but_first (sym was);
       shorter = omega (arith, ap length b, ap length was);
     })

@@ -3,17 +3,17 @@ use Rattle.std.specs.Prelude.{◌≡◌, ℕ, ◌+◌, ◌<◌, ◌≤◌, true,
 use Rattle.node_list.specs.Cells.{Cell}
 use Rattle.node_list.specs.Places.{IsPlaceOf, HasItem, cells_after, all_but_first, item_at}
 use Rattle.bucket_table.specs.declared.split.sweep.SweepMode.{SweepMode}
-use Rattle.bucket_table.specs.declared.split.sweep.SweepMode.TheVariants.{RemoveTombstones, RemoveFilled, EmptyAll}
+use Rattle.bucket_table.specs.declared.split.sweep.SweepMode.TheVariants.{RemoveTombstones, RemoveSlotsWithObjects, MakeAllTombstones}
 use Rattle.bucket_table.specs.declared.split.sweep.NodeAction.{NodeAction}
-use Rattle.bucket_table.specs.declared.split.sweep.NodeAction.TheVariants.{Keep, Remove, Empty}
+use Rattle.bucket_table.specs.declared.split.sweep.NodeAction.TheVariants.{Keep, Remove, MakeTombstone}
 use Rattle.bucket_table.specs.Slots.{Slot, purged, cleared}
 use Rattle.bucket_table.specs.inside.Nodes.{slots_of, with_slot}
 
 -- The slots after a whole sweep.
 abbrev pub swept : SweepMode → List Slot → List Slot
 swept RemoveTombstones slots = purged slots
-swept RemoveFilled slots = cleared false slots
-swept EmptyAll slots = cleared true slots
+swept RemoveSlotsWithObjects slots = cleared false slots
+swept MakeAllTombstones slots = cleared true slots
 
 -- The slot of the item at a place, if there is one.
 abbrev pub slot_at : ℕ → List Cell → List Slot
@@ -51,4 +51,4 @@ IsActionFor mode at cs Keep =
     (ss : List Slot) → swept mode (with_slot (item_at at cs) ss) ≡ with_slot (item_at at cs) (swept mode ss)
 IsActionFor mode at cs Remove =
     HasItem at cs × ((ss : List Slot) → swept mode (with_slot (item_at at cs) ss) ≡ swept mode ss)
-IsActionFor mode at cs Empty = HasItem at cs × (mode ≡ EmptyAll)
+IsActionFor mode at cs MakeTombstone = HasItem at cs × (mode ≡ MakeAllTombstones)

@@ -53,9 +53,9 @@ impl<H: KeyHash + Copy + Drop> Rows for SplitRows<H> {
 
     fn clear(&mut self, hold: bool) {
         let mode = if hold {
-            SweepMode::EmptyAll
+            SweepMode::MakeAllTombstones
         } else {
-            SweepMode::RemoveFilled
+            SweepMode::RemoveSlotsWithObjects
         };
         self.sweep_slots(mode);
     }

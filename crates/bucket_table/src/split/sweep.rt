@@ -2,8 +2,8 @@
 #[derive(Clone, Copy, PartialEq, Eq)]
 pub enum SweepMode {
     RemoveTombstones,
-    RemoveFilled,
-    EmptyAll,
+    RemoveSlotsWithObjects,
+    MakeAllTombstones,
 }
 
 /// What a sweep does to one node.
@@ -11,5 +11,5 @@ pub enum SweepMode {
 pub enum NodeAction {
     Keep,
     Remove,
-    Empty,
+    MakeTombstone,
 }

@@ -23,13 +23,13 @@ impl<H: KeyHash + Copy + Drop> SplitIndex<H> {
         match self.list.item(at) {
             None => NodeAction::Keep,
             Some((_, objects)) => match mode {
-                SweepMode::EmptyAll => NodeAction::Empty,
+                SweepMode::MakeAllTombstones => NodeAction::MakeTombstone,
                 SweepMode::RemoveTombstones => if objects.len() == 0 {
                     NodeAction::Remove
                 } else {
                     NodeAction::Keep
                 },
-                SweepMode::RemoveFilled => if objects.len() == 0 {
+                SweepMode::RemoveSlotsWithObjects => if objects.len() == 0 {
                     NodeAction::Keep
                 } else {
                     NodeAction::Remove
@@ -55,7 +55,7 @@ impl<H: KeyHash + Copy + Drop> SplitIndex<H> {
                 let _count = self.delete_after(at, next);
                 at
             }
-            NodeAction::Empty => {
+            NodeAction::MakeTombstone => {
                 self.list.chain_mut(next).truncate(0);
                 next
             }

@@ -2,7 +2,7 @@ use Rattle.std.proofs.Common.{◌≡◌, ◌+◌, ◌^◌, List, length, sym, �
 use Rattle.ets_term.specs.declared.term.Term.{Term}
 use Rattle.std.proofs.Common.{[]}
 use Rattle.bucket_table.specs.declared.split.sweep.SweepMode.{SweepMode}
-use Rattle.bucket_table.specs.declared.split.sweep.SweepMode.TheVariants.{EmptyAll}
+use Rattle.bucket_table.specs.declared.split.sweep.SweepMode.TheVariants.{MakeAllTombstones}
 use Rattle.ets_term.specs.Order.{same}
 use Rattle.node_list.specs.Changes.{cells_with}
 use Rattle.bucket_table.specs.inside.Nodes.{slots_of}
@@ -37,9 +37,9 @@ returns-in-Remove-clause-each g c =
       fewer = omega (arith, c.delete_after-count.ensures.len);
     }
 
-pub returns-in-Empty-clause-rows : goal.returns-in-Empty-clause-rows
-returns-in-Empty-clause-rows g c =
-    let i = c.in-Empty.ensures.0 in
+pub returns-in-MakeTombstone-clause-rows : goal.returns-in-MakeTombstone-clause-rows
+returns-in-MakeTombstone-clause-rows g c =
+    let i = c.in-MakeTombstone.ensures.0 in
     let f = seat-found i.item.term c.args.next c.args.self.now.list.cells c.reveal_invariant.ensures.apart c.requires.rows.rows.split.distinct (item-seat c.args.next c.args.self.now.list.cells i) in
     let index = c.args.self.now in
     record {
@@ -47,25 +47,25 @@ returns-in-Empty-clause-rows g c =
       previous = hints-with (2 ^ (index.hints.interval_bits + 1)) index.hints.previous c.args.next c.truncate.new.self index.list.cells c.requires.rows.previous;
     }
 
-pub returns-in-Empty-clause-cells : goal.returns-in-Empty-clause-cells
-returns-in-Empty-clause-cells g c =
+pub returns-in-MakeTombstone-clause-cells : goal.returns-in-MakeTombstone-clause-cells
+returns-in-MakeTombstone-clause-cells g c =
     let none : c.truncate.new.self ≡ [] = c.truncate.ensures in
-    let W : List Term → Type 0 = λ w. SweepsNext EmptyAll c.args.at c.args.self.now.list.cells c.args.next (cells_with c.args.next w c.args.self.now.list.cells) in
+    let W : List Term → Type 0 = λ w. SweepsNext MakeAllTombstones c.args.at c.args.self.now.list.cells c.args.next (cells_with c.args.next w c.args.self.now.list.cells) in
     let P : SweepMode → Type 0 = λ mode. SweepsNext mode c.args.at c.args.self.now.list.cells c.args.next (cells_with c.args.next c.truncate.new.self c.args.self.now.list.cells) in
-    subst P (sym c.in-Empty.ensures.1) (subst W (sym none) (empties c.args.at c.args.next c.args.self.now.list.cells (neighbour c.args.at c.args.next c.args.self.now.list.cells c.reveal_invariant.ensures.apart c.requires.place c.requires.next) c.reveal_invariant.ensures.apart))
+    subst P (sym c.in-MakeTombstone.ensures.1) (subst W (sym none) (empties c.args.at c.args.next c.args.self.now.list.cells (neighbour c.args.at c.args.next c.args.self.now.list.cells c.reveal_invariant.ensures.apart c.requires.place c.requires.next) c.reveal_invariant.ensures.apart))
 
-pub returns-in-Empty-clause-each : goal.returns-in-Empty-clause-each
-returns-in-Empty-clause-each g c =
+pub returns-in-MakeTombstone-clause-each : goal.returns-in-MakeTombstone-clause-each
+returns-in-MakeTombstone-clause-each g c =
     let cells = c.args.self.now.list.cells in
-    let i = c.in-Empty.ensures.0 in
+    let i = c.in-MakeTombstone.ensures.0 in
     let f = seat-found i.item.term c.args.next cells c.reveal_invariant.ensures.apart c.requires.rows.rows.split.distinct (item-seat c.args.next cells i) in
     let l = ap length (f.replaced c.truncate.new.self) ∙ length-set_value (same i.item.term) (slots_of cells) c.truncate.new.self in
     let m = length-with c.args.next c.truncate.new.self cells in
     let none : c.truncate.new.self ≡ [] = c.truncate.ensures in
-    let W : List Term → Type 0 = λ w. HaveSameSweep EmptyAll cells (cells_with c.args.next w cells) in
+    let W : List Term → Type 0 = λ w. HaveSameSweep MakeAllTombstones cells (cells_with c.args.next w cells) in
     let P : SweepMode → Type 0 = λ mode. HaveSameSweep mode cells (cells_with c.args.next c.truncate.new.self cells) in
     record {
-      alike = subst P (sym c.in-Empty.ensures.1) (subst W (sym none) (alike-emptied c.args.next cells));
+      alike = subst P (sym c.in-MakeTombstone.ensures.1) (subst W (sym none) (alike-emptied c.args.next cells));
       len = omega (arith, l, m);
       fewer = omega (arith, m);
     }
