@@ -73,13 +73,13 @@ impl<B: HistoryId, H: KeyHash + Copy + Drop> Server<B, H> {
         ensures refused_run { IfErr result (RefusesWith (RefusesCaller B.limits pid)) }
     {
         match &self.lock.kind {
-            LockKind::Single(lock) => self.join_on(&mut *lock.write(rt), pid),
-            LockKind::Sharded(lock) => self.join_on(&mut **lock.write(rt), pid),
+            LockKind::Single(lock) => self.join_locked(&mut *lock.write(rt), pid),
+            LockKind::Sharded(lock) => self.join_locked(&mut **lock.write(rt), pid),
         }
     }
 
     /// Enrols a process on a node under the lock, and makes its caller.
-    fn join_on(&self, served: &mut ServedNode<B, H>, pid: u32) -> Result<Caller<B>, BookFault>
+    fn join_locked(&self, served: &mut ServedNode<B, H>, pid: u32) -> Result<Caller<B>, BookFault>
         ensures ok { IfOk result (IsEnrolledCaller B.limits pid) }
         ensures start { IfOk result (λ caller. caller.own ≡ enrolled_record pid (Value (Pid pid))) }
         ensures refused { IfErr result (RefusesWith (λ r. is_value r ≡ false)) }
