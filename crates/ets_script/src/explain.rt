@@ -29,7 +29,7 @@ pub fn explain<'a, H: KeyHash + Copy + Drop>(
             reply,
         )),
         Answer::NoMemory => Ok(Some(Diagnostic::NoMemory)),
-        Answer::Syntax(at) => Ok(Some(Diagnostic::Faulty(*at, diagnose_at(line, *at)))),
+        Answer::Syntax(at) => Ok(Some(Diagnostic::SyntaxFault(*at, diagnose_at(line, *at)))),
         Answer::TooLong => Ok(Some(Diagnostic::TooLong)),
     }
 }
@@ -75,5 +75,5 @@ fn explain_step<'a, H: KeyHash + Copy + Drop>(
     ensures { ExplainsStep script.now.node event reply.now result }
 {
     let reason = why(script.node(), &event, reply)?;
-    Some(Diagnostic::Broken(event, reason))
+    Some(Diagnostic::BrokenRule(event, reason))
 }

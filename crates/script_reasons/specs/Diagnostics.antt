@@ -27,11 +27,11 @@ name_text name = if is_utf8 name then name else codes "the name"
 
 -- `lookup/2: argument 1: no such table`, or `byte 17: unexpected '.'`
 abbrev pub diagnostic_text : Diagnostic → List ℕ
-diagnostic_text (diagnostic.Broken step reason) = step_subject step ++ (codes ": " ++ reason_text reason)
+diagnostic_text (diagnostic.BrokenRule step reason) = step_subject step ++ (codes ": " ++ reason_text reason)
 diagnostic_text (diagnostic.AlreadySpawned name) = codes "spawn: " ++ (name_text name.now ++ codes " was already spawned")
 diagnostic_text (diagnostic.CallByUnknownName name call) =
     call_subject call ++ (codes ": " ++ (name_text name.now ++ codes " was never spawned"))
 diagnostic_text (diagnostic.ExitOfUnknownName name) = codes "exit: " ++ (name_text name.now ++ codes " was never spawned")
-diagnostic_text (diagnostic.Faulty at problem) = codes "byte " ++ (decimal at ++ (codes ": " ++ problem_text problem))
+diagnostic_text (diagnostic.SyntaxFault at problem) = codes "byte " ++ (decimal at ++ (codes ": " ++ problem_text problem))
 diagnostic_text diagnostic.TooLong = codes "line longer than 65536 bytes"
 diagnostic_text diagnostic.NoMemory = codes "out of memory"

@@ -40,7 +40,7 @@ diagnose_after_call b = if b == byte "." then problem.FullStop
 -- a name of more characters than an atom has, or a long number
 abbrev pub diagnose_word : ℕ → List ℕ → SyntaxProblem
 diagnose_word b after = if is_lowercase b && nat_lt max_characters (prefix_len is_name (b ∷ after)) then problem.LongName
-    else if nat_le long_number (prefix_len is_digit (b ∷ after)) then problem.PastRange
+    else if nat_le long_number (prefix_len is_digit (b ∷ after)) then problem.IntegerOutOfRange
     else problem.Other b
 
 -- a sign, whatever is before and after it
@@ -56,13 +56,13 @@ diagnose_sign b after = if b == byte "." then problem.FullStop
 
 -- directly after `#`
 abbrev pub diagnose_after_hash : ℕ → SyntaxProblem
-diagnose_after_hash b = if b == byte "{" then problem.Map else problem.Identifier
+diagnose_after_hash b = if b == byte "{" then problem.Map else problem.UnsupportedReference
 
 -- where no term may begin, or none with this byte
 abbrev pub diagnose_unexpected_byte : List ℕ → ℕ → List ℕ → SyntaxProblem
 diagnose_unexpected_byte before b after = if last_byte before == byte "#" then diagnose_after_hash b
     else if (b == byte ".") && is_digit (last_byte before) && begins is_digit after then problem.Float
-    else if (b == byte "#") && is_digit (last_byte before) then problem.Base
+    else if (b == byte "#") && is_digit (last_byte before) then problem.BasedInteger
     else diagnose_sign b after
 
 -- where a term may begin: a level too deep; or a term whose fault is further on, and is reported where
@@ -70,7 +70,7 @@ diagnose_unexpected_byte before b after = if last_byte before == byte "#" then d
 abbrev pub diagnose_term_start : LexState → List ℕ → ℕ → List ℕ → SyntaxProblem
 diagnose_term_start state before b after = if nat_le max_depth state.levels && begins_nested_term b then problem.TooDeep
     else if begins_atom b then problem.LongName
-    else if begins_number b then problem.PastRange
+    else if begins_number b then problem.IntegerOutOfRange
     else diagnose_unexpected_byte before b after
 
 -- a byte, between this text and that
@@ -92,7 +92,7 @@ diagnose_at line at = diagnose_rest (take at line) (drop at line)
 
 -- the problem at an offset of a text that should be a call: at its front usually a term that is no call
 abbrev pub in_call : ℕ → SyntaxProblem → SyntaxProblem
-in_call at (problem.Other b) = if (at == 0) && may_begin_term b then problem.NoCall else problem.Other b
+in_call at (problem.Other b) = if (at == 0) && may_begin_term b then problem.NotACall else problem.Other b
 in_call at other = other
 
 abbrev pub diagnose_in_call : List ℕ → ℕ → SyntaxProblem

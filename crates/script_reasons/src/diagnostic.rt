@@ -11,7 +11,7 @@ use std::fmt;
 #[derive(Drop)]
 pub enum Diagnostic<'a> {
     /// The step of the line, and the rule that it breaks.
-    Broken(Step, Reason),
+    BrokenRule(Step, Reason),
     /// The line spawns a name that was already spawned.
     AlreadySpawned(&'a [u8]),
     /// The line makes a call as a name that was never spawned.
@@ -19,7 +19,7 @@ pub enum Diagnostic<'a> {
     /// The line ends a name that was never spawned.
     ExitOfUnknownName(&'a [u8]),
     /// The line could not be read: the offset of its fault, and what is wrong there.
-    Faulty(usize, SyntaxProblem),
+    SyntaxFault(usize, SyntaxProblem),
     TooLong,
     NoMemory,
 }
@@ -33,7 +33,7 @@ impl fmt::Display for Diagnostic<'_> {
 
     fn fmt<W: fmt::Write>(&self, f: &mut fmt::Formatter<W>) -> fmt::Result {
         match self {
-            Diagnostic::Broken(step, reason) => write!(f, "{}: {reason}", StepSubject { step }),
+            Diagnostic::BrokenRule(step, reason) => write!(f, "{}: {reason}", StepSubject { step }),
             Diagnostic::AlreadySpawned(name) => write!(
                 f,
                 "spawn: {} was already spawned",
@@ -52,7 +52,7 @@ impl fmt::Display for Diagnostic<'_> {
                 "exit: {} was never spawned",
                 name_text(*name)
             ),
-            Diagnostic::Faulty(at, problem) => write!(f, "byte {at}: {problem}"),
+            Diagnostic::SyntaxFault(at, problem) => write!(f, "byte {at}: {problem}"),
             Diagnostic::TooLong => write!(f, "line longer than 65536 bytes"),
             Diagnostic::NoMemory => write!(f, "out of memory"),
         }

@@ -32,22 +32,22 @@ pub enum SyntaxProblem {
     Float,
     Map,
     /// Text after `#` that is neither a base nor a map.
-    Identifier,
+    UnsupportedReference,
     /// A character as `$a`.
     Character,
     /// A number as `16#ff`.
-    Base,
+    BasedInteger,
     ImproperList,
     /// A colon, as between a module and its function.
     Colon,
     PlusSign,
     /// A backslash before a byte that is neither this quote nor a backslash.
     Escape(u8),
-    PastRange,
+    IntegerOutOfRange,
     LongName,
     TooDeep,
     /// A whole term that is no call.
-    NoCall,
+    NotACall,
     Other(u8),
 }
 
@@ -68,7 +68,7 @@ pub fn diagnose_in_call(text: &[u8], at: usize) -> SyntaxProblem
     ensures { result ≡ spec.diagnose_in_call text.now at }
 {
     match diagnose_at(text, at) {
-        SyntaxProblem::Other(byte) if at == 0 && may_begin_term(byte) => SyntaxProblem::NoCall,
+        SyntaxProblem::Other(byte) if at == 0 && may_begin_term(byte) => SyntaxProblem::NotACall,
         problem => problem,
     }
 }
@@ -135,7 +135,7 @@ fn diagnose_term_start(state: &LexState, before: &[u8], byte: u8, after: &[u8]) 
     } else if begins_atom(byte) {
         SyntaxProblem::LongName
     } else if begins_number(byte) {
-        SyntaxProblem::PastRange
+        SyntaxProblem::IntegerOutOfRange
     } else {
         diagnose_unexpected_byte(before, byte, after)
     }
@@ -152,7 +152,7 @@ fn diagnose_unexpected_byte(before: &[u8], byte: u8, after: &[u8]) -> SyntaxProb
     let follows_digit = is_digit_byte(last);
     match byte {
         b'.' if follows_digit && starts_with_digit(after) => SyntaxProblem::Float,
-        b'#' if follows_digit => SyntaxProblem::Base,
+        b'#' if follows_digit => SyntaxProblem::BasedInteger,
         _ => diagnose_sign(byte, after),
     }
 }
@@ -163,7 +163,7 @@ fn diagnose_after_hash(byte: u8) -> SyntaxProblem
 {
     match byte {
         b'{' => SyntaxProblem::Map,
-        _ => SyntaxProblem::Identifier,
+        _ => SyntaxProblem::UnsupportedReference,
     }
 }
 
@@ -190,7 +190,7 @@ fn diagnose_word(byte: u8, after: &[u8]) -> SyntaxProblem
     if is_lowercase_byte(byte) && name_len(after) >= MAX_CHARACTERS {
         SyntaxProblem::LongName
     } else if is_digit_byte(byte) && digits_len(after) + 1 >= LONG_NUMBER {
-        SyntaxProblem::PastRange
+        SyntaxProblem::IntegerOutOfRange
     } else {
         SyntaxProblem::Other(byte)
     }

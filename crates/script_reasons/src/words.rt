@@ -21,18 +21,19 @@ impl SyntaxProblem {
             SyntaxProblem::Variable => "variables are not supported",
             SyntaxProblem::Float => "floats are not supported",
             SyntaxProblem::Map => "maps are not supported",
-            SyntaxProblem::Identifier => "references other than #Tid<N> are not supported",
+            SyntaxProblem::UnsupportedReference =>
+                "references other than #Tid<N> are not supported",
             SyntaxProblem::Character => "character literals are not supported",
-            SyntaxProblem::Base => "integers with a base are not supported",
+            SyntaxProblem::BasedInteger => "integers with a base are not supported",
             SyntaxProblem::ImproperList => "improper lists are not supported",
             SyntaxProblem::Colon => "unexpected ':' (calls have no module)",
             SyntaxProblem::PlusSign => "unexpected '+'",
             // The end of a sentence: `fmt` writes `only`, the quote and the backslash before it.
             SyntaxProblem::Escape(_) => "can be escaped",
-            SyntaxProblem::PastRange => "integer out of range",
+            SyntaxProblem::IntegerOutOfRange => "integer out of range",
             SyntaxProblem::LongName => "atom longer than 255 characters",
             SyntaxProblem::TooDeep => "more than 128 levels deep",
-            SyntaxProblem::NoCall => "expected a tuple that begins with the call's name",
+            SyntaxProblem::NotACall => "expected a tuple that begins with the call's name",
             SyntaxProblem::Other(_) => "unexpected",
         }
     }

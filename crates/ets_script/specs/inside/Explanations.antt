@@ -20,7 +20,7 @@ use Rattle.ets_script.specs.inside.Parsing.{command_view}
 
 -- the reason of a step: the rule that it breaks
 abbrev pub reason_of_step : State → Step → Reply → Option Diagnostic
-reason_of_step s event reply = option_map (diagnostic.Broken event) (why s event reply)
+reason_of_step s event reply = option_map (diagnostic.BrokenRule event) (why s event reply)
 
 -- if the machine can give a step this reply, the reason is that of the step
 abbrev pub ExplainsStep : State → Step → Reply → Option Diagnostic → Type 0
@@ -64,5 +64,5 @@ abbrev pub Explains : ScriptState → List ℕ → Answer → Option Diagnostic 
 Explains s line answer.Silent reason = reason ≡ None
 Explains s line (answer.Replied reply) reason = ExplainsReply (is_value reply) s line reply reason
 Explains s line answer.NoMemory reason = reason ≡ Some diagnostic.NoMemory
-Explains s line (answer.Syntax at) reason = reason ≡ Some (diagnostic.Faulty at (diagnose_at line at))
+Explains s line (answer.Syntax at) reason = reason ≡ Some (diagnostic.SyntaxFault at (diagnose_at line at))
 Explains s line answer.TooLong reason = reason ≡ Some diagnostic.TooLong
