@@ -19,8 +19,8 @@ pub record PlanState : Type 0 where
 abbrev pub empty_plan : PlanState
 empty_plan = record { answers = []; names = []; jobs = [] }
 
-abbrev pub number_of : PlanState → List ℕ → Option ℕ
-number_of plan name = position (bytes_eq name) plan.names
+abbrev pub index_of : PlanState → List ℕ → Option ℕ
+index_of plan name = position (bytes_eq name) plan.names
 
 abbrev pub add_answer : Answer → PlanState → PlanState
 add_answer answer plan = record plan { answers = plan.answers ++ answer ∷ [] }
@@ -44,10 +44,10 @@ add_spawn max_names None name plan =
 -- what a command adds; growth steps are not planned
 abbrev pub add_command : ℕ → Command → PlanState → PlanState
 add_command max_names (faulty at) plan = add_answer (Syntax at) plan
-add_command max_names (spawn name) plan = add_spawn max_names (number_of plan name) name plan
-add_command max_names (exit name) plan = add_job_for (number_of plan name) job.End plan
+add_command max_names (spawn name) plan = add_spawn max_names (index_of plan name) name plan
+add_command max_names (exit name) plan = add_job_for (index_of plan name) job.End plan
 add_command max_names (ask name word terms) plan =
-    add_job_for (number_of plan name) (job.Ask (record { name = word; args = terms })) plan
+    add_job_for (index_of plan name) (job.Ask (record { name = word; args = terms })) plan
 add_command max_names (grow t) plan = plan
 add_command max_names (ready t bucket) plan = plan
 

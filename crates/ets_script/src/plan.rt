@@ -5,7 +5,7 @@ ghost use Rattle.indexmap.specs.IndexSet.{spare, contains_by, index_set_len};
 ghost use Rattle.ets_script.specs.inside.Parsing.{command_view};
 ghost use Rattle.ets_script.specs.inside.Planning.{AreParts, no_lines, with_answer, with_command, with_job, with_line, with_name};
 ghost use Rattle.ets_script.specs.Lines.{text, too_long};
-ghost use Rattle.ets_script.specs.Plan.{jobs_with, number_of};
+ghost use Rattle.ets_script.specs.Plan.{jobs_with, index_of};
 
 use crate::answer::Answer;
 use crate::command::{Command, is_silent, read_command};
@@ -141,9 +141,9 @@ impl Plan {
         self.answers.push(answer)
     }
 
-    /// Returns the number of a name.
-    fn number_of(&self, name: &[u8]) -> Option<usize>
-        ensures number { result ≡ number_of self.now.plan name.now }
+    /// Returns the index of the process of this name.
+    fn index_of(&self, name: &[u8]) -> Option<usize>
+        ensures index { result ≡ index_of self.now.plan name.now }
         ensures within { IfSome result (λ n. n < length self.now.plan.jobs) }
     {
         self.names.get_index_of(name)
@@ -152,20 +152,20 @@ impl Plan {
     /// Adds a job for the process of this name, or the answer `noproc` if no process has it.
     fn add_job_for(&mut self, name: &[u8], job: Job) -> Result<(), AllocError>
         ensures { IfOk result (λ _. self.new
-            ≡ with_job (number_of self.old.plan name.now) job self.old) }
+            ≡ with_job (index_of self.old.plan name.now) job self.old) }
     {
-        match self.number_of(name) {
-            Some(number) => self.add_job_at(number, job),
+        match self.index_of(name) {
+            Some(process_index) => self.add_job_at(process_index, job),
             None => self.add_answer(Answer::Replied(Reply::NoProcess)),
         }
     }
 
-    /// Adds a job for the process of this number.
-    fn add_job_at(&mut self, number: usize, job: Job) -> Result<(), AllocError>
-        requires { number < length self.old.plan.jobs }
-        ensures { IfOk result (λ _. self.new ≡ with_job (Some number) job self.old) }
+    /// Adds a job for the process of this index.
+    fn add_job_at(&mut self, process_index: usize, job: Job) -> Result<(), AllocError>
+        requires { process_index < length self.old.plan.jobs }
+        ensures { IfOk result (λ _. self.new ≡ with_job (Some process_index) job self.old) }
     {
-        add_job(self.alloc, &mut self.jobs, number, job)
+        add_job(self.alloc, &mut self.jobs, process_index, job)
     }
 
     /// Adds a process for a name. The answer is `badarg` if the name is taken, and `system_limit` if there are too many.
@@ -202,15 +202,15 @@ fn add_name(names: &mut IndexSet<Vec<u8>>, name: Vec<u8>)
 fn add_job(
     alloc: Global,
     jobs: &mut Items<Items<Job>>,
-    number: usize,
+    process_index: usize,
     job: Job,
 ) -> Result<(), AllocError>
-    requires { number < length jobs.old }
-    ensures added { IfOk result (λ _. jobs.new ≡ jobs_with number job jobs.old) }
+    requires { process_index < length jobs.old }
+    ensures added { IfOk result (λ _. jobs.new ≡ jobs_with process_index job jobs.old) }
     ensures len { length jobs.new ≡ length jobs.old }
 {
-    let mut own = jobs.replace(number, Items::new(alloc));
+    let mut own = jobs.replace(process_index, Items::new(alloc));
     let pushed = own.push(job);
-    let _ = jobs.replace(number, own);
+    let _ = jobs.replace(process_index, own);
     pushed
 }

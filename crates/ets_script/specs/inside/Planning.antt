@@ -5,7 +5,7 @@ use Rattle.node_shared.specs.declared.job.Job.{Job}
 use Rattle.ets_packets.specs.Traffic.{Flow}
 use Rattle.ets_script.specs.Commands.{Command}
 use Rattle.ets_script.specs.Lines.{Line, text, too_long, IsOneLine, IsLine, IsCutInto}
-use Rattle.ets_script.specs.Plan.{PlanState, empty_plan, number_of, add_answer, add_job_for, add_spawn, add_command, line_plan, lines_plan}
+use Rattle.ets_script.specs.Plan.{PlanState, empty_plan, index_of, add_answer, add_job_for, add_spawn, add_command, line_plan, lines_plan}
 use Rattle.ets_script.specs.declared.answer.Answer.{Answer}
 use Rattle.ets_script.specs.declared.plan.PlannedAnswers.{PlannedAnswers}
 use Rattle.ets_script.specs.declared.plan.ProcessJobs.{ProcessJobs}
@@ -28,7 +28,7 @@ with_job number job l = record l { plan = add_job_for number job l.plan }
 
 -- a name that is spawned
 abbrev pub with_name : List ℕ → LimitedPlanState → LimitedPlanState
-with_name name l = record l { plan = add_spawn l.max_names (number_of l.plan name) name l.plan }
+with_name name l = record l { plan = add_spawn l.max_names (index_of l.plan name) name l.plan }
 
 -- what a command says
 abbrev pub with_command : Command → LimitedPlanState → LimitedPlanState
