@@ -41,20 +41,20 @@ impl<R: Rows> Model for Table<R> {
 }
 
 impl<R: Rows> Table<R> {
-    /// Makes a table over rows without slots. It takes at most `objects` objects. The key of an object is its element
-    /// at `keypos`, counted from 1.
-    pub fn new(alloc: Global, rows: R, kind: Kind, keypos: u32, objects: u32) -> Self
+    /// Makes a table over rows without slots. It takes at most `max_objects` objects. The key of an object is its
+    /// element at `keypos`, counted from 1.
+    pub fn new(alloc: Global, rows: R, kind: Kind, keypos: u32, max_objects: u32) -> Self
         requires empty { R.content rows ≡ [] }
         requires keypos { 1 ≤ keypos }
         ensures content { result.content
-            ≡ record { kind = kind; keypos = keypos; limit = objects; slots = [] } }
+            ≡ record { kind = kind; keypos = keypos; limit = max_objects; slots = [] } }
         ensures buckets { result.buckets ≡ R.readiness rows }
     {
         let inner = TableRows {
             alloc,
             kind,
             keypos,
-            limit: objects,
+            limit: max_objects,
             rows,
         };
         Table { inner, count: 0 }
