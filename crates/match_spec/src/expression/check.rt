@@ -12,35 +12,35 @@ use ets_term::Term;
 
 /// Checks whether the term is an expression, if the head binds these variables.
 #[cycle(checked)]
-pub(crate) fn is_expression(term: &Term, first: &FirstPaths) -> bool
-    ensures { result ≡ is_expression (numbers_of first.now.entries) (data_of term.now) }
+pub(crate) fn is_expression(term: &Term, bound_variables: &FirstPaths) -> bool
+    ensures { result ≡ is_expression (numbers_of bound_variables.now.entries) (data_of term.now) }
 {
     match term {
-        Term::Atom(name) => is_bound(variable(name.text().as_bytes()), first),
-        Term::List(items) => are_expressions(items.as_slice(), 0, first),
-        Term::Tuple(items) => is_tuple_expression(items.as_slice(), first),
+        Term::Atom(name) => is_bound(variable(name.text().as_bytes()), bound_variables),
+        Term::List(items) => are_expressions(items.as_slice(), 0, bound_variables),
+        Term::Tuple(items) => is_tuple_expression(items.as_slice(), bound_variables),
         _ => true,
     }
 }
 
 /// Checks whether the head binds this variable. No number means that the name is no variable.
 #[tactic(auto, using(crate::proofs::PathLaws::is_bound_lookup))]
-fn is_bound(number: Option<u32>, first: &FirstPaths) -> bool
-    ensures { result ≡ is_bound (numbers_of first.now.entries) number }
+fn is_bound(number: Option<u32>, bound_variables: &FirstPaths) -> bool
+    ensures { result ≡ is_bound (numbers_of bound_variables.now.entries) number }
 {
     match number {
-        Some(number) => first.contains_key(&number),
+        Some(number) => bound_variables.contains_key(&number),
         None => true,
     }
 }
 
 /// Checks whether the terms from index `start` on are expressions.
 #[cycle(checked)]
-pub(crate) fn are_expressions(terms: &[Term], start: usize, first: &FirstPaths) -> bool
-    ensures { result ≡ are_expressions (numbers_of first.now.entries) (data_list (map data_of (drop start terms.now))) }
+pub(crate) fn are_expressions(terms: &[Term], start: usize, bound_variables: &FirstPaths) -> bool
+    ensures { result ≡ are_expressions (numbers_of bound_variables.now.entries) (data_list (map data_of (drop start terms.now))) }
 {
     for i in start..terms.len() {
-        if !is_expression(&terms[i], first) {
+        if !is_expression(&terms[i], bound_variables) {
             return false;
         }
     }
@@ -49,8 +49,8 @@ pub(crate) fn are_expressions(terms: &[Term], start: usize, first: &FirstPaths) 
 
 /// Checks whether a tuple of these elements is an expression: `{{..}}`, `{const,T}` or a call.
 #[cycle(checked)]
-fn is_tuple_expression(terms: &[Term], first: &FirstPaths) -> bool
-    ensures { result ≡ is_expression (numbers_of first.now.entries) (tuple (data_list (map data_of terms.now))) }
+fn is_tuple_expression(terms: &[Term], bound_variables: &FirstPaths) -> bool
+    ensures { result ≡ is_expression (numbers_of bound_variables.now.entries) (tuple (data_list (map data_of terms.now))) }
 {
     if terms.is_empty() {
         return false;
@@ -58,14 +58,14 @@ fn is_tuple_expression(terms: &[Term], first: &FirstPaths) -> bool
     match &terms[0] {
         Term::Tuple(parts) => {
             if terms.len() == 1 {
-                are_expressions(parts.as_slice(), 0, first)
+                are_expressions(parts.as_slice(), 0, bound_variables)
             } else {
                 false
             }
         }
         Term::Atom(name) => {
             let count = terms.len() - 1;
-            let inside = are_expressions(terms, 1, first);
+            let inside = are_expressions(terms, 1, bound_variables);
             is_application(name.text(), count, inside)
         }
         _ => false,
