@@ -13,8 +13,8 @@ use Rattle.match_spec.specs.declared.expression.function.Function.{Function}
 use Rattle.match_spec.specs.declared.expression.function.Function.TheVariants.{Not, Abs, Hd, Tl, Length, Size, Xor, Element}
 use Rattle.match_spec.specs.declared.expression.guards.GuardKind.TheVariants.{Atom, Integer, List as AnyList, Tuple, Binary, Pid, Reference}
 use Rattle.match_spec.specs.Expressions.{strict_connective, short_circuit_connective, is_function}
-use Rattle.match_spec.specs.Functions.{truth, boolean, exclusive, absolute, head, tail, list_length, size, element, is_type, comparison, on_integers, divided, one_argument, two_arguments, call}
-use Rattle.match_spec.specs.inside.Functions.{apply, deciding, is_or, calculate_or, compare_or, function_of, one_argument as one_by_enum, two_arguments as two_by_enum, strict_connective as strict_by_enum, short_circuit_connective as short_circuit_by_enum, is_function as is_function_by_enum}
+use Rattle.match_spec.specs.Functions.{truth, boolean, exclusive, absolute, head, tail, list_length, size, element, is_type, comparison, on_integers, divided, unary_function_of, binary_function_of, call}
+use Rattle.match_spec.specs.inside.Functions.{apply, deciding, is_or, calculate_or, compare_or, function_of, unary_function_of as one_by_enum, binary_function_of as two_by_enum, strict_connective as strict_by_enum, short_circuit_connective as short_circuit_by_enum, is_function as is_function_by_enum}
 
 abbrev pub of_one : Function → Data → Option Data
 of_one g d = apply g (d ∷ [])
@@ -22,8 +22,8 @@ of_one g d = apply g (d ∷ [])
 abbrev pub of_two : Function → Data → Data → Option Data
 of_two g d e = apply g (d ∷ e ∷ [])
 
-pub one_argument-is : (f : List ℕ) → one_argument f ≡ option_map of_one (one_by_enum f)
-one_argument-is f =
+pub unary_function_of-is : (f : List ℕ) → unary_function_of f ≡ option_map of_one (one_by_enum f)
+unary_function_of-is f =
     by
     (bytes_eq f (codes "is_atom"))
     (bytes_eq f (codes "is_integer") || bytes_eq f (codes "is_number"))
@@ -56,8 +56,8 @@ one_argument-is f =
     by false false false false false false false false false false false false true = refl
     by false false false false false false false false false false false false false = refl
 
-pub two_arguments-is : (f : List ℕ) → two_arguments f ≡ option_map of_two (two_by_enum f)
-two_arguments-is f =
+pub binary_function_of-is : (f : List ℕ) → binary_function_of f ≡ option_map of_two (two_by_enum f)
+binary_function_of-is f =
     by
     (bytes_eq f (codes ">"))
     (bytes_eq f (codes ">="))
@@ -118,8 +118,8 @@ same_names p a b s t o w s' t' o' w' e f g h = rw (e, f, g, h, is_some-map decid
 
 pub is_function-is : (f : List ℕ) (n : ℕ) → is_function_by_enum f n ≡ is_function f n
 is_function-is f n =
-    same_names (nat_lt 0 n) (n == 1) (n == 2) (short_circuit_by_enum f) (strict_by_enum f) (one_by_enum f) (two_by_enum f) (short_circuit_connective f) (strict_connective f) (one_argument f) (two_arguments f)
-    (short_circuit_connective-is f) (strict_connective-is f) (one_argument-is f) (two_arguments-is f)
+    same_names (nat_lt 0 n) (n == 1) (n == 2) (short_circuit_by_enum f) (strict_by_enum f) (one_by_enum f) (two_by_enum f) (short_circuit_connective f) (strict_connective f) (unary_function_of f) (binary_function_of f)
+    (short_circuit_connective-is f) (strict_connective-is f) (unary_function_of-is f) (binary_function_of-is f)
 
 -- the values of one argument and of two
 abbrev pub after : Option Data → Option (List Data) → Option (List Data)
@@ -139,9 +139,9 @@ at_two (Some g) d e = refl
 
 pub call-one : (f : List ℕ) (v : Option Data) → option_and_then (λ g. option_and_then (apply g) (after v (Some []))) (function_of f 1) ≡ option_and_then (call f) (after v (Some []))
 call-one f None = no_values (one_by_enum f)
-call-one f (Some d) = at_one (one_by_enum f) d ∙ ap (option_and_then (λ g. g d)) (sym (one_argument-is f))
+call-one f (Some d) = at_one (one_by_enum f) d ∙ ap (option_and_then (λ g. g d)) (sym (unary_function_of-is f))
 
 pub call-two : (f : List ℕ) (v w : Option Data) → option_and_then (λ g. option_and_then (apply g) (after v (after w (Some [])))) (function_of f 2) ≡ option_and_then (call f) (after v (after w (Some [])))
 call-two f None w = no_values (two_by_enum f)
 call-two f (Some d) None = no_values (two_by_enum f)
-call-two f (Some d) (Some e) = at_two (two_by_enum f) d e ∙ ap (option_and_then (λ g. g d e)) (sym (two_arguments-is f))
+call-two f (Some d) (Some e) = at_two (two_by_enum f) d e ∙ ap (option_and_then (λ g. g d e)) (sym (binary_function_of-is f))

@@ -5,7 +5,7 @@ use Rattle.std.specs.Option.{option_and_then, option_map_or}
 use Rattle.std.specs.Str.{bytes_eq}
 use Rattle.ets_term.specs.Data.{Data, atom, tuple, list, DataList, no_terms, term, data_list}
 use Rattle.ets_term.specs.Order.{data_list_len}
-use Rattle.match_spec.specs.Functions.{boolean, truth, one_argument, two_arguments, call}
+use Rattle.match_spec.specs.Functions.{boolean, truth, unary_function_of, binary_function_of, call}
 use Rattle.match_spec.specs.Patterns.{Bindings, binding, values}
 use Rattle.match_spec.specs.Variables.{variable}
 
@@ -88,7 +88,7 @@ is_constant f n = (n == 1) && bytes_eq f (codes "const")
 abbrev pub is_function : List ℕ → ℕ → Bool
 is_function f n =
     ((is_some (short_circuit_connective f) || is_some (strict_connective f)) && nat_lt 0 n)
-    || (if n == 1 then is_some (one_argument f) else ((n == 2) && is_some (two_arguments f)))
+    || (if n == 1 then is_some (unary_function_of f) else ((n == 2) && is_some (binary_function_of f)))
 
 abbrev pub is_bound : List ℕ → Option ℕ → Bool
 is_bound ns None = true

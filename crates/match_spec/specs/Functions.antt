@@ -57,8 +57,8 @@ size (binary s) = count (length s)
 size d = None
 
 -- the function of one argument that has this name
-abbrev pub one_argument : List ℕ → Option (Data → Option Data)
-one_argument f =
+abbrev pub unary_function_of : List ℕ → Option (Data → Option Data)
+unary_function_of f =
     if bytes_eq f (codes "is_atom") then Some (is_type (codes "atom"))
     else if bytes_eq f (codes "is_integer") || bytes_eq f (codes "is_number") then Some (is_type (codes "integer"))
     else if bytes_eq f (codes "is_list") then Some (is_type (codes "list"))
@@ -109,8 +109,8 @@ element (int (pos n)) d = tuple_element n d
 element n d = None
 
 -- the function of two arguments that has this name; a result outside the range of integers fails
-abbrev pub two_arguments : List ℕ → Option (Data → Data → Option Data)
-two_arguments f =
+abbrev pub binary_function_of : List ℕ → Option (Data → Data → Option Data)
+binary_function_of f =
     if bytes_eq f (codes ">") then Some (comparison is_gt)
     else if bytes_eq f (codes ">=") then Some (comparison is_ge)
     else if bytes_eq f (codes "<") then Some (comparison is_lt)
@@ -128,6 +128,6 @@ two_arguments f =
 
 -- the value of a function at the values of its arguments
 abbrev pub call : List ℕ → List Data → Option Data
-call f (d ∷ []) = option_and_then (λ g. g d) (one_argument f)
-call f (d ∷ e ∷ []) = option_and_then (λ g. g d e) (two_arguments f)
+call f (d ∷ []) = option_and_then (λ g. g d) (unary_function_of f)
+call f (d ∷ e ∷ []) = option_and_then (λ g. g d e) (binary_function_of f)
 call f ds = None

@@ -60,8 +60,8 @@ abbrev pub compare_or : Option ComparisonOp → Option Function → Option Funct
 compare_or None f = f
 compare_or (Some c) f = Some (Compare c)
 
-abbrev pub one_argument : List ℕ → Option Function
-one_argument f = is_or (guard_kind_of f) (
+abbrev pub unary_function_of : List ℕ → Option Function
+unary_function_of f = is_or (guard_kind_of f) (
     if bytes_eq f (codes "not") then Some Not
     else if bytes_eq f (codes "abs") then Some Abs
     else if bytes_eq f (codes "hd") then Some Hd
@@ -70,8 +70,8 @@ one_argument f = is_or (guard_kind_of f) (
     else if bytes_eq f (codes "size") then Some Size
     else None)
 
-abbrev pub two_arguments : List ℕ → Option Function
-two_arguments f = compare_or (comparison_op_of f) (calculate_or (arithmetic_op_of f) (
+abbrev pub binary_function_of : List ℕ → Option Function
+binary_function_of f = compare_or (comparison_op_of f) (calculate_or (arithmetic_op_of f) (
     if bytes_eq f (codes "xor") then Some Xor
     else if bytes_eq f (codes "element") then Some Element
     else None))
@@ -79,8 +79,8 @@ two_arguments f = compare_or (comparison_op_of f) (calculate_or (arithmetic_op_o
 -- the function of a name and a number of arguments
 abbrev pub function_of : List ℕ → ℕ → Option Function
 function_of f n =
-    if n == 1 then one_argument f
-    else if n == 2 then two_arguments f
+    if n == 1 then unary_function_of f
+    else if n == 2 then binary_function_of f
     else None
 
 -- the connective of a name that evaluates all arguments

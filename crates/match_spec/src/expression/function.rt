@@ -2,7 +2,7 @@
 ghost use Rattle.std.specs.Prelude.{◌≡◌, ◌≢◌, [], ◌∷◌, IfOk};
 ghost use Rattle.std.specs.Option.{option_map};
 ghost use Rattle.ets_term.specs.Data.{data_of};
-ghost use Rattle.match_spec.specs.inside.Functions.{function_of, one_argument, two_arguments, strict_connective, short_circuit_connective, apply};
+ghost use Rattle.match_spec.specs.inside.Functions.{function_of, unary_function_of, binary_function_of, strict_connective, short_circuit_connective, apply};
 
 use crate::expression::Connective;
 use crate::expression::arithmetic::{
@@ -35,15 +35,15 @@ pub(crate) fn function_of(name: &str, count: usize) -> Option<Function>
     ensures { result ≡ function_of name.now count }
 {
     match count {
-        1 => one_argument(name),
-        2 => two_arguments(name),
+        1 => unary_function_of(name),
+        2 => binary_function_of(name),
         _ => None,
     }
 }
 
 /// Returns the function of one argument with this name.
-fn one_argument(name: &str) -> Option<Function>
-    ensures { result ≡ one_argument name.now }
+fn unary_function_of(name: &str) -> Option<Function>
+    ensures { result ≡ unary_function_of name.now }
 {
     if let Some(kind) = guard_kind_of(name) {
         Some(Function::Is(kind))
@@ -65,8 +65,8 @@ fn one_argument(name: &str) -> Option<Function>
 }
 
 /// Returns the function of two arguments with this name.
-fn two_arguments(name: &str) -> Option<Function>
-    ensures { result ≡ two_arguments name.now }
+fn binary_function_of(name: &str) -> Option<Function>
+    ensures { result ≡ binary_function_of name.now }
 {
     if let Some(comparison) = comparison_op_of(name) {
         Some(Function::Compare(comparison))
