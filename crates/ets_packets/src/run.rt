@@ -27,7 +27,7 @@ struct Server {
     alloc: Global,
     store: Store,
     /// The body of a reply after its status byte. Its memory is kept for the next reply.
-    rest: Vec<u8>,
+    payload: Vec<u8>,
 }
 
 /// Answers each packet of the input by a new store with these limits, until the input ends. All replies so far are
@@ -50,7 +50,7 @@ pub fn run_packets<R: Read, W: Write>(
     let mut server = Server {
         alloc,
         store: Store::new(alloc, limits),
-        rest: Vec::new(alloc),
+        payload: Vec::new(alloc),
     };
     answer_all(input, &mut output, &mut buffer, &mut server)?;
     Ok(())
@@ -131,9 +131,9 @@ fn answer_packet<W: Write>(
     ensures err { OnErr result (BreaksPacket (writer_flow W.contents output.old output.new)
         (buffered_bytes output.old) body.now server.old.store server.new.store) }
 {
-    clear(server.alloc, &mut server.rest);
-    let status = answer(server.alloc, &mut server.store, body, &mut server.rest);
-    add_reply(status, &server.rest, output)
+    clear(server.alloc, &mut server.payload);
+    let status = answer(server.alloc, &mut server.store, body, &mut server.payload);
+    add_reply(status, &server.payload, output)
 }
 
 /// Removes all bytes, and frees the memory if it is large.
@@ -149,23 +149,23 @@ fn clear(alloc: Global, bytes: &mut Vec<u8>)
 /// Adds the packet of a reply to the output.
 fn add_reply<W: Write>(
     status: u8,
-    rest: &[u8],
+    payload: &[u8],
     output: &mut Output<'_, W>,
 ) -> Result<(), WriteFault>
-    requires { length rest.now < 2 ^ 32 - 1 }
+    requires { length payload.now < 2 ^ 32 - 1 }
     ensures same_writer { HasWriterOf output.old output.new }
-    ensures ok { OnOk result (Adds W.contents output.old output.new (packet (status ∷ rest.now))) }
-    ensures err { OnErr result (Fails W.contents output.old output.new (packet (status ∷ rest.now))) }
+    ensures ok { OnOk result (Adds W.contents output.old output.new (packet (status ∷ payload.now))) }
+    ensures err { OnErr result (Fails W.contents output.old output.new (packet (status ∷ payload.now))) }
 {
-    output.add(&reply_prefix(status, rest))?;
-    output.add(rest)
+    output.add(&reply_prefix(status, payload))?;
+    output.add(payload)
 }
 
 /// Returns the first five bytes of a reply: the length of its body, big-endian, and the status.
-fn reply_prefix(status: u8, rest: &[u8]) -> [u8; 5]
-    requires { length rest.now < 2 ^ 32 - 1 }
-    ensures { result ≡ big4 (length (status ∷ rest.now)) ++ status ∷ [] }
+fn reply_prefix(status: u8, payload: &[u8]) -> [u8; 5]
+    requires { length payload.now < 2 ^ 32 - 1 }
+    ensures { result ≡ big4 (length (status ∷ payload.now)) ++ status ∷ [] }
 {
-    let len = bytes_of(rest.len() as u32 + 1);
+    let len = bytes_of(payload.len() as u32 + 1);
     [len[0], len[1], len[2], len[3], status]
 }

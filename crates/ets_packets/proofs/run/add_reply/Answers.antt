@@ -13,7 +13,7 @@ returns-in_err-add-clause-err g c =
     let old = g.W.Write.contents c.args.output.now.writer.now in
     let new = g.W.Write.contents c.add.new.self.writer.now in
     let broken = subst (λ (k : List ℕ). Breaks (between old new) (buffered_bytes c.args.output.now ++ k)) c.reply_prefix.ensures c.in_err-add.ensures.err in
-    rw (err_from_is_err_and c.from_residual.result c.from_residual.ensures.1).1 (breaks-first old new (buffered_bytes c.args.output.now) (head c.args.status c.args.rest.now) c.args.rest.now broken)
+    rw (err_from_is_err_and c.from_residual.result c.from_residual.ensures.1).1 (breaks-first old new (buffered_bytes c.args.output.now) (head c.args.status c.args.payload.now) c.args.payload.now broken)
 
 pub returns-clause-ok : goal.returns-clause-ok
 returns-clause-ok g c =
@@ -22,7 +22,7 @@ returns-clause-ok g c =
     let new = g.W.Write.contents c.add-2.new.self.writer.now in
     let sent = subst (λ (k : List ℕ). Sends (between old mid) (buffered_bytes c.args.output.now ++ k) (buffered_bytes c.add.new.self)) c.reply_prefix.ensures c.in_ok-add.ensures.ok in
     on-ok c.add-2.result
-    (λ q. sends-two old mid new (buffered_bytes c.args.output.now) (head c.args.status c.args.rest.now) (buffered_bytes c.add.new.self) c.args.rest.now (buffered_bytes c.add-2.new.self) sent q) c.add-2.ensures.ok
+    (λ q. sends-two old mid new (buffered_bytes c.args.output.now) (head c.args.status c.args.payload.now) (buffered_bytes c.add.new.self) c.args.payload.now (buffered_bytes c.add-2.new.self) sent q) c.add-2.ensures.ok
 
 pub returns-clause-err : goal.returns-clause-err
 returns-clause-err g c =
@@ -31,4 +31,4 @@ returns-clause-err g c =
     let new = g.W.Write.contents c.add-2.new.self.writer.now in
     let sent = subst (λ (k : List ℕ). Sends (between old mid) (buffered_bytes c.args.output.now ++ k) (buffered_bytes c.add.new.self)) c.reply_prefix.ensures c.in_ok-add.ensures.ok in
     on-err c.add-2.result
-    (λ q. breaks-two old mid new (buffered_bytes c.args.output.now) (head c.args.status c.args.rest.now) (buffered_bytes c.add.new.self) c.args.rest.now sent q) c.add-2.ensures.err
+    (λ q. breaks-two old mid new (buffered_bytes c.args.output.now) (head c.args.status c.args.payload.now) (buffered_bytes c.add.new.self) c.args.payload.now sent q) c.add-2.ensures.err
