@@ -12,7 +12,7 @@ use crate::term::Term;
 use std::cmp::Ordering;
 
 impl Term {
-    /// Compares the term with another. Returns `Equal` exactly if they are built alike.
+    /// Compares the term with another. Returns `Equal` exactly if the terms are equal (`=:=`).
     ///
     /// The kinds are in the order integer < atom < table identifier < pid < tuple < list < binary (Erlang Reference
     /// Manual, Expressions, Term Comparisons). Tuples compare by size first, then element by element. Other terms of one
@@ -85,7 +85,7 @@ fn compare(a: &Term, b: &Term) -> Ordering
         },
         (Term::List(x), Term::List(y)) => compare_items(x.as_slice(), y.as_slice()),
         (Term::Binary(x), Term::Binary(y)) => x.as_slice().cmp(y.as_slice()),
-        _ => kind(a).cmp(&kind(b)),
+        _ => kind_rank(a).cmp(&kind_rank(b)),
     }
 }
 
@@ -105,7 +105,7 @@ fn compare_items(xs: &[Term], ys: &[Term]) -> Ordering
 }
 
 /// Returns the rank of the term's kind in the order.
-fn kind(term: &Term) -> u8
+fn kind_rank(term: &Term) -> u8
     ensures { result ≡ rank (data_of term.now) }
 {
     match term {

@@ -6,7 +6,7 @@ ghost use Rattle.ets_term.specs.Order.{same, data_list_order};
 
 use crate::term::Term;
 
-/// Returns whether two terms are built alike.
+/// Returns whether two terms are equal (`=:=`): built alike.
 #[cycle(equal)]
 #[tactic(auto)]
 pub fn equal_terms(a: &Term, b: &Term) -> bool
@@ -24,8 +24,7 @@ pub fn equal_terms(a: &Term, b: &Term) -> bool
     }
 }
 
-/// Returns whether two lists of terms are built alike. Compares from the end, because objects with one key differ after
-/// it.
+/// Returns whether two lists of terms are equal. Compares from the end, because objects with one key differ after it.
 #[cycle(equal)]
 #[tactic(auto, using(crate::proofs::DataListLaws::last_differs))]
 fn equal_items(xs: &[Term], ys: &[Term]) -> bool

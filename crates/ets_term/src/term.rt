@@ -11,7 +11,7 @@ use std::alloc::{AllocError, Global};
 pub const MAX_DEPTH: usize = 128;
 
 /// A term of Erlang (Erlang Reference Manual, Data Types), of one of seven kinds. Two terms are equal exactly if they
-/// are built alike.
+/// are built alike: of one kind, with equal parts. This is `=:=` of Erlang.
 #[derive(Drop)]
 pub enum Term {
     Int(Integer),
