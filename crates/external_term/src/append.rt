@@ -126,7 +126,7 @@ pub(crate) fn append_binary(bytes: &[u8], out: &mut Vec<u8>)
     put(bytes, out);
 }
 
-/// Appends the tag of a tuple with its number of elements.
+/// Appends the tag of a tuple with its number of elements, as SMALL_TUPLE_EXT or LARGE_TUPLE_EXT.
 #[tactic(auto, using(crate::proofs::Encoded::header_short, crate::proofs::Encoded::header_long))]
 pub(crate) fn append_tuple_header(n: usize, out: &mut Vec<u8>)
     requires { vec_len out.old + length (tuple_header n) ≤ vec_capacity out.old }

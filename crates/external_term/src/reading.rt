@@ -8,16 +8,10 @@ use crate::fault::ExternalFault;
 use crate::field::{Width, number_at};
 use crate::identifier::{old_reference_at, pid_at, reference_at};
 use crate::integer::{big_at, integer_at, small_integer_at};
-use crate::tag::{Tag, tag_of};
+use crate::tag::{NIL_EXT, Tag, VERSION, tag_of};
 use crate::text::{atom_at, binary_at, string_at};
 use ets_term::{Items, MAX_DEPTH, Term};
 use std::alloc::Global;
-
-/// The version of the format, its first byte.
-pub(crate) const VERSION: usize = 131;
-
-/// The tag of the empty list.
-pub(crate) const NIL: usize = 106;
 
 /// The greatest number of items for which memory is taken before they are read.
 const MAX_RESERVED: usize = 64;
@@ -28,19 +22,21 @@ pub fn read_external(alloc: Global, bytes: &[u8]) -> Result<(Term, usize), Exter
     ensures { Returns (read bytes.now) result }
 {
     let (version, next) = number_at(bytes, 0, Width::One)?;
-    if version != VERSION {
+    if version != VERSION as usize {
         return Err(ExternalFault::BadVersion(0));
     }
     term_at(alloc, bytes, next, MAX_DEPTH)
 }
 
-/// Reads the version and a tuple of two elements in its short form at the front of the bytes. Returns the elements with
-/// the number of bytes that the tuple and the version take. Returns `None` if the bytes begin with anything else, if
+/// Reads the version and a SMALL_TUPLE_EXT of two elements at the front of the bytes. Returns the elements with the
+/// number of bytes that the tuple and the version take. Returns `None` if the bytes begin with anything else, if
 /// they have a fault, or if memory runs out: `read_external` says which.
 #[tactic(auto, using(crate::proofs::Pairs::pair_read))]
 pub fn read_pair(alloc: Global, bytes: &[u8]) -> Option<(Term, Term, usize)>
     ensures { IfSome result (λ x. read bytes.now ≡ Ok (TupleOf (x.0 ∷ x.1 ∷ []), x.2)) }
 {
+    // The version, the tag SMALL_TUPLE_EXT and its number of elements. The first element is at offset 3, and both have
+    // a byte at least.
     if bytes.len() < 5 || bytes[0] != 131 || bytes[1] != 104 || bytes[2] != 2 {
         return None;
     }
@@ -97,6 +93,7 @@ fn form_at(
         Tag::String => string_at(alloc, bytes, at, levels_left),
         Tag::List => list_at(alloc, bytes, at, levels_left),
         Tag::Binary => binary_at(alloc, bytes, at),
+        // A serial of 4 bytes, then a creation of 4 or 1. A reference has a creation of 4 or 1.
         Tag::NewPid => pid_at(bytes, at, 8),
         Tag::Pid => pid_at(bytes, at, 5),
         Tag::NewerReference => reference_at(bytes, at, 4),
@@ -144,7 +141,7 @@ fn list_at(
         Err(fault) => return Err(fault),
     };
     let (tail, end) = number_at(bytes, last, Width::One)?;
-    if tail != NIL {
+    if tail != NIL_EXT as usize {
         return Err(ExternalFault::ImproperList(last));
     }
     Ok((Term::List(items), end))

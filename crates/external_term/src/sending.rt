@@ -12,6 +12,7 @@ use crate::send::{
     WriterFault, send_atom, send_binary, send_bytes, send_integer, send_pid, send_reference,
 };
 use crate::small::is_string;
+use crate::tag::{LIST_EXT, NIL_EXT, STRING_EXT, VERSION};
 use crate::writing::{MAX_BYTES, append_chars, external_size};
 use ets_term::Term;
 use std::alloc::Global;
@@ -51,7 +52,7 @@ fn send_written<W: Write>(term: &Term, block: &mut Vec<u8>, out: &mut W) -> Resu
     requires { block_bytes ≤ vec_capacity block.old }
     ensures { AppendsOrPrefix (W.contents out.old) (W.contents out.new) (written term.now) result }
 {
-    send_bytes(&[131], out)?;
+    send_bytes(&[VERSION], out)?;
     send_term(term, block, out)
 }
 
@@ -95,7 +96,7 @@ fn send_list<W: Write>(items: &[Term], block: &mut Vec<u8>, out: &mut W) -> Resu
     ensures sent { AppendsOrPrefix (W.contents out.old) (W.contents out.new) (list_bytes (map encode items.now)) result }
 {
     if items.is_empty() {
-        return send_bytes(&[106], out);
+        return send_bytes(&[NIL_EXT], out);
     }
     if is_string(items) {
         return send_string(items, block, out);
@@ -115,10 +116,10 @@ fn send_long_list<W: Write>(
     ensures sent { AppendsOrPrefix (W.contents out.old) (W.contents out.new) (long_list_bytes (map encode items.now)) result }
 {
     block.clear();
-    put_tag_and_u32(108, items.len(), block);
+    put_tag_and_u32(LIST_EXT, items.len(), block);
     send_bytes(block.as_slice(), out)?;
     send_items(items, block, out)?;
-    send_bytes(&[106], out)
+    send_bytes(&[NIL_EXT], out)
 }
 
 /// Sends terms, one after another.
@@ -145,7 +146,7 @@ fn send_string<W: Write>(
     ensures sent { AppendsOrPrefix (W.contents out.old) (W.contents out.new) (string_bytes (map encode items.now)) result }
 {
     block.clear();
-    put_tag_and_u16(107, items.len(), block);
+    put_tag_and_u16(STRING_EXT, items.len(), block);
     send_bytes(block.as_slice(), out)?;
     send_chars(items, block, out)
 }

@@ -4,6 +4,18 @@ ghost use Rattle.external_term.specs.Tags.{tag_of as meaning};
 
 use crate::field::Width;
 
+/// The version of the format, which comes before the first tag.
+pub(crate) const VERSION: u8 = 131;
+
+/// NIL_EXT, the tag of the empty list.
+pub(crate) const NIL_EXT: u8 = 106;
+
+/// STRING_EXT, the tag of a list of bytes.
+pub(crate) const STRING_EXT: u8 = 107;
+
+/// LIST_EXT, the tag of any other list.
+pub(crate) const LIST_EXT: u8 = 108;
+
 /// What a tag says of the bytes after it. A width is that of a length.
 #[derive(Clone, Copy)]
 pub(crate) enum Tag {

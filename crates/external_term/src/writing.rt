@@ -10,6 +10,7 @@ use crate::fault::ExternalWriteFault;
 use crate::put::{put_tag_and_u16, put_tag_and_u32};
 use crate::sizes::size_of_term;
 use crate::small::{byte_of_term, is_string};
+use crate::tag::{LIST_EXT, NIL_EXT, STRING_EXT, VERSION};
 use ets_term::Term;
 
 /// The greatest number of bytes of a written term.
@@ -36,7 +37,7 @@ pub fn write_external(term: &Term, out: &mut Vec<u8>) -> Result<(), ExternalWrit
     if out.reserve(size).is_err() {
         return Err(ExternalWriteFault::Memory);
     }
-    out.push_reserved(131);
+    out.push_reserved(VERSION);
     append_term(term, out);
     Ok(())
 }
@@ -79,7 +80,7 @@ fn append_list(items: &[Term], out: &mut Vec<u8>)
     ensures capacity { vec_capacity out.old ≤ vec_capacity out.new }
 {
     if items.is_empty() {
-        out.push_reserved(106);
+        out.push_reserved(NIL_EXT);
     } else if is_string(items) {
         append_string(items, out);
     } else {
@@ -93,7 +94,7 @@ fn append_string(items: &[Term], out: &mut Vec<u8>)
     ensures items { out.new.items ≡ out.old.items ++ string_bytes (map encode items.now) }
     ensures capacity { vec_capacity out.old ≤ vec_capacity out.new }
 {
-    put_tag_and_u16(107, items.len(), out);
+    put_tag_and_u16(STRING_EXT, items.len(), out);
     append_chars(items, out);
 }
 
@@ -115,9 +116,9 @@ fn append_long_list(items: &[Term], out: &mut Vec<u8>)
     ensures items { out.new.items ≡ out.old.items ++ long_list_bytes (map encode items.now) }
     ensures capacity { vec_capacity out.old ≤ vec_capacity out.new }
 {
-    put_tag_and_u32(108, items.len(), out);
+    put_tag_and_u32(LIST_EXT, items.len(), out);
     append_items(items, out);
-    out.push_reserved(106);
+    out.push_reserved(NIL_EXT);
 }
 
 /// Appends some terms, one after another.
