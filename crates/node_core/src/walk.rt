@@ -106,7 +106,7 @@ pub fn walk_among<H: KeyHash + Copy + Drop, O: Others>(
     walked
 }
 
-/// Traverses a table that the process has fixed once more.
+/// Traverses a table that the process has fixed once more, since some state `start`.
 fn walk_fixed<H: KeyHash + Copy + Drop, O: Others>(
     node: &mut Node<H>,
     pid: u32,
@@ -116,7 +116,7 @@ fn walk_fixed<H: KeyHash + Copy + Drop, O: Others>(
 ) -> Result<Walk, WalkFault>
     requires keys { O.keys others.old ≡ [] }
     requires steps { O.steps others.old ≡ [] }
-    requires fix { (old : State) × FixIsDone pid id old node.old }
+    requires fix { (start : State) × FixIsDone pid id start node.old }
     ensures { WalkResult pid id limit node.old (O.keys others.new) (O.steps others.new)
         result node.new }
 {
@@ -134,7 +134,8 @@ fn walk_fixed<H: KeyHash + Copy + Drop, O: Others>(
     }
 }
 
-/// Does the turn of a key: gives it to the others, runs their steps, and finds the next key.
+/// Does the turn of a key: gives it to the others, runs their steps, and finds the next key. The walk so far led from
+/// some state `start` to this node.
 fn walk_turn<H: KeyHash + Copy + Drop, O: Others>(
     node: &mut Node<H>,
     pid: u32,
@@ -144,8 +145,8 @@ fn walk_turn<H: KeyHash + Copy + Drop, O: Others>(
     others: &mut O,
 ) -> Result<Option<Term>, WalkFault>
     requires keys { O.keys others.old ≡ keys.old.items }
-    requires so_far { (old : State)
-        × WalkSoFar pid id old (O.keys others.old) (O.steps others.old) (Some key) node.old }
+    requires so_far { (start : State)
+        × WalkSoFar pid id start (O.keys others.old) (O.steps others.old) (Some key) node.old }
     ensures keys { OnOk result (keys.new.items ≡ O.keys others.new) }
     ensures count { OnOk result (vec_len keys.new ≡ vec_len keys.old + 1) }
     ensures turn { TurnResult pid id (O.keys others.old) (O.steps others.old) key node.old
