@@ -15,11 +15,11 @@ pub enum Job {
     End,
 }
 
-/// A client after its jobs.
+/// A finished client: after its jobs, or after the first that was refused memory.
 #[derive(Drop)]
 pub struct Worked<L: Ledger> {
     pub client: Client<L>,
-    /// The number of its jobs that were not done, because memory ran out.
+    /// The number of its undone jobs, 0 unless memory ran out.
     pub left: usize,
 }
 
