@@ -22,7 +22,7 @@ use std::mem;
 /// Nodes by place: a slab of headers and an array of items. A search that passes a node reads its header alone. A
 /// contract sees one slab of nodes. A place is added to the slab only after there is capacity for its item, and never
 /// goes back. Places without a node form the *free list*: each leads to the next. The slab's
-/// `vacant_key` is the first free place.
+/// `vacant_key` is the first free place. A header packs a place with a tag of two bits, so a place has 62 bits at most.
 #[derive(Drop)]
 pub struct Nodes {
     nodes: Slab<PackedHeader>,
@@ -192,6 +192,7 @@ impl Nodes {
         count
     }
 
+    /// Returns the header of the node at a place.
     pub fn header(&self, at: usize) -> NodeHeader
         requires { ContainsKey self.now at }
         ensures { HasHeader self.now at result }
