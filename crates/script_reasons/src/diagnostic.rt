@@ -20,6 +20,7 @@ pub enum Diagnostic<'a> {
     ExitOfUnknownName(&'a [u8]),
     /// The line could not be read: the offset of its fault, and what is wrong there.
     SyntaxFault(usize, SyntaxProblem),
+    /// The line is longer than `MAX_LINE` of `ets_script`, 65,536 bytes.
     TooLong,
     NoMemory,
 }
