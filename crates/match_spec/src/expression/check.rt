@@ -65,18 +65,19 @@ fn is_tuple_expression(terms: &[Term], bound_variables: &FirstPaths) -> bool
         }
         Term::Atom(name) => {
             let count = terms.len() - 1;
-            let inside = are_expressions(terms, 1, bound_variables);
-            is_application(name.text(), count, inside)
+            let arguments_are_expressions = are_expressions(terms, 1, bound_variables);
+            is_application(name.text(), count, arguments_are_expressions)
         }
         _ => false,
     }
 }
 
-/// Checks whether a name with `count` arguments is `const`, or a function whose arguments are expressions (`inside`).
-fn is_application(name: &str, count: usize, inside: bool) -> bool
-    ensures { result ≡ (is_constant name.now count || (is_function name.now count && inside)) }
+/// Checks whether a name with `count` arguments is `const`, or a function, if `arguments_are_expressions`.
+fn is_application(name: &str, count: usize, arguments_are_expressions: bool) -> bool
+    ensures { result ≡ (is_constant name.now count
+        || (is_function name.now count && arguments_are_expressions)) }
 {
-    is_constant(name, count) || (is_function(name, count) && inside)
+    is_constant(name, count) || (is_function(name, count) && arguments_are_expressions)
 }
 
 /// Checks whether this is `{const,T}`.

@@ -20,7 +20,7 @@ is_tuple_expression-returns-else-terms-eq1 t c =
 pub is_tuple_expression-returns-in-Atom : goal.is_tuple_expression-returns-in-Atom
 is_tuple_expression-returns-in-Atom t c =
     let some : 0 < length c.args.terms.now = grind (arith, nat_tests) in
-    rw (← is-atom (numbers_of c.args.bound_variables.now.entries) c.args.terms.now c.index-terms-0.result c.in-Atom.name some (sym c.index-terms-0.is) c.in-Atom.is, ← c.text.ensures.text, ← c.are_expressions-inside.ensures)
+    rw (← is-atom (numbers_of c.args.bound_variables.now.entries) c.args.terms.now c.index-terms-0.result c.in-Atom.name some (sym c.index-terms-0.is) c.in-Atom.is, ← c.text.ensures.text, ← c.are_expressions-arguments_are_expressions.ensures)
     c.is_application.ensures
 
 pub is_tuple_expression-returns-in_default : goal.is_tuple_expression-returns-in_default
