@@ -13,7 +13,7 @@ use Rattle.match_spec.specs.declared.expression.arithmetic.ArithmeticOp.TheVaria
 use Rattle.match_spec.specs.declared.expression.comparison.ComparisonOp.{ComparisonOp}
 use Rattle.match_spec.specs.declared.expression.comparison.ComparisonOp.TheVariants.{Greater, GreaterOrEqual, Less, LessOrEqual, Equal, NotEqual}
 use Rattle.match_spec.specs.declared.expression.function.Function.{Function}
-use Rattle.match_spec.specs.declared.expression.function.Function.TheVariants.{Is, Not, Abs, Hd, Tl, Length, Size, Xor, Element, Calculate, Compare}
+use Rattle.match_spec.specs.declared.expression.function.Function.TheVariants.{TypeTest, Not, Abs, Hd, Tl, Length, Size, Xor, Element, Calculate, Compare}
 use Rattle.match_spec.specs.declared.expression.guards.GuardKind.{GuardKind}
 use Rattle.match_spec.specs.declared.expression.guards.GuardKind.TheVariants.{Atom, Integer, List as AnyList, Tuple, Binary, Pid, Reference}
 use Rattle.match_spec.specs.Functions.{truth, boolean, exclusive, absolute, head, tail, list_length, size, element, type_name, on_integers}
@@ -50,7 +50,7 @@ comparison_op_of f =
 
 abbrev pub is_or : Option GuardKind → Option Function → Option Function
 is_or None f = f
-is_or (Some k) f = Some (Is k)
+is_or (Some k) f = Some (TypeTest k)
 
 abbrev pub calculate_or : Option ArithmeticOp → Option Function → Option Function
 calculate_or None f = f
@@ -133,7 +133,7 @@ compares NotEqual o = is_ne o
 
 -- the value of a function at the values of its arguments
 abbrev pub apply : Function → List Data → Option Data
-apply (Is k) (d ∷ []) = Some (truth (is_kind k d))
+apply (TypeTest k) (d ∷ []) = Some (truth (is_kind k d))
 apply Not (d ∷ []) = option_map (λ b. truth (not b)) (boolean d)
 apply Abs (d ∷ []) = absolute d
 apply Hd (d ∷ []) = head d

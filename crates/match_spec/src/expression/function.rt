@@ -17,7 +17,7 @@ use std::alloc::{AllocError, Global};
 /// A function of the values of all its arguments. `and`, `or`, `andalso` and `orelse` are not among these.
 #[derive(Clone, Copy)]
 pub(crate) enum Function {
-    Is(GuardKind),
+    TypeTest(GuardKind),
     Not,
     Abs,
     Hd,
@@ -46,7 +46,7 @@ fn unary_function_of(name: &str) -> Option<Function>
     ensures { result ≡ unary_function_of name.now }
 {
     if let Some(kind) = guard_kind_of(name) {
-        Some(Function::Is(kind))
+        Some(Function::TypeTest(kind))
     } else if name == "not" {
         Some(Function::Not)
     } else if name == "abs" {
@@ -117,7 +117,7 @@ pub(crate) fn eval_unary(
     ensures { IfOk result (λ t. option_map data_of t ≡ apply function (data_of x.now ∷ [])) }
 {
     match function {
-        Function::Is(kind) => Ok(Some(truth(alloc, is_kind(kind, x))?)),
+        Function::TypeTest(kind) => Ok(Some(truth(alloc, is_kind(kind, x))?)),
         Function::Not => match boolean(x) {
             Some(b) => Ok(Some(truth(alloc, !b)?)),
             None => Ok(None),
