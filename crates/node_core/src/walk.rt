@@ -12,8 +12,8 @@ use ets_term::{Items, KeyHash, Term};
 use fixed_walk::FixFault;
 use std::alloc::AllocError;
 
-/// What other processes do during a traversal, as an observer of its keys. It keeps the keys of the traversal so far, and the steps that the others add. Both
-/// are empty at the start.
+/// What other processes do during a traversal, as an observer of its keys. It keeps the keys of the traversal so far,
+/// and the steps that the others add. Both are empty at the start.
 pub trait Others {
     /// The keys so far.
     ghost keys: { Self → List term.Term };
@@ -29,8 +29,9 @@ pub trait Others {
     fn given(&self) -> &[(usize, Step)]
         ensures { result.now ≡ steps self.now };
 
-    /// Observes a visited key: called when the traversal reaches it. Appends the key to `seen`, and may append steps to `given`, with the
-    /// key's index as their turn; they run before the traversal continues. Running out of memory changes nothing.
+    /// Observes a visited key: called when the traversal reaches it. Appends the key to `seen`, and may append steps to
+    /// `given`, with the key's index as their turn; they run before the traversal continues. Running out of memory
+    /// changes nothing.
     fn between(&mut self, last: &Term) -> Result<(), AllocError>
         ensures ok { OnOk result
             (AddsTurn (keys self.old) (steps self.old) last.now (keys self.new) (steps self.new)) }
