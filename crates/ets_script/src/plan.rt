@@ -168,8 +168,8 @@ impl Plan {
         add_job(self.alloc, &mut self.jobs, process_index, job)
     }
 
-    /// Adds a process for a name. The answer is `badarg` if the name is taken, and `system_limit` if there are too many.
-    /// Reserves capacity first.
+    /// Adds a process for a name. The answer is `badarg` if the name is taken, and `system_limit` if there are too
+    /// many. Reserves capacity first.
     fn add_spawn(&mut self, name: &[u8]) -> Result<(), AllocError>
         ensures { IfOk result (λ _. self.new ≡ with_name name.now self.old) }
     {
