@@ -8,13 +8,13 @@ use std::alloc::Global;
 use std::sync::Wait;
 use std::sync::ledger::Ledger;
 
-/// The fifth creates the tables and traverses the bag; the other four count and insert.
+/// The number of clients. The traverser creates the tables and traverses the bag; the other four count and insert.
 pub(crate) const CLIENTS: usize = 5;
 
 /// How often each client counts, and how often it inserts. The bag starts with the keys below this number.
 pub(crate) const TIMES: u32 = 100;
 
-/// Returns the fifth client, which has created the tables, and the four others with their jobs.
+/// Returns the traverser, which has created the tables, and the four other clients with their jobs.
 pub(crate) fn set_up<L: Ledger, R: Wait>(
     rt: &R,
     alloc: Global,
@@ -22,9 +22,9 @@ pub(crate) fn set_up<L: Ledger, R: Wait>(
 ) -> Option<(Client<L>, Vec<(Client<L>, Vec<Job>)>)> {
     let mut clients = clients(rt, alloc, shared, CLIENTS)?;
     create_tables(rt, alloc, shared, clients.last_mut()?)?;
-    let fifth = clients.pop()?;
+    let traverser = clients.pop()?;
     let work = with_jobs(alloc, clients)?;
-    Some((fifth, work))
+    Some((traverser, work))
 }
 
 /// Draws a number for each client, and returns the clients.

@@ -33,14 +33,14 @@ pub(crate) struct Totals {
     pub(crate) old_keys: usize,
 }
 
-/// Runs four clients while the fifth traverses. Then the fifth reads what the others wrote.
+/// Runs four clients while the traverser visits the keys of the bag. Then the traverser reads what the others wrote.
 pub(crate) fn run_clients_and_traversal<L: Ledger + Send + Sync, R: Threads + Wait + Sync>(
     rt: &R,
     alloc: Global,
     shared: &Shared<L, Fnv>,
 ) -> Option<(Vec<Client<L>>, Totals)> {
-    let (fifth, work) = set_up(rt, alloc, shared)?;
-    let (traversal, workers) = run_side_by_side(rt, alloc, shared, fifth, work);
+    let (traverser, work) = set_up(rt, alloc, shared)?;
+    let (traversal, workers) = run_side_by_side(rt, alloc, shared, traverser, work);
     let (mut clients, old_keys) = all_clients(alloc, traversal, workers)?;
     let (counter, objects) = read(rt, alloc, shared, clients.last_mut()?)?;
     let totals = Totals {
@@ -60,7 +60,7 @@ fn run_side_by_side<
     rt: &R,
     alloc: Global,
     shared: &Shared<L, H>,
-    fifth: Client<L>,
+    traverser: Client<L>,
     work: Vec<(Client<L>, Vec<Job>)>,
 ) -> (
     Option<(Client<L>, usize)>,
@@ -70,7 +70,7 @@ fn run_side_by_side<
         rt,
         move || -> Option<(Client<L>, usize)>
             requires { IsSync R.row }
-        { traverse(rt, alloc, shared, fifth) },
+        { traverse(rt, alloc, shared, traverser) },
         move || -> Result<Vec<Worked<L>>, AllocError>
             requires { IsSync R.row }
         { run_clients(rt, alloc, shared, work, &NoGate) },
@@ -84,14 +84,15 @@ fn all_clients<L: Ledger>(
     traversal: Option<(Client<L>, usize)>,
     workers: Result<Vec<Worked<L>>, AllocError>,
 ) -> Option<(Vec<Client<L>>, usize)> {
-    let (fifth, old_keys) = traversal?;
+    let (traverser, old_keys) = traversal?;
     let mut clients = clients_of_workers(alloc, workers.ok()?)?;
-    clients.push(fifth).ok()?;
+    clients.push(traverser).ok()?;
     Some((clients, old_keys))
 }
 
 /// Returns the clients of the workers.
 fn clients_of_workers<L: Ledger>(alloc: Global, workers: Vec<Worked<L>>) -> Option<Vec<Client<L>>> {
+    // There is room for the traverser too, which `all_clients` adds.
     let mut clients = Vec::with_capacity(alloc, CLIENTS).ok()?;
     for worker in workers {
         clients.push(worker.client).ok()?;
