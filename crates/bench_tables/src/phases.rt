@@ -36,14 +36,22 @@ impl Phase {
         }
     }
 
+    /// Returns the seed of the order in which the phase takes the keys. Each phase has an order of its own.
+    fn seed(self) -> u64 {
+        match self {
+            Phase::Insert => 1,
+            Phase::Hit => 2,
+            Phase::Miss => 3,
+            Phase::Counter => 4,
+            Phase::Delete => 5,
+        }
+    }
+
     /// Returns the keys in this phase's order. Those of a miss are not in the table.
     pub(crate) fn keys(self, alloc: Global, count: u64) -> Result<Vec<u64>, AllocError> {
         match self {
-            Phase::Insert => shuffle(alloc, count, 1),
-            Phase::Hit => shuffle(alloc, count, 2),
-            Phase::Miss => absent_keys(alloc, count),
-            Phase::Counter => shuffle(alloc, count, 4),
-            Phase::Delete => shuffle(alloc, count, 5),
+            Phase::Miss => absent_keys(alloc, count, self.seed()),
+            _ => shuffle(alloc, count, self.seed()),
         }
     }
 
@@ -64,9 +72,9 @@ impl Phase {
     }
 }
 
-/// Returns keys that are not in the table.
-fn absent_keys(alloc: Global, count: u64) -> Result<Vec<u64>, AllocError> {
-    let mut keys = shuffle(alloc, count, 3)?;
+/// Returns `count` keys that are not in the table, in the order of this seed.
+fn absent_keys(alloc: Global, count: u64, seed: u64) -> Result<Vec<u64>, AllocError> {
+    let mut keys = shuffle(alloc, count, seed)?;
     for key in &mut keys {
         *key = key.wrapping_add(count);
     }
@@ -75,45 +83,45 @@ fn absent_keys(alloc: Global, count: u64) -> Result<Vec<u64>, AllocError> {
 
 /// Inserts an object of each key. Returns how many calls did so.
 fn insert_all<S: Store>(alloc: Global, store: &mut S, keys: &[u64]) -> Result<u64, AllocError> {
-    let mut done: u64 = 0;
+    let mut inserted: u64 = 0;
     for key in keys {
-        done = done.wrapping_add(u64::from(store.insert(alloc, *key)?));
+        inserted = inserted.wrapping_add(u64::from(store.insert(alloc, *key)?));
     }
-    Ok(done)
+    Ok(inserted)
 }
 
 /// Reads the object of each key. Returns how many were there.
 fn hit_all<S: Store>(store: &mut S, keys: &[u64]) -> u64 {
-    let mut done: u64 = 0;
+    let mut found: u64 = 0;
     for key in keys {
-        done = done.wrapping_add(u64::from(store.hit(*key)));
+        found = found.wrapping_add(u64::from(store.has_object(*key)));
     }
-    done
+    found
 }
 
 /// Searches for each key, none of which is in the table. Returns how many were not there.
 fn miss_all<S: Store>(store: &mut S, keys: &[u64]) -> u64 {
-    let mut done: u64 = 0;
+    let mut missed: u64 = 0;
     for key in keys {
-        done = done.wrapping_add(u64::from(store.miss(*key)));
+        missed = missed.wrapping_add(u64::from(store.lacks_key(*key)));
     }
-    done
+    missed
 }
 
 /// Adds one to the value of each key. Returns how many calls did so.
 fn count_up_all<S: Store>(alloc: Global, store: &mut S, keys: &[u64]) -> Result<u64, AllocError> {
-    let mut done: u64 = 0;
+    let mut counted: u64 = 0;
     for key in keys {
-        done = done.wrapping_add(u64::from(store.count_up(alloc, *key)?));
+        counted = counted.wrapping_add(u64::from(store.count_up(alloc, *key)?));
     }
-    Ok(done)
+    Ok(counted)
 }
 
 /// Deletes the object of each key. Returns how many were there.
 fn delete_all<S: Store>(store: &mut S, keys: &[u64]) -> u64 {
-    let mut done: u64 = 0;
+    let mut deleted: u64 = 0;
     for key in keys {
-        done = done.wrapping_add(u64::from(store.delete(*key)));
+        deleted = deleted.wrapping_add(u64::from(store.delete(*key)));
     }
-    done
+    deleted
 }

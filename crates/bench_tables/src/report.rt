@@ -5,20 +5,20 @@ use std::rt::{Clock, Files};
 use std::time::{Duration, Instant};
 use std::{fs, io};
 
-/// A small table is built again until about this many calls of a phase are timed, and the least time counts.
-const CALLS: u64 = 300_000;
+/// About the least number of calls of a phase that are timed. A small table is built again until there are as many.
+const MIN_TIMED_CALLS: u64 = 300_000;
 
 /// Returns how often a table with a number of objects is built.
 fn repeat_count(count: u64) -> u64 {
-    (CALLS / count.max(1)).max(1)
+    (MIN_TIMED_CALLS / count.max(1)).max(1)
 }
 
-/// A phase with its keys, and its least time so far in nanoseconds.
+/// A phase with its keys, and its least time so far, which is the time that counts.
 #[derive(Drop)]
 struct TimedPhase {
     phase: Phase,
     keys: Vec<u64>,
-    best: u64,
+    least_nanoseconds: u64,
 }
 
 impl TimedPhase {
@@ -30,9 +30,9 @@ impl TimedPhase {
     ) -> io::Result<()> {
         let keys = self.keys.as_slice();
         let start = Instant::now(rt)?;
-        let done = self.phase.run(rt.alloc(), store, keys)?;
-        self.best = self.best.min(nanoseconds(start.elapsed(rt)?));
-        if done != keys.len() as u64 {
+        let right_count = self.phase.run(rt.alloc(), store, keys)?;
+        self.least_nanoseconds = self.least_nanoseconds.min(nanoseconds(start.elapsed(rt)?));
+        if right_count != keys.len() as u64 {
             println!(rt; "{} {} went wrong", S::name(), self.phase.name())?;
         }
         Ok(())
@@ -40,7 +40,7 @@ impl TimedPhase {
 
     /// Prints the nanoseconds of one call, after the name of the store.
     fn print(&self, rt: &impl Print, store: &str) -> io::Result<()> {
-        let tenths = self.best.saturating_mul(10) / (self.keys.len() as u64).max(1);
+        let tenths = self.least_nanoseconds.saturating_mul(10) / (self.keys.len() as u64).max(1);
         println!(rt;
             "{} {} {}.{}",
             store,
@@ -58,14 +58,14 @@ fn all_phases(alloc: Global, count: u64) -> Result<Vec<TimedPhase>, AllocError> 
         phases.push(TimedPhase {
             phase,
             keys: phase.keys(alloc, count)?,
-            best: u64::MAX,
+            least_nanoseconds: u64::MAX,
         })?;
     }
     Ok(phases)
 }
 
 /// Times all phases of a new table.
-fn time_life<S: Store>(
+fn time_phases<S: Store>(
     rt: &(impl Print + Alloc<A = Global> + Clock),
     phases: &mut [TimedPhase],
 ) -> io::Result<()> {
@@ -84,14 +84,14 @@ fn time_doubling<S: Store>(rt: &(impl Alloc<A = Global> + Clock), keys: &[u64]) 
     Ok(nanoseconds(start.elapsed(rt)?))
 }
 
-/// Prints the nanoseconds a call for each phase, and those of one doubling of a full table's buckets.
+/// Prints the nanoseconds per call for each phase, and those of one doubling of a full table's buckets.
 pub(crate) fn print_times<S: Store>(
     rt: &(impl Print + Alloc<A = Global> + Clock),
     count: u64,
 ) -> io::Result<()> {
     let mut phases = all_phases(rt.alloc(), count)?;
     for _turn in 0..repeat_count(count) {
-        time_life::<S>(rt, phases.as_mut_slice())?;
+        time_phases::<S>(rt, phases.as_mut_slice())?;
     }
     for timed in phases.as_slice() {
         timed.print(rt, S::name())?;
@@ -132,8 +132,8 @@ fn build_store<S: Store>(alloc: Global, keys: &[u64]) -> Result<S, AllocError> {
     Ok(store)
 }
 
-/// Prints the bytes an object. It builds tables until there are about `CALLS` objects, so that the rounding to whole
-/// pages matters little.
+/// Prints the bytes per object. It builds tables until there are about `MIN_TIMED_CALLS` objects, so that the rounding to
+/// whole pages matters little.
 pub(crate) fn print_bytes<S: Store>(
     rt: &(impl Print + Alloc<A = Global> + Files),
     count: u64,
@@ -150,17 +150,18 @@ pub(crate) fn print_bytes<S: Store>(
     println!(rt; "{} bytes {}", S::name(), bytes / objects.max(1))
 }
 
-/// The bytes of a page of memory.
-const PAGE: u64 = 4096;
+/// The size of a page of memory in bytes, as on Linux on x86-64.
+const PAGE_BYTES: u64 = 4096;
 
-/// Returns the bytes that this program has in memory now, on Linux.
+/// Returns how many bytes of this program are in memory now, on Linux: the second field of `statm` is the number of its
+/// resident pages. Any other text counts as 0.
 fn resident_bytes(rt: &(impl Alloc<A = Global> + Files)) -> io::Result<u64> {
     let text = fs::read_to_string(rt, "/proc/self/statm")?;
     let pages: u64 = match text.split(' ').nth(1) {
         Some(word) => word.parse().unwrap_or(0),
         None => 0,
     };
-    Ok(pages.saturating_mul(PAGE))
+    Ok(pages.saturating_mul(PAGE_BYTES))
 }
 
 /// Prints how many calls of each phase did what they should.
@@ -172,8 +173,8 @@ pub(crate) fn print_counts<S: Store>(
     let mut store = S::empty(alloc)?;
     for phase in PHASES {
         let keys = phase.keys(alloc, count)?;
-        let done = phase.run(alloc, &mut store, keys.as_slice())?;
-        println!(rt; "{} {} {}", S::name(), phase.name(), done)?;
+        let right_count = phase.run(alloc, &mut store, keys.as_slice())?;
+        println!(rt; "{} {} {}", S::name(), phase.name(), right_count)?;
     }
     Ok(())
 }

@@ -27,14 +27,14 @@ impl Store for SplitRows<Fnv> {
         Ok(true)
     }
 
-    fn hit(&mut self, k: u64) -> bool {
+    fn has_object(&mut self, k: u64) -> bool {
         match self.get(&key_of(k)) {
             Some(objects) => has_value(objects),
             None => false,
         }
     }
 
-    fn miss(&mut self, k: u64) -> bool {
+    fn lacks_key(&mut self, k: u64) -> bool {
         self.get(&key_of(k)).is_none()
     }
 
@@ -43,18 +43,18 @@ impl Store for SplitRows<Fnv> {
             return Ok(false);
         };
         let mut objects = self.replace_at(place, Chain::one(alloc, Term::Int(0)));
-        let Some(Term::Tuple(fields)) = objects.pop() else {
+        let Some(Term::Tuple(elements)) = objects.pop() else {
             return Ok(false);
         };
-        let mut fields = fields.into_vec();
-        let counted = match fields.get_mut(1) {
+        let mut elements = elements.into_vec();
+        let counted = match elements.get_mut(1) {
             Some(Term::Int(value)) => {
                 *value = value.wrapping_add(1);
                 true
             }
             _ => false,
         };
-        objects.push(Term::Tuple(Items::from_vec(fields)))?;
+        objects.push(Term::Tuple(Items::from_vec(elements)))?;
         self.replace_at(place, objects);
         Ok(counted)
     }

@@ -42,11 +42,11 @@ impl Store for Table<SplitRows<Fnv>> {
         Ok(true)
     }
 
-    fn hit(&mut self, k: u64) -> bool {
+    fn has_object(&mut self, k: u64) -> bool {
         has_value(self.lookup(&key_of(k)))
     }
 
-    fn miss(&mut self, k: u64) -> bool {
+    fn lacks_key(&mut self, k: u64) -> bool {
         !self.member(&key_of(k))
     }
 
