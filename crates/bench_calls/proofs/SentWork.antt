@@ -21,14 +21,14 @@ use Rattle.node_shared.specs.contracts.server.Server as Server
 use Rattle.node_shared.proofs.Sent.{captures_send}
 use Rattle.node_shared.proofs.SentServers.{caller_send, server_sync}
 
-hold_send : IsSend usize
-hold_send = search sendable
+calls_per_lock_send : IsSend usize
+calls_per_lock_send = search sendable
 
 call_send : IsSend Call.the_row
 call_send = search (crosses, terms.crosses, sendable) depth 60 fits 20000
 
 module _ (a b : Lifetime) (α β : Lft) (B H R : RattleType) (l : HistoryId.Ghosts B.Denot) (k : KeyHash.Ghosts H.Denot) (c : Clone.Ghosts H.Denot) where
-  -- a caller with its calls, and how many it makes under one hold
+  -- a caller with its calls, and how many it makes each time it has the lock
   abbrev Turn : RattleType
   Turn = TupleAt (40 ∷ 44 ∷ 44 ∷ 41 ∷ []) (Caller.the_row B l ∷ Vec.the_row Call.the_row Global.the_row ghosts ∷ usize ∷ [])
 
@@ -41,6 +41,6 @@ module _ (a b : Lifetime) (α β : Lft) (B H R : RattleType) (l : HistoryId.Ghos
         shr_send a α R runs,
         (
           shr_send b β (Server.the_row B H l k c) (server_sync B l room H k c hash rooms hashes),
-          (Vec-send Turn (captures_send (40 ∷ 44 ∷ 44 ∷ 41 ∷ []) (Caller.the_row B l ∷ Vec.the_row Call.the_row Global.the_row ghosts ∷ usize ∷ []) (caller_send B l room, (Vec-send Call.the_row call_send, (hold_send, tt)))), tt),
+          (Vec-send Turn (captures_send (40 ∷ 44 ∷ 44 ∷ 41 ∷ []) (Caller.the_row B l ∷ Vec.the_row Call.the_row Global.the_row ghosts ∷ usize ∷ []) (caller_send B l room, (Vec-send Call.the_row call_send, (calls_per_lock_send, tt)))), tt),
         ),
       )

@@ -6,6 +6,9 @@ use std::alloc::{AllocError, Global};
 /// The identifier of the only table.
 const TABLE: u32 = 0;
 
+/// The value that an update writes: an arbitrary one, other than those that the objects have before.
+const NEW_VALUE: Integer = 7;
+
 /// Builds the call that makes a table to which every process may write.
 pub(crate) fn new_table(alloc: Global) -> Result<Call, AllocError> {
     let options = vec![in alloc; atom_term(alloc, "public")?]?;
@@ -18,8 +21,8 @@ pub(crate) fn new_table(alloc: Global) -> Result<Call, AllocError> {
 
 /// Builds the call that inserts the object `{K,1}`.
 pub(crate) fn insert(alloc: Global, k: u64) -> Result<Call, AllocError> {
-    let fields = vec![in alloc; key_term(k), Term::Int(1)]?;
-    let object = Term::Tuple(Items::from_vec(fields));
+    let elements = vec![in alloc; key_term(k), Term::Int(1)]?;
+    let object = Term::Tuple(Items::from_vec(elements));
     build_call(alloc, "insert", vec![in alloc; Term::Tid(TABLE), object]?)
 }
 
@@ -29,27 +32,27 @@ pub(crate) fn count_up(alloc: Global, k: u64) -> Result<Call, AllocError> {
     build_call(alloc, "update_counter", args)
 }
 
-/// Builds the call that writes the value 7 into the key's object.
+/// Builds the call that writes `NEW_VALUE` into the key's object.
 pub(crate) fn write(alloc: Global, k: u64) -> Result<Call, AllocError> {
-    let args = vec![in alloc; Term::Tid(TABLE), key_term(k), value_seven(alloc)?]?;
+    let args = vec![in alloc; Term::Tid(TABLE), key_term(k), new_value(alloc)?]?;
     build_call(alloc, "update_element", args)
 }
 
-/// Builds the call that writes the value 7 into the key's object, with a Default for a key without an object.
-pub(crate) fn write_or(alloc: Global, k: u64) -> Result<Call, AllocError> {
-    let fields = vec![in alloc; key_term(k), Term::Int(1)]?;
-    let default = Term::Tuple(Items::from_vec(fields));
-    let args = vec![in alloc; Term::Tid(TABLE), key_term(k), value_seven(alloc)?, default]?;
+/// Builds the call that writes `NEW_VALUE` into the key's object, with a default object for a key without an object.
+pub(crate) fn write_with_default(alloc: Global, k: u64) -> Result<Call, AllocError> {
+    let elements = vec![in alloc; key_term(k), Term::Int(1)]?;
+    let default = Term::Tuple(Items::from_vec(elements));
+    let args = vec![in alloc; Term::Tid(TABLE), key_term(k), new_value(alloc)?, default]?;
     build_call(alloc, "update_element", args)
 }
 
-/// Builds the element value `{2,7}`.
-fn value_seven(alloc: Global) -> Result<Term, AllocError> {
-    Ok(Term::Tuple(Items::from_vec(vec![in alloc; Term::Int(2), Term::Int(7)]?)))
+/// Builds the element value `{2,NEW_VALUE}`: the second element is the value of an object.
+fn new_value(alloc: Global) -> Result<Term, AllocError> {
+    Ok(Term::Tuple(Items::from_vec(vec![in alloc; Term::Int(2), Term::Int(NEW_VALUE)]?)))
 }
 
 /// Builds the call that returns the first key.
-pub(crate) fn first(alloc: Global) -> Result<Call, AllocError> {
+pub(crate) fn build_first(alloc: Global) -> Result<Call, AllocError> {
     build_call(alloc, "first", vec![in alloc; Term::Tid(TABLE)]?)
 }
 
@@ -59,7 +62,7 @@ pub(crate) fn call_of_key(alloc: Global, name: &str, k: u64) -> Result<Call, All
 }
 
 /// Returns the integer of a reply, or None if it is another term.
-pub(crate) fn number_in(reply: &Reply) -> Option<u64> {
+pub(crate) fn integer_of_reply(reply: &Reply) -> Option<u64> {
     match reply {
         Reply::Value(Term::Int(k)) => u64::try_from(*k).ok(),
         _ => None,
@@ -67,15 +70,15 @@ pub(crate) fn number_in(reply: &Reply) -> Option<u64> {
 }
 
 /// Returns whether a reply is a key with its objects.
-pub(crate) fn is_entry(reply: &Reply) -> bool {
+pub(crate) fn is_key_with_objects(reply: &Reply) -> bool {
     match reply {
-        Reply::Value(Term::Tuple(parts)) => parts.len() == 2,
+        Reply::Value(Term::Tuple(elements)) => elements.len() == 2,
         _ => false,
     }
 }
 
 /// Returns whether the reply of a lookup has an object.
-pub(crate) fn has_found(reply: &Reply) -> bool {
+pub(crate) fn has_object(reply: &Reply) -> bool {
     match reply {
         Reply::Value(Term::List(objects)) => objects.len() == 1,
         _ => false,

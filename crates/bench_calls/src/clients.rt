@@ -1,8 +1,8 @@
 //! Clients of one node, each in a thread of its own.
 ghost use Rattle.std.specs.Prelude.{◌≡◌, ◌+◌, ◌<◌, All, vec_len};
 
-use crate::calls::{has_found, insert, new_table};
-use crate::mixture::{KEYS, Outcome, mixture};
+use crate::calls::{has_object, insert, new_table};
+use crate::mixture::{GROWTH_STEPS, KEYS, Outcome, mixture};
 use crate::report::nanoseconds;
 use ets_term::Fnv;
 use node_core::Limits;
@@ -18,9 +18,9 @@ use std::time::Instant;
 
 /// A gate that lets each call go on at once.
 #[derive(Drop)]
-struct Open;
+struct NoGate;
 
-impl Gate for Open {
+impl Gate for NoGate {
     fn before(&self, _client: usize, _call: usize) {}
 
     fn after(&self, _client: usize, _call: usize) {}
@@ -70,7 +70,7 @@ fn time_work<L: Ledger + Send + Sync, R: Alloc<A = Global> + Clock + Threads + W
     let alloc = rt.alloc();
     let work = build_work(rt, alloc, shared, clients, calls)?;
     let start = Instant::now(rt)?;
-    let workers = run_clients(rt, alloc, shared, work, &Open)?;
+    let workers = run_clients(rt, alloc, shared, work, &NoGate)?;
     let nanoseconds = nanoseconds(start.elapsed(rt)?);
     let found = count_found(workers.as_slice());
     Ok(Outcome { nanoseconds, found })
@@ -86,7 +86,7 @@ fn build_work<L: Ledger, R: Wait>(
 ) -> Result<Vec<(Client<L>, Vec<Job>)>, AllocError>
     requires { 0 < clients }
 {
-    let mut clients = join_clients(rt, alloc, shared, clients)?;
+    let mut clients = enrol_clients(rt, alloc, shared, clients)?;
     if let Some(first) = clients.first_mut() {
         fill(rt, alloc, shared, first)?;
     }
@@ -98,8 +98,8 @@ fn build_work<L: Ledger, R: Wait>(
     Ok(work)
 }
 
-/// Returns a number of clients that have joined a node.
-fn join_clients<L: Ledger, R: Wait>(
+/// Returns a number of clients whose processes are enrolled in a node.
+fn enrol_clients<L: Ledger, R: Wait>(
     rt: &R,
     alloc: Global,
     shared: &Shared<L, Fnv>,
@@ -113,7 +113,7 @@ fn join_clients<L: Ledger, R: Wait>(
     clients_of_seats(rt, alloc, shared, &pids, seats)
 }
 
-/// Returns a client for each seat.
+/// Returns a client for each seat, which is the right to draw one process number.
 fn clients_of_seats<L: Ledger, R: Wait>(
     rt: &R,
     alloc: Global,
@@ -125,13 +125,13 @@ fn clients_of_seats<L: Ledger, R: Wait>(
 {
     let mut clients = Vec::new(alloc);
     while let Some(seat) = seats.pop() {
-        clients.push(join_client(rt, shared, pids.draw(seat))?)?;
+        clients.push(enrol_client(rt, shared, pids.draw(seat))?)?;
     }
     Ok(clients)
 }
 
-/// Joins a client under a drawn pid.
-fn join_client<L: Ledger, R: Wait>(
+/// Enrols a process under a drawn pid, and returns its client. Any fault counts as out of memory.
+fn enrol_client<L: Ledger, R: Wait>(
     rt: &R,
     shared: &Shared<L, Fnv>,
     drawn: Drawn,
@@ -142,7 +142,7 @@ fn join_client<L: Ledger, R: Wait>(
     }
 }
 
-/// Makes the table, and inserts an object of each of the `KEYS`, each with up to two growth steps.
+/// Makes the table, and inserts an object of each of the `KEYS`, each with up to `GROWTH_STEPS` growth steps.
 fn fill<L: Ledger, R: Wait>(
     rt: &R,
     alloc: Global,
@@ -152,7 +152,7 @@ fn fill<L: Ledger, R: Wait>(
     client.ask(rt, shared, &new_table(alloc)?)?;
     for k in 0..KEYS {
         client.ask(rt, shared, &insert(alloc, k)?)?;
-        keep(rt, shared, 2);
+        keep(rt, shared, GROWTH_STEPS);
     }
     Ok(())
 }
@@ -171,7 +171,7 @@ fn count_found<L: Ledger>(workers: &[Worked<L>]) -> u64 {
     let mut found: u64 = 0;
     for worker in workers {
         for entry in worker.client.entries() {
-            found = found.wrapping_add(u64::from(has_found(&entry.reply)));
+            found = found.wrapping_add(u64::from(has_object(&entry.reply)));
         }
     }
     found

@@ -8,6 +8,9 @@ use std::io;
 /// How many keys the table has.
 pub(crate) const KEYS: u64 = 10_000;
 
+/// The number of growth steps that may run after an insertion.
+pub(crate) const GROWTH_STEPS: u32 = 2;
+
 /// Builds a number of calls, in the order of this seed.
 pub(crate) fn mixture(alloc: Global, calls: u32, seed: u64) -> Result<Vec<Call>, AllocError> {
     let mut mixture = Vec::new(alloc);
@@ -34,7 +37,7 @@ pub(crate) struct Outcome {
 }
 
 impl Outcome {
-    /// Prints the nanoseconds a call of callers that each made a mixture of this many calls.
+    /// Prints the nanoseconds per call of callers that each made a mixture of this many calls.
     pub(crate) fn print(
         self,
         rt: &impl Print,
@@ -46,7 +49,7 @@ impl Outcome {
         self.print_mixture(rt, who, callers, calls, calls - calls / 10)
     }
 
-    /// Prints the nanoseconds a call of callers that made lookups alone.
+    /// Prints the nanoseconds per call of callers that made only lookups.
     pub(crate) fn print_lookups(
         self,
         rt: &impl Print,
@@ -57,7 +60,7 @@ impl Outcome {
         self.print_mixture(rt, who, callers, calls, calls)
     }
 
-    /// Prints the nanoseconds a call, after a line of warning if not each of the `lookups` of each caller found an
+    /// Prints the nanoseconds per call, after a line of warning if not each of the `lookups` of each caller found an
     /// object.
     fn print_mixture(
         self,

@@ -1,5 +1,5 @@
 //! A node whose only process has one table.
-use crate::calls::{has_found, insert, new_table};
+use crate::calls::{has_object, insert, new_table};
 use crate::mixture::{KEYS, mixture};
 use ets_term::Fnv;
 use node_core::{Call, Limits, Node, Step};
@@ -39,7 +39,7 @@ pub(crate) fn ask_step(call: Call) -> Step {
     Step::Ask(PID, call)
 }
 
-/// Runs at most two pending growth steps.
+/// Runs at most two pending growth steps, which is `GROWTH_STEPS`.
 pub(crate) fn grow(node: &mut Node<Fnv>) -> Result<(), AllocError> {
     node.run_pending()?;
     node.run_pending()?;
@@ -85,5 +85,5 @@ pub(crate) fn ask_all(node: &mut Node<Fnv>, steps: &[Step]) -> Result<u64, Alloc
 /// Runs a step, and returns whether it found an object.
 fn finds_object(node: &mut Node<Fnv>, step: &Step) -> Result<bool, AllocError> {
     let reply = node.step(step)?;
-    Ok(has_found(&reply))
+    Ok(has_object(&reply))
 }

@@ -1,5 +1,5 @@
 //! The phases of the life of a table: one step for each key, in an order of the phase's own.
-use crate::calls::{call_of_key, count_up, has_found, insert, is_atom, write, write_or};
+use crate::calls::{call_of_key, count_up, has_object, insert, is_atom, write, write_with_default};
 use crate::node::{ask_step, grow};
 use crate::order::shuffle;
 use ets_term::{Fnv, Term};
@@ -18,8 +18,8 @@ pub enum Phase {
     Counter,
     /// Updates of an element.
     Write,
-    /// Updates of an element with a Default.
-    WriteOr,
+    /// Updates of an element with a default object.
+    WriteWithDefault,
     Delete,
 }
 
@@ -30,12 +30,12 @@ pub const PHASES: [Phase; 7] = [
     Phase::Miss,
     Phase::Counter,
     Phase::Write,
-    Phase::WriteOr,
+    Phase::WriteWithDefault,
     Phase::Delete,
 ];
 
 /// The number of steps in a list of `Node::run`.
-const LIST: usize = 64;
+const LIST_LEN: usize = 64;
 
 /// How a step is made: with a reply of its own, over the reply before, or in a list of steps by `Node::run`.
 #[derive(Clone, Copy)]
@@ -68,7 +68,7 @@ impl Phase {
             Phase::Miss => "miss",
             Phase::Counter => "counter",
             Phase::Write => "write",
-            Phase::WriteOr => "write-or",
+            Phase::WriteWithDefault => "write-or",
             Phase::Delete => "delete",
         }
     }
@@ -133,10 +133,10 @@ impl Phase {
         Ok(right_count)
     }
 
-    /// Runs the steps in lists of `LIST`. Returns the number of right replies.
+    /// Runs the steps in lists of `LIST_LEN`. Returns the number of right replies.
     fn run_lists(self, node: &mut Node<Fnv>, steps: &[Step]) -> Result<u64, AllocError> {
         let mut right_count: u64 = 0;
-        for list in steps.chunks(LIST) {
+        for list in steps.chunks(LIST_LEN) {
             right_count = right_count.wrapping_add(self.run_list(node, list)?);
             if matches!(self, Phase::Insert) {
                 for _ in 0..list.len() {
@@ -159,7 +159,7 @@ impl Phase {
         Ok(right_count)
     }
 
-    /// Returns the seed of the order in which the phase takes the keys.
+    /// Returns the seed of the order in which the phase takes the keys. Each phase has an order of its own.
     fn seed(self) -> u64 {
         match self {
             Phase::Insert => 1,
@@ -167,7 +167,7 @@ impl Phase {
             Phase::Miss => 3,
             Phase::Counter => 4,
             Phase::Write => 6,
-            Phase::WriteOr => 7,
+            Phase::WriteWithDefault => 7,
             Phase::Delete => 5,
         }
     }
@@ -180,7 +180,7 @@ impl Phase {
             Phase::Miss => call_of_key(alloc, "member", k.wrapping_add(u64::from(count))),
             Phase::Counter => count_up(alloc, k),
             Phase::Write => write(alloc, k),
-            Phase::WriteOr => write_or(alloc, k),
+            Phase::WriteWithDefault => write_with_default(alloc, k),
             Phase::Delete => call_of_key(alloc, "delete", k),
         }
     }
@@ -188,9 +188,12 @@ impl Phase {
     /// Returns whether a reply is what the phase expects.
     fn is_right(self, reply: &Reply) -> bool {
         match self {
-            Phase::Insert | Phase::Write | Phase::WriteOr | Phase::Delete => is_atom(reply, "true"),
-            Phase::Hit => has_found(reply),
+            Phase::Insert | Phase::Write | Phase::WriteWithDefault | Phase::Delete => is_atom(
+                reply, "true",
+            ),
+            Phase::Hit => has_object(reply),
             Phase::Miss => is_atom(reply, "false"),
+            // The value was 1, and the call added 1.
             Phase::Counter => matches!(reply, Reply::Value(Term::Int(2))),
         }
     }

@@ -7,24 +7,30 @@ use node_shared::Locking;
 use std::alloc::{AllocError, Global};
 
 /// The number of lookups in a list.
-pub(crate) const LIST: usize = 16;
+pub(crate) const LIST_LEN: usize = 16;
+
+/// The seed of the order of lookups.
+const LOOKUP_SEED: u64 = 2;
+
+/// The seed of the order of a mixture.
+const MIXTURE_SEED: u64 = 1;
 
 /// The calls of each caller.
 #[derive(Clone, Copy)]
 pub(crate) enum Load {
     /// Lookups one by one.
     Reads,
-    /// Lookups in lists of `LIST`.
+    /// Lookups in lists of `LIST_LEN`.
     Lists,
     /// Nine lookups, then an insertion, and so on.
     Mixture,
 }
 
 impl Load {
-    /// Returns how many calls a caller makes under one hold of the lock.
-    pub(crate) fn calls_a_hold(self) -> usize {
+    /// Returns how many calls a caller makes each time it has the lock.
+    pub(crate) fn calls_per_lock(self) -> usize {
         match self {
-            Load::Lists => LIST,
+            Load::Lists => LIST_LEN,
             Load::Reads | Load::Mixture => 1,
         }
     }
@@ -33,15 +39,15 @@ impl Load {
     pub(crate) fn build_calls(self, alloc: Global, calls: u32) -> Result<Vec<Call>, AllocError> {
         match self {
             Load::Reads | Load::Lists => build_lookups(alloc, calls),
-            Load::Mixture => mixture(alloc, calls, 1),
+            Load::Mixture => mixture(alloc, calls, MIXTURE_SEED),
         }
     }
 }
 
-/// Builds a number of lookups, in the order of seed 2.
+/// Builds a number of lookups, in the order of `LOOKUP_SEED`.
 fn build_lookups(alloc: Global, calls: u32) -> Result<Vec<Call>, AllocError> {
     let mut lookups = Vec::new(alloc);
-    for k in shuffle(alloc, u64::from(calls), 2)? {
+    for k in shuffle(alloc, u64::from(calls), LOOKUP_SEED)? {
         lookups.push(call_of_key(alloc, "lookup", k % KEYS)?)?;
     }
     Ok(lookups)

@@ -17,22 +17,22 @@ use std::sync::Wait;
 use std::thread::Threads;
 use std::time::{Duration, Instant};
 
-/// A small table is built again until about this many steps of a phase are timed, and the least time counts.
-const STEPS: u32 = 300_000;
+/// About the least number of steps of a phase that are timed. A small table is built again until there are as many.
+const MIN_TIMED_STEPS: u32 = 300_000;
 
 /// The number of clients, and of callers of a server, whose results are checked.
 const CLIENTS: u32 = 3;
 
 /// Returns how often a table with a number of objects is built.
 fn repeat_count(count: u32) -> u32 {
-    (STEPS / count.max(1)).max(1)
+    (MIN_TIMED_STEPS / count.max(1)).max(1)
 }
 
-/// A phase, and the least time that it has taken, in nanoseconds.
+/// A phase, and its least time so far, which is the time that counts.
 #[derive(Drop)]
 struct PhaseTime {
     phase: Phase,
-    best: u64,
+    least_nanoseconds: u64,
 }
 
 impl PhaseTime {
@@ -46,9 +46,9 @@ impl PhaseTime {
     ) -> io::Result<()> {
         let steps = self.phase.steps(rt.alloc(), count)?;
         let start = Instant::now(rt)?;
-        let done = self.phase.run(way, node, steps.as_slice())?;
-        self.best = self.best.min(nanoseconds(start.elapsed(rt)?));
-        if done != u64::from(count) {
+        let right_count = self.phase.run(way, node, steps.as_slice())?;
+        self.least_nanoseconds = self.least_nanoseconds.min(nanoseconds(start.elapsed(rt)?));
+        if right_count != u64::from(count) {
             println!(rt; "calls {} went wrong", self.phase.name())?;
         }
         Ok(())
@@ -59,14 +59,17 @@ impl PhaseTime {
 fn all_phases(alloc: Global) -> Result<Vec<PhaseTime>, AllocError> {
     let mut times = Vec::new(alloc);
     for phase in PHASES {
-        let best = u64::MAX;
-        times.push(PhaseTime { phase, best })?;
+        let least_nanoseconds = u64::MAX;
+        times.push(PhaseTime {
+            phase,
+            least_nanoseconds,
+        })?;
     }
     Ok(times)
 }
 
 /// Times all phases of a new table.
-fn time_life(
+fn time_new_table(
     rt: &(impl Print + Alloc<A = Global> + Clock),
     way: Way,
     phases: &mut [PhaseTime],
@@ -90,7 +93,7 @@ fn time_phases(
     Ok(())
 }
 
-/// Prints the nanoseconds a step for each phase of a table with a number of objects.
+/// Prints the nanoseconds per step for each phase of a table with a number of objects.
 pub(crate) fn print_times(
     rt: &(impl Print + Alloc<A = Global> + Clock),
     way: Way,
@@ -98,10 +101,10 @@ pub(crate) fn print_times(
 ) -> io::Result<()> {
     let mut phases = all_phases(rt.alloc())?;
     for _turn in 0..repeat_count(count) {
-        time_life(rt, way, phases.as_mut_slice(), count)?;
+        time_new_table(rt, way, phases.as_mut_slice(), count)?;
     }
     for time in phases.as_slice() {
-        let tenths = time.best.saturating_mul(10) / u64::from(count.max(1));
+        let tenths = time.least_nanoseconds.saturating_mul(10) / u64::from(count.max(1));
         println!(rt;
             "{} {} {}.{}",
             way.name(),
@@ -113,7 +116,7 @@ pub(crate) fn print_times(
     Ok(())
 }
 
-/// Prints the nanoseconds a step of a mixture of steps of one caller.
+/// Prints the nanoseconds per step of a mixture of steps of one caller.
 pub(crate) fn print_alone(
     rt: &(impl Print + Alloc<A = Global> + Clock),
     calls: u32,
@@ -122,7 +125,7 @@ pub(crate) fn print_alone(
     print_mixture(rt, &mut node, calls)
 }
 
-/// Prints the nanoseconds a step of a mixture, on a table that it fills first.
+/// Prints the nanoseconds per step of a mixture, on a table that it fills first.
 fn print_mixture(
     rt: &(impl Print + Alloc<A = Global> + Clock),
     node: &mut Node<Fnv>,
@@ -136,7 +139,7 @@ fn print_mixture(
     Outcome { nanoseconds, found }.print(rt, "alone", 1, calls)
 }
 
-/// Prints the nanoseconds a call of a number of clients that make a number of calls each in parallel.
+/// Prints the nanoseconds per call of a number of clients that make a number of calls each in parallel.
 pub(crate) fn print_clients<R: Print + Alloc<A = Global> + Clock + Threads + Wait + Sync>(
     rt: &R,
     clients: u32,
@@ -147,8 +150,8 @@ pub(crate) fn print_clients<R: Print + Alloc<A = Global> + Clock + Threads + Wai
     time_clients(rt, clients, calls)?.print(rt, "shared", clients, calls)
 }
 
-/// Prints the nanoseconds a call of a number of callers of a server that make a number of calls each in parallel: with
-/// one lock, and then with a sharded one.
+/// Prints the nanoseconds per call of a number of callers of a server that make a number of calls each in parallel:
+/// with one lock, and then with a sharded one.
 pub(crate) fn print_servers<R: Print + Alloc<A = Global> + Clock + Threads + Wait + Sync>(
     rt: &R,
     load: Load,
@@ -168,7 +171,7 @@ pub(crate) fn print_servers<R: Print + Alloc<A = Global> + Clock + Threads + Wai
     Ok(())
 }
 
-/// Prints the nanoseconds a call of the callers of one server.
+/// Prints the nanoseconds per call of the callers of one server.
 fn print_server<R: Print + Alloc<A = Global> + Clock + Threads + Wait + Sync>(
     rt: &R,
     plan: Plan,
@@ -220,11 +223,11 @@ fn print_phase_counts(
     count: u32,
 ) -> io::Result<()> {
     let mut node = node_with_table(rt.alloc())?;
-    print_life_counts(rt, way, &mut node, count)
+    print_table_counts(rt, way, &mut node, count)
 }
 
 /// Prints how many steps of each phase of a table have right replies.
-fn print_life_counts(
+fn print_table_counts(
     rt: &(impl Print + Alloc<A = Global>),
     way: Way,
     node: &mut Node<Fnv>,
@@ -232,8 +235,8 @@ fn print_life_counts(
 ) -> io::Result<()> {
     for phase in PHASES {
         let steps = phase.steps(rt.alloc(), count)?;
-        let done = phase.run(way, node, steps.as_slice())?;
-        println!(rt; "{} {} {}", way.name(), phase.name(), done)?;
+        let right_count = phase.run(way, node, steps.as_slice())?;
+        println!(rt; "{} {} {}", way.name(), phase.name(), right_count)?;
     }
     Ok(())
 }

@@ -2,9 +2,9 @@
 ghost use Rattle.std.specs.Prelude.{◌≡◌, ◌<◌, All, vec_len};
 ghost use Rattle.std.specs.Thread.{IsSync};
 
-use crate::calls::{has_found, insert, new_table};
-use crate::mixture::{KEYS, Outcome};
-use crate::plans::{LIST, Plan};
+use crate::calls::{has_object, insert, new_table};
+use crate::mixture::{GROWTH_STEPS, KEYS, Outcome};
+use crate::plans::{LIST_LEN, Plan};
 use crate::report::nanoseconds;
 use ets_term::{Fnv, KeyHash};
 use node_core::{Call, Limits, Reply};
@@ -63,7 +63,8 @@ fn time_calls<B: HistoryId + Send + Sync, R: Alloc<A = Global> + Clock + Threads
     Ok(Outcome { nanoseconds, found })
 }
 
-/// Returns the callers with their calls and how many they make under one hold, over a table that has all keys.
+/// Returns the callers with their calls, and how many they make each time they have the lock, over a table that has all
+/// keys.
 fn build_work<B: HistoryId, R: Wait>(
     rt: &R,
     alloc: Global,
@@ -73,20 +74,20 @@ fn build_work<B: HistoryId, R: Wait>(
 ) -> Result<Vec<(Caller<B>, Vec<Call>, usize)>, AllocError>
     requires { 0 < callers }
 {
-    let mut callers = join_callers(rt, alloc, server, callers)?;
+    let mut callers = enrol_callers(rt, alloc, server, callers)?;
     if let Some(first) = callers.first_mut() {
         fill(rt, alloc, server, first)?;
     }
     let mut work = Vec::new(alloc);
     for caller in callers {
         let calls = plan.load.build_calls(alloc, plan.calls)?;
-        work.push((caller, calls, plan.load.calls_a_hold()))?;
+        work.push((caller, calls, plan.load.calls_per_lock()))?;
     }
     Ok(work)
 }
 
-/// Returns a number of callers that have joined a server.
-fn join_callers<B: HistoryId, R: Wait>(
+/// Returns a number of callers whose processes are enrolled in a server.
+fn enrol_callers<B: HistoryId, R: Wait>(
     rt: &R,
     alloc: Global,
     server: &Server<B, Fnv>,
@@ -100,7 +101,7 @@ fn join_callers<B: HistoryId, R: Wait>(
     callers_of_seats(rt, alloc, server, &pids, seats)
 }
 
-/// Returns a caller for each seat.
+/// Returns a caller for each seat, which is the right to draw one process number.
 fn callers_of_seats<B: HistoryId, R: Wait>(
     rt: &R,
     alloc: Global,
@@ -112,13 +113,13 @@ fn callers_of_seats<B: HistoryId, R: Wait>(
 {
     let mut callers = Vec::new(alloc);
     while let Some(seat) = seats.pop() {
-        callers.push(join_caller(rt, server, pids.draw(seat))?)?;
+        callers.push(enrol_caller(rt, server, pids.draw(seat))?)?;
     }
     Ok(callers)
 }
 
-/// Joins a caller under a drawn pid.
-fn join_caller<B: HistoryId, R: Wait>(
+/// Enrols a process under a drawn pid, and returns its caller. Any fault counts as out of memory.
+fn enrol_caller<B: HistoryId, R: Wait>(
     rt: &R,
     server: &Server<B, Fnv>,
     drawn: Drawn,
@@ -129,7 +130,7 @@ fn join_caller<B: HistoryId, R: Wait>(
     }
 }
 
-/// Makes the table, and inserts an object of each of the `KEYS`, each with up to two growth steps.
+/// Makes the table, and inserts an object of each of the `KEYS`, each with up to `GROWTH_STEPS` growth steps.
 fn fill<B: HistoryId, R: Wait>(
     rt: &R,
     alloc: Global,
@@ -139,12 +140,12 @@ fn fill<B: HistoryId, R: Wait>(
     caller.ask(rt, server, new_table(alloc)?)?;
     for k in 0..KEYS {
         caller.ask(rt, server, insert(alloc, k)?)?;
-        server.keep(rt, 2);
+        server.keep(rt, GROWTH_STEPS);
     }
     Ok(())
 }
 
-/// Makes the calls of each caller in a thread. Returns how many lookups found an object.
+/// Makes the calls of each caller in a thread. Returns how many lookups found an object. Out of memory counts as none.
 fn call_all<
     B: HistoryId + Send + Sync,
     H: KeyHash + Copy + Drop + Send + Sync,
@@ -152,7 +153,13 @@ fn call_all<
 >(rt: &R, server: &Server<B, H>, mut work: Vec<(Caller<B>, Vec<Call>, usize)>) -> u64 {
     if work.len() < 2 {
         return match work.pop() {
-            Some((mut caller, calls, hold)) => call_each(rt, server, &mut caller, &calls, hold),
+            Some((mut caller, calls, calls_per_lock)) => call_each(
+                rt,
+                server,
+                &mut caller,
+                &calls,
+                calls_per_lock,
+            ),
             None => 0,
         };
     }
@@ -172,18 +179,18 @@ fn call_all<
     front_found.wrapping_add(back_found)
 }
 
-/// Makes the calls of one caller, `hold` under one hold of the lock. Returns how many lookups found an object, or 0
-/// after a fault.
+/// Makes the calls of one caller: in lists if it makes more than one call each time it has the lock, else one by one.
+/// Returns how many lookups found an object, or 0 after a fault, so that the report says that the calls went wrong.
 fn call_each<B: HistoryId, H: KeyHash + Copy + Drop, R: Wait>(
     rt: &R,
     server: &Server<B, H>,
     caller: &mut Caller<B>,
     calls: &Vec<Call>,
-    hold: usize,
+    calls_per_lock: usize,
 ) -> u64 {
     let alloc = *calls.allocator();
     let mut reply = Reply::NoProcess;
-    let found = if hold > 1 {
+    let found = if calls_per_lock > 1 {
         read_in_lists(rt, alloc, server, caller, calls.as_slice())
     } else {
         call_in_turn(rt, alloc, server, caller, calls.as_slice(), &mut reply)
@@ -206,12 +213,12 @@ fn call_in_turn<B: HistoryId, H: KeyHash + Copy + Drop, R: Wait>(
         if !caller.read_into(rt, server, call, reply)? {
             *reply = caller.ask(rt, server, call.try_clone(alloc)?)?;
         }
-        found = found.wrapping_add(u64::from(has_found(reply)));
+        found = found.wrapping_add(u64::from(has_object(reply)));
     }
     Ok(found)
 }
 
-/// Makes lookups in lists of `LIST`. Returns how many found an object.
+/// Makes lookups in lists of `LIST_LEN`. Returns how many found an object.
 fn read_in_lists<B: HistoryId, H: KeyHash + Copy + Drop, R: Wait>(
     rt: &R,
     alloc: Global,
@@ -220,7 +227,7 @@ fn read_in_lists<B: HistoryId, H: KeyHash + Copy + Drop, R: Wait>(
     calls: &[Call],
 ) -> Result<u64, AllocError> {
     let mut found: u64 = 0;
-    for list in calls.chunks(LIST) {
+    for list in calls.chunks(LIST_LEN) {
         let replies = caller.read_all(rt, alloc, server, list)?;
         found = found.wrapping_add(count_found(&replies));
     }
@@ -232,7 +239,7 @@ fn count_found(replies: &Vec<Option<Reply>>) -> u64 {
     let mut found: u64 = 0;
     for reply in replies.as_slice() {
         if let Some(reply) = reply {
-            found = found.wrapping_add(u64::from(has_found(reply)));
+            found = found.wrapping_add(u64::from(has_object(reply)));
         }
     }
     found

@@ -1,5 +1,5 @@
 //! Walks over a whole table: by `next` and then `lookup`, or by `next_lookup`, which is both in one call.
-use crate::calls::{call_of_key, first, has_found, is_entry, number_in};
+use crate::calls::{build_first, call_of_key, has_object, integer_of_reply, is_key_with_objects};
 use crate::node::{ask_step, insert_and_grow, node_with_table};
 use crate::order::shuffle;
 use crate::report::nanoseconds;
@@ -44,7 +44,7 @@ impl Walks {
 /// Returns all keys in the order of `first` and `next`.
 fn keys_in_order(alloc: Global, node: &mut Node<Fnv>, count: u32) -> Result<Vec<u64>, AllocError> {
     let mut keys = Vec::new(alloc);
-    let mut next = run_for_key(node, ask_step(first(alloc)?))?;
+    let mut next = run_for_key(node, ask_step(build_first(alloc)?))?;
     for _key in 0..count {
         let Some(key) = next else {
             return Ok(keys);
@@ -58,7 +58,7 @@ fn keys_in_order(alloc: Global, node: &mut Node<Fnv>, count: u32) -> Result<Vec<
 /// Runs a step, and returns the key that it found.
 fn run_for_key(node: &mut Node<Fnv>, step: Step) -> Result<Option<u64>, AllocError> {
     let reply = node.step(&step)?;
-    Ok(number_in(&reply))
+    Ok(integer_of_reply(&reply))
 }
 
 /// Inserts a number of objects in a shuffled order.
@@ -81,10 +81,10 @@ fn count_found(node: &mut Node<Fnv>, steps: &[Step]) -> Result<u64, AllocError> 
 /// Runs a step, and returns whether it found an object.
 fn finds_object(node: &mut Node<Fnv>, step: &Step) -> Result<bool, AllocError> {
     let reply = node.step(step)?;
-    Ok(has_found(&reply) || is_entry(&reply))
+    Ok(has_object(&reply) || is_key_with_objects(&reply))
 }
 
-/// Prints the nanoseconds an object of either walk over a table of a number of objects.
+/// Prints the nanoseconds per object of either walk over a table of a number of objects.
 pub(crate) fn print_times(
     rt: &(impl Print + Alloc<A = Global> + Clock),
     count: u32,
@@ -93,7 +93,7 @@ pub(crate) fn print_times(
     print_walk_times(rt, &mut node, count)
 }
 
-/// Prints the nanoseconds an object of either walk over a table that it fills first.
+/// Prints the nanoseconds per object of either walk over a table that it fills first.
 fn print_walk_times(
     rt: &(impl Print + Alloc<A = Global> + Clock),
     node: &mut Node<Fnv>,
