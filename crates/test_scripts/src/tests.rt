@@ -37,7 +37,7 @@ struct Run {
     devices: Devices,
     limits: Limits,
     /// The most reads that may be made.
-    reads: u32,
+    max_reads: u32,
 }
 
 /// Returns a run with good devices and the usual limits.
@@ -45,7 +45,7 @@ fn usual_run() -> Run {
     Run {
         devices: devices::GOOD_DEVICES,
         limits: Limits::usual(),
-        reads: 1_000_000_000,
+        max_reads: 1_000_000_000,
     }
 }
 
@@ -88,14 +88,14 @@ fn ends_with_answers_by_hash<H: KeyHash + Copy + Drop>(
     let mut streams = Streams {
         input: Source {
             left: script,
-            max: run.devices.max_read,
-            good: run.devices.good_reads,
+            max_read_bytes: run.devices.max_read_bytes,
+            reads_before_fault: run.devices.reads_before_fault,
             log: &log,
         },
         output: Target {
             taken: Vec::new(alloc),
-            max: run.devices.max_written,
-            good: run.devices.good_writes,
+            max_write_bytes: run.devices.max_write_bytes,
+            writes_before_fault: run.devices.writes_before_fault,
             fails_to_flush: run.devices.fails_to_flush,
             log: &log,
         },
@@ -104,7 +104,7 @@ fn ends_with_answers_by_hash<H: KeyHash + Copy + Drop>(
         limits: run.limits,
         hasher,
     };
-    let done = run_within(alloc, &mut streams, settings, run.reads);
+    let done = run_within(alloc, &mut streams, settings, run.max_reads);
     streams.output.taken.as_slice() == answers
         && end_of(done) == end
         && (end == End::Write || log.is_all_flushed(answers.len()))

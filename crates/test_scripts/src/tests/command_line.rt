@@ -43,7 +43,7 @@ fn parse_words(alloc: Global, words: &[&str]) -> Result<Parsed, ErrorKind> {
 
 /// Parses words that `settings` accepts.
 #[test]
-fn settings_of_words(rt: HostRuntime) {
+fn words_have_their_settings(rt: HostRuntime) {
     let alloc = rt.alloc();
     let rows: [(&[&str], Parsed); 11] = [
         (&["ets_script"], (Threads::Off, Hash::Fnv, USUAL_OBJECTS)),
@@ -101,7 +101,7 @@ fn settings_of_words(rt: HostRuntime) {
 
 /// Parses words that `settings` refuses.
 #[test]
-fn words_that_are_refused(rt: HostRuntime) {
+fn wrong_words_are_refused(rt: HostRuntime) {
     let alloc = rt.alloc();
     let rows: [(&[&str], ErrorKind); 12] = [
         (&["ets_script", "--hash", "md5"], ErrorKind::InvalidValue),
@@ -169,7 +169,7 @@ fn parse_limits(alloc: Global, words: &[&str]) -> Result<ParsedLimits, ErrorKind
 
 /// Parses words that `request` accepts.
 #[test]
-fn limits_of_words(rt: HostRuntime) {
+fn words_have_their_limits(rt: HostRuntime) {
     let alloc = rt.alloc();
     let usual = Limits::usual();
     let processes = Processes(usual.processes);
@@ -223,7 +223,7 @@ fn limits_of_words(rt: HostRuntime) {
 
 /// Parses words that `request` refuses.
 #[test]
-fn limits_that_are_refused(rt: HostRuntime) {
+fn wrong_limits_are_refused(rt: HostRuntime) {
     let alloc = rt.alloc();
     let rows: [(&[&str], ErrorKind); 9] = [
         (

@@ -7,23 +7,23 @@ use std::io::{self, Error, ErrorKind, Read, Write};
 #[derive(Clone, Copy)]
 pub struct Devices {
     /// The most bytes that one read gives.
-    pub max_read: usize,
+    pub max_read_bytes: usize,
     /// The most bytes that one write takes.
-    pub max_written: usize,
+    pub max_write_bytes: usize,
     /// The number of reads before one fails.
-    pub good_reads: u32,
+    pub reads_before_fault: u32,
     /// The number of writes before one fails.
-    pub good_writes: u32,
+    pub writes_before_fault: u32,
     /// Whether each flush fails.
     pub fails_to_flush: bool,
 }
 
 /// Devices that give and take all, and never fail.
 pub const GOOD_DEVICES: Devices = Devices {
-    max_read: usize::MAX,
-    max_written: usize::MAX,
-    good_reads: u32::MAX,
-    good_writes: u32::MAX,
+    max_read_bytes: usize::MAX,
+    max_write_bytes: usize::MAX,
+    reads_before_fault: u32::MAX,
+    writes_before_fault: u32::MAX,
     fails_to_flush: false,
 };
 
@@ -66,9 +66,9 @@ pub struct Source<'a> {
     /// The part of the script that is not read yet.
     pub left: &'a [u8],
     /// The most bytes that one read gives.
-    pub max: usize,
-    /// The number of reads before one fails.
-    pub good: u32,
+    pub max_read_bytes: usize,
+    /// The number of reads that still succeed before one fails.
+    pub reads_before_fault: u32,
     pub log: &'a FlushLog,
 }
 
@@ -78,12 +78,12 @@ impl Read for Source<'_> {
         if log.flushed.get() != log.written.get() {
             log.is_read_unflushed.set(true);
         }
-        if self.good == 0 {
+        if self.reads_before_fault == 0 {
             log.flushed_at_fault.set(Some(log.flushed.get()));
             return Err(Error::from(ErrorKind::Other));
         }
-        self.good -= 1;
-        let count = self.left.len().min(buf.len()).min(self.max);
+        self.reads_before_fault -= 1;
+        let count = self.left.len().min(buf.len()).min(self.max_read_bytes);
         buf[..count].copy_from_slice(&self.left[..count]);
         self.left = &self.left[count..];
         Ok(count)
@@ -96,20 +96,20 @@ pub struct Target<'a> {
     /// All bytes that were written.
     pub taken: Vec<u8>,
     /// The most bytes that one write takes.
-    pub max: usize,
-    /// The number of writes before one fails.
-    pub good: u32,
+    pub max_write_bytes: usize,
+    /// The number of writes that still succeed before one fails.
+    pub writes_before_fault: u32,
     pub fails_to_flush: bool,
     pub log: &'a FlushLog,
 }
 
 impl Write for Target<'_> {
     fn write(&mut self, buf: &[u8]) -> io::Result<usize> {
-        if self.good == 0 {
+        if self.writes_before_fault == 0 {
             return Err(Error::from(ErrorKind::Other));
         }
-        self.good -= 1;
-        let count = buf.len().min(self.max);
+        self.writes_before_fault -= 1;
+        let count = buf.len().min(self.max_write_bytes);
         match self.taken.extend_from_slice(&buf[..count]) {
             Ok(()) => {
                 self.log.written.set(self.taken.len());

@@ -13,9 +13,9 @@ enum Due {
     /// This bucket of the first table becomes ready.
     Bucket(u32),
     /// Any other step.
-    Another,
-    /// The script did not end.
-    Fault,
+    OtherStep,
+    /// The script did not run to its end.
+    ScriptFailed,
 }
 
 /// Returns which step is pending.
@@ -23,7 +23,7 @@ fn due_of_step(step: Option<Step>) -> Due {
     match step {
         None => Due::Nothing,
         Some(Step::Ready(0, bucket)) => Due::Bucket(bucket),
-        Some(_) => Due::Another,
+        Some(_) => Due::OtherStep,
     }
 }
 
@@ -33,14 +33,14 @@ fn due_after(alloc: Global, script: &[u8]) -> Due {
     let mut streams = Streams {
         input: Source {
             left: script,
-            max: GOOD_DEVICES.max_read,
-            good: GOOD_DEVICES.good_reads,
+            max_read_bytes: GOOD_DEVICES.max_read_bytes,
+            reads_before_fault: GOOD_DEVICES.reads_before_fault,
             log: &log,
         },
         output: Target {
             taken: Vec::new(alloc),
-            max: GOOD_DEVICES.max_written,
-            good: GOOD_DEVICES.good_writes,
+            max_write_bytes: GOOD_DEVICES.max_write_bytes,
+            writes_before_fault: GOOD_DEVICES.writes_before_fault,
             fails_to_flush: GOOD_DEVICES.fails_to_flush,
             log: &log,
         },
@@ -51,7 +51,7 @@ fn due_after(alloc: Global, script: &[u8]) -> Due {
     };
     match run_script(alloc, &mut streams, settings) {
         Ok(node) => due_of_step(node.due()),
-        Err(_) => Due::Fault,
+        Err(_) => Due::ScriptFailed,
     }
 }
 
@@ -67,7 +67,7 @@ fn join_parts(alloc: Global, parts: [&str; 3]) -> Result<String, AllocError> {
 /// Spawns two processes, and makes a table.
 const MAKE_TABLE: &str = "spawn p\nspawn q\np new(t,[named_table])\n";
 
-/// Inserts nine objects one by one. The last one doubles the two buckets, and readies the third.
+/// Inserts nine objects one by one. The last one doubles the two buckets, and readies bucket 2.
 const INSERT_NINE: &str =
     "p insert(t,{1})\np insert(t,{2})\np insert(t,{3})\np insert(t,{4})\np insert(t,{5})\np insert(t,{6})\np insert(t,{7})\np insert(t,{8})\np insert(t,{9})\n";
 
@@ -84,7 +84,7 @@ const ROWS: [(&str, &str, Due); 12] = [
     (INSERT_NINE, "r lookup(t,9)\n", Due::Bucket(3)),
     (INSERT_NINE, "exit q\n", Due::Bucket(3)),
     (INSERT_NINE, "q lookup(t,9\n", Due::Bucket(3)),
-    (INSERT_FORTY, "", Due::Another),
+    (INSERT_FORTY, "", Due::OtherStep),
     (INSERT_FORTY, "p new(u,[])\n", Due::Bucket(3)),
     ("grow t\n", "", Due::Bucket(2)),
     ("grow t\n", "ready t 2\n", Due::Bucket(3)),
@@ -103,7 +103,7 @@ fn first_wrong_row(alloc: Global, rows: &[(&str, &str, Due)]) -> Result<Option<u
 }
 
 #[test]
-fn two_steps_after_each_call(rt: HostRuntime) -> Result<(), Fail> {
+fn at_most_two_growth_steps_run_after_each_call(rt: HostRuntime) -> Result<(), Fail> {
     assert_eq!(rt; first_wrong_row(rt.alloc(), &ROWS)?, None);
     Ok(())
 }

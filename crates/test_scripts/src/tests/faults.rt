@@ -11,10 +11,10 @@ const SCRIPT: &[u8] = b"spawn p\nspawn q\nspawn r\nspawn s\n";
 /// Its answers, of `LINE_BYTES` bytes each too.
 const ANSWERS: &[u8] = b"<0.0.0>\n<0.1.0>\n<0.2.0>\n<0.3.0>\n";
 
-/// The length of a line of the scripts, and of an answer to `spawn`.
+/// The length of a line of the scripts, and of an answer to `spawn`, with its LF.
 const LINE_BYTES: usize = 8;
 
-/// The length of the answer `** noproc`.
+/// The length of the answer `** noproc` with its LF.
 const REFUSAL_BYTES: usize = 10;
 
 /// Returns a run with these devices and the usual limits.
@@ -27,11 +27,12 @@ fn with_devices(devices: Devices) -> Run {
 
 /// Returns whether the whole script is answered, however few bytes a read gives and a write takes.
 fn all_slow_devices_answer(alloc: Global) -> bool {
-    for max_read in [1, 3, 8, 31] {
-        for max_written in [1, 3, 8, 31] {
+    // A byte, a part of a line, a whole line, and more than three lines.
+    for max_read_bytes in [1, 3, LINE_BYTES, 31] {
+        for max_write_bytes in [1, 3, LINE_BYTES, 31] {
             let run = with_devices(Devices {
-                max_read,
-                max_written,
+                max_read_bytes,
+                max_write_bytes,
                 ..GOOD_DEVICES
             });
             if !ends_with_answers(alloc, &run, SCRIPT, ANSWERS, End::Whole) {
@@ -44,18 +45,18 @@ fn all_slow_devices_answer(alloc: Global) -> bool {
 
 /// Answers a script where each read gives few bytes and each write takes few.
 #[test]
-fn slow_devices(rt: HostRuntime) {
+fn scripts_are_answered_over_slow_devices(rt: HostRuntime) {
     assert!(rt; all_slow_devices_answer(rt.alloc()));
 }
 
 /// Returns whether the lines that came whole before a failing read are answered, and nothing else, when a read gives at
-/// most `max_read` bytes.
-fn whole_lines_are_answered(alloc: Global, max_read: usize) -> bool {
-    for good_reads in 0..=10 {
-        let lines = max_read.saturating_mul(good_reads as usize) / LINE_BYTES;
+/// most `max_read_bytes` bytes.
+fn whole_lines_are_answered(alloc: Global, max_read_bytes: usize) -> bool {
+    for reads_before_fault in 0..=10 {
+        let lines = max_read_bytes.saturating_mul(reads_before_fault as usize) / LINE_BYTES;
         let run = with_devices(Devices {
-            max_read,
-            good_reads,
+            max_read_bytes,
+            reads_before_fault,
             ..GOOD_DEVICES
         });
         let prefix = &ANSWERS[..ANSWERS.len().min(lines.saturating_mul(LINE_BYTES))];
@@ -68,22 +69,22 @@ fn whole_lines_are_answered(alloc: Global, max_read: usize) -> bool {
 
 /// Answers the lines that came before a read fails.
 #[test]
-fn failing_reads(rt: HostRuntime) {
+fn lines_before_a_failing_read_are_answered(rt: HostRuntime) {
     assert!(rt; whole_lines_are_answered(rt.alloc(), 1));
     assert!(rt; whole_lines_are_answered(rt.alloc(), 3));
 }
 
-/// Returns whether a prefix of the answers went out before a failing write, when a write takes at most `max_written`
+/// Returns whether a prefix of the answers went out before a failing write, when a write takes at most `max_write_bytes`
 /// bytes and each read gives one line.
-fn prefix_of_answers_is_written(alloc: Global, max_written: usize) -> bool {
-    for good_writes in 0..4 {
+fn prefix_of_answers_is_written(alloc: Global, max_write_bytes: usize) -> bool {
+    for writes_before_fault in 0..4 {
         let run = with_devices(Devices {
-            max_read: LINE_BYTES,
-            max_written,
-            good_writes,
+            max_read_bytes: LINE_BYTES,
+            max_write_bytes,
+            writes_before_fault,
             ..GOOD_DEVICES
         });
-        let written = max_written.saturating_mul(good_writes as usize);
+        let written = max_write_bytes.saturating_mul(writes_before_fault as usize);
         let prefix = &ANSWERS[..ANSWERS.len().min(written)];
         if !ends_with_answers(alloc, &run, SCRIPT, prefix, End::Write) {
             return false;
@@ -94,16 +95,16 @@ fn prefix_of_answers_is_written(alloc: Global, max_written: usize) -> bool {
 
 /// Writes a prefix of the answers before a write fails.
 #[test]
-fn failing_writes(rt: HostRuntime) {
+fn a_prefix_is_written_before_a_failing_write(rt: HostRuntime) {
     assert!(rt; prefix_of_answers_is_written(rt.alloc(), LINE_BYTES));
     assert!(rt; prefix_of_answers_is_written(rt.alloc(), 1));
 }
 
 /// Ends with a write fault if the writer takes no byte, and if it fails to flush.
 #[test]
-fn stuck_writers(rt: HostRuntime) {
+fn a_stuck_writer_ends_the_script(rt: HostRuntime) {
     let stuck = with_devices(Devices {
-        max_written: 0,
+        max_write_bytes: 0,
         ..GOOD_DEVICES
     });
     assert!(rt; ends_with_answers(rt.alloc(), &stuck, SCRIPT, b"", End::Write));
@@ -114,14 +115,14 @@ fn stuck_writers(rt: HostRuntime) {
     assert!(rt; ends_with_answers(rt.alloc(), &unflushed, SCRIPT, b"", End::Write));
 }
 
-/// Returns whether a script that may make `reads` reads, of a line each, has this end.
-fn ends_within(alloc: Global, reads: u32, end: End) -> bool {
+/// Returns whether a script that may make `max_reads` reads, of a line each, has this end.
+fn ends_within(alloc: Global, max_reads: u32, end: End) -> bool {
     let devices = Devices {
-        max_read: LINE_BYTES,
+        max_read_bytes: LINE_BYTES,
         ..GOOD_DEVICES
     };
     let run = Run {
-        reads,
+        max_reads,
         ..with_devices(devices)
     };
     ends_with_answers(alloc, &run, SCRIPT, ANSWERS, end)
@@ -149,16 +150,16 @@ fn repeat_lines(alloc: Global, line: &[u8]) -> Result<Vec<u8>, AllocError> {
 /// Returns devices that give a line a read. For the end `Write` a write fails after `lines` of them, otherwise a read.
 fn failing_devices(end: End, lines: u32) -> Devices {
     let slow = Devices {
-        max_read: LINE_BYTES,
+        max_read_bytes: LINE_BYTES,
         ..GOOD_DEVICES
     };
     match end {
         End::Write => Devices {
-            good_writes: lines,
+            writes_before_fault: lines,
             ..slow
         },
         _ => Devices {
-            good_reads: lines,
+            reads_before_fault: lines,
             ..slow
         },
     }
@@ -180,7 +181,7 @@ fn first_wrong_prefix(alloc: Global, script: &[u8], answers: &[u8], end: End) ->
 
 /// Lets each read of a long script fail in turn, and each write.
 #[test]
-fn each_call_of_a_device_fails(rt: HostRuntime) -> Result<(), Fail> {
+fn answers_before_any_fault_are_written(rt: HostRuntime) -> Result<(), Fail> {
     let alloc = rt.alloc();
     let script = repeat_lines(alloc, b"p a(10)\n")?;
     let answers = repeat_lines(alloc, b"** noproc\n")?;

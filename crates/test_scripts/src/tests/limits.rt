@@ -17,7 +17,7 @@ fn with_limits(processes: u32, tables: u32, objects: u32) -> Run {
 
 /// Answers a script that may make no table.
 #[test]
-fn limits_of_nothing(rt: HostRuntime) {
+fn a_limit_of_no_tables_refuses_the_first(rt: HostRuntime) {
     let rows: [(&[u8], &[u8]); 1] = [(
         b"spawn p\np new(t,[])\nspawn q\nspawn p\nexit p\n",
         b"<0.0.0>\n** system_limit\n** system_limit\n** badarg\ntrue\n",
@@ -30,7 +30,7 @@ fn limits_of_nothing(rt: HostRuntime) {
 
 /// Answers a script whose table may have three objects.
 #[test]
-fn three_objects(rt: HostRuntime) {
+fn a_limit_of_three_objects_refuses_the_fourth(rt: HostRuntime) {
     let rows: [(&[u8], &[u8]); 1] = [(
         b"spawn p\np new(t,[named_table])\np insert(t,[{a,1},{b,1}])\np insert(t,[{c,1},{d,1}])\np lookup(t,c)\np insert(t,[{c,1},{a,2}])\np lookup(t,a)\np insert(t,{d,1})\n",
         b"<0.0.0>\nt\ntrue\n** system_limit\n[]\ntrue\n[{a,2}]\n** system_limit\n",
@@ -43,7 +43,7 @@ fn three_objects(rt: HostRuntime) {
 
 /// Answers a script that may have one process.
 #[test]
-fn one_process(rt: HostRuntime) {
+fn a_limit_of_one_process_refuses_the_second(rt: HostRuntime) {
     let rows: [(&[u8], &[u8]); 1] = [(
         b"spawn p\nspawn q\nq receive()\n",
         b"<0.0.0>\n** system_limit\n** noproc\n",

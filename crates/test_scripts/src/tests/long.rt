@@ -53,16 +53,16 @@ fn long_lines_are_answered(alloc: Global, run: &Run) -> Result<bool, AllocError>
 
 /// Answers long lines, where a read gives all bytes.
 #[test]
-fn long_lines(rt: HostRuntime) -> Result<(), Fail> {
+fn long_lines_are_answered_or_refused(rt: HostRuntime) -> Result<(), Fail> {
     assert!(rt; long_lines_are_answered(rt.alloc(), &usual_run())?);
     Ok(())
 }
 
 /// Answers long lines, where each read gives a part of a line.
 #[test]
-fn long_lines_in_parts(rt: HostRuntime) -> Result<(), Fail> {
+fn long_lines_in_parts_are_answered_or_refused(rt: HostRuntime) -> Result<(), Fail> {
     let devices = Devices {
-        max_read: 5_000,
+        max_read_bytes: 5_000,
         ..GOOD_DEVICES
     };
     let run = Run {
@@ -78,7 +78,7 @@ fn long_lines_in_parts(rt: HostRuntime) -> Result<(), Fail> {
 fn line_is_answered_before_next_read(alloc: Global, letters: usize) -> Result<bool, AllocError> {
     let script = with_repeats(alloc, b"spawn p\n", b"a", letters, b"")?;
     let devices = Devices {
-        good_reads: 1,
+        reads_before_fault: 1,
         ..GOOD_DEVICES
     };
     let run = Run {
@@ -137,7 +137,7 @@ fn long_binary_is_found(alloc: Global, bytes: usize) -> Result<bool, AllocError>
 
 /// Stores a long binary that is spelled in quotes.
 #[test]
-fn long_texts_in_quotes(rt: HostRuntime) -> Result<(), Fail> {
+fn long_texts_in_quotes_are_stored(rt: HostRuntime) -> Result<(), Fail> {
     assert!(rt; long_binary_is_found(rt.alloc(), 60_000)?);
     Ok(())
 }
@@ -147,7 +147,7 @@ fn script_is_read_by_bytes(alloc: Global, lines: usize) -> Result<bool, AllocErr
     let script = with_repeats(alloc, b"spawn p\n", b"spawn p\n", lines, b"")?;
     let answers = with_repeats(alloc, b"<0.0.0>\n", b"** badarg\n", lines, b"")?;
     let devices = Devices {
-        max_read: 1,
+        max_read_bytes: 1,
         ..GOOD_DEVICES
     };
     let run = Run {
@@ -165,7 +165,7 @@ fn script_is_read_by_bytes(alloc: Global, lines: usize) -> Result<bool, AllocErr
 
 /// Answers a script that is read byte by byte.
 #[test]
-fn thousands_of_reads(rt: HostRuntime) -> Result<(), Fail> {
+fn a_script_read_byte_by_byte_is_answered(rt: HostRuntime) -> Result<(), Fail> {
     assert!(rt; script_is_read_by_bytes(rt.alloc(), 2_500)?);
     Ok(())
 }
@@ -211,7 +211,7 @@ fn processes_are_spawned(alloc: Global, count: u32) -> Result<bool, AllocError> 
 
 /// Spawns as many processes as the program allows, and more than 2^16.
 #[test]
-fn many_names(rt: HostRuntime) -> Result<(), Fail> {
+fn as_many_processes_are_spawned_as_the_limit(rt: HostRuntime) -> Result<(), Fail> {
     assert!(rt; processes_are_spawned(rt.alloc(), Limits::usual().processes)?);
     assert!(rt; processes_are_spawned(rt.alloc(), 66_000)?);
     Ok(())

@@ -20,14 +20,14 @@ fn status_of_one_line(alloc: Global, devices: &Devices, words: &[u8]) -> io::Res
     let mut streams = Streams {
         input: Source {
             left: b"spawn p\n",
-            max: devices.max_read,
-            good: devices.good_reads,
+            max_read_bytes: devices.max_read_bytes,
+            reads_before_fault: devices.reads_before_fault,
             log: &log,
         },
         output: Target {
             taken: Vec::new(alloc),
-            max: devices.max_written,
-            good: devices.good_writes,
+            max_write_bytes: devices.max_write_bytes,
+            writes_before_fault: devices.writes_before_fault,
             fails_to_flush: devices.fails_to_flush,
             log: &log,
         },
@@ -44,7 +44,7 @@ fn fault_has_words(alloc: Global, fault: &ScriptFault, words: &str) -> Result<bo
 
 /// Prints each fault in its words.
 #[test]
-fn faults_in_words(rt: HostRuntime) -> Result<(), Fail> {
+fn faults_are_printed_in_their_words(rt: HostRuntime) -> Result<(), Fail> {
     let alloc = rt.alloc();
     assert!(rt; fault_has_words(alloc, &ScriptFault::Read, "read fault")?);
     assert!(rt; fault_has_words(alloc, &ScriptFault::Write, "write fault")?);
@@ -56,14 +56,14 @@ fn faults_in_words(rt: HostRuntime) -> Result<(), Fail> {
 
 /// Runs a line with good devices, with a failing read and with a failing write.
 #[test]
-fn status_and_errors(rt: HostRuntime) -> Result<(), Fail> {
+fn the_status_is_1_after_a_device_fault(rt: HostRuntime) -> Result<(), Fail> {
     let alloc = rt.alloc();
     let failing_read = Devices {
-        good_reads: 1,
+        reads_before_fault: 1,
         ..GOOD_DEVICES
     };
     let failing_write = Devices {
-        good_writes: 0,
+        writes_before_fault: 0,
         ..GOOD_DEVICES
     };
     assert!(rt; status_of_one_line(alloc, &GOOD_DEVICES, b"")? == (0, true));

@@ -1,9 +1,8 @@
 //! Scripts with their answers: what the calls do is in docs/calls.md.
 use super::{count_answered_scripts, usual_run};
 
-/// Answers scripts about processes, tables and names.
 #[test]
-fn names_and_tables(rt: HostRuntime) {
+fn scripts_about_processes_tables_and_names_are_answered(rt: HostRuntime) {
     let rows: [(&[u8], &[u8]); 7] = [
         (b"", b""),
         (b"p lookup(t,a)", b"** noproc\n"),
@@ -34,9 +33,8 @@ fn names_and_tables(rt: HostRuntime) {
     );
 }
 
-/// Answers scripts about insertions and look-ups in each kind of table.
 #[test]
-fn objects(rt: HostRuntime) {
+fn each_kind_of_table_answers_insertions_and_lookups(rt: HostRuntime) {
     let rows: [(&[u8], &[u8]); 6] = [
         (
             b"spawn p\np new(t,[named_table])\np insert(t,[{a,1},{a,2}])\np lookup(t,a)\np insert(t,[])\n",

@@ -3,7 +3,7 @@ use super::{count_answered_scripts, usual_run};
 
 /// Answers each wrong line with the place of its first fault.
 #[test]
-fn first_faults(rt: HostRuntime) {
+fn wrong_lines_are_answered_with_their_first_fault(rt: HostRuntime) {
     let rows: [(&[u8], &[u8]); 10] = [
         (b"p f([a,\n", b"** syntax 7\n"),
         (b"p insert(t,{a,1|2})\n", b"** syntax 15\n"),
@@ -39,7 +39,7 @@ fn first_faults(rt: HostRuntime) {
 
 /// Answers lines with blanks, with CR, LF or both at their end, and comments.
 #[test]
-fn ends_of_lines(rt: HostRuntime) {
+fn lines_end_with_cr_lf_or_both(rt: HostRuntime) {
     let rows: [(&[u8], &[u8]); 5] = [
         (b"spawn p", b"<0.0.0>\n"),
         (

@@ -35,14 +35,14 @@ fn row_holds<T: Threads + Wait + Sync>(rt: &T, alloc: Global, row: &Row<'_>) -> 
     let mut streams = Streams {
         input: Source {
             left: row.script,
-            max: row.devices.max_read,
-            good: row.devices.good_reads,
+            max_read_bytes: row.devices.max_read_bytes,
+            reads_before_fault: row.devices.reads_before_fault,
             log: &log,
         },
         output: Target {
             taken: Vec::new(alloc),
-            max: row.devices.max_written,
-            good: row.devices.good_writes,
+            max_write_bytes: row.devices.max_write_bytes,
+            writes_before_fault: row.devices.writes_before_fault,
             fails_to_flush: row.devices.fails_to_flush,
             log: &log,
         },
@@ -63,7 +63,7 @@ fn row_holds<T: Threads + Wait + Sync>(rt: &T, alloc: Global, row: &Row<'_>) -> 
 }
 
 #[test]
-fn no_more_processes_than_the_most(rt: HostRuntime) {
+fn processes_past_the_limit_are_refused(rt: HostRuntime) {
     let rows = [
         whole_row(1, b"", b""),
         whole_row(
@@ -83,10 +83,11 @@ fn no_more_processes_than_the_most(rt: HostRuntime) {
 }
 
 #[test]
-fn nothing_before_the_end_of_the_input(rt: HostRuntime) {
+fn nothing_is_printed_before_the_end_of_the_input(rt: HostRuntime) {
     let devices = Devices {
-        max_read: 8,
-        good_reads: 1,
+        // One line.
+        max_read_bytes: 8,
+        reads_before_fault: 1,
         ..GOOD_DEVICES
     };
     let row = Row {
@@ -98,10 +99,10 @@ fn nothing_before_the_end_of_the_input(rt: HostRuntime) {
 }
 
 #[test]
-fn a_writer_that_fails(rt: HostRuntime) {
+fn a_failing_writer_ends_the_script(rt: HostRuntime) {
     let devices = Devices {
-        max_written: 3,
-        good_writes: 2,
+        max_write_bytes: 3,
+        writes_before_fault: 2,
         ..GOOD_DEVICES
     };
     let row = Row {
