@@ -121,12 +121,21 @@ fn remove<R: Rows>(rows: &mut R, key: Integer) -> KeyState {
     state_of_removed(objects)
 }
 
+/// The number of buckets from which on `ready_some` doubles them no more, so that the tests are fast.
+const ENOUGH_BUCKETS: u32 = 4096;
+
+/// `ready_some` doubles the buckets once in about this number of calls.
+const DOUBLING_PERIOD: u32 = 50;
+
+/// The number of buckets that `ready_some` makes ready is below this one.
+const PAST_READIED: u32 = 20;
+
 /// Doubles the buckets now and then, and makes some of them ready in any order.
 fn ready_some<R: Rows>(rows: &mut R, draws: &mut Draws) -> Result<(), AllocError> {
-    if rows.buckets() < 4096 && draws.random_below(50) == 0 {
+    if rows.buckets() < ENOUGH_BUCKETS && draws.random_below(DOUBLING_PERIOD) == 0 {
         rows.grow()?;
     }
-    for _ in 0..draws.random_below(20) {
+    for _ in 0..draws.random_below(PAST_READIED) {
         let bucket = draws.random_below(rows.buckets().max(1));
         rows.ready(bucket)?;
     }

@@ -105,12 +105,12 @@ pub enum Step {
     Grow,
 }
 
-/// The number for a step that was refused memory.
-const MEMORY: Integer = -3;
+/// The number for a step that ran out of memory.
+const OUT_OF_MEMORY: Integer = -3;
 
 /// Runs a step. Returns the number for its answer.
 fn answer<R: Rows>(alloc: Global, table: &mut Table<R>, step: Step) -> Integer {
-    run_step(alloc, table, step).unwrap_or(MEMORY)
+    run_step(alloc, table, step).unwrap_or(OUT_OF_MEMORY)
 }
 
 /// Runs a step, and returns whether it has this answer.

@@ -55,7 +55,7 @@ fn hash_of_rows<R: Rows>(rows: &R) -> u64 {
 
 /// Puts three rows, and again if memory runs out. Returns whether they are put, and a call that ran out of memory
 /// changed nothing.
-fn put_again<R: Rows>(rows: &mut R, alloc: Global, time: u32) -> Result<bool, AllocError> {
+fn put_with_retry<R: Rows>(rows: &mut R, alloc: Global, time: u32) -> Result<bool, AllocError> {
     let before = hash_of_rows(rows);
     match put_three(rows, alloc, three_keys(time)) {
         Ok(done) => Ok(done),
@@ -65,7 +65,7 @@ fn put_again<R: Rows>(rows: &mut R, alloc: Global, time: u32) -> Result<bool, Al
 
 /// Doubles the buckets, and again if memory runs out. Returns whether they are doubled, and a call that ran out of
 /// memory changed nothing.
-fn grow_again<R: Rows>(rows: &mut R) -> Result<bool, AllocError> {
+fn grow_with_retry<R: Rows>(rows: &mut R) -> Result<bool, AllocError> {
     let before = hash_of_rows(rows);
     match rows.grow() {
         Ok(growth) => Ok(growth == Growth::Grown),
@@ -75,7 +75,7 @@ fn grow_again<R: Rows>(rows: &mut R) -> Result<bool, AllocError> {
 
 /// Makes a bucket ready, and again if memory runs out. Returns whether it becomes ready, and a call that ran out of
 /// memory changed nothing.
-fn ready_again<R: Rows>(rows: &mut R, bucket: u32) -> Result<bool, AllocError> {
+fn ready_with_retry<R: Rows>(rows: &mut R, bucket: u32) -> Result<bool, AllocError> {
     let before = hash_of_rows(rows);
     match rows.ready(bucket) {
         Ok(readying) => Ok(readying == Readying::Ready),
@@ -85,7 +85,11 @@ fn ready_again<R: Rows>(rows: &mut R, bucket: u32) -> Result<bool, AllocError> {
 
 /// Inserts a new key, and again if memory runs out. Returns whether it is inserted, and a call that ran out of memory
 /// changed nothing.
-fn insert_again<R: Rows>(rows: &mut R, alloc: Global, key: Integer) -> Result<bool, AllocError> {
+fn insert_with_retry<R: Rows>(
+    rows: &mut R,
+    alloc: Global,
+    key: Integer,
+) -> Result<bool, AllocError> {
     let before = hash_of_rows(rows);
     match insert(rows, alloc, key, key) {
         Ok(state) => Ok(state == KeyState::Nothing),
@@ -96,16 +100,16 @@ fn insert_again<R: Rows>(rows: &mut R, alloc: Global, key: Integer) -> Result<bo
 }
 
 /// Returns whether rows are put, buckets doubled and made ready, and a key inserted, each again if memory runs out.
-fn runs_again<R: Rows>(rows: &mut R, alloc: Global) -> Result<bool, AllocError> {
+fn runs_with_retry<R: Rows>(rows: &mut R, alloc: Global) -> Result<bool, AllocError> {
     let mut all_right = true;
     for time in 0..TIMES {
-        all_right = put_again(rows, alloc, time)? && all_right;
-        all_right = grow_again(rows)? && all_right;
+        all_right = put_with_retry(rows, alloc, time)? && all_right;
+        all_right = grow_with_retry(rows)? && all_right;
         let bucket = rows.first_unready().unwrap_or(0);
-        all_right = ready_again(rows, bucket)? && all_right;
+        all_right = ready_with_retry(rows, bucket)? && all_right;
     }
     let keys_put = TIMES.wrapping_mul(3);
-    all_right = insert_again(rows, alloc, Integer::from(keys_put))? && all_right;
+    all_right = insert_with_retry(rows, alloc, Integer::from(keys_put))? && all_right;
     for key in 0..keys_put {
         let key = Integer::from(key);
         all_right = state_at(rows, key) == KeyState::Object(key) && all_right;
@@ -113,16 +117,20 @@ fn runs_again<R: Rows>(rows: &mut R, alloc: Global) -> Result<bool, AllocError> 
     Ok(all_right)
 }
 
+/// A number of slots that take more bytes than one allocation may have, which is 2^63 - 1: the key of a slot alone has
+/// 32 bytes. A sum with this number does not overflow, unlike one with `usize::MAX`.
+const UNALLOCATABLE_SLOTS: usize = 1 << 58;
+
 /// Returns whether capacity for more slots than memory can hold is refused, and nothing is changed.
 fn refuses_too_much<R: Rows>(rows: &mut R, alloc: Global) -> Result<bool, AllocError> {
-    let put = put_again(rows, alloc, 0)?;
+    let put = put_with_retry(rows, alloc, 0)?;
     let before = hash_of_rows(rows);
-    let refused = rows.reserve(usize::MAX).is_err() && rows.reserve(1 << 58).is_err();
+    let refused = rows.reserve(usize::MAX).is_err() && rows.reserve(UNALLOCATABLE_SLOTS).is_err();
     Ok(put && refused && hash_of_rows(rows) == before)
 }
 
 /// Creates split rows, and again if memory runs out.
-fn new_rows_again(alloc: Global) -> Result<SplitRows<Fnv>, AllocError> {
+fn new_rows_with_retry(alloc: Global) -> Result<SplitRows<Fnv>, AllocError> {
     match SplitRows::new(alloc, Fnv) {
         Ok(rows) => Ok(rows),
         Err(_) => SplitRows::new(alloc, Fnv),
@@ -130,21 +138,21 @@ fn new_rows_again(alloc: Global) -> Result<SplitRows<Fnv>, AllocError> {
 }
 
 /// Returns whether the calls on new split rows succeed, each again if memory runs out.
-fn split_runs_again(alloc: Global) -> Result<bool, AllocError> {
-    let mut rows = new_rows_again(alloc)?;
-    let done = runs_again(&mut rows, alloc);
+fn split_runs_with_retry(alloc: Global) -> Result<bool, AllocError> {
+    let mut rows = new_rows_with_retry(alloc)?;
+    let done = runs_with_retry(&mut rows, alloc);
     drop(rows);
     done
 }
 
 #[test]
 fn a_refused_call_is_called_again(rt: HostRuntime) {
-    assert!(rt; split_runs_again(rt.alloc()) == Ok(true));
+    assert!(rt; split_runs_with_retry(rt.alloc()) == Ok(true));
 }
 
 /// Returns whether new split rows refuse too much capacity.
 fn split_refuses_too_much(alloc: Global) -> Result<bool, AllocError> {
-    let mut rows = new_rows_again(alloc)?;
+    let mut rows = new_rows_with_retry(alloc)?;
     let refused = refuses_too_much(&mut rows, alloc);
     drop(rows);
     refused
@@ -159,7 +167,7 @@ fn plain_refuses_too_much(alloc: Global) -> Result<bool, AllocError> {
 }
 
 #[test]
-fn too_much_room_is_refused(rt: HostRuntime) {
+fn too_much_capacity_is_refused(rt: HostRuntime) {
     assert!(rt; split_refuses_too_much(rt.alloc()) == Ok(true));
     assert!(rt; plain_refuses_too_much(rt.alloc()) == Ok(true));
 }

@@ -1,6 +1,6 @@
 use super::*;
 
-/// The number of moments of growth with searches, for each of four hashers.
+/// The number of moments of growth at which keys are searched for, for each of four hashers.
 const MOMENTS: usize = 1_000;
 
 /// The number of searches at each moment. In all there are more than a million.
@@ -47,8 +47,12 @@ fn count_by_bucket<H: KeyHash + Copy + Drop>(
     Ok(counts)
 }
 
+/// The most nodes other than those of its keys that a search in a ready bucket visits: the dummy at the bucket's start,
+/// and the node after the bucket.
+const MAX_EXTRA_VISITS: u64 = 2;
+
 /// Searches for a key, and returns whether it is found exactly if it is below the number of slots, and then visits at
-/// least one node. In a ready bucket of n keys it must visit at most n + 2 nodes.
+/// least one node. In a ready bucket of n keys it must visit at most n + `MAX_EXTRA_VISITS` nodes.
 fn search_is_right<H: KeyHash + Copy + Drop>(
     rows: &SplitRows<H>,
     hash: H,
@@ -57,20 +61,20 @@ fn search_is_right<H: KeyHash + Copy + Drop>(
     key_number: u32,
 ) -> bool {
     let key = Term::Int(Integer::from(key_number));
-    let mut steps = Steps::new();
-    let found = rows.get_counted(&key, &mut steps).is_some();
+    let mut visits = Steps::new();
+    let found = rows.get_counted(&key, &mut visits).is_some();
     let bucket = bucket_of(hash, &key, rows.buckets());
     drop(key);
-    let most_visits = counts
+    let max_visits = counts
         .get(bucket as usize)
         .copied()
         .unwrap_or(0)
-        .wrapping_add(2);
-    let is_short = steps.count() <= most_visits || !rows.is_ready(bucket);
-    found == (key_number < slots) && is_short && (steps.count() >= 1 || !found)
+        .wrapping_add(MAX_EXTRA_VISITS);
+    let visits_few_nodes = visits.count() <= max_visits || !rows.is_ready(bucket);
+    found == (key_number < slots) && visits_few_nodes && (visits.count() >= 1 || !found)
 }
 
-/// Searches for random keys, half of them missing, and returns whether each search is right.
+/// Searches for random keys, about half of them missing, and returns whether each search is right.
 fn searches_are_right<H: KeyHash + Copy + Drop>(
     rows: &SplitRows<H>,
     hash: H,
@@ -86,6 +90,9 @@ fn searches_are_right<H: KeyHash + Copy + Drop>(
     all_right
 }
 
+/// The number of keys from 0 on that are inserted at a moment is below this one.
+const PAST_NEW_KEYS: u32 = 20;
+
 /// Inserts the next few keys, up to a total. Returns how many there are now.
 fn put_some<R: Rows>(
     rows: &mut R,
@@ -94,7 +101,9 @@ fn put_some<R: Rows>(
     max_slots: u32,
     draws: &mut Draws,
 ) -> Result<u32, AllocError> {
-    let new_total = slots.saturating_add(draws.random_below(20)).min(max_slots);
+    let new_total = slots
+        .saturating_add(draws.random_below(PAST_NEW_KEYS))
+        .min(max_slots);
     for number in slots..new_total {
         insert(rows, alloc, Integer::from(number), 1)?;
     }
@@ -147,24 +156,24 @@ fn new_rows_search_rightly<H: KeyHash + Copy + Drop>(
 
 /// Searches rows with the usual hash.
 #[test]
-fn by_fnv(rt: HostRuntime) {
+fn searches_by_fnv_are_right(rt: HostRuntime) {
     assert!(rt; new_rows_search_rightly(rt.alloc(), Fnv, 10_000) == Ok(true));
 }
 
 /// Searches rows in which each odd bucket is empty.
 #[test]
-fn by_even_hashes(rt: HostRuntime) {
+fn searches_by_even_hashes_are_right(rt: HostRuntime) {
     assert!(rt; new_rows_search_rightly(rt.alloc(), Even, 10_000) == Ok(true));
 }
 
 /// Searches rows in which all keys share the bucket 0.
 #[test]
-fn by_one_hash(rt: HostRuntime) {
+fn searches_by_one_hash_are_right(rt: HostRuntime) {
     assert!(rt; new_rows_search_rightly(rt.alloc(), AllSame, 50) == Ok(true));
 }
 
 /// Searches rows in which all keys share the last bucket.
 #[test]
-fn by_the_greatest_hash_alone(rt: HostRuntime) {
+fn searches_by_the_greatest_hash_alone_are_right(rt: HostRuntime) {
     assert!(rt; new_rows_search_rightly(rt.alloc(), Greatest, 8) == Ok(true));
 }

@@ -14,12 +14,19 @@ fn inserts_all<R: Rows>(rows: &mut R, alloc: Global) -> Result<bool, AllocError>
     Ok(all_new && rows.len() == SLOTS as usize)
 }
 
-/// Doubles the buckets if they have more than four slots each, and makes the next two ready.
+/// The number of slots per bucket above which the buckets are doubled.
+const MAX_SLOTS_PER_BUCKET: usize = 4;
+
+/// The number of buckets that are made ready after each insertion.
+const READIED_BUCKETS: u32 = 2;
+
+/// Doubles the buckets if they have more than `MAX_SLOTS_PER_BUCKET` slots each, and makes the next `READIED_BUCKETS`
+/// ready.
 fn grow_as_rows_fill<R: Rows>(rows: &mut R) -> Result<(), AllocError> {
-    if rows.len() / 4 > rows.buckets() as usize {
+    if rows.len() / MAX_SLOTS_PER_BUCKET > rows.buckets() as usize {
         rows.grow()?;
     }
-    for _ in 0..2 {
+    for _ in 0..READIED_BUCKETS {
         if let Some(bucket) = rows.first_unready() {
             rows.ready(bucket)?;
         }

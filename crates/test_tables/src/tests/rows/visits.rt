@@ -3,10 +3,10 @@ use super::*;
 
 /// Returns how many nodes a search visits.
 fn count_visited<H: KeyHash + Copy + Drop>(rows: &SplitRows<H>, key: Term) -> u64 {
-    let mut steps = Steps::new();
-    let _found = rows.get_counted(&key, &mut steps);
+    let mut visits = Steps::new();
+    let _found = rows.get_counted(&key, &mut visits);
     drop(key);
-    steps.count()
+    visits.count()
 }
 
 /// Puts a slot without objects whose key is the process of a number.
@@ -31,8 +31,9 @@ const BUCKETS: u32 = 8;
 /// The keys that are searched for. Those from `BUCKETS` on are missing.
 const SEARCHED: u32 = 64;
 
-/// The most nodes that a search in a ready bucket of one key visits: n + 2.
-const MOST_VISITS: u64 = 3;
+/// The most nodes that a search in a ready bucket of one key visits: the dummy at the bucket's start, the key, and the
+/// node after the bucket.
+const MAX_VISITS: u64 = 3;
 
 /// Returns whether searches are short if each of eight ready buckets has one key.
 fn searches_are_short(rows: &mut SplitRows<PidNumber>, alloc: Global) -> Result<bool, AllocError> {
@@ -44,7 +45,7 @@ fn searches_are_short(rows: &mut SplitRows<PidNumber>, alloc: Global) -> Result<
     }
     let mut all_short = true;
     for number in 0..SEARCHED {
-        all_short = count_visited(rows, Term::Pid(number)) <= MOST_VISITS && all_short;
+        all_short = count_visited(rows, Term::Pid(number)) <= MAX_VISITS && all_short;
     }
     Ok(all_short)
 }
@@ -58,7 +59,7 @@ fn new_rows_search_shortly(alloc: Global) -> Result<bool, AllocError> {
 }
 
 #[test]
-fn few_nodes_in_ready_buckets(rt: HostRuntime) {
+fn searches_in_ready_buckets_visit_few_nodes(rt: HostRuntime) {
     assert!(rt; new_rows_search_shortly(rt.alloc()) == Ok(true));
 }
 
@@ -97,7 +98,7 @@ fn readying_sets_hints(rt: HostRuntime) {
 /// The number of keys with one hash.
 const SAME_HASH_KEYS: u32 = 1_000;
 
-/// The most nodes that a search among them visits: n + 2.
+/// The most nodes that a search among them visits: the dummy, these keys, and the node after the bucket.
 const MOST_SAME_HASH_VISITS: u64 = 1_002;
 
 /// Returns whether searches among keys of one hash visit at most all of them, and for a missing key all.
@@ -126,6 +127,6 @@ fn new_rows_bound_same_hash_searches(alloc: Global) -> Result<bool, AllocError> 
 }
 
 #[test]
-fn a_thousand_keys_of_one_hash(rt: HostRuntime) {
+fn searches_among_keys_of_one_hash_are_bounded(rt: HostRuntime) {
     assert!(rt; new_rows_bound_same_hash_searches(rt.alloc()) == Ok(true));
 }

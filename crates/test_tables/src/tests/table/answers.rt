@@ -65,7 +65,7 @@ pub fn refusal_code(refusal: Refusal) -> Integer {
     match refusal {
         Refusal::Badarg => BADARG,
         Refusal::SystemLimit => SYSTEM_LIMIT,
-        Refusal::Memory => super::MEMORY,
+        Refusal::Memory => super::OUT_OF_MEMORY,
     }
 }
 

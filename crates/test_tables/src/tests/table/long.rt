@@ -33,11 +33,15 @@ const SPREAD: u32 = 2_654_435_761;
 /// The number of keys of the calls.
 const KEYS: Integer = 97;
 
-/// Returns the call of a number. Its kind is the five highest bits of the spread number; key and value are lower ones.
-fn step_at(number: u32) -> Step {
+/// The number of values of the calls.
+const VALUES: Integer = 10;
+
+/// Returns the step of a number on one key. Its kind is the five highest bits of the spread number; key and value are
+/// lower ones. In the first 16 of each 64 numbers deletions leave tombstones.
+fn step_on_key_at(number: u32) -> Step {
     let spread = number.wrapping_mul(SPREAD);
     let key = (spread >> 16) as Integer % KEYS;
-    let value = (spread >> 8) as Integer % 10;
+    let value = (spread >> 8) as Integer % VALUES;
     let emptied = if number % 64 < 16 {
         LeaveTombstone
     } else {
@@ -63,8 +67,10 @@ fn step_at(number: u32) -> Step {
     }
 }
 
-/// Returns a call on the whole table four times in 1024 numbers, and otherwise that of `step_at`.
-fn step_or_sweep_at(number: u32) -> Step {
+/// Returns a step on the whole table four times in 1024 numbers, and otherwise that of `step_on_key_at`. The four are
+/// rare because they take long, and far apart so that the table fills between them. Each second deletion of objects
+/// leaves tombstones. 7 and 3 do not divide 1024, so that the bounds of the values differ.
+fn step_at(number: u32) -> Step {
     match number % 1024 {
         0 => Step::AllObjects,
         256 => Step::SelectBelow((number % 7) as Integer),
@@ -77,19 +83,19 @@ fn step_or_sweep_at(number: u32) -> Step {
             Step::SelectDeleteBelow((number % 3) as Integer, emptied)
         }
         700 => Step::Purge,
-        _ => step_at(number),
+        _ => step_on_key_at(number),
     }
 }
 
-/// Makes the same calls on two tables, and returns whether each has the same answer in both.
+/// Runs the same steps on two tables, and returns whether each has the same answer in both.
 fn tables_answer_alike<A: Rows, B: Rows>(
     alloc: Global,
     first: &mut Table<A>,
     second: &mut Table<B>,
-    calls: u32,
+    steps: u32,
 ) -> bool {
-    for number in 0..calls {
-        let step = step_or_sweep_at(number);
+    for number in 0..steps {
+        let step = step_at(number);
         if answer(alloc, first, step) != answer(alloc, second, step) {
             return false;
         }
@@ -142,7 +148,11 @@ fn duplicate_bags_answer_alike(rt: HostRuntime) {
     assert!(rt; all_rows_answer_alike(rt.alloc(), Kind::DuplicateBag));
 }
 
-/// Returns whether a table answers as it must while it grows object by object, and deletes all at the end.
+/// The number of insertions for each `Grow`. The buckets double far more often than they fill.
+const GROW_PERIOD: u32 = 8;
+
+/// Returns whether a table answers as it must while it grows object by object, and deletes all at the end. All calls
+/// are checked at the powers of two alone, which keeps the test fast.
 fn answers_as_it_grows<R: Rows>(alloc: Global, table: &mut Table<R>, objects: u32) -> bool {
     for key in 0..objects {
         if !step_answers(alloc, table, Insert(Object(key as Integer, 1)), True) {
@@ -151,7 +161,7 @@ fn answers_as_it_grows<R: Rows>(alloc: Global, table: &mut Table<R>, objects: u3
         if !step_answers(alloc, table, CountObjects, Objects(key as Integer + 1)) {
             return false;
         }
-        if key % 8 == 0 && !step_answers(alloc, table, Grow, True) {
+        if key % GROW_PERIOD == 0 && !step_answers(alloc, table, Grow, True) {
             return false;
         }
         if key.is_power_of_two() && !each_call_answers(alloc, table, key as Integer) {
@@ -207,7 +217,7 @@ fn split_answers_as_it_grows(alloc: Global) -> Option<bool> {
 }
 
 #[test]
-fn fills_and_empties(rt: HostRuntime) {
+fn a_table_answers_as_it_fills_and_empties(rt: HostRuntime) {
     assert!(rt; plain_answers_as_it_grows(rt.alloc()));
     assert!(rt; split_answers_as_it_grows(rt.alloc()) == Some(true));
 }

@@ -13,7 +13,7 @@ use super::answers::Answer::{
 use super::single_calls::{count_of, hash_of_objects};
 use super::terms::{pattern_of_key, spec_below};
 use super::{
-    Depth, Incr, Key, Keypos, MEMORY, MaxObjects, Object, Pos, Start, Step, Value, answer,
+    Depth, Incr, Key, Keypos, MaxObjects, OUT_OF_MEMORY, Object, Pos, Start, Step, Value, answer,
     plain_table,
 };
 use bucket_table::{Rows, SplitRows};
@@ -79,23 +79,28 @@ fn state_of_table<R: Rows>(table: &Table<R>) -> Option<(Integer, usize, usize)> 
 
 /// Returns whether a step has its answer at once, or was refused memory, changed nothing, and has its answer when it is
 /// run again.
-fn answers_again<R: Rows>(alloc: Global, table: &mut Table<R>, step: Step, wanted: Answer) -> bool {
+fn answers_with_retry<R: Rows>(
+    alloc: Global,
+    table: &mut Table<R>,
+    step: Step,
+    wanted: Answer,
+) -> bool {
     let before = state_of_table(table);
     let first = answer(alloc, table, step);
-    if first != MEMORY {
+    if first != OUT_OF_MEMORY {
         return first == wanted.number();
     }
     state_of_table(table) == before && answer(alloc, table, step) == wanted.number()
 }
 
 /// Runs steps, each again if it is refused memory. Returns the index of the first one with another answer.
-fn first_mismatch_again<R: Rows>(
+fn first_mismatch_with_retry<R: Rows>(
     alloc: Global,
     table: &mut Table<R>,
     steps: &[(Step, Answer)],
 ) -> Option<usize> {
     for (index, (step, wanted)) in steps.iter().enumerate() {
-        if !answers_again(alloc, table, *step, *wanted) {
+        if !answers_with_retry(alloc, table, *step, *wanted) {
             return Some(index);
         }
     }
@@ -109,13 +114,13 @@ fn first_mismatch_on_plain_rows(
     steps: &[(Step, Answer)],
 ) -> Option<usize> {
     let mut table = plain_table(alloc, kind, Keypos(1), MAX_OBJECTS);
-    let mismatch = first_mismatch_again(alloc, &mut table, steps);
+    let mismatch = first_mismatch_with_retry(alloc, &mut table, steps);
     drop(table);
     mismatch
 }
 
 #[test]
-fn refused_steps_of_plain_rows(rt: HostRuntime) {
+fn refused_steps_of_plain_rows_run_again(rt: HostRuntime) {
     assert_eq!(rt;
         first_mismatch_on_plain_rows(rt.alloc(), Kind::Set, &SET_STEPS),
         None
@@ -139,7 +144,7 @@ fn try_split_table<H: KeyHash + Copy>(
 }
 
 /// Creates a table over split rows, again if it is refused memory.
-fn split_table_again<H: KeyHash + Copy>(
+fn split_table_with_retry<H: KeyHash + Copy>(
     alloc: Global,
     hash: H,
     kind: Kind,
@@ -157,14 +162,14 @@ fn first_mismatch_on_split_rows<H: KeyHash + Copy + Drop>(
     kind: Kind,
     steps: &[(Step, Answer)],
 ) -> Option<usize> {
-    let mut table = split_table_again(alloc, hash, kind)?;
-    let mismatch = first_mismatch_again(alloc, &mut table, steps);
+    let mut table = split_table_with_retry(alloc, hash, kind)?;
+    let mismatch = first_mismatch_with_retry(alloc, &mut table, steps);
     drop(table);
     mismatch
 }
 
 #[test]
-fn refused_steps_of_split_rows(rt: HostRuntime) {
+fn refused_steps_of_split_rows_run_again(rt: HostRuntime) {
     assert_eq!(rt;
         first_mismatch_on_split_rows(rt.alloc(), Fnv, Kind::Set, &SET_STEPS),
         None

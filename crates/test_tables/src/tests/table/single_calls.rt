@@ -1,5 +1,5 @@
 // One call on a table each, and the number for its answer.
-use super::MEMORY;
+use super::OUT_OF_MEMORY;
 use super::answers::{number_of_matches, number_of_selected, refusal_code};
 use super::terms::{
     as_integer, digits_of, hash_of_pairs, integer_of, nested_list, pair, pattern_of_key, spec_below,
@@ -62,7 +62,7 @@ pub fn try_take<R: Rows>(table: &mut Table<R>, key: Integer, hold: bool) -> Inte
             drop(objects);
             digits
         }
-        Err(_) => MEMORY,
+        Err(_) => OUT_OF_MEMORY,
     }
 }
 
