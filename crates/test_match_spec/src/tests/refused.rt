@@ -4,7 +4,7 @@ use super::*;
 use term_text::{TextFault, read_term};
 
 /// Reads the term of a text, again if memory runs out.
-fn term_again(alloc: Global, text: &str) -> Option<Term> {
+fn term_with_retry(alloc: Global, text: &str) -> Option<Term> {
     let read = match read_term(alloc, text) {
         Err(TextFault::Memory) => read_term(alloc, text),
         read => read,
@@ -16,7 +16,7 @@ fn term_again(alloc: Global, text: &str) -> Option<Term> {
 }
 
 /// Compiles a pattern, again if memory runs out.
-fn pattern_again(alloc: Global, term: &Term) -> Option<Pattern> {
+fn pattern_with_retry(alloc: Global, term: &Term) -> Option<Pattern> {
     match Pattern::compile(alloc, term) {
         Ok(pattern) => Some(pattern),
         Err(_) => Pattern::compile(alloc, term).ok(),
@@ -24,7 +24,7 @@ fn pattern_again(alloc: Global, term: &Term) -> Option<Pattern> {
 }
 
 /// Compiles a match specification, again if memory runs out.
-fn spec_again(alloc: Global, term: &Term) -> Option<Spec> {
+fn spec_with_retry(alloc: Global, term: &Term) -> Option<Spec> {
     match Spec::compile(alloc, term) {
         Ok(spec) => Some(spec),
         Err(_) => Spec::compile(alloc, term).ok(),
@@ -32,31 +32,31 @@ fn spec_again(alloc: Global, term: &Term) -> Option<Spec> {
 }
 
 /// Returns the bindings by which an object matches, as a list, or the atom `none`. Matches again if memory runs out.
-fn bindings_again(alloc: Global, pattern: &Pattern, object: &Term) -> Option<Term> {
+fn bindings_with_retry(alloc: Global, pattern: &Pattern, object: &Term) -> Option<Term> {
     let bindings = match pattern.bindings(alloc, object) {
         Ok(bindings) => bindings,
         Err(_) => pattern.bindings(alloc, object).ok()?,
     };
     match bindings {
         Some(values) => Some(Term::List(Items::from_vec(values))),
-        None => term_again(alloc, "none"),
+        None => term_with_retry(alloc, "none"),
     }
 }
 
 /// Returns the result of a match specification on an object, or the atom `none`. Evaluates again if memory runs out.
-fn result_again(alloc: Global, spec: &Spec, object: &Term) -> Option<Term> {
+fn result_with_retry(alloc: Global, spec: &Spec, object: &Term) -> Option<Term> {
     let result = match spec.result(alloc, object) {
         Ok(result) => result,
         Err(_) => spec.result(alloc, object).ok()?,
     };
     match result {
         Some(value) => Some(value),
-        None => term_again(alloc, "none"),
+        None => term_with_retry(alloc, "none"),
     }
 }
 
 /// Returns whether the result on an object is `true`. Evaluates again if memory runs out.
-fn is_true_again(alloc: Global, spec: &Spec, object: &Term) -> Option<bool> {
+fn is_true_with_retry(alloc: Global, spec: &Spec, object: &Term) -> Option<bool> {
     match spec.is_true(alloc, object) {
         Ok(is_true) => Some(is_true),
         Err(_) => spec.is_true(alloc, object).ok(),
@@ -65,15 +65,15 @@ fn is_true_again(alloc: Global, spec: &Spec, object: &Term) -> Option<bool> {
 
 /// Returns whether the bindings of a pattern are the wanted ones.
 fn has_bindings(alloc: Global, pattern: &Term, object: &Term, wanted: &Term) -> Option<bool> {
-    let pattern = pattern_again(alloc, pattern)?;
-    Some(bindings_again(alloc, &pattern, object)? == *wanted)
+    let pattern = pattern_with_retry(alloc, pattern)?;
+    Some(bindings_with_retry(alloc, &pattern, object)? == *wanted)
 }
 
 /// Returns whether the result of a match specification is the wanted one, by `result` and by `is_true`.
 fn has_result(alloc: Global, spec: &Term, object: &Term, wanted: &Term) -> Option<bool> {
-    let spec = spec_again(alloc, spec)?;
-    let is_true = is_true_again(alloc, &spec, object)? == wanted.is_atom("true");
-    Some(is_true && result_again(alloc, &spec, object)? == *wanted)
+    let spec = spec_with_retry(alloc, spec)?;
+    let is_true = is_true_with_retry(alloc, &spec, object)? == wanted.is_atom("true");
+    Some(is_true && result_with_retry(alloc, &spec, object)? == *wanted)
 }
 
 /// The form of a row: `[Pattern,Object,Values]` or `[Specification,Object,Result]`.
@@ -94,7 +94,7 @@ fn row_holds(alloc: Global, form: Form, row: &[Term]) -> Option<bool> {
 
 /// Returns whether the row of a text holds.
 fn text_row_holds(alloc: Global, form: Form, row: &str) -> Option<bool> {
-    match term_again(alloc, row)? {
+    match term_with_retry(alloc, row)? {
         Term::List(parts) => row_holds(alloc, form, parts.as_slice()),
         _ => None,
     }
