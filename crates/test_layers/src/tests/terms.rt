@@ -18,9 +18,9 @@ fn atom(alloc: Global, text: &str) -> Option<Term> {
 /// Builds the atom of a letter.
 fn letter_atom(alloc: Global, letter: char) -> Option<Term> {
     let text = format!(in alloc; "{letter}").ok()?;
-    let made = atom(alloc, text.as_str());
+    let built = atom(alloc, text.as_str());
     drop(text);
-    made
+    built
 }
 
 /// Pushes an atom for each letter.
@@ -53,26 +53,26 @@ fn binary(alloc: Global, bytes: &[u8]) -> Option<Term> {
 }
 
 /// Returns whether `is_atom` holds for a term and a text, and drops the term.
-fn has_name(made: Option<Term>, text: &str) -> Option<bool> {
-    let term = made?;
-    let named = term.is_atom(text);
+fn is_atom_then_drop(built: Option<Term>, text: &str) -> Option<bool> {
+    let term = built?;
+    let is_atom = term.is_atom(text);
     drop(term);
-    Some(named)
+    Some(is_atom)
 }
 
 /// Returns whether `is_atom` holds for the atom of a text, and for no other atom and no tuple.
-fn atoms_alone_have_names(alloc: Global) -> Option<bool> {
+fn only_atoms_are_atoms_of_their_text(alloc: Global) -> Option<bool> {
     Some(
-        has_name(atom(alloc, "ab"), "ab")?
-            && !has_name(atom(alloc, "ab"), "a")?
-            && !has_name(letter_tuple(alloc, "a"), "a")?,
+        is_atom_then_drop(atom(alloc, "ab"), "ab")?
+            && !is_atom_then_drop(atom(alloc, "ab"), "a")?
+            && !is_atom_then_drop(letter_tuple(alloc, "a"), "a")?,
     )
 }
 
 /// Checks `is_atom`.
 #[test]
 fn an_atom_has_one_text(rt: HostRuntime) {
-    assert!(rt; atoms_alone_have_names(rt.alloc()) == Some(true));
+    assert!(rt; only_atoms_are_atoms_of_their_text(rt.alloc()) == Some(true));
 }
 
 /// Returns whether the element at a position is the atom of this text.
@@ -83,7 +83,8 @@ fn is_atom_at(term: &Term, position: Position, text: &str) -> bool {
     }
 }
 
-/// Returns whether a pair has the elements `a` and `b` at the positions 1 and 2, and none at 0, 3 and 2^64+1.
+/// Returns whether a pair has the elements `a` and `b` at the positions 1 and 2, and none at 0, 3 and 2^64+1,
+/// which is 1 modulo 2^64.
 fn has_elements_a_and_b(pair: &Term) -> bool {
     pair.element(0).is_none()
         && is_atom_at(pair, 1, "a")
@@ -147,8 +148,8 @@ fn hashes_take_the_encoding(rt: HostRuntime) {
 }
 
 /// Returns the hashes of a term by `AllSame` and by `Fnv`, and drops the term.
-fn hashes_by_two_hashers(made: Option<Term>) -> Option<(u32, u32)> {
-    let term = made?;
+fn hashes_by_two_hashers(built: Option<Term>) -> Option<(u32, u32)> {
+    let term = built?;
     let hashes = (AllSame.hash32(&term), Fnv.hash32(&term));
     drop(term);
     Some(hashes)
@@ -195,6 +196,6 @@ fn items_are_a_list(rt: HostRuntime) {
 
 /// Checks the sizes of an atom and of a term in bytes.
 #[test]
-fn sizes_of_atoms_and_terms(rt: HostRuntime) {
+fn an_atom_has_24_bytes_and_a_term_has_32(rt: HostRuntime) {
     assert!(rt; size_of::<Atom>() == 24 && size_of::<Term>() == 32);
 }

@@ -49,7 +49,12 @@ fn visible_state<R: Rows>(table: &Walked<R>) -> (Integer, usize, u32, bool) {
 
 /// Returns whether a call has its answer at once, or was refused memory, changed nothing, and has its answer when it is
 /// made again.
-fn runs_again<R: Rows>(alloc: Global, table: &mut Walked<R>, step: Step, wanted: Expected) -> bool {
+fn runs_with_retry<R: Rows>(
+    alloc: Global,
+    table: &mut Walked<R>,
+    step: Step,
+    wanted: Expected,
+) -> bool {
     let before = visible_state(table);
     let first = answer_code(alloc, table, step);
     if first != OUT_OF_MEMORY {
@@ -59,13 +64,13 @@ fn runs_again<R: Rows>(alloc: Global, table: &mut Walked<R>, step: Step, wanted:
 }
 
 /// Returns the index of the first call with another answer.
-fn first_mismatch_again<R: Rows>(
+fn first_mismatch_with_retry<R: Rows>(
     alloc: Global,
     table: &mut Walked<R>,
     steps: &[(Step, Expected)],
 ) -> Option<usize> {
     for (index, (step, wanted)) in steps.iter().enumerate() {
-        if !runs_again(alloc, table, *step, *wanted) {
+        if !runs_with_retry(alloc, table, *step, *wanted) {
             return Some(index);
         }
     }
@@ -115,7 +120,7 @@ const GROWTH: [(Step, Expected); 8] = [
 /// Returns the index of the first call with another answer, on a bag over plain rows.
 fn first_mismatch_on_plain_rows(alloc: Global, steps: &[(Step, Expected)]) -> Option<usize> {
     let mut table = plain_table(alloc, Kind::Bag);
-    let mismatch = first_mismatch_again(alloc, &mut table, steps);
+    let mismatch = first_mismatch_with_retry(alloc, &mut table, steps);
     drop(table);
     mismatch
 }
@@ -126,7 +131,7 @@ fn a_refused_call_of_plain_rows_is_called_again(rt: HostRuntime) {
 }
 
 /// Builds a table with one hash for all keys, again if memory runs out.
-fn one_bucket_table_again(alloc: Global, kind: Kind) -> Option<Walked<SplitRows<AllSame>>> {
+fn one_bucket_table_with_retry(alloc: Global, kind: Kind) -> Option<Walked<SplitRows<AllSame>>> {
     match one_bucket_table(alloc, kind) {
         Some(table) => Some(table),
         None => one_bucket_table(alloc, kind),
@@ -135,9 +140,9 @@ fn one_bucket_table_again(alloc: Global, kind: Kind) -> Option<Walked<SplitRows<
 
 /// Returns whether the calls have their answers over split rows, whose buckets then double.
 fn calls_hold_on_split_rows(alloc: Global) -> Option<bool> {
-    let mut table = one_bucket_table_again(alloc, Kind::Bag)?;
-    let life = first_mismatch_again(alloc, &mut table, &LIFE);
-    let growth = first_mismatch_again(alloc, &mut table, &GROWTH);
+    let mut table = one_bucket_table_with_retry(alloc, Kind::Bag)?;
+    let life = first_mismatch_with_retry(alloc, &mut table, &LIFE);
+    let growth = first_mismatch_with_retry(alloc, &mut table, &GROWTH);
     drop(table);
     Some(life.is_none() && growth.is_none())
 }

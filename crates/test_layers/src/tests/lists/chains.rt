@@ -73,7 +73,7 @@ pub fn pops_number(chain: &mut Chain, number: Integer) -> bool {
 /// How many terms a chain gets.
 const COUNT: u32 = 5_000;
 
-/// The last of these terms.
+/// The last of the numbers below `COUNT`.
 const LAST: Integer = 4_999;
 
 /// Returns whether terms that are pushed are popped, the last first.

@@ -1,11 +1,11 @@
 //! The limits of atoms: how many characters, and which.
-use crate::tests::text::past_limits::long_text;
+use crate::tests::text::past_limits::repeat_text;
 use ets_term::{Atom, AtomFault};
 use std::alloc::Global;
 use std::process::Abort;
 
 /// Returns whether a copy of an atom has this text.
-fn copy_keeps_text(alloc: Global, atom: &Atom, text: &str) -> Option<bool> {
+fn copy_has_text(alloc: Global, atom: &Atom, text: &str) -> Option<bool> {
     let copy = atom.try_clone(alloc).ok()?;
     let same = copy.text() == text;
     drop(copy);
@@ -14,16 +14,16 @@ fn copy_keeps_text(alloc: Global, atom: &Atom, text: &str) -> Option<bool> {
 
 /// Returns whether an atom and its copy have its text.
 fn atom_and_copy_keep_text(alloc: Global, text: &str) -> Option<bool> {
-    let made = Atom::new(alloc, text).ok()?;
-    let same = made.text() == text;
-    let copied = copy_keeps_text(alloc, &made, text);
-    drop(made);
-    Some(copied? && same)
+    let atom = Atom::new(alloc, text).ok()?;
+    let atom_keeps_text = atom.text() == text;
+    let copy_keeps_text = copy_has_text(alloc, &atom, text);
+    drop(atom);
+    Some(copy_keeps_text? && atom_keeps_text)
 }
 
 /// Returns whether an atom of this number of characters and its copy have its text.
 fn keeps_text_of_length(alloc: Global, count: usize) -> Option<bool> {
-    let text = long_text(alloc, "", "a", count, "").ok()?;
+    let text = repeat_text(alloc, "a", count).ok()?;
     let same = atom_and_copy_keep_text(alloc, text.as_str());
     drop(text);
     same
@@ -41,7 +41,7 @@ fn keep_texts_of_lengths(alloc: Global, counts: &[usize]) -> Option<bool> {
 
 /// Returns whether an atom of this number of characters is refused as too long.
 fn is_refused_as_too_long(alloc: Global, count: usize) -> Option<bool> {
-    let long = long_text(alloc, "", "a", count, "").ok()?;
+    let long = repeat_text(alloc, "a", count).ok()?;
     let fault = Atom::new(alloc, long.as_str()).err();
     drop(long);
     Some(matches!(fault, Some(AtomFault::TooLong)))

@@ -41,11 +41,12 @@ fn push_terms(alloc: Global, terms: &mut Items<Term>, rows: &[Literal]) -> Optio
 }
 
 /// Terms of each kind, in ascending order.
-const RISING: [Literal<'static>; 22] = [
+const ASCENDING_TERMS: [Literal<'static>; 22] = [
     Literal::Int(Integer::MIN),
     Literal::Int(-1),
     Literal::Int(7),
-    Literal::Int(18446744073709551616),
+    // 2^64, which does not fit 64 bits.
+    Literal::Int(18_446_744_073_709_551_616),
     Literal::Atom(""),
     Literal::Atom("a"),
     Literal::Atom("aa"),
@@ -95,17 +96,17 @@ fn first_order_mismatch(terms: &[Term]) -> Option<usize> {
 }
 
 /// Returns whether the terms of these literals are all built and in ascending order.
-fn terms_are_rising(alloc: Global, rows: &[Literal]) -> Option<bool> {
+fn terms_are_ascending(alloc: Global, rows: &[Literal]) -> Option<bool> {
     let mut terms = Items::new(alloc);
     let pushed = push_terms(alloc, &mut terms, rows);
-    let rising = terms.len() == rows.len() && first_order_mismatch(terms.as_slice()) == None;
+    let ascending = terms.len() == rows.len() && first_order_mismatch(terms.as_slice()) == None;
     drop(terms);
     pushed?;
-    Some(rising)
+    Some(ascending)
 }
 
 /// Checks the order of terms across all kinds.
 #[test]
-fn terms_rise(rt: HostRuntime) {
-    assert!(rt; terms_are_rising(rt.alloc(), &RISING) == Some(true));
+fn terms_are_in_the_order_of_the_manual(rt: HostRuntime) {
+    assert!(rt; terms_are_ascending(rt.alloc(), &ASCENDING_TERMS) == Some(true));
 }

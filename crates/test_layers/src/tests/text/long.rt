@@ -1,5 +1,5 @@
 //! Long and deep texts whose terms are known.
-use super::past_limits::long_text;
+use super::past_limits::{repeat_text, text_with_repeated_part};
 use super::writer::is_written_as;
 use ets_term::{MAX_DEPTH, Term};
 use std::alloc::{AllocError, Global};
@@ -62,7 +62,7 @@ fn repeated_text(
     count: usize,
 ) -> Result<String, AllocError> {
     let [front, part, end] = parts;
-    long_text(alloc, front, part, count, end)
+    text_with_repeated_part(alloc, front, part, count, end)
 }
 
 /// Returns whether the text of these parts is that of a term that is printed as `printed`.
@@ -103,7 +103,7 @@ fn is_read_at_each_count(
 
 /// Checks long strings, binaries and tuples.
 #[test]
-fn long_texts(rt: HostRuntime) {
+fn long_texts_are_read_and_printed(rt: HostRuntime) {
     assert!(rt; is_read_at_each_count(rt.alloc(), STRING, &COUNTS) == Ok(true));
     assert!(rt; is_read_at_each_count(rt.alloc(), BYTES, &COUNTS) == Ok(true));
     assert!(rt; is_read_at_each_count(rt.alloc(), TUPLE, &COUNTS) == Ok(true));
@@ -116,8 +116,8 @@ fn nested_brackets(
     close: &str,
     levels: usize,
 ) -> Result<String, AllocError> {
-    let closing = long_text(alloc, "", close, levels, "")?;
-    let text = long_text(alloc, "", open, levels, closing.as_str());
+    let closing = repeat_text(alloc, close, levels)?;
+    let text = text_with_repeated_part(alloc, "", open, levels, closing.as_str());
     drop(closing);
     text
 }
@@ -163,7 +163,7 @@ fn brackets_are_read_to_limit(alloc: Global, open: &str, close: &str) -> Result<
 
 /// Checks nested lists and tuples of each depth up to one above the limit.
 #[test]
-fn deep_texts(rt: HostRuntime) {
+fn deep_texts_are_read_up_to_the_limit(rt: HostRuntime) {
     assert!(rt; brackets_are_read_to_limit(rt.alloc(), "[", "]") == Ok(true));
     assert!(rt; brackets_are_read_to_limit(rt.alloc(), "{", "}") == Ok(true));
 }

@@ -93,7 +93,7 @@ fn push_repeated(text: &mut String, part: &str, count: usize) -> Result<(), Allo
 }
 
 /// Pushes a start, a repeated part, and an end.
-fn push_long_text(
+fn push_with_repeated_part(
     text: &mut String,
     start: &str,
     part: &str,
@@ -106,7 +106,7 @@ fn push_long_text(
 }
 
 /// Builds the text of a start, a repeated part, and an end.
-pub fn long_text(
+pub fn text_with_repeated_part(
     alloc: Global,
     start: &str,
     part: &str,
@@ -114,13 +114,21 @@ pub fn long_text(
     end: &str,
 ) -> Result<String, AllocError> {
     let mut text = String::new(alloc);
-    keep_if_ok(push_long_text(&mut text, start, part, count, end), text)
+    keep_if_ok(
+        push_with_repeated_part(&mut text, start, part, count, end),
+        text,
+    )
+}
+
+/// Builds the text of a repeated part.
+pub fn repeat_text(alloc: Global, part: &str, count: usize) -> Result<String, AllocError> {
+    text_with_repeated_part(alloc, "", part, count, "")
 }
 
 /// Returns whether the text of a row is read as the row says.
 fn long_text_has_reading(alloc: Global, row: LongRow) -> Result<bool, AllocError> {
     let (start, part, end, wanted) = row;
-    let text = long_text(alloc, start.0, part.0, part.1, end.0)?;
+    let text = text_with_repeated_part(alloc, start.0, part.0, part.1, end.0)?;
     let same = has_reading(alloc, text.as_bytes(), wanted);
     drop(text);
     same
@@ -138,13 +146,13 @@ fn first_long_mismatch(alloc: Global, rows: &[LongRow]) -> Result<Option<usize>,
 
 /// Checks the faults of texts past a limit.
 #[test]
-fn past_the_levels_and_lengths(rt: HostRuntime) {
+fn texts_past_a_limit_have_their_faults(rt: HostRuntime) {
     assert_eq!(rt; first_long_mismatch(rt.alloc(), &LONG), Ok(None));
 }
 
 /// Returns whether a quoted atom of the greatest length is read, and printed without quotes.
 fn longest_atom_is_read(alloc: Global) -> Result<bool, AllocError> {
-    let printed = long_text(alloc, "", "a", MAX_LENGTH, "")?;
+    let printed = repeat_text(alloc, "a", MAX_LENGTH)?;
     let read = Reads(printed.as_str(), Bytes(MAX_LENGTH + 2));
     let same = long_text_has_reading(alloc, (Start("'"), Repeat("a", MAX_LENGTH), End("'"), read));
     drop(printed);
@@ -153,14 +161,14 @@ fn longest_atom_is_read(alloc: Global) -> Result<bool, AllocError> {
 
 /// Checks that an atom may have 255 characters.
 #[test]
-fn the_longest_atom(rt: HostRuntime) {
+fn an_atom_may_have_255_characters(rt: HostRuntime) {
     assert!(rt; longest_atom_is_read(rt.alloc()) == Ok(true));
 }
 
 /// Builds the text of lists within lists, as deep as a term may be.
 fn deepest_text(alloc: Global) -> Result<String, AllocError> {
-    let closing = long_text(alloc, "", "]", MAX_DEPTH, "")?;
-    let text = long_text(alloc, "", "[", MAX_DEPTH, closing.as_str());
+    let closing = repeat_text(alloc, "]", MAX_DEPTH)?;
+    let text = text_with_repeated_part(alloc, "", "[", MAX_DEPTH, closing.as_str());
     drop(closing);
     text
 }
@@ -183,6 +191,6 @@ fn depth_and_bytes_of_deepest(alloc: Global) -> Option<(usize, Bytes)> {
 
 /// Checks that a term may be as deep as `MAX_DEPTH`.
 #[test]
-fn the_deepest_term(rt: HostRuntime) {
+fn a_term_may_be_as_deep_as_the_limit(rt: HostRuntime) {
     assert!(rt; depth_and_bytes_of_deepest(rt.alloc()) == Some((MAX_DEPTH, Bytes(2 * MAX_DEPTH))));
 }

@@ -27,9 +27,9 @@ struct Reader<'t> {
     /// The closing bracket of each open one.
     closing: Vec<u8>,
     /// Whether a term must follow, unless a bracket closes.
-    wanted: bool,
-    /// Whether the last bracket has just been opened.
-    fresh: bool,
+    term_must_follow: bool,
+    /// Whether only blanks have followed the last opening bracket.
+    bracket_just_opened: bool,
 }
 
 impl<'t> Reader<'t> {
@@ -42,23 +42,28 @@ impl<'t> Reader<'t> {
             out: String::new(alloc),
             quoted: Vec::new(alloc),
             closing: Vec::new(alloc),
-            wanted: true,
-            fresh: false,
+            term_must_follow: true,
+            bracket_just_opened: false,
         }
     }
 
-    /// Prints a byte of the text and passes it. `wanted` and `fresh` are the new state.
-    fn print_byte(&mut self, byte: u8, wanted: bool, fresh: bool) -> Result<(), TextFault> {
+    /// Prints a byte of the text and passes it. The other parameters are the new state.
+    fn print_byte(
+        &mut self,
+        byte: u8,
+        term_must_follow: bool,
+        bracket_just_opened: bool,
+    ) -> Result<(), TextFault> {
         self.out.push(byte as char)?;
         self.at = self.at.saturating_add(1);
-        self.wanted = wanted;
-        self.fresh = fresh;
+        self.term_must_follow = term_must_follow;
+        self.bracket_just_opened = bracket_just_opened;
         Ok(())
     }
 
     /// Returns whether a byte closes the last open bracket. No bracket may close after a comma.
     fn may_close(&self, byte: u8) -> bool {
-        self.closing.last() == Some(&byte) && (self.fresh || !self.wanted)
+        self.closing.last() == Some(&byte) && (self.bracket_just_opened || !self.term_must_follow)
     }
 
     /// Passes a closing bracket.
@@ -89,8 +94,8 @@ impl<'t> Reader<'t> {
         if byte == b'{' || byte == b'[' {
             return self.open_bracket(byte);
         }
-        self.wanted = false;
-        self.fresh = false;
+        self.term_must_follow = false;
+        self.bracket_just_opened = false;
         self.read_single_term(byte)
     }
 
@@ -98,7 +103,7 @@ impl<'t> Reader<'t> {
     fn read_byte(&mut self, byte: u8) -> Result<(), TextFault> {
         if self.may_close(byte) {
             self.close_bracket(byte)
-        } else if !self.wanted {
+        } else if !self.term_must_follow {
             self.pass_comma(byte)
         } else if matches!(byte, b'{' | b'[' | b'-' | b'\'' | b'"' | b'<' | b'#' | b'0'..=b'9' | b'a'..=b'z')
         {
@@ -108,16 +113,17 @@ impl<'t> Reader<'t> {
         }
     }
 
-    /// Reads a term. Each round of the loop passes at least one byte, so that it returns before the rounds end.
+    /// Reads a term.
     fn read_term(&mut self) -> Result<(), TextFault> {
         for _ in 0..=self.text.len() {
             self.skip_blanks();
             let byte = self.next_byte()?;
             self.read_byte(byte)?;
-            if !self.wanted && self.closing.is_empty() {
+            if !self.term_must_follow && self.closing.is_empty() {
                 return Ok(());
             }
         }
+        // This cannot happen: each round of the loop passes at least one byte, or returns.
         Err(TextFault::Memory)
     }
 }

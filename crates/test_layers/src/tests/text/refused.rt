@@ -4,7 +4,7 @@ use super::*;
 use term_text::{TextFault, read_term};
 
 /// Reads a text, again if memory runs out.
-pub(crate) fn read_again(alloc: Global, text: &str) -> Result<(Term, usize), TextFault> {
+pub(crate) fn read_with_retry(alloc: Global, text: &str) -> Result<(Term, usize), TextFault> {
     let read = read_term(alloc, text);
     if !matches!(&read, Err(TextFault::Memory)) {
         return read;
@@ -14,8 +14,8 @@ pub(crate) fn read_again(alloc: Global, text: &str) -> Result<(Term, usize), Tex
 }
 
 /// Reads the term of a text, again if memory runs out. None means a syntax error, or out of memory.
-pub(crate) fn term_again(alloc: Global, text: &str) -> Option<Term> {
-    match read_again(alloc, text) {
+pub(crate) fn term_with_retry(alloc: Global, text: &str) -> Option<Term> {
+    match read_with_retry(alloc, text) {
         Ok((term, _)) => Some(term),
         Err(_) => None,
     }
@@ -25,7 +25,7 @@ pub(crate) fn term_again(alloc: Global, text: &str) -> Option<Term> {
 const FRONT: &str = "a front: ";
 
 /// Builds the text `FRONT`, again if memory runs out.
-fn front_again(alloc: Global) -> Option<String> {
+fn front_with_retry(alloc: Global) -> Option<String> {
     match String::from_str(alloc, FRONT) {
         Ok(text) => Some(text),
         Err(_) => String::from_str(alloc, FRONT).ok(),
@@ -34,7 +34,7 @@ fn front_again(alloc: Global) -> Option<String> {
 
 /// Returns whether a term is printed after the front at once, or was refused memory, changed nothing, and is printed
 /// again.
-fn prints_again(alloc: Global, term: &Term, text: &mut String) -> bool {
+fn prints_with_retry(alloc: Global, term: &Term, text: &mut String) -> bool {
     match print_term(alloc, term, text) {
         Ok(()) => true,
         Err(_) => text.as_str() == FRONT && print_term(alloc, term, text).is_ok(),
@@ -42,28 +42,28 @@ fn prints_again(alloc: Global, term: &Term, text: &mut String) -> bool {
 }
 
 /// Returns whether the term of a text is printed after the front as `printed`, at once or again.
-fn is_read_and_printed_again(alloc: Global, text: &str, printed: &str) -> Option<bool> {
-    let term = term_again(alloc, text)?;
-    let same = is_printed_again(alloc, &term, printed);
+fn is_read_and_printed_with_retry(alloc: Global, text: &str, printed: &str) -> Option<bool> {
+    let term = term_with_retry(alloc, text)?;
+    let same = is_printed_with_retry(alloc, &term, printed);
     drop(term);
     same
 }
 
 /// Returns whether a term is printed after the front as `printed`, at once or again.
-fn is_printed_again(alloc: Global, term: &Term, printed: &str) -> Option<bool> {
-    let mut text = front_again(alloc)?;
-    let same = prints_again(alloc, term, &mut text) && text.as_str() == printed;
+fn is_printed_with_retry(alloc: Global, term: &Term, printed: &str) -> Option<bool> {
+    let mut text = front_with_retry(alloc)?;
+    let same = prints_with_retry(alloc, term, &mut text) && text.as_str() == printed;
     drop(text);
     Some(same)
 }
 
 /// Returns the first text whose term is not printed as its row says.
-fn first_mismatch_again(
+fn first_mismatch_with_retry(
     alloc: Global,
     rows: &[(&'static str, &'static str)],
 ) -> Option<&'static str> {
     for (text, printed) in rows {
-        if is_read_and_printed_again(alloc, *text, *printed) != Some(true) {
+        if is_read_and_printed_with_retry(alloc, *text, *printed) != Some(true) {
             return Some(*text);
         }
     }
@@ -95,16 +95,16 @@ const TERMS: [(&str, &str); 7] = [
 
 #[test]
 fn what_was_refused_is_read_and_printed_again(rt: HostRuntime) {
-    assert_eq!(rt; first_mismatch_again(rt.alloc(), &TERMS), None);
+    assert_eq!(rt; first_mismatch_with_retry(rt.alloc(), &TERMS), None);
 }
 
 /// Returns the first text with another syntax error.
-fn first_fault_mismatch_again(
+fn first_fault_mismatch_with_retry(
     alloc: Global,
     rows: &[(&'static str, TextFault)],
 ) -> Option<&'static str> {
     for (text, fault) in rows {
-        if read_again(alloc, *text).err() != Some(*fault) {
+        if read_with_retry(alloc, *text).err() != Some(*fault) {
             return Some(*text);
         }
     }
@@ -127,5 +127,5 @@ const FAULTS: [(&str, TextFault); 4] = [
 
 #[test]
 fn what_was_refused_has_its_fault_again(rt: HostRuntime) {
-    assert_eq!(rt; first_fault_mismatch_again(rt.alloc(), &FAULTS), None);
+    assert_eq!(rt; first_fault_mismatch_with_retry(rt.alloc(), &FAULTS), None);
 }

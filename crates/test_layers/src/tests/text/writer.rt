@@ -1,29 +1,29 @@
 //! A writer that fails at its k-th write, or takes a part of the bytes.
-use super::past_limits::long_text;
+use super::past_limits::repeat_text;
 use ets_term::Term;
 use std::alloc::{AllocError, Global};
 use std::io::{self, Error, ErrorKind, Write};
 use std::process::Abort;
 use term_text::{WriteFault, read_term, write_bytes, write_term};
 
-/// A writer that takes at most `most` bytes a write, and fails after `left` writes.
+/// A writer that takes at most `max_write_bytes` bytes per write, and fails after `writes_before_fault` writes.
 #[derive(Drop)]
 struct FailingWriter {
     /// The bytes that it has taken so far.
     taken: Vec<u8>,
-    /// How many bytes it takes a write.
-    most: usize,
-    /// After how many further writes it fails.
-    left: usize,
+    /// The most bytes that one write takes.
+    max_write_bytes: usize,
+    /// The number of writes that still succeed before one fails.
+    writes_before_fault: usize,
 }
 
 impl Write for FailingWriter {
     fn write(&mut self, buf: &[u8]) -> io::Result<usize> {
-        if self.left == 0 {
+        if self.writes_before_fault == 0 {
             return Err(Error::from(ErrorKind::Other));
         }
-        self.left -= 1;
-        let n = buf.len().min(self.most);
+        self.writes_before_fault -= 1;
+        let n = buf.len().min(self.max_write_bytes);
         match self.taken.extend_from_slice(&buf[..n]) {
             Ok(()) => Ok(n),
             Err(_) => Err(Error::from(ErrorKind::Other)),
@@ -39,8 +39,8 @@ impl Write for FailingWriter {
 fn leaves_a_prefix(alloc: Global, term: &Term, text: &str, left: usize) -> bool {
     let mut out = FailingWriter {
         taken: Vec::new(alloc),
-        most: 1,
-        left,
+        max_write_bytes: 1,
+        writes_before_fault: left,
     };
     let written = write_term(term, &mut out);
     let failed = matches!(&written, Err(WriteFault::Io(_)));
@@ -93,16 +93,16 @@ const PART: usize = 1_000;
 
 /// Returns whether 100,000 bytes are written in 100 parts of `PART` bytes.
 fn is_written_in_parts(alloc: Global) -> Result<bool, AllocError> {
-    let text = long_text(alloc, "", "0123456789", 10_000, "")?;
+    let text = repeat_text(alloc, "0123456789", 10_000)?;
     let mut out = FailingWriter {
         taken: Vec::new(alloc),
-        most: PART,
-        left: 100,
+        max_write_bytes: PART,
+        writes_before_fault: 100,
     };
     let written = write_bytes(text.as_bytes(), &mut out);
     let done = written.is_ok();
     drop(written);
-    let whole = out.taken.as_slice() == text.as_bytes() && out.left == 0;
+    let whole = out.taken.as_slice() == text.as_bytes() && out.writes_before_fault == 0;
     drop(out);
     drop(text);
     Ok(done && whole)
@@ -118,8 +118,8 @@ fn a_writer_may_take_a_hundredth(rt: HostRuntime) {
 fn fault_is_zero(alloc: Global) -> bool {
     let mut stuck = FailingWriter {
         taken: Vec::new(alloc),
-        most: 0,
-        left: 9,
+        max_write_bytes: 0,
+        writes_before_fault: 9,
     };
     let term = Term::Int(7);
     let written = write_term(&term, &mut stuck);

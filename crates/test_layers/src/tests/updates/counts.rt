@@ -1,21 +1,22 @@
 use super::rows::{Call, first_mismatch};
 use super::*;
 
-/// Returns whether `update_counter` has the expected answer, `expected.0`, and leaves the expected object,
-/// `expected.1`.
+/// Returns whether `update_counter` has the expected answer and leaves the expected object. `expected` is the two.
 fn counts_in_place(alloc: Global, object: &mut Term, ops: &Ops, expected: (&Term, &Term)) -> bool {
-    has_answer(update_counter(alloc, object, ops), expected.0) && *object == *expected.1
+    let (expected_answer, expected_object) = expected;
+    has_answer(update_counter(alloc, object, ops), expected_answer) && *object == *expected_object
 }
 
 /// Returns whether `apply_ops` has the expected answer and makes the expected object, or is refused as expected.
 fn counts_on_a_copy(alloc: Global, object: &Term, ops: &Ops, expected: (&Term, &Term)) -> bool {
+    let (expected_answer, expected_object) = expected;
     match apply_ops(alloc, object, ops) {
-        Ok(copied) => {
-            let same = copied.1 == *expected.0 && copied.0 == *expected.1;
-            drop(copied);
+        Ok((copy, answer)) => {
+            let same = answer == *expected_answer && copy == *expected_object;
+            drop((copy, answer));
             same
         }
-        Err(fault) => is_refusal(&fault, expected.0),
+        Err(fault) => is_refusal(&fault, expected_answer),
     }
 }
 
@@ -72,7 +73,7 @@ const COUNTED: [&str; 16] = [
 
 /// Checks operations that succeed.
 #[test]
-fn operations_on_counters(rt: HostRuntime) {
+fn operations_on_counters_succeed(rt: HostRuntime) {
     assert_eq!(rt;
         first_mismatch(rt.alloc(), Call::Count(1), &COUNTED),
         Some(None)
@@ -95,7 +96,7 @@ const REFUSED: [&str; 10] = [
 
 /// Checks operations that are refused, and leave the object as it was.
 #[test]
-fn refused_operations(rt: HostRuntime) {
+fn refused_operations_leave_the_object(rt: HostRuntime) {
     assert_eq!(rt;
         first_mismatch(rt.alloc(), Call::Count(1), &REFUSED),
         Some(None)
@@ -111,7 +112,7 @@ const KEY_SECOND: [&str; 3] = [
 
 /// Checks operations on objects whose key is the second element.
 #[test]
-fn operations_with_the_key_second(rt: HostRuntime) {
+fn the_key_may_be_the_second_element(rt: HostRuntime) {
     assert_eq!(rt;
         first_mismatch(rt.alloc(), Call::Count(2), &KEY_SECOND),
         Some(None)
@@ -160,6 +161,6 @@ const WRONG: [&str; 18] = [
 
 /// Checks that no text of `WRONG` is read as operations.
 #[test]
-fn what_is_no_operation(rt: HostRuntime) {
+fn texts_that_are_no_operations_are_refused(rt: HostRuntime) {
     assert_eq!(rt; first_valid_update(rt.alloc(), &WRONG), Some(None));
 }

@@ -1,27 +1,27 @@
 use super::rows::{Call, first_mismatch};
 use super::*;
 
-/// Returns whether the answer and the object are those of a row: `{Answer,Made}`.
-fn is_start(expected: &Term, answer: &Term, made: &Term) -> bool {
-    expected.element(1) == Some(answer) && expected.element(2) == Some(made)
+/// Returns whether the answer and the object are those of a row: `{Answer,Object}`.
+fn is_start(expected: &Term, answer: &Term, object: &Term) -> bool {
+    expected.element(1) == Some(answer) && expected.element(2) == Some(object)
 }
 
-/// Returns whether a Default with this key is an object, by both functions.
+/// Returns whether a default object with this key is an object, by both functions.
 fn is_object(alloc: Global, keypos: u32, default: &Term, key: &Term) -> bool {
-    let made = with_key(alloc, default, keypos, key);
-    let is_made = made.is_ok();
-    drop(made);
-    is_made && is_default(default, keypos, key)
+    let outcome = with_key(alloc, default, keypos, key);
+    let has_object = outcome.is_ok();
+    drop(outcome);
+    has_object && is_default(default, keypos, key)
 }
 
-/// Returns whether a Default with this key is refused as no object, by both functions.
+/// Returns whether a default object with this key is refused as no object, by both functions.
 fn is_no_object(alloc: Global, keypos: u32, default: &Term, key: &Term) -> bool {
     let fault = with_key(alloc, default, keypos, key).err();
     !is_default(default, keypos, key) && matches!(fault, Some(CounterFault::Badarg))
 }
 
-/// Returns whether `start_counter` has the expected answer and object, or the expected refusal. `object` is a Default
-/// and a key.
+/// Returns whether `start_counter` has the expected answer and object, or the expected refusal. `object` is a default
+/// object and a key.
 fn starts_with_ops(
     alloc: Global,
     keypos: u32,
@@ -40,7 +40,7 @@ fn starts_with_ops(
     }
 }
 
-/// Returns whether a Default with a key, `object`, gives the expected answer and object by these operations.
+/// Returns whether a default object with a key, `object`, gives the expected answer and object by these operations.
 pub fn starts_as_expected(
     alloc: Global,
     keypos: u32,
@@ -58,16 +58,20 @@ pub fn starts_as_expected(
     }
 }
 
-/// Returns whether a Default with a key becomes this object by these element values.
+/// Returns whether a default object with this key and these element values is `expected`, or is refused as `expected`
+/// says.
 pub fn writes_default_as_expected(
     alloc: Global,
     default: &Term,
     key: &Term,
     values: &Term,
-    made: &Term,
+    expected: &Term,
 ) -> Option<bool> {
     match read_element_specs(alloc, values, 1) {
-        Ok(specs) => Some(has_answer(start_with_elements(alloc, default, 1, key, &specs), made)),
+        Ok(specs) => Some(has_answer(
+            start_with_elements(alloc, default, 1, key, &specs),
+            expected,
+        )),
         Err(_) => Some(false),
     }
 }
@@ -102,7 +106,7 @@ const WRITTEN: [&str; 4] = [
 
 /// Checks element values for keys that have no object.
 #[test]
-fn values_of_a_default(rt: HostRuntime) {
+fn values_are_written_to_a_default_object(rt: HostRuntime) {
     assert_eq!(rt;
         first_mismatch(rt.alloc(), Call::WriteDefault, &WRITTEN),
         Some(None)

@@ -47,10 +47,16 @@ fn push_outcomes(alloc: Global, outcomes: &mut Items<Term>) -> Option<()> {
     outcomes.push(read_term(alloc, "system_limit").ok()?.0).ok()
 }
 
-/// Returns whether an object becomes `made` by these element values, and drops the values.
-fn values_make(alloc: Global, object: &Term, values: Option<Term>, made: &Term) -> Option<bool> {
+/// Returns whether an object with these element values is `expected`, or is refused as `expected` says, and drops the
+/// values.
+fn values_make(
+    alloc: Global,
+    object: &Term,
+    values: Option<Term>,
+    expected: &Term,
+) -> Option<bool> {
     let values = values?;
-    let makes_it = writes_as_expected(alloc, object, &values, made);
+    let makes_it = writes_as_expected(alloc, object, &values, expected);
     drop(values);
     makes_it
 }
@@ -66,8 +72,8 @@ fn all_rows_hold(
         return None;
     };
     for (depths, is_refused) in rows {
-        let made = if *is_refused { refusal } else { deepest };
-        if !values_make(alloc, object, element_values(alloc, *depths), made)? {
+        let expected = if *is_refused { refusal } else { deepest };
+        if !values_make(alloc, object, element_values(alloc, *depths), expected)? {
             return Some(false);
         }
     }
@@ -86,6 +92,6 @@ fn deep_value_rows_hold(alloc: Global) -> Option<bool> {
 
 /// Checks that a value is refused if it makes the object deeper than `MAX_DEPTH`.
 #[test]
-fn values_too_deep(rt: HostRuntime) {
+fn values_that_are_too_deep_are_refused(rt: HostRuntime) {
     assert!(rt; deep_value_rows_hold(rt.alloc()) == Some(true));
 }

@@ -1,25 +1,25 @@
 use super::rows::{Call, first_mismatch};
 use super::*;
 
-/// Returns whether `write_elements` makes this object, or is refused as expected and leaves the object as it was,
-/// `before`.
+/// Returns whether `write_elements` makes the object `expected`, or is refused as `expected` says and leaves the object
+/// as it was, `before`.
 fn writes_in_place(
     alloc: Global,
     object: &mut Term,
     specs: &ElementSpecs,
     before: &Term,
-    made: &Term,
+    expected: &Term,
 ) -> bool {
     match write_elements(alloc, object, specs) {
-        Ok(()) => *object == *made,
-        Err(fault) => is_refusal(&fault, made) && *object == *before,
+        Ok(()) => *object == *expected,
+        Err(fault) => is_refusal(&fault, expected) && *object == *before,
     }
 }
 
-/// Returns whether `apply_elements` makes this object, or is refused as expected.
-fn writes_on_a_copy(alloc: Global, object: &Term, values: &Term, made: &Term) -> bool {
+/// Returns whether `apply_elements` makes the object `expected`, or is refused as `expected` says.
+fn writes_on_a_copy(alloc: Global, object: &Term, values: &Term, expected: &Term) -> bool {
     match read_element_specs(alloc, values, 1) {
-        Ok(specs) => has_answer(apply_elements(alloc, object, &specs), made),
+        Ok(specs) => has_answer(apply_elements(alloc, object, &specs), expected),
         Err(_) => false,
     }
 }
@@ -30,25 +30,26 @@ fn writes_in_own_object(
     own: &mut Term,
     values: &Term,
     before: &Term,
-    made: &Term,
+    expected: &Term,
 ) -> bool {
     match read_element_specs(alloc, values, 1) {
-        Ok(specs) => writes_in_place(alloc, own, &specs, before, made),
+        Ok(specs) => writes_in_place(alloc, own, &specs, before, expected),
         Err(_) => false,
     }
 }
 
-/// Returns whether an object becomes this one by element values, in place and as a copy.
+/// Returns whether an object with these element values is `expected`, in place and as a copy, or is refused as
+/// `expected` says.
 pub fn writes_as_expected(
     alloc: Global,
     object: &Term,
     values: &Term,
-    made: &Term,
+    expected: &Term,
 ) -> Option<bool> {
     let mut own = object.try_clone(alloc).ok()?;
-    let in_place = writes_in_own_object(alloc, &mut own, values, object, made);
+    let in_place = writes_in_own_object(alloc, &mut own, values, object, expected);
     drop(own);
-    Some(in_place && writes_on_a_copy(alloc, object, values, made))
+    Some(in_place && writes_on_a_copy(alloc, object, values, expected))
 }
 
 /// Of several values for a position the last is written. A position above the size is refused anywhere in a list.
@@ -114,6 +115,6 @@ const WRONG: [&str; 15] = [
 
 /// Checks that no text of `WRONG` is read as element values.
 #[test]
-fn what_is_no_value(rt: HostRuntime) {
+fn texts_that_are_no_values_are_refused(rt: HostRuntime) {
     assert_eq!(rt; first_valid_value(rt.alloc(), &WRONG), Some(None));
 }

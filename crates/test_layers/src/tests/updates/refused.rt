@@ -1,104 +1,111 @@
 // Out of memory. `.ci/refusals` runs these tests with each allocation refused in turn. A call that ran out of memory
 // must have left the object as it was. Made again, it must have the answer of ample memory.
 use super::retries::{
-    apply_again, clone_again, is_refused_memory, read_ops_again, read_specs_again, start_again,
-    update_again,
+    apply_with_retry, clone_with_retry, is_refused_memory, read_ops_with_retry,
+    read_specs_with_retry, start_with_retry, update_with_retry,
 };
 use super::rows::{COUNT_LABELS, WRITE_DEFAULT_LABELS, WRITE_LABELS, has_labels};
 use super::*;
-use crate::tests::text::refused::term_again;
+use crate::tests::text::refused::term_with_retry;
 
-/// Returns whether an outcome has the expected answer, `expected.0`, and object, `expected.1`, or is the expected
-/// refusal.
+/// Returns whether an outcome has the expected answer and object, or is the expected refusal. `expected` is the answer,
+/// or the refusal, and the object.
 fn has_answer_and_object(
     outcome: Result<(Term, Term), CounterFault>,
     expected: (&Term, &Term),
 ) -> bool {
+    let (expected_answer, expected_object) = expected;
     match outcome {
-        Ok(object_and_answer) => {
-            let same = object_and_answer.1 == *expected.0 && object_and_answer.0 == *expected.1;
-            drop(object_and_answer);
+        Ok((object, answer)) => {
+            let same = answer == *expected_answer && object == *expected_object;
+            drop((object, answer));
             same
         }
-        Err(fault) => is_refusal(&fault, expected.0),
+        Err(fault) => is_refusal(&fault, expected_answer),
     }
 }
 
 /// Returns whether operations have the expected answer and object in place, at once or again.
-fn counts_in_place_again(
+fn counts_in_place_with_retry(
     alloc: Global,
     object: &Term,
     ops: &Ops,
     expected: (&Term, &Term),
 ) -> Option<bool> {
-    let mut own = clone_again(alloc, object)?;
-    let answered = has_answer(update_again(alloc, &mut own, object, ops), expected.0);
-    let made = own == *expected.1;
+    let mut own = clone_with_retry(alloc, object)?;
+    let (expected_answer, expected_object) = expected;
+    let is_answer_right = has_answer(
+        update_with_retry(alloc, &mut own, object, ops),
+        expected_answer,
+    );
+    let is_object_right = own == *expected_object;
     drop(own);
-    Some(answered && made)
+    Some(is_answer_right && is_object_right)
 }
 
 /// Returns whether operations have the expected answer and object, in place and on a copy, at once or again.
-fn counts_as_expected_again(
+fn counts_as_expected_with_retry(
     alloc: Global,
     object: &Term,
     updates: &Term,
     expected: (&Term, &Term),
 ) -> Option<bool> {
-    let ops = read_ops_again(alloc, updates, 1)?;
-    let in_place = counts_in_place_again(alloc, object, &ops, expected);
-    let copied = has_answer_and_object(apply_again(alloc, object, &ops), expected);
+    let ops = read_ops_with_retry(alloc, updates, 1)?;
+    let is_right_in_place = counts_in_place_with_retry(alloc, object, &ops, expected);
+    let is_right_on_copy = has_answer_and_object(apply_with_retry(alloc, object, &ops), expected);
     drop(ops);
-    Some(in_place? && copied)
+    Some(is_right_in_place? && is_right_on_copy)
 }
 
-/// Returns whether operations on a Default have the expected answer and object, at once or again.
-fn starts_as_expected_again(
+/// Returns whether operations on a default object have the expected answer and object, at once or again.
+fn starts_as_expected_with_retry(
     alloc: Global,
     default: &Term,
     key: &Term,
     updates: &Term,
     expected: (&Term, &Term),
 ) -> Option<bool> {
-    let ops = read_ops_again(alloc, updates, 1)?;
-    let started = start_again(alloc, default, key, &ops);
+    let ops = read_ops_with_retry(alloc, updates, 1)?;
+    let started = start_with_retry(alloc, default, key, &ops);
     drop(ops);
     Some(has_answer_and_object(started, expected))
 }
 
-/// Returns whether an object becomes this one by element values, again if they were refused memory.
-fn writes_as_expected_again(
+/// Returns whether a copy of `object` with these element values is `expected`, or is refused as `expected` says. Tries
+/// again once if memory runs out.
+fn writes_as_expected_with_retry(
     alloc: Global,
     object: &Term,
     values: &Term,
-    made: &Term,
+    expected: &Term,
 ) -> Option<bool> {
-    let specs = read_specs_again(alloc, values)?;
+    let specs = read_specs_with_retry(alloc, values)?;
     let outcome = apply_elements(alloc, object, &specs);
     if !is_refused_memory(&outcome) {
-        return Some(has_answer(outcome, made));
+        return Some(has_answer(outcome, expected));
     }
     drop(outcome);
-    let again = apply_elements(alloc, object, &specs);
-    Some(has_answer(again, made))
+    let second_outcome = apply_elements(alloc, object, &specs);
+    Some(has_answer(second_outcome, expected))
 }
 
-/// Returns whether a Default with a key becomes this object by element values, again if they were refused memory.
-fn writes_default_as_expected_again(
+/// Returns whether a default object with this key and these element values is `expected`, or is refused as `expected`
+/// says. Tries again once if memory runs out.
+fn writes_default_as_expected_with_retry(
     alloc: Global,
     default: &Term,
     key: &Term,
     values: &Term,
-    made: &Term,
+    expected: &Term,
 ) -> Option<bool> {
-    let specs = read_specs_again(alloc, values)?;
+    let specs = read_specs_with_retry(alloc, values)?;
     let outcome = start_with_elements(alloc, default, 1, key, &specs);
     if !is_refused_memory(&outcome) {
-        return Some(has_answer(outcome, made));
+        return Some(has_answer(outcome, expected));
     }
     drop(outcome);
-    let again = start_with_elements(alloc, default, 1, key, &specs);
-    Some(has_answer(again, made))
+    let second_outcome = start_with_elements(alloc, default, 1, key, &specs);
+    Some(has_answer(second_outcome, expected))
 }
 
 /// The form of a row of text.
@@ -135,32 +142,32 @@ fn has_labels_of(call: Call, row: &[Term]) -> bool {
 
 /// Returns whether the call of a row has its answer and object, at once or again. None means a wrong row or out of
 /// memory.
-fn row_holds_again(alloc: Global, call: Call, row: &[Term]) -> Option<bool> {
+fn row_holds_with_retry(alloc: Global, call: Call, row: &[Term]) -> Option<bool> {
     if !has_labels_of(call, row) {
         return None;
     }
     match (call, row) {
-        (Call::Count, [object, _, updates, _, answer, _, made]) => {
-            counts_as_expected_again(alloc, object, updates, (answer, made))
+        (Call::Count, [before, _, updates, _, answer, _, after]) => {
+            counts_as_expected_with_retry(alloc, before, updates, (answer, after))
         }
-        (Call::Start, [_, default, _, key, _, updates, _, answer, _, made]) => {
-            starts_as_expected_again(alloc, default, key, updates, (answer, made))
+        (Call::Start, [_, default, _, key, _, updates, _, answer, _, after]) => {
+            starts_as_expected_with_retry(alloc, default, key, updates, (answer, after))
         }
-        (Call::Write, [object, _, values, _, made]) => writes_as_expected_again(
-            alloc, object, values, made,
+        (Call::Write, [before, _, values, _, expected]) => writes_as_expected_with_retry(
+            alloc, before, values, expected,
         ),
-        (Call::WriteDefault, [_, default, _, key, _, values, _, made]) => {
-            writes_default_as_expected_again(alloc, default, key, values, made)
+        (Call::WriteDefault, [_, default, _, key, _, values, _, expected]) => {
+            writes_default_as_expected_with_retry(alloc, default, key, values, expected)
         }
         _ => None,
     }
 }
 
 /// Returns whether the row of a text holds, at once or again.
-fn text_row_holds_again(alloc: Global, call: Call, row: &str) -> Option<bool> {
-    let row = term_again(alloc, row)?;
+fn text_row_holds_with_retry(alloc: Global, call: Call, row: &str) -> Option<bool> {
+    let row = term_with_retry(alloc, row)?;
     let holds = match &row {
-        Term::List(parts) => row_holds_again(alloc, call, parts.as_slice()),
+        Term::List(parts) => row_holds_with_retry(alloc, call, parts.as_slice()),
         _ => None,
     };
     drop(row);
@@ -168,17 +175,17 @@ fn text_row_holds_again(alloc: Global, call: Call, row: &str) -> Option<bool> {
 }
 
 /// Returns the first row that does not hold.
-fn first_mismatch_again(alloc: Global, rows: &[(Call, &'static str)]) -> Option<&'static str> {
+fn first_mismatch_with_retry(alloc: Global, rows: &[(Call, &'static str)]) -> Option<&'static str> {
     for (call, row) in rows {
-        if text_row_holds_again(alloc, *call, *row) != Some(true) {
+        if text_row_holds_with_retry(alloc, *call, *row) != Some(true) {
             return Some(*row);
         }
     }
     None
 }
 
-/// Updates that take memory: some succeed, some are refused.
-const REFUSED: [(Call, &str); 9] = [
+/// Updates that take memory: some succeed, and others are refused.
+const UPDATES: [(Call, &str); 9] = [
     (Call::Count, "[{c,5}, update, 3, gives, 8, leaves, {c,8}]"),
     (
         Call::Count,
@@ -216,5 +223,5 @@ const REFUSED: [(Call, &str); 9] = [
 
 #[test]
 fn a_refused_update_is_done_again(rt: HostRuntime) {
-    assert_eq!(rt; first_mismatch_again(rt.alloc(), &REFUSED), None);
+    assert_eq!(rt; first_mismatch_with_retry(rt.alloc(), &UPDATES), None);
 }

@@ -2,7 +2,7 @@
 use super::*;
 
 /// Copies a term, again if memory runs out.
-pub fn clone_again(alloc: Global, term: &Term) -> Option<Term> {
+pub fn clone_with_retry(alloc: Global, term: &Term) -> Option<Term> {
     match term.try_clone(alloc) {
         Ok(copy) => Some(copy),
         Err(_) => term.try_clone(alloc).ok(),
@@ -10,7 +10,7 @@ pub fn clone_again(alloc: Global, term: &Term) -> Option<Term> {
 }
 
 /// Reads operations, again if memory runs out.
-pub fn read_ops_again(alloc: Global, updates: &Term, keypos: u32) -> Option<Ops> {
+pub fn read_ops_with_retry(alloc: Global, updates: &Term, keypos: u32) -> Option<Ops> {
     match read_ops(alloc, updates, keypos) {
         Ok(ops) => Some(ops),
         Err(_) => read_ops(alloc, updates, keypos).ok(),
@@ -18,7 +18,7 @@ pub fn read_ops_again(alloc: Global, updates: &Term, keypos: u32) -> Option<Ops>
 }
 
 /// Reads element values of an object whose key is first, again if memory runs out.
-pub fn read_specs_again(alloc: Global, values: &Term) -> Option<ElementSpecs> {
+pub fn read_specs_with_retry(alloc: Global, values: &Term) -> Option<ElementSpecs> {
     match read_element_specs(alloc, values, 1) {
         Ok(specs) => Some(specs),
         Err(_) => read_element_specs(alloc, values, 1).ok(),
@@ -31,7 +31,7 @@ pub fn is_refused_memory<T>(outcome: &Result<T, CounterFault>) -> bool {
 }
 
 /// Updates an object by operations, again if they were refused memory and the object is unchanged.
-pub fn update_again(
+pub fn update_with_retry(
     alloc: Global,
     object: &mut Term,
     before: &Term,
@@ -46,7 +46,11 @@ pub fn update_again(
 }
 
 /// Applies operations to a copy of an object, again if memory runs out.
-pub fn apply_again(alloc: Global, object: &Term, ops: &Ops) -> Result<(Term, Term), CounterFault> {
+pub fn apply_with_retry(
+    alloc: Global,
+    object: &Term,
+    ops: &Ops,
+) -> Result<(Term, Term), CounterFault> {
     let outcome = apply_ops(alloc, object, ops);
     if !is_refused_memory(&outcome) {
         return outcome;
@@ -55,8 +59,8 @@ pub fn apply_again(alloc: Global, object: &Term, ops: &Ops) -> Result<(Term, Ter
     apply_ops(alloc, object, ops)
 }
 
-/// Applies operations to a Default whose key is first, again if memory runs out.
-pub fn start_again(
+/// Applies operations to a default object whose key is first, again if memory runs out.
+pub fn start_with_retry(
     alloc: Global,
     default: &Term,
     key: &Term,

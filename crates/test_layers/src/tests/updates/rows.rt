@@ -66,17 +66,17 @@ fn row_holds(alloc: Global, call: Call, row: &[Term]) -> Option<bool> {
         return Some(false);
     }
     match (call, row) {
-        (Call::Count(keypos), [object, _, updates, _, answer, _, made]) => {
-            counts_as_expected(alloc, keypos, object, updates, (answer, made))
+        (Call::Count(keypos), [before, _, updates, _, answer, _, after]) => {
+            counts_as_expected(alloc, keypos, before, updates, (answer, after))
         }
-        (Call::Write, [object, _, values, _, made]) => {
-            writes_as_expected(alloc, object, values, made)
+        (Call::Write, [before, _, values, _, expected]) => {
+            writes_as_expected(alloc, before, values, expected)
         }
         (Call::Start(keypos), [_, default, _, key, _, updates, _, answer]) => {
             starts_as_expected(alloc, keypos, (default, key), updates, answer)
         }
-        (Call::WriteDefault, [_, default, _, key, _, values, _, made]) => {
-            writes_default_as_expected(alloc, default, key, values, made)
+        (Call::WriteDefault, [_, default, _, key, _, values, _, expected]) => {
+            writes_default_as_expected(alloc, default, key, values, expected)
         }
         _ => Some(false),
     }

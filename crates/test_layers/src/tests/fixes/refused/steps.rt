@@ -64,14 +64,15 @@ fn refusal_code(refused: &Refusal) -> Integer {
 }
 
 /// Builds an object, again if memory runs out.
-fn build_object_again(alloc: Global, object: Object) -> Option<Term> {
+fn build_object_with_retry(alloc: Global, object: Object) -> Option<Term> {
     match build_object(alloc, object.0, object.1) {
         Some(made) => Some(made),
         None => build_object(alloc, object.0, object.1),
     }
 }
 
-/// Inserts an object, unless it could not be built. Returns 1, or the number of the refusal.
+/// Inserts an object. Returns 1, or the number of the refusal. An object that could not be built counts as another
+/// refusal: this is a fault of the test, which must not pass as the table's out of memory.
 fn try_insert<R: Rows>(table: &mut Walked<R>, object: Option<Term>) -> Integer {
     let Some(object) = object else {
         return OTHER_REFUSAL;
@@ -85,8 +86,8 @@ fn try_insert<R: Rows>(table: &mut Walked<R>, object: Option<Term>) -> Integer {
     }
 }
 
-/// Inserts an object if its key is new, unless it could not be built. Returns 1 if it did, 0 if the key is not new, or
-/// the number of the refusal.
+/// Inserts an object if its key is new. Returns 1 if it did, 0 if the key is not new, or the number of the refusal. An
+/// object that could not be built counts as another refusal.
 fn try_insert_new<R: Rows>(table: &mut Walked<R>, object: Option<Term>) -> Integer {
     let Some(object) = object else {
         return OTHER_REFUSAL;
@@ -100,7 +101,8 @@ fn try_insert_new<R: Rows>(table: &mut Walked<R>, object: Option<Term>) -> Integ
     }
 }
 
-/// Deletes an object, unless it could not be built. Returns 1, or the number of the refusal.
+/// Deletes an object. Returns 1, or the number of the refusal. An object that could not be built counts as another
+/// refusal.
 fn try_delete_object<R: Rows>(table: &mut Walked<R>, object: Option<Term>) -> Integer {
     let Some(object) = object else {
         return OTHER_REFUSAL;
@@ -192,9 +194,12 @@ fn try_ready<R: Rows>(table: &mut Walked<R>) -> Integer {
 /// Makes a call. Returns a number for its answer: 1 and 0 for true and false, a count, a value or a refusal.
 pub(super) fn answer_code<R: Rows>(alloc: Global, table: &mut Walked<R>, step: Step) -> Integer {
     match step {
-        Step::Insert(object) => try_insert(table, build_object_again(alloc, object)),
-        Step::InsertNew(object) => try_insert_new(table, build_object_again(alloc, object)),
-        Step::DeleteObject(object) => try_delete_object(table, build_object_again(alloc, object)),
+        Step::Insert(object) => try_insert(table, build_object_with_retry(alloc, object)),
+        Step::InsertNew(object) => try_insert_new(table, build_object_with_retry(alloc, object)),
+        Step::DeleteObject(object) => try_delete_object(
+            table,
+            build_object_with_retry(alloc, object),
+        ),
         Step::LookupSecond(key) => second_element(table, key.0),
         Step::Take(key) => try_take(table, key.0),
         Step::Delete(key) => {

@@ -8,7 +8,7 @@ use std::alloc::Global;
 use table_ops::Kind;
 
 /// How many steps other processes make after each key of a traversal.
-const STEPS_A_KEY: u32 = 10;
+const STEPS_PER_KEY: u32 = 10;
 
 /// The factor of Knuth's linear congruential generator of 64 bits.
 const SEED_FACTOR: u64 = 6_364_136_223_846_793_005;
@@ -17,7 +17,7 @@ const SEED_FACTOR: u64 = 6_364_136_223_846_793_005;
 const SEED_INCREMENT: u64 = 1_442_695_040_888_963_407;
 
 /// Returns the next number of a pseudo-random sequence.
-fn next_seed(seed: u64) -> u64 {
+fn next_random(seed: u64) -> u64 {
     seed.wrapping_mul(SEED_FACTOR).wrapping_add(SEED_INCREMENT)
 }
 
@@ -73,8 +73,9 @@ fn replace_values<R: Rows>(
     insert(alloc, table, Integer::from(key), Integer::from(value))
 }
 
-/// Runs a step of another process: its key, its value and its kind are from different bits of the seed. Returns whether
-/// it succeeds.
+/// Runs a step of another process: its key, its value and its kind are from different bits of the seed. The value is
+/// one of three bits, as an expectation adds the values of a key. On average two of ten steps insert, five delete or
+/// replace, one makes a bucket ready and two grow the table. Returns whether the step succeeds.
 fn run_other_step<R: Rows>(
     alloc: Global,
     table: &mut Walked<R>,
@@ -101,7 +102,7 @@ fn run_other_step<R: Rows>(
     }
 }
 
-/// Runs `STEPS_A_KEY` steps of other processes. Returns the seed after them, or None if one fails.
+/// Runs `STEPS_PER_KEY` steps of other processes. Returns the seed after them, or None if one fails.
 pub(super) fn run_other_steps<R: Rows>(
     alloc: Global,
     table: &mut Walked<R>,
@@ -109,8 +110,8 @@ pub(super) fn run_other_steps<R: Rows>(
     seed: u64,
 ) -> Option<u64> {
     let mut seed = seed;
-    for _ in 0..STEPS_A_KEY {
-        seed = next_seed(seed);
+    for _ in 0..STEPS_PER_KEY {
+        seed = next_random(seed);
         if !run_other_step(alloc, table, expectation, seed)? {
             return None;
         }

@@ -80,13 +80,18 @@ impl Reader<'_> {
         Ok(())
     }
 
-    /// Pushes a character between quotes, or fails with `fault` if `most` were pushed. Returns whether it is the
+    /// Pushes a character between quotes, or fails with `fault` if `max_bytes` were pushed. Returns whether it is the
     /// backslash of an escape, which is not pushed.
-    fn push_character(&mut self, b: u8, most: usize, fault: TextFault) -> Result<bool, TextFault> {
+    fn push_character(
+        &mut self,
+        b: u8,
+        max_bytes: usize,
+        fault: TextFault,
+    ) -> Result<bool, TextFault> {
         if !matches!(b, b' '..=b'~') {
             return Err(TextFault::Unexpected(self.at));
         }
-        if self.quoted.len() >= most {
+        if self.quoted.len() >= max_bytes {
             return Err(fault);
         }
         if b != b'\\' {
@@ -104,11 +109,11 @@ impl Reader<'_> {
     }
 
     /// Reads the characters from a quote up to the closing quote into `quoted`, or fails with `fault` if there are more
-    /// than `most`.
+    /// than `max_bytes`.
     pub(super) fn read_quoted(
         &mut self,
         quote: u8,
-        most: usize,
+        max_bytes: usize,
         fault: TextFault,
     ) -> Result<(), TextFault> {
         self.quoted.clear();
@@ -123,7 +128,7 @@ impl Reader<'_> {
                 self.at = self.at.saturating_add(1);
                 return Ok(());
             } else {
-                is_escaped = self.push_character(b, most, fault)?;
+                is_escaped = self.push_character(b, max_bytes, fault)?;
             }
         }
         Err(TextFault::Unclosed(self.text.len()))

@@ -3,11 +3,11 @@ use super::printer::{put_atom, put_number, put_numbers};
 use super::{MAX_CHARACTERS, MAX_LEVELS, Reader};
 use term_text::TextFault;
 
-/// The greatest integer. The least is one further from 0.
-const MAX_INTEGER: u128 = 170141183460469231731687303715884105727;
+/// The greatest integer, 2^127 - 1. The least is one further from 0.
+const MAX_INTEGER: u128 = 170_141_183_460_469_231_731_687_303_715_884_105_727;
 
-/// The greatest number of a pid and of an identifier.
-const MAX_U32: u128 = 4294967295;
+/// The greatest number of a pid and of an identifier, 2^32 - 1.
+const MAX_U32: u128 = 4_294_967_295;
 
 /// The greatest byte of a binary.
 const MAX_BYTE: u128 = 255;
@@ -51,13 +51,13 @@ impl Reader<'_> {
 
     /// Reads a string, and prints it as a list of bytes. At the greatest depth only the empty string is a term.
     fn read_string(&mut self) -> Result<(), TextFault> {
-        let most = if self.closing.len() < MAX_LEVELS - 1 {
+        let max_bytes = if self.closing.len() < MAX_LEVELS - 1 {
             self.text.len()
         } else {
             0
         };
         let fault = TextFault::TooDeep(self.at.saturating_add(1));
-        self.read_quoted(b'"', most, fault)?;
+        self.read_quoted(b'"', max_bytes, fault)?;
         self.out.push('[')?;
         put_numbers(self.alloc, &mut self.out, self.quoted.as_slice())?;
         Ok(self.out.push(']')?)
