@@ -20,7 +20,7 @@ mod single_calls;
 
 /// A call of a world.
 #[derive(Clone, Copy)]
-enum Event<'a> {
+enum Call<'a> {
     Enrol(Pid),
     End(Pid),
     /// The process makes a table of this name with these options.
@@ -43,7 +43,7 @@ enum Event<'a> {
 }
 
 /// A call, and its answer: a term, `DONE`, or a refusal such as `** badarg`.
-type Row = (Event<'static>, &'static str);
+type Row = (Call<'static>, &'static str);
 
 /// The answer of a call without a result.
 const DONE: &str = "{}";
@@ -52,23 +52,23 @@ const DONE: &str = "{}";
 type Tables = World<PlainRows>;
 
 /// Returns the answer of a call that only reads.
-fn query(alloc: Global, world: &Tables, event: Event) -> Result<Term, WorldFault> {
-    match event {
-        Event::Info(id, item) => info_or_undefined(alloc, world, id.0, item),
-        Event::Resolve(named) => tid_or_none(alloc, world, named),
-        Event::Rights(pid, id) => list_of_rights(alloc, world, pid.0, id.0),
+fn query(alloc: Global, world: &Tables, call: Call) -> Result<Term, WorldFault> {
+    match call {
+        Call::Info(id, item) => info_or_undefined(alloc, world, id.0, item),
+        Call::Resolve(named) => tid_or_none(alloc, world, named),
+        Call::Rights(pid, id) => list_of_rights(alloc, world, pid.0, id.0),
         _ => Ok(empty_tuple(alloc)),
     }
 }
 
 /// Makes a call that has no result.
-fn run_call(alloc: Global, world: &mut Tables, event: Event) -> Result<(), WorldFault> {
-    match event {
-        Event::Enrol(pid) => world.enrol(pid.0),
-        Event::End(pid) => world.end(pid.0),
-        Event::Give(pid, id, to, gift) => give_away(alloc, world, pid.0, id.0, to.0, gift),
-        Event::Set(pid, id, options) => set_options(alloc, world, pid.0, id.0, options),
-        Event::Drop(id) => {
+fn run_call(alloc: Global, world: &mut Tables, call: Call) -> Result<(), WorldFault> {
+    match call {
+        Call::Enrol(pid) => world.enrol(pid.0),
+        Call::End(pid) => world.end(pid.0),
+        Call::Give(pid, id, to, gift) => give_away(alloc, world, pid.0, id.0, to.0, gift),
+        Call::Set(pid, id, options) => set_options(alloc, world, pid.0, id.0, options),
+        Call::Drop(id) => {
             world.drop_table(id.0);
             Ok(())
         }
@@ -77,14 +77,14 @@ fn run_call(alloc: Global, world: &mut Tables, event: Event) -> Result<(), World
 }
 
 /// Makes a call, and returns its answer.
-fn answer(alloc: Global, world: &mut Tables, event: Event) -> Result<Term, WorldFault> {
-    match event {
-        Event::New(pid, name, options) => new_table(alloc, world, pid.0, name, options),
-        Event::Receive(pid) => Ok(Term::List(world.receive(pid.0))),
-        Event::Fix(pid, id) => fix_table(alloc, world, pid.0, id.0),
+fn answer(alloc: Global, world: &mut Tables, call: Call) -> Result<Term, WorldFault> {
+    match call {
+        Call::New(pid, name, options) => new_table(alloc, world, pid.0, name, options),
+        Call::Receive(pid) => Ok(Term::List(world.receive(pid.0))),
+        Call::Fix(pid, id) => fix_table(alloc, world, pid.0, id.0),
         _ => {
-            run_call(alloc, world, event)?;
-            query(alloc, world, event)
+            run_call(alloc, world, call)?;
+            query(alloc, world, call)
         }
     }
 }
@@ -100,13 +100,13 @@ fn refusal(fault: &WorldFault) -> &'static str {
 }
 
 /// Makes a call, and returns whether it has this answer.
-fn event_has_answer(
+fn call_has_answer(
     alloc: Global,
     world: &mut Tables,
-    event: Event,
+    call: Call,
     wanted: &str,
 ) -> Result<bool, AllocError> {
-    match answer(alloc, world, event) {
+    match answer(alloc, world, call) {
         Ok(answer) => {
             let same = is_spelled(alloc, &answer, wanted);
             drop(answer);
@@ -123,8 +123,8 @@ fn first_wrong_row_in(
     world: &mut Tables,
     rows: &[Row],
 ) -> Result<Option<usize>, AllocError> {
-    for (index, (event, wanted)) in rows.iter().enumerate() {
-        if !event_has_answer(alloc, world, *event, *wanted)? {
+    for (index, (call, wanted)) in rows.iter().enumerate() {
+        if !call_has_answer(alloc, world, *call, *wanted)? {
             return Ok(Some(index));
         }
     }

@@ -1,5 +1,5 @@
-// Out of memory: run with each allocation refused in turn, by `rt try --test --fail-alloc N`. A step that runs out of
-// memory changes nothing, so it has the reply of a first run when it runs again. A test repeats its own allocations.
+// Out of memory. `.ci/refusals` runs these tests with each allocation refused in turn. A step that runs out of memory
+// changes nothing, so it has the reply of a first run when it runs again. A test repeats its own allocations.
 use super::Event::{Ask, End, Enrol, Grow, Ready};
 use super::{Bucket, Event, Pid, Row, Tid, build_step, reply_has_text};
 use ets_term::Fnv;
@@ -8,7 +8,7 @@ use std::alloc::{AllocError, Global};
 use std::process::Abort;
 
 /// Builds the step of an event, again if memory runs out.
-fn build_step_again(alloc: Global, event: Event) -> Result<Step, AllocError> {
+fn build_step_with_retry(alloc: Global, event: Event) -> Result<Step, AllocError> {
     match build_step(alloc, event) {
         Ok(step) => Ok(step),
         Err(_) => build_step(alloc, event),
@@ -16,7 +16,7 @@ fn build_step_again(alloc: Global, event: Event) -> Result<Step, AllocError> {
 }
 
 /// Returns the reply to a step, which runs again if memory runs out.
-fn reply_again(node: &mut Node<Fnv>, step: &Step) -> Result<Reply, AllocError> {
+fn reply_with_retry(node: &mut Node<Fnv>, step: &Step) -> Result<Reply, AllocError> {
     match node.step(step) {
         Ok(reply) => Ok(reply),
         Err(_) => node.step(step),
@@ -24,7 +24,11 @@ fn reply_again(node: &mut Node<Fnv>, step: &Step) -> Result<Reply, AllocError> {
 }
 
 /// Returns whether the text is that of the reply, compared again if memory runs out.
-fn reply_has_text_again(alloc: Global, reply: &Reply, wanted: &str) -> Result<bool, AllocError> {
+fn reply_has_text_with_retry(
+    alloc: Global,
+    reply: &Reply,
+    wanted: &str,
+) -> Result<bool, AllocError> {
     match reply_has_text(alloc, reply, wanted) {
         Ok(same) => Ok(same),
         Err(_) => reply_has_text(alloc, reply, wanted),
@@ -32,27 +36,27 @@ fn reply_has_text_again(alloc: Global, reply: &Reply, wanted: &str) -> Result<bo
 }
 
 /// Runs the step of an event, again if memory runs out, and returns whether it has this reply.
-fn event_has_reply_again(
+fn event_has_reply_with_retry(
     alloc: Global,
     node: &mut Node<Fnv>,
     event: Event,
     wanted: &str,
 ) -> Result<bool, AllocError> {
-    let step = build_step_again(alloc, event)?;
-    let answered = step_has_reply_again(alloc, node, &step, wanted);
+    let step = build_step_with_retry(alloc, event)?;
+    let answered = step_has_reply_with_retry(alloc, node, &step, wanted);
     drop(step);
     answered
 }
 
 /// Runs a step, again if memory runs out, and returns whether it has this reply.
-fn step_has_reply_again(
+fn step_has_reply_with_retry(
     alloc: Global,
     node: &mut Node<Fnv>,
     step: &Step,
     wanted: &str,
 ) -> Result<bool, AllocError> {
-    let reply = reply_again(node, step)?;
-    let same = reply_has_text_again(alloc, &reply, wanted);
+    let reply = reply_with_retry(node, step)?;
+    let same = reply_has_text_with_retry(alloc, &reply, wanted);
     drop(reply);
     same
 }
@@ -110,7 +114,7 @@ fn first_wrong_row_again_in(
     rows: &[Row],
 ) -> Result<Option<usize>, AllocError> {
     for (index, (event, wanted)) in rows.iter().enumerate() {
-        if !event_has_reply_again(alloc, node, *event, *wanted)? {
+        if !event_has_reply_with_retry(alloc, node, *event, *wanted)? {
             return Ok(Some(index));
         }
     }
@@ -119,7 +123,7 @@ fn first_wrong_row_again_in(
 
 /// Runs the rows in a new node, each again if memory runs out, and returns the index of the first one with another
 /// reply.
-fn first_wrong_row_again(alloc: Global, rows: &[Row]) -> Result<Option<usize>, AllocError> {
+fn first_wrong_row_with_retry(alloc: Global, rows: &[Row]) -> Result<Option<usize>, AllocError> {
     let mut node = Node::new(alloc, Limits::usual(), Fnv);
     let index = first_wrong_row_again_in(alloc, &mut node, rows);
     drop(node);
@@ -128,7 +132,7 @@ fn first_wrong_row_again(alloc: Global, rows: &[Row]) -> Result<Option<usize>, A
 
 #[test]
 fn a_refused_step_is_done_again(rt: HostRuntime) {
-    assert_eq!(rt; first_wrong_row_again(rt.alloc(), &STEPS), Ok(None));
+    assert_eq!(rt; first_wrong_row_with_retry(rt.alloc(), &STEPS), Ok(None));
 }
 
 /// Lists written over lists of the same and of another length, with objects of the same and of another shape.
@@ -167,7 +171,7 @@ fn overwrites_reply(
         }
         node.step_into(step, reply)?;
     }
-    reply_has_text_again(alloc, reply, wanted)
+    reply_has_text_with_retry(alloc, reply, wanted)
 }
 
 /// Runs the rows, each over the reply before, and returns the index of the first one with another reply.
@@ -178,7 +182,7 @@ fn first_wrong_overwriting_step(
     rows: &[Row],
 ) -> Result<Option<usize>, AllocError> {
     for (index, (event, wanted)) in rows.iter().enumerate() {
-        let step = build_step_again(alloc, *event)?;
+        let step = build_step_with_retry(alloc, *event)?;
         let is_right = overwrites_reply(alloc, node, &step, reply, *wanted);
         drop(step);
         if !is_right? {

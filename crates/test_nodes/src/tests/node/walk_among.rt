@@ -6,13 +6,13 @@ use ets_term::{AllSame, Fnv};
 use node_core::WalkFault;
 use plan_follower::Plan;
 use starts::{
-    DELETES_ALL_OBJECTS, DELETES_TABLE, IS_FREE, MAKES_TABLE_ANEW, NINE_KEYS, NO_KEYS, ONE_KEY,
-    PRIVATE_OF_ANOTHER, SEVENTY_KEYS, TWO_KEYS, WALKER_ASKS, WALKER_ENDS, WALKER_ENROLS,
-    WALKER_HAS_ENDED,
+    DELETES_ALL_OBJECTS, DELETES_TABLE, IS_NOT_FIXED, MAKES_TABLE_ANEW, NINE_KEYS, NO_KEYS,
+    ONE_KEY, PRIVATE_TABLE_OF_ANOTHER, SEVENTY_KEYS, TWO_KEYS, WALKER_DELETES_TABLE, WALKER_ENDS,
+    WALKER_ENROLS, WALKER_HAS_ENDED,
 };
 use std::alloc::{AllocError, Global};
 use std::process::Abort;
-use trials::{KeysSeen, ThenReplied, WalkTrial, end_of_walk, walk_finds_keys};
+use trials::{KeysSeen, NextStepHasReply, WalkTrial, walk_and_step, walk_finds_keys};
 
 mod plan_follower;
 mod starts;
@@ -61,9 +61,9 @@ fn a_key_past_the_limit_ends_the_walk(rt: HostRuntime) {
     let end = (
         Some(WalkFault::LimitReached),
         KeysSeen(5),
-        ThenReplied(true),
+        NextStepHasReply(true),
     );
-    assert!(rt; end_of_walk(rt.alloc(), AllSame, FURTHER, IS_FREE) == Ok(end));
+    assert!(rt; walk_and_step(rt.alloc(), AllSame, FURTHER, IS_NOT_FIXED) == Ok(end));
 }
 
 /// What others do in a walk over two keys, and a step after it with its reply.
@@ -93,10 +93,10 @@ fn walk_stops(alloc: Global, stop: Stop, wanted: &WalkFault) -> Result<bool, All
         limit: 9,
         plan,
     };
-    let (fault, _, replied) = end_of_walk(alloc, Fnv, trial, next_row)?;
+    let (fault, _, has_reply) = walk_and_step(alloc, Fnv, trial, next_row)?;
     let same = fault.as_ref() == Some(wanted);
     drop(fault);
-    Ok(same && replied.0)
+    Ok(same && has_reply.0)
 }
 
 /// Others delete the table, or make another one of its name, which stays as it is.
@@ -105,7 +105,7 @@ const LOST: [Stop; 3] = [
         Plan::Always(&DELETES_TABLE),
         (Ask(Pid(0), "whereis(t)"), "undefined"),
     ),
-    (Plan::Always(&MAKES_TABLE_ANEW), IS_FREE),
+    (Plan::Always(&MAKES_TABLE_ANEW), IS_NOT_FIXED),
     (
         Plan::Always(&MAKES_TABLE_ANEW),
         (Ask(Pid(0), "info(t,size)"), "2"),
@@ -126,11 +126,11 @@ const KEYS_LEFT: Row = (Ask(Pid(0), "tab2list(t)"), "any order: [{1,a},{2,b},{3,
 /// Others hand in a step of the walker itself.
 const OWN_STEPS: [Stop; 6] = [
     (Plan::Always(&WALKER_ENROLS), KEYS_LEFT),
-    (Plan::Always(&WALKER_ENROLS), IS_FREE),
+    (Plan::Always(&WALKER_ENROLS), IS_NOT_FIXED),
     (Plan::Always(&WALKER_ENDS), KEYS_LEFT),
-    (Plan::Always(&WALKER_ENDS), IS_FREE),
-    (Plan::Always(&WALKER_ASKS), KEYS_LEFT),
-    (Plan::Always(&WALKER_ASKS), IS_FREE),
+    (Plan::Always(&WALKER_ENDS), IS_NOT_FIXED),
+    (Plan::Always(&WALKER_DELETES_TABLE), KEYS_LEFT),
+    (Plan::Always(&WALKER_DELETES_TABLE), IS_NOT_FIXED),
 ];
 
 #[test]
@@ -143,7 +143,7 @@ fn a_step_of_the_walker_is_not_done(rt: HostRuntime) {
 
 #[test]
 fn out_of_memory_ends_the_walk(rt: HostRuntime) {
-    let rows = [(Plan::NoMemory, IS_FREE)];
+    let rows = [(Plan::NoMemory, IS_NOT_FIXED)];
     assert_eq!(rt;
         first_wrong_stop(rt.alloc(), &WalkFault::Memory, &rows),
         Ok(None)
@@ -161,7 +161,8 @@ const EMPTIED: WalkTrial<'static> = WalkTrial {
 #[test]
 fn a_table_that_is_emptied_has_one_key(rt: HostRuntime) {
     assert!(rt;
-        end_of_walk(rt.alloc(), Fnv, EMPTIED, IS_FREE) == Ok((None, KeysSeen(1), ThenReplied(true)))
+        walk_and_step(rt.alloc(), Fnv, EMPTIED, IS_NOT_FIXED)
+            == Ok((None, KeysSeen(1), NextStepHasReply(true)))
     );
 }
 
@@ -173,14 +174,14 @@ fn fault_of(alloc: Global, rows: &[Row], limit: u32) -> Result<Option<WalkFault>
         limit,
         plan: Plan::DeleteAndInsert,
     };
-    let (fault, _, _) = end_of_walk(alloc, Fnv, trial, IS_FREE)?;
+    let (fault, _, _) = walk_and_step(alloc, Fnv, trial, IS_NOT_FIXED)?;
     Ok(fault)
 }
 
 #[test]
 fn a_table_that_is_not_to_be_read_is_lost(rt: HostRuntime) {
     let lost = Ok(Some(WalkFault::Lost));
-    assert!(rt; fault_of(rt.alloc(), &PRIVATE_OF_ANOTHER, 9) == lost);
+    assert!(rt; fault_of(rt.alloc(), &PRIVATE_TABLE_OF_ANOTHER, 9) == lost);
     assert!(rt; fault_of(rt.alloc(), &WALKER_HAS_ENDED, 9) == lost);
     assert!(rt; fault_of(rt.alloc(), &[], 9) == lost);
 }

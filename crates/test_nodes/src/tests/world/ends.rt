@@ -1,4 +1,4 @@
-use super::Event::{End, Enrol, Fix, Info, New, Receive, Resolve, Set};
+use super::Call::{End, Enrol, Fix, Info, New, Receive, Resolve, Set};
 use super::{DONE, Pid, Row, Tid, first_wrong_scenario};
 use std::process::Abort;
 

@@ -94,17 +94,19 @@ fn seventy_tables_go_to_one_heir(rt: HostRuntime) {
     assert!(rt; new_world_passes_tables_on(rt.alloc()) == Ok(true));
 }
 
-/// Returns the heir of a table: any process, different for each table.
+/// Returns the heir of a table: any process, different for each table, as 17 has no divisor in common with `MANY`.
 fn heir_of(id: u32) -> u32 {
     id.wrapping_mul(17).wrapping_add(1) % MANY
 }
 
-/// Returns the process that fixes a table: any process, different for each table.
+/// Returns the process that fixes a table: any process, different for each table, as 11 has no divisor in common with
+/// `MANY`.
 fn fixer_of(id: u32) -> u32 {
     id.wrapping_mul(11).wrapping_add(5) % MANY
 }
 
-/// Returns the process that exits in a turn. Each process exits in one of `MANY` turns.
+/// Returns the process that exits in a turn. Each process exits in one of `MANY` turns, as 7 has no divisor in common
+/// with `MANY`.
 fn process_to_end(turn: u32) -> u32 {
     turn.wrapping_mul(7) % MANY
 }
@@ -186,6 +188,6 @@ fn first_wrong_turn_of_new_world(alloc: Global) -> Result<Option<(u32, u32)>, Wo
 }
 
 #[test]
-fn three_hundred_end(rt: HostRuntime) {
+fn three_hundred_ends_pass_tables_to_heirs(rt: HostRuntime) {
     assert!(rt; first_wrong_turn_of_new_world(rt.alloc()) == Ok(None));
 }

@@ -1,4 +1,4 @@
-use super::Event::{Info, New};
+use super::Call::{Info, New};
 use super::{Pid, Row, Tid, first_wrong_scenario};
 use std::process::Abort;
 

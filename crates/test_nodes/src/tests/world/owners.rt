@@ -1,4 +1,4 @@
-use super::Event::{Drop, End, Enrol, Give, Info, New, Receive, Resolve, Rights, Set};
+use super::Call::{Drop, End, Enrol, Give, Info, New, Receive, Resolve, Rights, Set};
 use super::{DONE, Pid, Row, Tid, first_wrong_scenario};
 use std::process::Abort;
 

@@ -1,9 +1,9 @@
-// Out of memory: run with each allocation refused in turn, by `rt try --test --fail-alloc N`. A call that runs out of
-// memory changes nothing that can be observed, and has the answer of a first call when it is made again. A test repeats
-// its own allocations.
-use super::Event::{End, Enrol, Fix, Give, Info, New, Receive, Set};
+// Out of memory. `.ci/refusals` runs these tests with each allocation refused in turn. A call that runs out of memory
+// changes nothing that can be observed, and has the answer of a first call when it is made again. A test repeats its
+// own allocations.
+use super::Call::{End, Enrol, Fix, Give, Info, New, Receive, Set};
 use super::observations::observe_world;
-use super::{DONE, Event, Pid, Row, Tables, Tid, answer, refusal};
+use super::{Call, DONE, Pid, Row, Tables, Tid, answer, refusal};
 use crate::tests::text::is_spelled;
 use ets_term::Term;
 use ownership::{World, WorldFault};
@@ -68,7 +68,7 @@ const CALLS: [Row; 28] = [
 ];
 
 /// Returns all that can be observed of a world, observed again if memory runs out.
-fn observe_world_again(alloc: Global, world: &Tables) -> Result<Vec<Term>, AllocError> {
+fn observe_world_with_retry(alloc: Global, world: &Tables) -> Result<Vec<Term>, AllocError> {
     match observe_world(alloc, world) {
         Ok(observed) => Ok(observed),
         Err(_) => observe_world(alloc, world),
@@ -76,7 +76,7 @@ fn observe_world_again(alloc: Global, world: &Tables) -> Result<Vec<Term>, Alloc
 }
 
 /// Returns whether a text spells this term, compared again if memory runs out.
-fn is_spelled_again(alloc: Global, value: &Term, wanted: &str) -> Result<bool, AllocError> {
+fn is_spelled_with_retry(alloc: Global, value: &Term, wanted: &str) -> Result<bool, AllocError> {
     match is_spelled(alloc, value, wanted) {
         Ok(same) => Ok(same),
         Err(_) => is_spelled(alloc, value, wanted),
@@ -91,7 +91,7 @@ fn answer_has_text(
 ) -> Result<bool, AllocError> {
     match answered {
         Ok(answer) => {
-            let same = is_spelled_again(alloc, &answer, wanted);
+            let same = is_spelled_with_retry(alloc, &answer, wanted);
             drop(answer);
             same
         }
@@ -101,7 +101,7 @@ fn answer_has_text(
 
 /// Returns whether all that can be observed is as before.
 fn is_unchanged(alloc: Global, world: &Tables, before: &[Term]) -> Result<bool, AllocError> {
-    let after = observe_world_again(alloc, world)?;
+    let after = observe_world_with_retry(alloc, world)?;
     let same = after.as_slice() == before;
     drop(after);
     Ok(same)
@@ -109,33 +109,33 @@ fn is_unchanged(alloc: Global, world: &Tables, before: &[Term]) -> Result<bool, 
 
 /// Returns whether a call has this answer at once; or it runs out of memory, changes nothing that can be observed, and
 /// has this answer when it is made again.
-fn event_has_answer_after(
+fn call_has_answer_or_is_refused_once(
     alloc: Global,
     world: &mut Tables,
     before: &[Term],
-    event: Event,
+    call: Call,
     wanted: &str,
 ) -> Result<bool, AllocError> {
-    let first = answer(alloc, world, event);
+    let first = answer(alloc, world, call);
     if !matches!(&first, Err(WorldFault::Memory)) {
         return answer_has_text(alloc, first, wanted);
     }
     drop(first);
     Ok(
         is_unchanged(alloc, world, before)?
-            && answer_has_text(alloc, answer(alloc, world, event), wanted)?,
+            && answer_has_text(alloc, answer(alloc, world, call), wanted)?,
     )
 }
 
 /// Makes a call, again if memory runs out, and returns whether it has this answer and changed nothing before.
-fn event_has_answer_again(
+fn call_has_answer_with_retry(
     alloc: Global,
     world: &mut Tables,
-    event: Event,
+    call: Call,
     wanted: &str,
 ) -> Result<bool, AllocError> {
-    let before = observe_world_again(alloc, world)?;
-    let done = event_has_answer_after(alloc, world, before.as_slice(), event, wanted);
+    let before = observe_world_with_retry(alloc, world)?;
+    let done = call_has_answer_or_is_refused_once(alloc, world, before.as_slice(), call, wanted);
     drop(before);
     done
 }
@@ -147,8 +147,8 @@ fn first_wrong_row_again_in(
     world: &mut Tables,
     rows: &[Row],
 ) -> Result<Option<usize>, AllocError> {
-    for (index, (event, wanted)) in rows.iter().enumerate() {
-        if !event_has_answer_again(alloc, world, *event, *wanted)? {
+    for (index, (call, wanted)) in rows.iter().enumerate() {
+        if !call_has_answer_with_retry(alloc, world, *call, *wanted)? {
             return Ok(Some(index));
         }
     }
@@ -157,7 +157,7 @@ fn first_wrong_row_again_in(
 
 /// Makes the calls of the rows in a new world, each again if memory runs out, and returns the index of the first one
 /// with another answer.
-fn first_wrong_row_again(alloc: Global, rows: &[Row]) -> Result<Option<usize>, AllocError> {
+fn first_wrong_row_with_retry(alloc: Global, rows: &[Row]) -> Result<Option<usize>, AllocError> {
     let mut world = World::new(alloc, 3, 4);
     let index = first_wrong_row_again_in(alloc, &mut world, rows);
     drop(world);
@@ -166,5 +166,5 @@ fn first_wrong_row_again(alloc: Global, rows: &[Row]) -> Result<Option<usize>, A
 
 #[test]
 fn a_refused_call_is_called_again(rt: HostRuntime) {
-    assert_eq!(rt; first_wrong_row_again(rt.alloc(), &CALLS), Ok(None));
+    assert_eq!(rt; first_wrong_row_with_retry(rt.alloc(), &CALLS), Ok(None));
 }

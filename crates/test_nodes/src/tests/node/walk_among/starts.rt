@@ -3,7 +3,7 @@ use super::super::Event::{self, Ask, Enrol};
 use super::super::{Pid, Row};
 
 /// Asks whether the table is fixed, which it is not.
-pub const IS_FREE: Row = (Ask(Pid(0), "info(t,fixed)"), "false");
+pub const IS_NOT_FIXED: Row = (Ask(Pid(0), "info(t,fixed)"), "false");
 
 /// The public table t of process 0, and process 1.
 pub const NO_KEYS: [Row; 3] = [
@@ -78,7 +78,7 @@ pub const WALKER_ENDS: [Event; 3] = [
 ];
 
 /// The walker deletes the table, among the steps of another.
-pub const WALKER_ASKS: [Event; 3] = [
+pub const WALKER_DELETES_TABLE: [Event; 3] = [
     Ask(Pid(1), "insert(t,{3,c})"),
     Ask(Pid(0), "delete(t)"),
     Ask(Pid(1), "insert(t,{4,d})"),
@@ -88,7 +88,7 @@ pub const WALKER_ASKS: [Event; 3] = [
 pub const DELETES_ALL_OBJECTS: [Event; 1] = [Ask(Pid(1), "delete_all_objects(t)")];
 
 /// The private table t of process 1.
-pub const PRIVATE_OF_ANOTHER: [Row; 3] = [
+pub const PRIVATE_TABLE_OF_ANOTHER: [Row; 3] = [
     (Enrol(Pid(0)), "<0.0.0>"),
     (Enrol(Pid(1)), "<0.1.0>"),
     (Ask(Pid(1), "new(t,[named_table,private])"), "t"),

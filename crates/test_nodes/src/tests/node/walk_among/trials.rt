@@ -94,24 +94,23 @@ pub fn walk_finds_keys<H: KeyHash + Copy + Drop>(
 
 /// Whether a step after the walk has the reply of its row.
 #[derive(Clone, Copy, PartialEq, Eq)]
-pub struct ThenReplied(pub bool);
+pub struct NextStepHasReply(pub bool);
 
-/// How a walk ends.
-pub type End = (Option<WalkFault>, KeysSeen, ThenReplied);
+/// How a walk ends: its fault if it has one, how many keys the others saw, and whether the step after it has its reply.
+pub type WalkEnd = (Option<WalkFault>, KeysSeen, NextStepHasReply);
 
-/// Walks in a node and then runs the step of a row. Returns the fault, how many keys the others saw, and whether the
-/// step has the reply of its row.
-fn end_of_walk_in<H: KeyHash + Copy + Drop>(
+/// Walks in a node and then runs the step of a row. Returns how the walk ended, and whether the step has its reply.
+fn walk_and_step_in<H: KeyHash + Copy + Drop>(
     alloc: Global,
     node: &mut Node<H>,
     trial: WalkTrial,
     next_row: Row,
-) -> Result<End, AllocError> {
+) -> Result<WalkEnd, AllocError> {
     let (walked, seen) = walk(alloc, node, trial)?;
     let fault = walked.err();
     let (event, wanted) = next_row;
     match event_has_reply(alloc, node, event, wanted) {
-        Ok(replied) => Ok((fault, seen, ThenReplied(replied))),
+        Ok(has_reply) => Ok((fault, seen, NextStepHasReply(has_reply))),
         Err(error) => {
             drop(fault);
             Err(error)
@@ -119,15 +118,16 @@ fn end_of_walk_in<H: KeyHash + Copy + Drop>(
     }
 }
 
-/// Walks in a new node with this hasher and then runs the step of a row. Returns how the walk ended.
-pub fn end_of_walk<H: KeyHash + Copy + Drop>(
+/// Walks in a new node with this hasher and then runs the step of a row. Returns how the walk ended, and whether the
+/// step has its reply.
+pub fn walk_and_step<H: KeyHash + Copy + Drop>(
     alloc: Global,
     hasher: H,
     trial: WalkTrial,
     next_row: Row,
-) -> Result<End, AllocError> {
+) -> Result<WalkEnd, AllocError> {
     let mut node = Node::new(alloc, Limits::usual(), hasher);
-    let end = end_of_walk_in(alloc, &mut node, trial, next_row);
+    let end = walk_and_step_in(alloc, &mut node, trial, next_row);
     drop(node);
     end
 }
