@@ -1,5 +1,5 @@
-// Tests of a node that threads share, and of a server. A ledger has a part for each process and one more: for two
-// processes a test passes `Blank::new(3)`.
+// Tests of a node that threads share, and of a server. A `Blank` is an unused ledger, and `L` is its name in types. A
+// ledger has a part for each process and one more: for two processes a test passes `Blank::new(3)`.
 ghost use Rattle.std.specs.Prelude.{◌≡◌, ◌<◌, IfOk};
 
 use ets_term::{Atom, KeyHash, Term};

@@ -16,33 +16,33 @@ use std::thread;
 use std::thread::Threads;
 use term_text::read_term;
 
-/// How often a client looks for a flag before the test fails.
-const MOST_LOOKS: u32 = 1_000_000;
+/// How often a client polls a flag before the test fails.
+const MAX_POLLS: u32 = 1_000_000;
 
-/// A gate: the first calls of the clients 0 and 1 wait for each other, and the second call of client 0 waits for the
-/// reply to the second call of client 1.
+/// A gate for a reader, which is client 0, and a writer, which is client 1. Their first calls wait for each other, and
+/// the second call of the reader waits for the reply to the second call of the writer.
 #[derive(Drop)]
 struct Meeting {
-    zero_is_there: AtomicBool,
-    one_is_there: AtomicBool,
-    one_has_its_reply: AtomicBool,
+    reader_has_arrived: AtomicBool,
+    writer_has_arrived: AtomicBool,
+    writer_has_its_reply: AtomicBool,
     failed: AtomicBool,
 }
 
 impl Meeting {
-    /// Returns a gate at which nobody is yet.
+    /// Returns a gate at which no client has arrived.
     fn new() -> Meeting {
         Meeting {
-            zero_is_there: AtomicBool::new(false),
-            one_is_there: AtomicBool::new(false),
-            one_has_its_reply: AtomicBool::new(false),
+            reader_has_arrived: AtomicBool::new(false),
+            writer_has_arrived: AtomicBool::new(false),
+            writer_has_its_reply: AtomicBool::new(false),
             failed: AtomicBool::new(false),
         }
     }
 
-    /// Waits for a flag, and fails after `MOST_LOOKS` looks.
+    /// Waits for a flag, and fails after it has polled the flag `MAX_POLLS` times.
     fn wait_for(&self, flag: &AtomicBool) {
-        for _ in 0..MOST_LOOKS {
+        for _ in 0..MAX_POLLS {
             if flag.load(Ordering::SeqCst) {
                 return;
             }
@@ -56,26 +56,26 @@ impl Gate for Meeting {
     fn before(&self, client: usize, call: usize) {
         match (client, call) {
             (0, 0) => {
-                self.zero_is_there.store(true, Ordering::SeqCst);
-                self.wait_for(&self.one_is_there);
+                self.reader_has_arrived.store(true, Ordering::SeqCst);
+                self.wait_for(&self.writer_has_arrived);
             }
             (1, 0) => {
-                self.one_is_there.store(true, Ordering::SeqCst);
-                self.wait_for(&self.zero_is_there);
+                self.writer_has_arrived.store(true, Ordering::SeqCst);
+                self.wait_for(&self.reader_has_arrived);
             }
-            (0, 1) => self.wait_for(&self.one_has_its_reply),
+            (0, 1) => self.wait_for(&self.writer_has_its_reply),
             _ => {}
         }
     }
 
     fn after(&self, client: usize, call: usize) {
         if client == 1 && call == 1 {
-            self.one_has_its_reply.store(true, Ordering::SeqCst);
+            self.writer_has_its_reply.store(true, Ordering::SeqCst);
         }
     }
 }
 
-/// Returns two clients with their jobs. The first one, which has made the table, reads what the second one inserts.
+/// Returns a reader and a writer with their jobs. The reader, which has made the table, reads what the writer inserts.
 fn reader_and_writer<L: Ledger, R: Wait>(
     rt: &R,
     alloc: Global,
@@ -100,7 +100,7 @@ fn last_reply_is<L: Ledger>(alloc: Global, client: &Client<L>, wanted: &str) -> 
     }
 }
 
-/// Runs both clients, and returns them if the first one read what the second one inserted meanwhile.
+/// Runs both clients, and returns them if the reader found what the writer inserted meanwhile.
 fn run_meeting<L: Ledger + Send + Sync, R: Threads + Wait + Sync>(
     rt: &R,
     alloc: Global,
@@ -113,12 +113,13 @@ fn run_meeting<L: Ledger + Send + Sync, R: Threads + Wait + Sync>(
         return Err("one client waited in vain")?;
     }
     if !last_reply_is(alloc, clients.first().ok_or("a client")?, "[{a,1}]")? {
-        return Err("the object is not read")?;
+        return Err("the reader did not find the object")?;
     }
     Ok(clients)
 }
 
-/// Lets two clients meet in a new node. Returns how many entries process 0 has: its enrolment and three calls.
+/// Lets two clients meet in a new node, whose ledger has one part more than there are clients. Returns how many entries
+/// the reader has: its enrolment and three calls.
 fn entries_after_meeting<L: Ledger + Send + Sync, R: Threads + Wait + Sync>(
     rt: &R,
     alloc: Global,

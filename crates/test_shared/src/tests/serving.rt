@@ -20,13 +20,13 @@ const TABLE: [&str; 2] = [
 ];
 
 /// The same for a second table.
-const OTHER: [&str; 2] = [
+const OTHER_TABLE: [&str; 2] = [
     "[u,[named_table]]",
     "[u,[{1},{2},{3},{4},{5},{6},{7},{8},{9}]]",
 ];
 
 /// The same for a third table.
-const THIRD: [&str; 2] = [
+const THIRD_TABLE: [&str; 2] = [
     "[v,[named_table]]",
     "[v,[{1},{2},{3},{4},{5},{6},{7},{8},{9}]]",
 ];
@@ -78,9 +78,9 @@ fn pending_steps_run_in_turns<B: HistoryId, R: Wait>(
 ) -> Result<bool, Fail> {
     fill_table(rt, alloc, server, caller, TABLE)?;
     let first_table = server.keep(rt, 3) == 3 && server.keep(rt, 9) == 1 && server.keep(rt, 9) == 0;
-    fill_table(rt, alloc, server, caller, OTHER)?;
+    fill_table(rt, alloc, server, caller, OTHER_TABLE)?;
     let second_table = server.keep(rt, 9) == 4;
-    let is_filled = fill_table_at_once(rt, alloc, server, caller, THIRD)? == 2;
+    let is_filled = fill_table_at_once(rt, alloc, server, caller, THIRD_TABLE)? == 2;
     Ok(first_table && second_table && is_filled && server.keep(rt, 9) == 1)
 }
 

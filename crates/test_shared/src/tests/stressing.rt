@@ -43,11 +43,11 @@ const WRITERS: [u32; 2] = [25, 4];
 /// The number of teams: two with a writer, four with a reader.
 const TEAMS: u32 = 6;
 
-/// How many guests the team of a writer has, and how many keys its table starts with.
-const WRITER: (u32, u32) = (GUESTS, KEPT_KEYS);
+/// The team of a writer: how many guests it has, and how many keys its table starts with.
+const WRITER_TEAM: (u32, u32) = (GUESTS, KEPT_KEYS);
 
-/// The same for a reader.
-const READER: (u32, u32) = (0, 0);
+/// The same for the team of a reader.
+const READER_TEAM: (u32, u32) = (0, 0);
 
 /// Joins a caller for each seat.
 fn join_callers<B: HistoryId, R: Wait>(
@@ -107,7 +107,14 @@ fn form_teams<B: HistoryId, R: Wait>(
     let (pids, seats) = Pids::open(alloc, CALLERS).map_err(|_| "open")?;
     let mut callers = join_callers(rt, alloc, server, &pids, seats)?;
     let mut teams = Vec::new(alloc);
-    for (guests, keys) in [WRITER, WRITER, READER, READER, READER, READER] {
+    for (guests, keys) in [
+        WRITER_TEAM,
+        WRITER_TEAM,
+        READER_TEAM,
+        READER_TEAM,
+        READER_TEAM,
+        READER_TEAM,
+    ] {
         let mut team = take_team(alloc, &mut callers, guests)?;
         set_up(rt, alloc, server, team.last_mut().ok_or("a caller")?, keys).ok_or("a table")?;
         teams.push(team)?;
