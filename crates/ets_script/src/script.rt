@@ -126,8 +126,8 @@ impl<H: KeyHash + Copy + Drop> Script<H> {
     {
         match self.caller(name) {
             Some(pid) => {
-                let step = Step::Ask(pid, call);
-                self.step(&step, answer);
+                let mut step = Step::Ask(pid, call);
+                self.step(&mut step, answer);
                 self.keep_call(step);
                 self.run_pending_steps();
             }
@@ -193,7 +193,7 @@ impl<H: KeyHash + Copy + Drop> Script<H> {
             ⊎ Unchanged self.old NoMemory answer.new self.new }
     {
         match self.pid(name) {
-            Some(pid) => self.step(&Step::End(pid), answer),
+            Some(pid) => self.step(&mut Step::End(pid), answer),
             None => *answer = Answer::Replied(Reply::NoProcess),
         }
     }
@@ -205,7 +205,7 @@ impl<H: KeyHash + Copy + Drop> Script<H> {
             ⊎ Unchanged self.old NoMemory answer.new self.new }
     {
         let table = self.table(table);
-        self.step(&Step::Grow(table), answer);
+        self.step(&mut Step::Grow(table), answer);
     }
 
     /// Readies a bucket of the table that a term names.
@@ -215,7 +215,7 @@ impl<H: KeyHash + Copy + Drop> Script<H> {
             ⊎ Unchanged self.old NoMemory answer.new self.new }
     {
         let table = self.table(table);
-        self.step(&Step::Ready(table, bucket), answer);
+        self.step(&mut Step::Ready(table, bucket), answer);
     }
 
     /// Returns the process of a name.
@@ -274,14 +274,15 @@ impl<H: KeyHash + Copy + Drop> Script<H> {
         }
     }
 
-    /// Runs a step of the node. The reply uses the memory of the one before.
+    /// Runs a step of the node. The reply uses the memory of the one before. An object that is inserted moves out of the
+    /// step.
     #[inline(always)]
-    fn step(&mut self, step: &Step, answer: &mut Answer)
-        ensures { Steps self.old step.now answer.new self.new
+    fn step(&mut self, step: &mut Step, answer: &mut Answer)
+        ensures { Steps self.old step.old answer.new self.new
             ⊎ Unchanged self.old NoMemory answer.new self.new }
     {
         let done = match answer {
-            Answer::Replied(reply) => self.node.step_into(step, reply),
+            Answer::Replied(reply) => self.node.drain_step(step, reply),
             _ => {
                 *answer = self.step_anew(step);
                 return;

@@ -8,3 +8,4 @@ pub mod Removals
 pub mod Worlds
 pub mod Enrolling
 pub mod ReadCalls
+pub mod Inserting

@@ -1,4 +1,4 @@
-ghost use Rattle.std.specs.Prelude.{◌≡◌, None, option_copied, OnOk, OnErr};
+ghost use Rattle.std.specs.Prelude.{◌≡◌, [], ◌∷◌, None, option_copied, OnOk, OnErr};
 ghost use Rattle.counters.specs.declared.ops.Ops.TheVariants.{One};
 ghost use Rattle.counters.specs.declared.elements.ElementSpecs.TheVariants as elements;
 ghost use Rattle.table_ops.specs.Content.{objects_under, is_present};
@@ -74,6 +74,14 @@ impl<R: Rows> Walked<R> {
         ensures { RefinesChange (on_content (Inserts objects.now) self.old) self.old result self.new }
     {
         self.table.insert(objects)
+    }
+
+    /// Inserts an object as `insert` does, but moves it into the table. A refused object is dropped.
+    #[tactic(auto, using(crate::proofs::TombstoneLaws::no_tombstones))]
+    pub fn insert_own(&mut self, object: Term) -> Result<(), Refusal>
+        ensures { RefinesChange (on_content (Inserts (object ∷ [])) self.old) self.old result self.new }
+    {
+        self.table.insert_own(object)
     }
 
     /// Inserts objects if none of their keys has an object, and returns whether it did (stdlib manual,

@@ -86,7 +86,7 @@ impl<H: KeyHash + Copy + Drop> Node<H> {
 
     /// Writes the refusal that does not depend on the call's name, if one applies, and returns whether it did.
     #[inline(always)]
-    fn refuse_early(&self, pid: u32, args: &[Term], reply: &mut Reply) -> bool
+    pub(super) fn refuse_early(&self, pid: u32, args: &[Term], reply: &mut Reply) -> bool
         ensures { RefusesEarly self.now pid args.now result reply.old reply.new }
     {
         if !self.world.lives(pid) {
@@ -147,7 +147,7 @@ fn is_too_deep(term: &Term) -> bool
 
 /// Writes the refusal of a call that was refused; running out of memory is an error.
 #[inline(always)]
-fn write_refusal(call: Result<(), Refusal>, reply: &mut Reply) -> Result<(), AllocError>
+pub(super) fn write_refusal(call: Result<(), Refusal>, reply: &mut Reply) -> Result<(), AllocError>
     ensures { RefusalToReply (to_reply (λ _. reply.old) call) (to_reply (λ _. reply.new) result) }
 {
     match call {

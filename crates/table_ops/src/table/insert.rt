@@ -1,5 +1,6 @@
-ghost use Rattle.std.specs.Prelude.{◌≡◌, [], ◌∷◌, true};
+ghost use Rattle.std.specs.Prelude.{◌≡◌, [], ◌∷◌, true, false, Err, MatchOption};
 ghost use Rattle.std.specs.List.{list_all, list_any};
+ghost use Rattle.ets_term.specs.Depth.{is_too_deep};
 ghost use Rattle.table_ops.specs.Content.{is_object};
 ghost use Rattle.table_ops.specs.Put.{is_taken, Inserts, InsertsNew, InsertsWithinLimit};
 ghost use Rattle.table_ops.specs.Refusals.{RefinesChange};
@@ -24,19 +25,57 @@ impl<R: Rows> Table<R> {
         }
     }
 
-    /// Inserts one object, which is what most calls insert.
+    /// Inserts a copy of one object, which is what most calls insert.
     fn insert_one(&mut self, object: &Term) -> Result<(), Refusal>
         ensures content { RefinesChange (Inserts (object.now ∷ []) self.old.content)
             self.old.content result self.new.content }
         ensures buckets { self.new.buckets ≡ self.old.buckets }
     {
-        let Some(key) = key_of(self.inner.keypos, object) else {
-            return Err(Refusal::Badarg);
-        };
-        if object.is_too_deep() {
-            return Err(Refusal::SystemLimit);
+        if let Some(refusal) = self.refusal_of(object) {
+            return Err(refusal);
         }
-        let count = self.inner.put_one(self.count, key, object)?;
+        let copy = object.try_clone(self.inner.alloc)?;
+        self.put_checked(copy)
+    }
+
+    /// Inserts an object as `insert` does, but moves it into the table. A refused object is dropped.
+    pub fn insert_own(&mut self, object: Term) -> Result<(), Refusal>
+        ensures content { RefinesChange (Inserts (object ∷ []) self.old.content)
+            self.old.content result self.new.content }
+        ensures buckets { self.new.buckets ≡ self.old.buckets }
+    {
+        if let Some(refusal) = self.refusal_of(&object) {
+            return Err(refusal);
+        }
+        self.put_checked(object)
+    }
+
+    /// Returns why a term cannot be inserted, if it is no object or too deep.
+    fn refusal_of(&self, object: &Term) -> Option<Refusal>
+        ensures { MatchOption result
+            ((is_object self.now.content.keypos object.now ≡ true)
+            × (is_too_deep object.now ≡ false))
+            (λ refusal. RefinesChange (Inserts (object.now ∷ []) self.now.content)
+            self.now.content (Err refusal) self.now.content) }
+    {
+        if key_of(self.inner.keypos, object).is_none() {
+            return Some(Refusal::Badarg);
+        }
+        if object.is_too_deep() {
+            return Some(Refusal::SystemLimit);
+        }
+        None
+    }
+
+    /// Inserts an object that `refusal_of` does not refuse.
+    fn put_checked(&mut self, object: Term) -> Result<(), Refusal>
+        requires object { is_object self.old.content.keypos object ≡ true }
+        requires shallow { is_too_deep object ≡ false }
+        ensures content { RefinesChange (Inserts (object ∷ []) self.old.content)
+            self.old.content result self.new.content }
+        ensures buckets { self.new.buckets ≡ self.old.buckets }
+    {
+        let count = self.inner.put_one(self.count, object)?;
         self.count = count;
         Ok(())
     }

@@ -1,6 +1,6 @@
-ghost use Rattle.std.specs.Prelude.{◌≡◌, ◌||◌, ◌∷◌, [], None, IsSome, OnOk, OnErr};
-ghost use Rattle.bucket_table.specs.Slots.{objects_of, has_objects, Enters};
-ghost use Rattle.bucket_table.specs.Entries.{IsEntry, HasOneObject, with_objects_in};
+ghost use Rattle.std.specs.Prelude.{◌≡◌, ◌||◌, None, IsSome};
+ghost use Rattle.bucket_table.specs.Slots.{objects_of, has_objects};
+ghost use Rattle.bucket_table.specs.Entries.{IsEntry};
 ghost use Rattle.table_ops.specs.declared.kind.Kind.TheVariants.{Set, Bag, DuplicateBag};
 ghost use Rattle.table_ops.specs.Update.{is_set};
 ghost use Rattle.table_ops.specs.Content.{FitsKind, objects_under};
@@ -15,10 +15,10 @@ use crate::undo::Undo;
 use bucket_table::{Place, Rows, SlotEntry};
 use ets_term::Term;
 use node_list::Chain;
-use std::alloc::AllocError;
 
 impl<R: Rows> TableRows<R> {
-    /// Inserts one object where the search for its key ended. `below_limit` says whether one more object is allowed.
+    /// Inserts a copy of one object where the search for its key ended. `below_limit` says whether one more object is
+    /// allowed.
     pub(crate) fn put(
         &mut self,
         below_limit: bool,
@@ -33,75 +33,68 @@ impl<R: Rows> TableRows<R> {
             (R.content self.old.rows) result (R.content self.new.rows) }
         ensures keeps { ChangesSlotsOnly R.readiness self.old self.new }
     {
+        let copy = object.try_clone(self.alloc)?;
         match entry {
-            SlotEntry::Vacant(hash) => self.put_new(below_limit, hash, key, object),
-            SlotEntry::Occupied(place) => match self.kind {
-                Kind::Set => self.put_in_set(below_limit, place, object),
-                Kind::Bag => self.put_in_bag(below_limit, place, object),
-                Kind::DuplicateBag => self.put_last(below_limit, place, object),
-            },
+            SlotEntry::Vacant(hash) => self.put_new(below_limit, hash, key, copy),
+            SlotEntry::Occupied(place) => self.put_in_slot(below_limit, place, copy),
         }
     }
 
-    /// Inserts an object with a new slot.
+    /// Inserts one object in the slot at a place.
+    pub(crate) fn put_in_slot(
+        &mut self,
+        below_limit: bool,
+        place: Place,
+        object: Term,
+    ) -> Result<Undo, Refusal>
+        requires { ForKey (R.key_at self.old.rows place) (λ key.
+            FitsKind self.old.kind (objects_under (R.content self.old.rows) key)) }
+        ensures slots { PutsAt below_limit self.old.kind (R.key_at self.old.rows place) object
+            (R.content self.old.rows) result (R.content self.new.rows) }
+        ensures keeps { ChangesSlotsOnly R.readiness self.old self.new }
+    {
+        match self.kind {
+            Kind::Set => self.put_in_set(below_limit, place, object),
+            Kind::Bag => self.put_in_bag(below_limit, place, object),
+            Kind::DuplicateBag => self.put_last(below_limit, place, object),
+        }
+    }
+
+    /// Inserts an object with a new slot, under a copy of its key. `hash` must be the key's hash.
     fn put_new(
         &mut self,
         below_limit: bool,
         hash: u32,
         key: &Term,
-        object: &Term,
+        object: Term,
     ) -> Result<Undo, Refusal>
         requires new { objects_of (R.content self.old.rows) key.now ≡ None }
         requires hash { hash ≡ R.hash_of self.old.rows key.now }
-        ensures slots { PutsOne below_limit self.old.kind key.now object.now
+        ensures slots { PutsOne below_limit self.old.kind key.now object
             (R.content self.old.rows) result (R.content self.new.rows) }
         ensures keeps { ChangesSlotsOnly R.readiness self.old self.new }
     {
         if !below_limit {
             return Err(Refusal::SystemLimit);
         }
-        self.insert_copies(hash, key, object)?;
+        let own_key = copy_key(self.alloc, key)?;
+        let chain = Chain::one(self.alloc, object);
+        self.rows.put_at(hash, own_key, chain)?;
         Ok(Undo::NewSlot)
     }
 
-    /// Inserts a slot with copies of a key that has none and of its object. `hash` must be the key's hash.
-    pub(crate) fn insert_copies(
-        &mut self,
-        hash: u32,
-        key: &Term,
-        object: &Term,
-    ) -> Result<(), AllocError>
-        requires new { objects_of (R.content self.old.rows) key.now ≡ None }
-        requires hash { hash ≡ R.hash_of self.old.rows key.now }
-        ensures ok { OnOk result (Enters (R.content self.old.rows) key.now (object.now ∷ [])
-            (R.content self.new.rows)) }
-        ensures err { OnErr result (R.content self.new.rows ≡ R.content self.old.rows) }
-        ensures keeps { ChangesSlotsOnly R.readiness self.old self.new }
-    {
-        let own_key = copy_key(self.alloc, key)?;
-        let copy = object.try_clone(self.alloc)?;
-        self.rows
-            .put_at(hash, own_key, Chain::one(self.alloc, copy))
-    }
-
     /// Replaces the object of a set's slot, or fills a tombstone.
-    fn put_in_set(
-        &mut self,
-        below_limit: bool,
-        place: Place,
-        object: &Term,
-    ) -> Result<Undo, Refusal>
+    fn put_in_set(&mut self, below_limit: bool, place: Place, object: Term) -> Result<Undo, Refusal>
         requires { ForKey (R.key_at self.old.rows place) (λ key.
             FitsKind Set (objects_under (R.content self.old.rows) key)) }
-        ensures slots { PutsAt below_limit Set (R.key_at self.old.rows place) object.now
+        ensures slots { PutsAt below_limit Set (R.key_at self.old.rows place) object
             (R.content self.old.rows) result (R.content self.new.rows) }
         ensures keeps { ChangesSlotsOnly R.readiness self.old self.new }
     {
         if !may_insert(below_limit, self.rows.objects_at(place)) {
             return Err(Refusal::SystemLimit);
         }
-        let copy = object.try_clone(self.alloc)?;
-        let was = self.rows.replace_at(place, Chain::one(self.alloc, copy));
+        let was = self.rows.replace_at(place, Chain::one(self.alloc, object));
         Ok(Undo::Objects(was))
     }
 
@@ -112,50 +105,31 @@ impl<R: Rows> TableRows<R> {
         self.kind == Kind::Set
     }
 
-    /// Replaces the only object of a slot by a copy of another.
-    pub(crate) fn replace_only(&mut self, place: Place, object: &Term) -> Result<(), AllocError>
-        requires { HasOneObject (R.content self.old.rows) (R.key_at self.old.rows place) }
-        ensures ok { OnOk result (R.content self.new.rows ≡ with_objects_in (R.content self.old.rows)
-            (R.key_at self.old.rows place) (object.now ∷ [])) }
-        ensures err { OnErr result (R.content self.new.rows ≡ R.content self.old.rows) }
-        ensures keeps { ChangesSlotsOnly R.readiness self.old self.new }
-    {
-        let copy = object.try_clone(self.alloc)?;
-        let _ = self.rows.replace_one_at(place, copy);
-        Ok(())
-    }
-
     /// Appends an object to the slot of a bag, unless it is already there.
-    fn put_in_bag(
-        &mut self,
-        below_limit: bool,
-        place: Place,
-        object: &Term,
-    ) -> Result<Undo, Refusal>
+    fn put_in_bag(&mut self, below_limit: bool, place: Place, object: Term) -> Result<Undo, Refusal>
         requires { IsSome (R.key_at self.old.rows place) }
-        ensures slots { PutsAt below_limit Bag (R.key_at self.old.rows place) object.now
+        ensures slots { PutsAt below_limit Bag (R.key_at self.old.rows place) object
             (R.content self.old.rows) result (R.content self.new.rows) }
         ensures keeps { ChangesSlotsOnly R.readiness self.old self.new }
     {
-        if contains(self.rows.objects_at(place), object) {
+        if contains(self.rows.objects_at(place), &object) {
             return Ok(Undo::Nothing);
         }
         self.put_last(below_limit, place, object)
     }
 
     /// Appends an object to a slot.
-    fn put_last(&mut self, below_limit: bool, place: Place, object: &Term) -> Result<Undo, Refusal>
+    fn put_last(&mut self, below_limit: bool, place: Place, object: Term) -> Result<Undo, Refusal>
         requires { IsSome (R.key_at self.old.rows place) }
-        ensures slots { PutsAt below_limit DuplicateBag (R.key_at self.old.rows place) object.now
+        ensures slots { PutsAt below_limit DuplicateBag (R.key_at self.old.rows place) object
             (R.content self.old.rows) result (R.content self.new.rows) }
         ensures keeps { ChangesSlotsOnly R.readiness self.old self.new }
     {
         if !below_limit {
             return Err(Refusal::SystemLimit);
         }
-        let copy = object.try_clone(self.alloc)?;
         let mut objects = self.rows.replace_at(place, Chain::new(self.alloc));
-        let pushed = objects.push(copy);
+        let pushed = objects.push(object);
         let _ = self.rows.replace_at(place, objects);
         let Ok(()) = pushed else {
             return Err(Refusal::Memory);

@@ -1,13 +1,12 @@
-ghost use Rattle.std.specs.Prelude.{◌≡◌, ◌≤◌, ◌∷◌, [], true, false, Some, IsSome, length};
+ghost use Rattle.std.specs.Prelude.{◌≡◌, ◌≤◌, ◌∷◌, [], true, false, length};
 ghost use Rattle.std.specs.List.{list_all, list_any};
 ghost use Rattle.ets_term.specs.Depth.{is_too_deep};
-ghost use Rattle.bucket_table.specs.Slots.{objects_of};
 ghost use Rattle.table_ops.specs.Content.{AreSlots, is_object, key_of};
 ghost use Rattle.table_ops.specs.inside.TableRows.{ChangesSlotsOnly, TableRowsInvariant};
 ghost use Rattle.table_ops.specs.inside.Undo.{PutsObject, PutsEach, after_undo, after_roll_back};
 
 use super::TableRows;
-use crate::object::key_of;
+use crate::object::{copy_key, key_of};
 use crate::refusal::Refusal;
 use crate::undo::Undo;
 use bucket_table::{Place, Rows, SlotEntry};
@@ -17,53 +16,45 @@ use node_list::Chain;
 impl<R: Rows> TableRows<R> {
     /// Inserts a single object, without an undo log. `before` is how many objects the table has; returns how many it has
     /// then. If the key has no slot, the object goes straight to the rows.
-    pub(crate) fn put_one(
-        &mut self,
-        before: usize,
-        key: &Term,
-        object: &Term,
-    ) -> Result<usize, Refusal>
-        requires object { key_of self.old.keypos object.now ≡ Some key.now }
+    pub(crate) fn put_one(&mut self, before: usize, object: Term) -> Result<usize, Refusal>
+        requires object { is_object self.old.keypos object ≡ true }
         requires holds { TableRowsInvariant R.content self.old before }
-        ensures slots { PutsEach self.old.limit self.old.kind self.old.keypos (object.now ∷ [])
+        ensures slots { PutsEach self.old.limit self.old.kind self.old.keypos (object ∷ [])
             (R.content self.old.rows) result (R.content self.new.rows) }
         ensures keeps { ChangesSlotsOnly R.readiness self.old self.new }
     {
+        let Some(key) = key_of(self.keypos, &object) else {
+            unreachable!()
+        };
         match self.rows.entry(key) {
             SlotEntry::Vacant(hash) => {
                 if before >= self.limit as usize {
                     return Err(Refusal::SystemLimit);
                 }
-                self.insert_copies(hash, key, object)?;
+                let own_key = copy_key(self.alloc, key)?;
+                let chain = Chain::one(self.alloc, object);
+                self.rows.put_at(hash, own_key, chain)?;
                 Ok(before + 1)
             }
-            SlotEntry::Occupied(place) => self.put_one_at(before, place, key, object),
+            SlotEntry::Occupied(place) => self.put_one_at(before, place, object),
         }
     }
 
     /// Inserts a single object in the slot of its key. Returns how many objects the table has then.
     #[inline(never)]
-    fn put_one_at(
-        &mut self,
-        before: usize,
-        place: Place,
-        key: &Term,
-        object: &Term,
-    ) -> Result<usize, Refusal>
-        requires object { key_of self.old.keypos object.now ≡ Some key.now }
-        requires place { R.key_at self.old.rows place ≡ Some key.now }
-        requires has { IsSome (objects_of (R.content self.old.rows) key.now) }
+    fn put_one_at(&mut self, before: usize, place: Place, object: Term) -> Result<usize, Refusal>
+        requires object { is_object self.old.keypos object ≡ true }
+        requires place { R.key_at self.old.rows place ≡ key_of self.old.keypos object }
         requires holds { TableRowsInvariant R.content self.old before }
-        ensures slots { PutsEach self.old.limit self.old.kind self.old.keypos (object.now ∷ [])
+        ensures slots { PutsEach self.old.limit self.old.kind self.old.keypos (object ∷ [])
             (R.content self.old.rows) result (R.content self.new.rows) }
         ensures keeps { ChangesSlotsOnly R.readiness self.old self.new }
     {
         if self.is_set() && !self.rows.objects_at(place).is_empty() {
-            self.replace_only(place, object)?;
+            let _ = self.rows.replace_one_at(place, object);
             return Ok(before);
         }
-        let entry = SlotEntry::Occupied(place);
-        let undo = self.put(before < self.limit as usize, entry, key, object)?;
+        let undo = self.put_in_slot(before < self.limit as usize, place, object)?;
         Ok(before + undo.added_objects())
     }
 

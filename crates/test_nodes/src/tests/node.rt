@@ -9,6 +9,7 @@ use std::alloc::{AllocError, Global};
 mod depths;
 mod growth;
 mod long;
+mod owned;
 mod processes;
 mod reads;
 mod refused;

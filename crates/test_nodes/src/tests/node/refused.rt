@@ -8,7 +8,7 @@ use std::alloc::{AllocError, Global};
 use std::process::Abort;
 
 /// Builds the step of an event, again if memory runs out.
-fn build_step_with_retry(alloc: Global, event: Event) -> Result<Step, AllocError> {
+pub(super) fn build_step_with_retry(alloc: Global, event: Event) -> Result<Step, AllocError> {
     match build_step(alloc, event) {
         Ok(step) => Ok(step),
         Err(_) => build_step(alloc, event),
@@ -24,7 +24,7 @@ fn reply_with_retry(node: &mut Node<Fnv>, step: &Step) -> Result<Reply, AllocErr
 }
 
 /// Returns whether the text is that of the reply, compared again if memory runs out.
-fn reply_has_text_with_retry(
+pub(super) fn reply_has_text_with_retry(
     alloc: Global,
     reply: &Reply,
     wanted: &str,

@@ -1,0 +1,137 @@
+// Steps that a node consumes: a single object that is inserted moves into its table.
+ghost use Rattle.std.specs.Prelude.{◌≡◌, true, [], ◌∷◌, Some, OnOk, OnErr};
+ghost use Rattle.node_core.specs.Access.{writes};
+ghost use Rattle.node_core.specs.CallName.{call_name};
+ghost use Rattle.node_core.specs.Calls.{call};
+ghost use Rattle.node_core.specs.Machine.{step};
+ghost use Rattle.node_core.specs.Observable.{observable};
+ghost use Rattle.node_core.specs.declared.call_name.CallName.TheVariants as name;
+ghost use Rattle.node_core.specs.declared.step.Reply.TheVariants.{NoProcess};
+ghost use Rattle.node_core.specs.declared.step.Step.TheVariants.{Ask};
+ghost use Rattle.node_core.specs.rules.Growth.{step_on_buckets};
+ghost use Rattle.node_core.specs.rules.Insertion.{objects_in, Insert};
+ghost use Rattle.node_core.specs.rules.Replies.{true_reply};
+ghost use Rattle.node_core.specs.inside.Inserting.{AreTableAndObject, InsertsOne};
+ghost use Rattle.node_core.specs.inside.Refusals.{RefinesInto, RefinesReply, to_reply};
+ghost use Rattle.node_core.specs.inside.ReplyReserve.{StepsWithBuckets};
+
+use super::Node;
+use super::access::Access;
+use super::ask::write_refusal;
+use super::replies::write_true;
+use crate::call_name::CallName;
+use crate::step::{Call, Reply, Step};
+use ets_term::{Items, KeyHash, Term};
+use std::alloc::AllocError;
+use table_ops::Refusal;
+
+impl<H: KeyHash + Copy + Drop> Node<H> {
+    /// Like `step_into`, but consumes the step: the object of a single insertion moves into the table and is not copied.
+    pub fn step_own(&mut self, mut event: Step, reply: &mut Reply) -> Result<(), AllocError>
+        ensures ok { OnOk result
+            (step (observable self.old) event reply.new (observable self.new)) }
+        ensures buckets { OnOk result (step_on_buckets self.old event reply.new self.new) }
+        ensures err { OnErr result ((self.new ≡ self.old) × (reply.new ≡ NoProcess)) }
+    {
+        self.drain_step(&mut event, reply)
+    }
+
+    /// Runs a step as `step_own` does, and leaves its memory: a step that may lack the object.
+    pub fn drain_step(&mut self, event: &mut Step, reply: &mut Reply) -> Result<(), AllocError>
+        ensures ok { OnOk result
+            (step (observable self.old) event.old reply.new (observable self.new)) }
+        ensures buckets { OnOk result (step_on_buckets self.old event.old reply.new self.new) }
+        ensures err { OnErr result ((self.new ≡ self.old) × (reply.new ≡ NoProcess)) }
+    {
+        let done = self.dispatch_own(event, reply);
+        self.prune_pending();
+        if let Err(error) = done {
+            *reply = Reply::NoProcess;
+            return Err(error);
+        }
+        Ok(())
+    }
+
+    /// Does the same, but may move the object out of the step.
+    fn dispatch_own(&mut self, event: &mut Step, reply: &mut Reply) -> Result<(), AllocError>
+        ensures ok { OnOk result (StepsWithBuckets self.old event.old reply.new self.new) }
+        ensures err { OnErr result (self.new ≡ self.old) }
+    {
+        match event {
+            Step::Ask(pid, call) => self.ask_own(*pid, call, reply),
+            _ => self.dispatch_rare(event, reply),
+        }
+    }
+
+    /// Makes a call as `ask` does, but moves the object of a single insertion out of the call.
+    #[inline(never)]
+    fn ask_own(&mut self, pid: u32, call: &mut Call, reply: &mut Reply) -> Result<(), AllocError>
+        ensures ok { OnOk result (step self.old (Ask pid call.old) reply.new self.new) }
+        ensures err { OnErr result (self.new ≡ self.old) }
+    {
+        if !inserts_one(call) {
+            return self.ask(pid, call, reply);
+        }
+        if self.refuse_early(pid, call.args.as_slice(), reply) {
+            return Ok(());
+        }
+        let result = self.insert_last(pid, &mut call.args, reply);
+        write_refusal(result, reply)
+    }
+
+    /// Moves the last argument of an insertion into the table that the first one names, and writes the reply.
+    #[inline(always)]
+    fn insert_last(
+        &mut self,
+        pid: u32,
+        args: &mut Items<Term>,
+        reply: &mut Reply,
+    ) -> Result<(), Refusal>
+        requires { AreTableAndObject args.old }
+        ensures { RefinesInto (call self.old pid name.Insert args.old) self.old result reply.new self.new }
+    {
+        let Some(object) = args.pop() else {
+            unreachable!()
+        };
+        let rest = args.as_slice();
+        let result = self.insert_own(pid, &rest[0], object);
+        write_true(self.alloc, result, reply)
+    }
+
+    /// Inserts a single object, which moves into the table.
+    fn insert_own(&mut self, pid: u32, table: &Term, object: Term) -> Result<(), Refusal>
+        requires { objects_in object ≡ object ∷ [] }
+        ensures { RefinesReply (writes self.old pid table.now (Insert object))
+            self.old (to_reply (λ _. true_reply) result) self.new }
+    {
+        let Some(table) = self.usable_table_mut(Access::Write, pid, table) else {
+            return Err(Refusal::Badarg);
+        };
+        table.insert_own(object)?;
+        Ok(())
+    }
+}
+
+/// Checks whether a call inserts a single object.
+fn inserts_one(call: &Call) -> bool
+    ensures { result ≡ true → InsertsOne call.now }
+{
+    match call.args.as_slice() {
+        [_, object] => is_tuple(object) && is_insert(call),
+        _ => false,
+    }
+}
+
+/// Checks whether an argument is a tuple, and so a single object.
+fn is_tuple(term: &Term) -> bool
+    ensures { result ≡ true → objects_in term.now ≡ term.now ∷ [] }
+{
+    matches!(term, Term::Tuple(_))
+}
+
+/// Checks whether the name of a call is `insert`.
+fn is_insert(call: &Call) -> bool
+    ensures { result ≡ true → call_name call.now.name ≡ Some name.Insert }
+{
+    matches!(CallName::read(call.name.text()), Some(CallName::Insert))
+}
