@@ -35,6 +35,7 @@ impl Indices {
     }
 
     /// Clears the dirty mark. Lists the dirty table if it is fixed. This takes no memory.
+    #[inline(never)]
     pub(super) fn flush_dirty<R: Rows>(&mut self, tables: &[Option<OwnedTable<R>>])
         requires indices { IndicesInvariant self.old tables.now }
         ensures indices { IndicesInvariant self.new tables.now }

@@ -18,8 +18,16 @@ impl Indices {
     {
         match self.if_last_entry(name) {
             Some(id) => Some(id),
-            None => self.names.get(name.text()).copied(),
+            None => self.look_up(name),
         }
+    }
+
+    /// Returns the identifier under this name in the index, by its hash. It is out of the way of the last entry.
+    #[inline(never)]
+    fn look_up(&self, name: &Atom) -> Option<u32>
+        ensures { result ≡ get_by_text self.now.names name.now }
+    {
+        self.names.get(name.text()).copied()
     }
 
     /// Returns the identifier in the last entry of the index, if the entry has this name.
