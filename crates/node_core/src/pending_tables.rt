@@ -104,6 +104,7 @@ impl PendingTables {
     }
 
     /// Queues an identifier, unless the queue has it.
+    #[inline(never)]
     pub fn insert(&mut self, id: u32)
         requires { HasRoomFor self.old id }
         ensures new { IsAmong self.new.ordered id }

@@ -24,6 +24,7 @@ impl<H: KeyHash + Copy + Drop> Node<H> {
     ghost use Rattle.node_core.specs.inside.Lending.{LendsTable, LendsUsable};
 
     /// Returns the table that a term names, if the process may read it.
+    #[inline(always)]
     pub(crate) fn readable_table(&self, pid: u32, term: &Term) -> Option<&Walked<SplitRows<H>>>
         ensures { option_copied result ≡ usable_fixed Read self.now.world.tables pid term.now }
     {
@@ -38,6 +39,7 @@ impl<H: KeyHash + Copy + Drop> Node<H> {
     /// Borrows the table that a term names for a change, if the process may use it in this way.
     // `lends`: when the borrow ends, this table has what the borrower wrote, and the rest of the node's state is as
     // before. If the result is `None`, all of it is as before.
+    #[inline(always)]
     pub(crate) fn usable_table_mut(
         &mut self,
         access: Access,
@@ -59,6 +61,7 @@ impl<H: KeyHash + Copy + Drop> Node<H> {
     }
 
     /// Borrows the table with an identifier for a change, and marks it dirty: it may have a pending step afterwards.
+    #[inline(always)]
     pub(crate) fn table_mut(&mut self, id: u32) -> Option<&mut Walked<SplitRows<H>>>
         ensures* lends { sem 𝓛
             (LendsTable H.row H.KeyHash H.Clone ⟦<SplitRows<H> as Rows>⟧ self.entry id result) }

@@ -1,5 +1,5 @@
 // Calls of a process.
-ghost use Rattle.std.specs.Prelude.{◌≡◌, false, if◌then◌else◌, Some, None, IfOk, OnOk, OnErr};
+ghost use Rattle.std.specs.Prelude.{◌≡◌, false, if◌then◌else◌, Some, None, Err, IfOk, OnOk, OnErr};
 ghost use Rattle.std.specs.List.{list_any};
 ghost use Rattle.ets_term.specs.Depth.{is_too_deep};
 ghost use Rattle.node_core.specs.Machine.{step};
@@ -10,6 +10,7 @@ ghost use Rattle.node_core.specs.declared.step.Step.TheVariants.{Ask};
 ghost use Rattle.node_core.specs.inside.Refusals.{RefusesEarly, to_reply, RefusalToReply};
 
 use super::Node;
+use super::replies::{write_badarg, write_no_process, write_system_limit};
 use crate::call_name::CallName;
 use crate::step::{Call, Reply};
 use ets_term::{KeyHash, Term};
@@ -67,7 +68,7 @@ impl<H: KeyHash + Copy + Drop> Node<H> {
     }
 
     /// Makes a call, and writes its reply.
-    #[inline(never)]
+    #[inline(always)]
     pub(crate) fn ask(&mut self, pid: u32, call: &Call, reply: &mut Reply) -> Result<(), AllocError>
         ensures ok { OnOk result (step self.old (Ask pid call.now) reply.new self.new) }
         ensures err { OnErr result (self.new ≡ self.old) }
@@ -77,7 +78,7 @@ impl<H: KeyHash + Copy + Drop> Node<H> {
             return Ok(());
         }
         let Some(name) = CallName::read(call.name.text()) else {
-            *reply = Reply::Badarg;
+            write_badarg(reply);
             return Ok(());
         };
         let result = self.make_call(pid, name, args, reply);
@@ -90,11 +91,11 @@ impl<H: KeyHash + Copy + Drop> Node<H> {
         ensures { RefusesEarly self.now pid args.now result reply.old reply.new }
     {
         if !self.world.lives(pid) {
-            *reply = Reply::NoProcess;
+            write_no_process(reply);
             return true;
         }
         if any_too_deep(args) {
-            *reply = Reply::SystemLimit;
+            write_system_limit(reply);
             return true;
         }
         false
@@ -151,10 +152,20 @@ pub(super) fn write_refusal(call: Result<(), Refusal>, reply: &mut Reply) -> Res
     ensures { RefusalToReply (to_reply (λ _. reply.old) call) (to_reply (λ _. reply.new) result) }
 {
     match call {
-        Ok(()) => {}
-        Err(Refusal::Badarg) => *reply = Reply::Badarg,
-        Err(Refusal::SystemLimit) => *reply = Reply::SystemLimit,
-        Err(Refusal::Memory) => return Err(AllocError),
+        Ok(()) => Ok(()),
+        Err(refusal) => write_refused(refusal, reply),
+    }
+}
+
+/// Writes a refusal, out of the way of calls that are not refused.
+#[inline(never)]
+fn write_refused(refusal: Refusal, reply: &mut Reply) -> Result<(), AllocError>
+    ensures { RefusalToReply (Err refusal) (to_reply (λ _. reply.new) result) }
+{
+    match refusal {
+        Refusal::Badarg => *reply = Reply::Badarg,
+        Refusal::SystemLimit => *reply = Reply::SystemLimit,
+        Refusal::Memory => return Err(AllocError),
     }
     Ok(())
 }

@@ -1,7 +1,6 @@
 // The calls: each name, by the number of its arguments, with its method. Those that change nothing come first.
 ghost use Rattle.std.specs.Prelude.{◌≡◌, [], ◌∷◌, false};
 ghost use Rattle.node_core.specs.Calls.{call};
-ghost use Rattle.node_core.specs.declared.call_name.CallName.TheVariants.{UpdateCounter};
 ghost use Rattle.node_core.specs.Reads.{reads_only};
 ghost use Rattle.node_core.specs.inside.Refusals.{RefinesInto, RefinesRead};
 
@@ -28,17 +27,14 @@ impl<H: KeyHash + Copy + Drop> Node<H> {
         match args {
             [x, y] => match name {
                 CallName::Lookup => self.lookup(pid, x, y, reply),
-                CallName::Member => write_truth(self.alloc, self.member(pid, x, y), reply),
-                CallName::Insert => write_true(self.alloc, self.insert(pid, x, y), reply),
-                CallName::Delete => write_true(self.alloc, self.delete(pid, x, y), reply),
+                CallName::Member => self.member_into(pid, x, y, reply),
+                CallName::Insert => self.insert_into(pid, x, y, reply),
+                CallName::Delete => self.delete_into(pid, x, y, reply),
                 _ => self.make_rare_call(pid, name, args, reply),
             },
             [x, y, z] => match name {
-                CallName::UpdateCounter => self.count(pid, x, y, z, reply),
-                CallName::UpdateElement => {
-                    let is_written = self.update_element(pid, x, y, z, None);
-                    write_truth(self.alloc, is_written, reply)
-                }
+                CallName::UpdateCounter => self.update_counter_into(pid, x, y, z, None, reply),
+                CallName::UpdateElement => self.update_element_into(pid, x, y, z, None, reply),
                 _ => self.make_rare_call(pid, name, args, reply),
             },
             _ => self.make_rare_call(pid, name, args, reply),
@@ -62,23 +58,6 @@ impl<H: KeyHash + Copy + Drop> Node<H> {
         }
     }
 
-    /// Makes `update_counter` without a Default.
-    #[inline(never)]
-    fn count(
-        &mut self,
-        pid: u32,
-        table: &Term,
-        key: &Term,
-        updates: &Term,
-        reply: &mut Reply,
-    ) -> Result<(), Refusal>
-        ensures { RefinesInto
-            (call self.old pid UpdateCounter (table.now ∷ key.now ∷ updates.now ∷ []))
-            self.old result reply.new self.new }
-    {
-        write_value(self.update_counter(pid, table, key, updates, None), reply)
-    }
-
     /// Makes a call that changes nothing, and writes its reply; returns `None` for any other call.
     pub(crate) fn read_call(
         &self,
@@ -93,7 +72,7 @@ impl<H: KeyHash + Copy + Drop> Node<H> {
             [x] => self.read_call_of_one(pid, name, x, reply),
             [x, y] => match name {
                 CallName::Lookup => Some(self.lookup(pid, x, y, reply)),
-                CallName::Member => Some(write_truth(self.alloc, self.member(pid, x, y), reply)),
+                CallName::Member => Some(self.member_into(pid, x, y, reply)),
                 _ => self.read_call_of_two(pid, name, x, y, reply),
             },
             [x, y, z] => match name {
@@ -150,7 +129,7 @@ impl<H: KeyHash + Copy + Drop> Node<H> {
             CallName::Lookup => Some(self.lookup(pid, x, y, reply)),
             CallName::Match => Some(write_reply(self.match_bindings(pid, x, y), reply)),
             CallName::MatchObject => Some(write_reply(self.match_object(pid, x, y), reply)),
-            CallName::Member => Some(write_truth(self.alloc, self.member(pid, x, y), reply)),
+            CallName::Member => Some(self.member_into(pid, x, y, reply)),
             CallName::Next => Some(write_reply(self.next(pid, x, y), reply)),
             CallName::NextLookup => Some(write_reply(self.next_lookup(pid, x, y), reply)),
             CallName::Select => Some(write_reply(self.select(pid, x, y), reply)),
@@ -179,25 +158,22 @@ impl<H: KeyHash + Copy + Drop> Node<H> {
             [x, y] => self.change_call_of_two(pid, name, x, y, reply),
             [x, y, z] => match name {
                 CallName::GiveAway => write_reply(self.give_away(pid, x, y, z), reply),
-                CallName::UpdateCounter => {
-                    write_value(self.update_counter(pid, x, y, z, None), reply)
-                }
-                CallName::UpdateElement => {
-                    let is_written = self.update_element(pid, x, y, z, None);
-                    write_truth(self.alloc, is_written, reply)
-                }
+                CallName::UpdateCounter => self.update_counter_into(pid, x, y, z, None, reply),
+                CallName::UpdateElement => self.update_element_into(pid, x, y, z, None, reply),
                 _ => Err(Refusal::Badarg),
             },
-            [x, y, z, default] => match name {
-                CallName::UpdateCounter => {
-                    write_value(self.update_counter(pid, x, y, z, Some(default)), reply)
+            [x, y, z, default] => {
+                let default = Some(default);
+                match name {
+                    CallName::UpdateCounter => {
+                        self.update_counter_into(pid, x, y, z, default, reply)
+                    }
+                    CallName::UpdateElement => {
+                        self.update_element_into(pid, x, y, z, default, reply)
+                    }
+                    _ => Err(Refusal::Badarg),
                 }
-                CallName::UpdateElement => {
-                    let is_written = self.update_element(pid, x, y, z, Some(default));
-                    write_truth(self.alloc, is_written, reply)
-                }
-                _ => Err(Refusal::Badarg),
-            },
+            }
             _ => Err(Refusal::Badarg),
         }
     }
@@ -239,9 +215,9 @@ impl<H: KeyHash + Copy + Drop> Node<H> {
             self.old result reply.new self.new }
     {
         match name {
-            CallName::Delete => write_true(self.alloc, self.delete(pid, x, y), reply),
+            CallName::Delete => self.delete_into(pid, x, y, reply),
             CallName::DeleteObject => write_true(self.alloc, self.delete_object(pid, x, y), reply),
-            CallName::Insert => write_true(self.alloc, self.insert(pid, x, y), reply),
+            CallName::Insert => self.insert_into(pid, x, y, reply),
             CallName::InsertNew => write_truth(self.alloc, self.insert_new(pid, x, y), reply),
             CallName::MatchDelete => write_reply(self.match_delete(pid, x, y), reply),
             CallName::New => write_reply(self.new_call(pid, x, y), reply),

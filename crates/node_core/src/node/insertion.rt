@@ -3,17 +3,36 @@ ghost use Rattle.std.specs.Prelude.{◌≡◌};
 ghost use Rattle.node_core.specs.Access.{writes};
 ghost use Rattle.node_core.specs.rules.Insertion.{objects_in, Insert, InsertNew};
 ghost use Rattle.node_core.specs.rules.Replies.{true_reply, truth_reply};
-ghost use Rattle.node_core.specs.inside.Refusals.{RefinesReply, to_reply};
+ghost use Rattle.node_core.specs.inside.Refusals.{RefinesInto, RefinesReply, to_reply};
 
 use super::Node;
 use super::access::Access;
+use super::replies::write_true;
+use crate::step::Reply;
 use ets_term::{KeyHash, Term};
 use std::slice;
 use table_ops::Refusal;
 
 impl<H: KeyHash + Copy + Drop> Node<H> {
+    /// Inserts an object or a list of objects into the table that a term names, and writes the reply.
+    #[inline(never)]
+    pub(crate) fn insert_into(
+        &mut self,
+        pid: u32,
+        table: &Term,
+        objects: &Term,
+        reply: &mut Reply,
+    ) -> Result<(), Refusal>
+        ensures { RefinesInto (writes self.old pid table.now (Insert objects.now))
+            self.old result reply.new self.new }
+    {
+        let inserted = self.insert(pid, table, objects);
+        write_true(self.alloc, inserted, reply)
+    }
+
     /// Inserts an object or a list of objects into the table that a term names.
-    pub(crate) fn insert(&mut self, pid: u32, table: &Term, objects: &Term) -> Result<(), Refusal>
+    #[inline(always)]
+    fn insert(&mut self, pid: u32, table: &Term, objects: &Term) -> Result<(), Refusal>
         ensures { RefinesReply (writes self.old pid table.now (Insert objects.now))
             self.old (to_reply (λ _. true_reply) result) self.new }
     {

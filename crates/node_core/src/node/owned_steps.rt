@@ -13,13 +13,11 @@ ghost use Rattle.node_core.specs.rules.Insertion.{objects_in, Insert};
 ghost use Rattle.node_core.specs.rules.Replies.{true_reply};
 ghost use Rattle.node_core.specs.inside.Inserting.{AreTableAndObject, InsertsOne};
 ghost use Rattle.node_core.specs.inside.Refusals.{RefinesInto, RefinesReply, to_reply};
-ghost use Rattle.node_core.specs.inside.ReplyReserve.{StepsWithBuckets};
 
 use super::Node;
 use super::access::Access;
 use super::ask::write_refusal;
-use super::replies::write_true;
-use crate::call_name::CallName;
+use super::replies::{write_no_process, write_true};
 use crate::step::{Call, Reply, Step};
 use ets_term::{Items, KeyHash, Term};
 use std::alloc::AllocError;
@@ -43,35 +41,44 @@ impl<H: KeyHash + Copy + Drop> Node<H> {
         ensures buckets { OnOk result (step_on_buckets self.old event.old reply.new self.new) }
         ensures err { OnErr result ((self.new ≡ self.old) × (reply.new ≡ NoProcess)) }
     {
-        let done = self.dispatch_own(event, reply);
+        if let Step::Ask(pid, call) = event {
+            if inserts_one(call) {
+                return self.drain_insertion(*pid, call, reply);
+            }
+        }
+        self.step_into(event, reply)
+    }
+
+    /// Runs a call that inserts a single object, and moves the object out of the call.
+    #[inline(never)]
+    fn drain_insertion(
+        &mut self,
+        pid: u32,
+        call: &mut Call,
+        reply: &mut Reply,
+    ) -> Result<(), AllocError>
+        requires { InsertsOne call.old }
+        ensures ok { OnOk result
+            (step (observable self.old) (Ask pid call.old) reply.new (observable self.new)) }
+        ensures buckets { OnOk result (step_on_buckets self.old (Ask pid call.old) reply.new self.new) }
+        ensures err { OnErr result ((self.new ≡ self.old) × (reply.new ≡ NoProcess)) }
+    {
+        let done = self.ask_own(pid, call, reply);
         self.prune_pending();
         if let Err(error) = done {
-            *reply = Reply::NoProcess;
+            write_no_process(reply);
             return Err(error);
         }
         Ok(())
     }
 
-    /// Does the same, but may move the object out of the step.
-    fn dispatch_own(&mut self, event: &mut Step, reply: &mut Reply) -> Result<(), AllocError>
-        ensures ok { OnOk result (StepsWithBuckets self.old event.old reply.new self.new) }
-        ensures err { OnErr result (self.new ≡ self.old) }
-    {
-        match event {
-            Step::Ask(pid, call) => self.ask_own(*pid, call, reply),
-            _ => self.dispatch_rare(event, reply),
-        }
-    }
-
-    /// Makes a call as `ask` does, but moves the object of a single insertion out of the call.
-    #[inline(never)]
+    /// Makes the call as `ask` does, but moves the object into the table.
+    #[inline(always)]
     fn ask_own(&mut self, pid: u32, call: &mut Call, reply: &mut Reply) -> Result<(), AllocError>
+        requires { InsertsOne call.old }
         ensures ok { OnOk result (step self.old (Ask pid call.old) reply.new self.new) }
         ensures err { OnErr result (self.new ≡ self.old) }
     {
-        if !inserts_one(call) {
-            return self.ask(pid, call, reply);
-        }
         if self.refuse_early(pid, call.args.as_slice(), reply) {
             return Ok(());
         }
@@ -113,6 +120,7 @@ impl<H: KeyHash + Copy + Drop> Node<H> {
 }
 
 /// Checks whether a call inserts a single object.
+#[inline(always)]
 fn inserts_one(call: &Call) -> bool
     ensures { result ≡ true → InsertsOne call.now }
 {
@@ -133,5 +141,5 @@ fn is_tuple(term: &Term) -> bool
 fn is_insert(call: &Call) -> bool
     ensures { result ≡ true → call_name call.now.name ≡ Some name.Insert }
 {
-    matches!(CallName::read(call.name.text()), Some(CallName::Insert))
+    call.name.text() == "insert"
 }

@@ -6,7 +6,7 @@ ghost use Rattle.node_core.specs.declared.step.Reply.TheVariants.{Value};
 ghost use Rattle.node_core.specs.inside.Refusals.{RefinesReply, RefinesInto, to_reply};
 
 use super::Node;
-use super::replies::write_list;
+use super::replies::{write_list, write_truth};
 use crate::position::position_of;
 use crate::step::Reply;
 use ets_term::{KeyHash, Term};
@@ -14,6 +14,7 @@ use table_ops::Refusal;
 
 impl<H: KeyHash + Copy + Drop> Node<H> {
     /// Writes the objects of a key as a list over an earlier reply.
+    #[inline(never)]
     pub(crate) fn lookup(
         &self,
         pid: u32,
@@ -29,8 +30,24 @@ impl<H: KeyHash + Copy + Drop> Node<H> {
         Ok(())
     }
 
+    /// Writes whether a key has an object over an earlier reply.
+    #[inline(never)]
+    pub(crate) fn member_into(
+        &self,
+        pid: u32,
+        table: &Term,
+        key: &Term,
+        reply: &mut Reply,
+    ) -> Result<(), Refusal>
+        ensures { RefinesInto (reads self.now pid table.now (member_reply key.now))
+            self.now result reply.new self.now }
+    {
+        write_truth(self.alloc, self.member(pid, table, key), reply)
+    }
+
     /// Checks whether a key has an object.
-    pub(crate) fn member(&self, pid: u32, table: &Term, key: &Term) -> Result<bool, Refusal>
+    #[inline(always)]
+    fn member(&self, pid: u32, table: &Term, key: &Term) -> Result<bool, Refusal>
         ensures { RefinesReply (reads self.now pid table.now (member_reply key.now))
             self.now (to_reply truth_reply result) self.now }
     {

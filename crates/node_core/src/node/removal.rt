@@ -2,10 +2,11 @@
 ghost use Rattle.node_core.specs.Access.{writes};
 ghost use Rattle.node_core.specs.rules.Removal.{Take, Delete, DeleteObject, DeleteAllObjects};
 ghost use Rattle.node_core.specs.rules.Replies.{true_reply};
-ghost use Rattle.node_core.specs.inside.Refusals.{RefinesReply, to_reply};
+ghost use Rattle.node_core.specs.inside.Refusals.{RefinesInto, RefinesReply, to_reply};
 
 use super::Node;
 use super::access::Access;
+use super::replies::write_true;
 use crate::step::Reply;
 use ets_term::{KeyHash, Term};
 use table_ops::Refusal;
@@ -22,8 +23,25 @@ impl<H: KeyHash + Copy + Drop> Node<H> {
         Ok(Reply::Value(Term::List(objects)))
     }
 
+    /// Removes the objects of a key, and writes the reply.
+    #[inline(never)]
+    pub(crate) fn delete_into(
+        &mut self,
+        pid: u32,
+        table: &Term,
+        key: &Term,
+        reply: &mut Reply,
+    ) -> Result<(), Refusal>
+        ensures { RefinesInto (writes self.old pid table.now (Delete key.now))
+            self.old result reply.new self.new }
+    {
+        let deleted = self.delete(pid, table, key);
+        write_true(self.alloc, deleted, reply)
+    }
+
     /// Removes the objects of a key.
-    pub(crate) fn delete(&mut self, pid: u32, table: &Term, key: &Term) -> Result<(), Refusal>
+    #[inline(always)]
+    fn delete(&mut self, pid: u32, table: &Term, key: &Term) -> Result<(), Refusal>
         ensures { RefinesReply (writes self.old pid table.now (Delete key.now))
             self.old (to_reply (λ _. true_reply) result) self.new }
     {

@@ -2,7 +2,7 @@
 ghost use Rattle.std.specs.Prelude.{◌≡◌, ◌≤◌, length, IfOk, OnOk};
 ghost use Rattle.ets_term.specs.Character.{IsAtomText};
 ghost use Rattle.ets_term.specs.declared.term.Term.TheVariants as term;
-ghost use Rattle.node_core.specs.declared.step.Reply.TheVariants.{Value};
+ghost use Rattle.node_core.specs.declared.step.Reply.TheVariants.{Value, NoProcess, Badarg, SystemLimit};
 ghost use Rattle.node_core.specs.rules.Replies.{true_reply, truth_reply, list_reply};
 ghost use Rattle.node_core.specs.inside.Refusals.{refusal_of, to_reply};
 
@@ -39,12 +39,46 @@ fn write_atom(alloc: Global, text: &str, reply: &mut Reply)
     requires short { length text.now ≤ 22 }
     ensures { reply.new ≡ Value (term.Atom text.now) }
 {
-    if let Reply::Value(term) = reply {
-        if term.is_atom(text) {
+    if let Reply::Value(Term::Atom(atom)) = reply {
+        if atom.text() == text {
             return;
         }
     }
+    write_new_atom(alloc, text, reply);
+}
+
+/// Writes the atom with this text, which must be short, over any reply.
+#[inline(never)]
+fn write_new_atom(alloc: Global, text: &str, reply: &mut Reply)
+    requires text { IsAtomText text.now }
+    requires short { length text.now ≤ 22 }
+    ensures { reply.new ≡ Value (term.Atom text.now) }
+{
     *reply = atom_reply(alloc, text.as_bytes());
+}
+
+/// Writes the reply that there is no such process. Like the next two, it is out of the way of usual replies.
+#[inline(never)]
+pub fn write_no_process(reply: &mut Reply)
+    ensures { reply.new ≡ NoProcess }
+{
+    *reply = Reply::NoProcess;
+}
+
+/// Writes the reply that an argument is bad.
+#[inline(never)]
+pub fn write_badarg(reply: &mut Reply)
+    ensures { reply.new ≡ Badarg }
+{
+    *reply = Reply::Badarg;
+}
+
+/// Writes the reply that a limit is reached.
+#[inline(never)]
+pub fn write_system_limit(reply: &mut Reply)
+    ensures { reply.new ≡ SystemLimit }
+{
+    *reply = Reply::SystemLimit;
 }
 
 /// Returns a list of copies of these objects.
@@ -56,6 +90,7 @@ pub fn list_reply(alloc: Global, objects: &[Term]) -> Result<Reply, AllocError>
 }
 
 /// Writes a list of copies of these objects. A list of the same length in its place gives its memory.
+#[inline(always)]
 pub fn write_list(alloc: Global, objects: &[Term], reply: &mut Reply) -> Result<(), AllocError>
     ensures { OnOk result (reply.new ≡ list_reply objects.now) }
 {

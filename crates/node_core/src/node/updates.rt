@@ -5,10 +5,12 @@ ghost use Rattle.node_core.specs.Access.{writes};
 ghost use Rattle.node_core.specs.rules.Updates.{Counts, WritesElements, UpdateCounter, UpdateElement};
 ghost use Rattle.node_core.specs.rules.Replies.{truth_reply};
 ghost use Rattle.node_core.specs.declared.step.Reply.TheVariants.{Value};
-ghost use Rattle.node_core.specs.inside.Refusals.{RefinesReply, to_reply};
+ghost use Rattle.node_core.specs.inside.Refusals.{RefinesInto, RefinesReply, to_reply};
 
 use super::Node;
 use super::access::Access;
+use super::replies::{write_truth, write_value};
+use crate::step::Reply;
 use bucket_table::Rows;
 use counters::{read_element_specs, read_increment, read_ops, read_pair};
 use ets_term::{KeyHash, Term};
@@ -17,8 +19,49 @@ use std::alloc::Global;
 use table_ops::Refusal;
 
 impl<H: KeyHash + Copy + Drop> Node<H> {
+    /// Adds to counters of a key's object, and writes the new values as the reply.
+    #[inline(never)]
+    pub(crate) fn update_counter_into(
+        &mut self,
+        pid: u32,
+        table: &Term,
+        key: &Term,
+        updates: &Term,
+        default: Option<&Term>,
+        reply: &mut Reply,
+    ) -> Result<(), Refusal>
+        ensures { RefinesInto
+            (writes self.old pid table.now
+            (UpdateCounter key.now updates.now (option_copied default.entry)))
+            self.old result reply.new self.new }
+    {
+        let counted = self.update_counter(pid, table, key, updates, default);
+        write_value(counted, reply)
+    }
+
+    /// Sets elements of a key's object, and writes whether it wrote an object as the reply.
+    #[inline(never)]
+    pub(crate) fn update_element_into(
+        &mut self,
+        pid: u32,
+        table: &Term,
+        key: &Term,
+        updates: &Term,
+        default: Option<&Term>,
+        reply: &mut Reply,
+    ) -> Result<(), Refusal>
+        ensures { RefinesInto
+            (writes self.old pid table.now
+            (UpdateElement key.now updates.now (option_copied default.entry)))
+            self.old result reply.new self.new }
+    {
+        let is_written = self.update_element(pid, table, key, updates, default);
+        write_truth(self.alloc, is_written, reply)
+    }
+
     /// Adds to counters of a key's object and returns the new values.
-    pub(crate) fn update_counter(
+    #[inline(always)]
+    fn update_counter(
         &mut self,
         pid: u32,
         table: &Term,
@@ -40,7 +83,8 @@ impl<H: KeyHash + Copy + Drop> Node<H> {
     }
 
     /// Sets elements of a key's object. Returns whether an object was written.
-    pub(crate) fn update_element(
+    #[inline(always)]
+    fn update_element(
         &mut self,
         pid: u32,
         table: &Term,

@@ -9,17 +9,16 @@ use Rattle.node_core.proofs.calls.Worlds.{reply-ok, written-ok}
 use Rattle.node_core.proofs.node.Node.ask_own.Goals as goal
 
 pub insert_last-result-requires : goal.insert_last-result-requires
-insert_last-result-requires g c = (c.inserts_one.ensures c.if-not-inserts_one.false).1
+insert_last-result-requires g c = c.requires.1
 
 pub returns-clause-ok : goal.returns-clause-ok
 returns-clause-ok g c =
     let old = c.args.self.now in
     let asked = c.args.call.now in
     let new = c.insert_last-result.new.self in
-    let one = c.inserts_one.ensures c.if-not-inserts_one.false in
     let done = to_reply (λ _. c.write_refusal.new.reply) c.write_refusal.result in
     written-ok (λ reply. step old (Ask c.args.pid asked) reply new) c.write_refusal.new.reply c.write_refusal.result
-    (asks-ok old new c.args.pid asked Insert (sym one.0)
+    (asks-ok old new c.args.pid asked Insert (sym c.requires.0)
     (not-refused old c.args.pid asked.args c.args.reply.now c.refuse_early.new.reply c.refuse_early.result
     (subst (λ args. RefusesEarly old c.args.pid args c.refuse_early.result c.args.reply.now c.refuse_early.new.reply) c.as_slice.ensures c.refuse_early.ensures) c.if-refuse_early.false)
     done

@@ -1,8 +1,0 @@
-use Rattle.node_core.proofs.buckets.Steps.{done-observable, done-buckets}
-use Rattle.node_core.proofs.node.Node.drain_step.Goals as goal
-
-pub returns-clause-ok : goal.returns-clause-ok
-returns-clause-ok g c = rw c.prune_pending.ensures (done-observable c.args.self.now c.dispatch_own-done.new.self c.args.event.now c.dispatch_own-done.new.reply c.in_default.ensures.ok)
-
-pub returns-clause-buckets : goal.returns-clause-buckets
-returns-clause-buckets g c = rw c.prune_pending.ensures (done-buckets c.args.self.now c.dispatch_own-done.new.self c.args.event.now c.dispatch_own-done.new.reply c.in_default.ensures.ok)
