@@ -2,7 +2,7 @@ use Rattle.std.proofs.Common.{◌≤◌, arith}
 use Rattle.std.specs.List.{prefix_len}
 use Rattle.term_text.specs.Text.{is_name}
 use Rattle.ets_script.proofs.Words.{word-text}
-use Rattle.ets_script.proofs.command.parse_word.Goals as goal
+use Rattle.ets_script.proofs.command.parts.parse_word.Goals as goal
 
 pub returns-clause-atom : goal.returns-clause-atom
 returns-clause-atom c =

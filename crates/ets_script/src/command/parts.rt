@@ -1,0 +1,77 @@
+// Parts of a line: blanks, words, a bucket, and what separates arguments.
+ghost use Rattle.std.specs.Prelude.{[], IfOk};
+ghost use Rattle.ets_term.specs.Character.{IsAtomText};
+ghost use Rattle.ets_script.specs.Reads.{read};
+ghost use Rattle.ets_script.specs.Commands as spec;
+ghost use Rattle.ets_script.specs.inside.Parsing.{GivesExactly};
+
+use crate::classes::{name_len, past_blanks, starts_blank, starts_digit, starts_lowercase};
+use crate::parse_stop::ParseStop;
+use ets_term::MAX_CHARACTERS;
+use term_text::{Magnitude, digits_at};
+
+/// Parses one or more blanks.
+pub fn parse_gap(text: &[u8]) -> Result<&[u8], ParseStop<'_>>
+    ensures { GivesExactly (λ r. read tt r.now) result (spec.gap text.now) }
+{
+    if !starts_blank(text) {
+        return Err(ParseStop::Fault(text));
+    }
+    Ok(past_blanks(text))
+}
+
+/// Parses a name, or the word of a call.
+pub fn parse_word(text: &[u8]) -> Result<(&[u8], &[u8]), ParseStop<'_>>
+    ensures word { GivesExactly (λ r. read r.0.now r.1.now) result (spec.word text.now) }
+    ensures atom { IfOk result (λ r. IsAtomText r.0.now) }
+{
+    let len = name_len(text);
+    if !starts_lowercase(text) || len > MAX_CHARACTERS {
+        return Err(ParseStop::Fault(text));
+    }
+    Ok(text.split_at(len))
+}
+
+/// Parses the parenthesis before arguments.
+pub fn parse_opening(text: &[u8]) -> Result<&[u8], ParseStop<'_>>
+    ensures { GivesExactly (λ r. read tt r.now) result (spec.opening text.now) }
+{
+    match past_blanks(text) {
+        [b'(', rest @ ..] => Ok(rest),
+        rest => Err(ParseStop::Fault(rest)),
+    }
+}
+
+/// Parses the end of a line: nothing but blanks.
+pub fn parse_end(text: &[u8]) -> Result<(), ParseStop<'_>>
+    ensures { GivesExactly (λ _. read tt []) result (spec.line_end text.now) }
+{
+    match past_blanks(text) {
+        [] => Ok(()),
+        rest => Err(ParseStop::Fault(rest)),
+    }
+}
+
+/// Parses a bucket.
+pub fn parse_bucket(text: &[u8]) -> Result<(u32, &[u8]), ParseStop<'_>>
+    ensures { GivesExactly (λ r. read r.0 r.1.now) result (spec.bucket text.now) }
+{
+    match digits_at(text, 0, u32::MAX as Magnitude) {
+        Some((bucket, end)) if starts_digit(text) => {
+            let (_, rest) = text.split_at(end);
+            Ok((bucket as u32, rest))
+        }
+        _ => Err(ParseStop::Fault(text)),
+    }
+}
+
+/// Parses what follows an argument, and returns whether one more must come, and the rest.
+pub fn parse_separator(text: &[u8]) -> Result<(bool, &[u8]), ParseStop<'_>>
+    ensures { GivesExactly (λ r. read r.0 r.1.now) result (spec.separator text.now) }
+{
+    match past_blanks(text) {
+        [b',', rest @ ..] => Ok((true, rest)),
+        [b')', rest @ ..] => Ok((false, rest)),
+        rest => Err(ParseStop::Fault(rest)),
+    }
+}

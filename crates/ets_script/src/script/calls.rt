@@ -1,0 +1,136 @@
+// Calls of a script's processes, and steps of its node.
+ghost use Rattle.std.specs.Prelude.{◌≡◌, ◌⊎◌, [], Some, IfSome};
+ghost use Rattle.ets_script.specs.Commands as spec;
+ghost use Rattle.ets_script.specs.declared.answer.Answer.TheVariants.{NoMemory};
+ghost use Rattle.ets_script.specs.Script.{pid_of, Unchanged, Steps, Executes};
+
+use super::Script;
+use crate::answer::Answer;
+use ets_term::{Items, KeyHash, Term};
+use node_core::{Call, Step};
+use std::alloc::Global;
+
+impl<H: KeyHash + Copy + Drop> Script<H> {
+    /// Makes a call for the process of a name.
+    #[inline(always)]
+    pub(super) fn ask(&mut self, name: &[u8], call: Call, answer: &mut Answer)
+        ensures { Executes (spec.ask name.now call.name call.args) self.old answer.new self.new
+            ⊎ Unchanged self.old NoMemory answer.new self.new }
+    {
+        match self.caller(name) {
+            Some(pid) => {
+                let mut step = Step::Ask(pid, call);
+                self.step(&mut step, answer);
+                self.keep_call(step);
+                self.run_pending_steps();
+            }
+            None => answer.set_no_process(),
+        }
+    }
+
+    /// Returns an empty list for the arguments of a call, with the memory of the call before.
+    #[inline(always)]
+    pub(super) fn take_arguments(&mut self, alloc: Global) -> Items<Term>
+        ensures empty { result ≡ [] }
+        ensures same { self.new ≡ self.old }
+    {
+        match self.arguments.take() {
+            Some(mut earlier) => {
+                earlier.clear();
+                Items::from_vec(earlier)
+            }
+            None => Items::new(alloc),
+        }
+    }
+
+    /// Drops the call of a step, and keeps the memory of its arguments.
+    #[inline(always)]
+    fn keep_call(&mut self, step: Step)
+        ensures { self.new ≡ self.old }
+    {
+        match step {
+            Step::Ask(_, call) => self.keep_arguments(call.args),
+            _ => {}
+        }
+    }
+
+    /// Drops the arguments of a call, and keeps their memory for the next call.
+    #[inline(always)]
+    pub(super) fn keep_arguments(&mut self, args: Items<Term>)
+        ensures { self.new ≡ self.old }
+    {
+        let mut terms = args.into_vec();
+        terms.clear();
+        self.arguments = Some(terms);
+    }
+
+    /// Returns the process of a name that makes a call. Most calls are of the process of the call before.
+    #[inline(always)]
+    fn caller(&mut self, name: &[u8]) -> Option<u32>
+        ensures pid { result ≡ pid_of self.old name.now }
+        ensures same { self.new ≡ self.old }
+    {
+        if let Some(pid) = self.last_caller_named(name) {
+            return Some(pid);
+        }
+        let pid = self.pid(name);
+        if let Some(number) = pid {
+            self.last_caller = number;
+        }
+        pid
+    }
+
+    /// Returns the process of the call before, if this is its name.
+    #[inline(always)]
+    fn last_caller_named(&self, name: &[u8]) -> Option<u32>
+        ensures { IfSome result (λ p. pid_of self.now name.now ≡ Some p) }
+    {
+        // The clause of `len` says that names differ.
+        let _count = self.names.len();
+        match self.names.get_index(self.last_caller as usize) {
+            Some(last_name) if name == last_name.as_slice() => Some(self.last_caller),
+            _ => None,
+        }
+    }
+
+    /// Runs a step of the node. The reply uses the memory of the one before. An object that is inserted moves out of the
+    /// step.
+    #[inline(always)]
+    pub(super) fn step(&mut self, step: &mut Step, answer: &mut Answer)
+        ensures { Steps self.old step.old answer.new self.new
+            ⊎ Unchanged self.old NoMemory answer.new self.new }
+    {
+        let done = match answer {
+            Answer::Replied(reply) => self.node.drain_step(step, reply),
+            _ => {
+                *answer = self.step_anew(step);
+                return;
+            }
+        };
+        if done.is_err() {
+            *answer = Answer::NoMemory;
+        }
+    }
+
+    /// Runs a step of the node after an answer that is no reply.
+    #[inline(never)]
+    fn step_anew(&mut self, step: &Step) -> Answer
+        ensures { Steps self.old step.now result self.new
+            ⊎ Unchanged self.old NoMemory result self.new }
+    {
+        match self.node.step(step) {
+            Ok(reply) => Answer::Replied(reply),
+            Err(_) => Answer::NoMemory,
+        }
+    }
+
+    /// Runs at most two pending growth steps, which no call observes.
+    #[inline(always)]
+    fn run_pending_steps(&mut self)
+        ensures { self.new ≡ self.old }
+    {
+        if matches!(self.node.run_pending(), Ok(true)) {
+            let _ = self.node.run_pending();
+        }
+    }
+}
