@@ -43,7 +43,7 @@ fn all_slow_devices_answer(alloc: Global) -> bool {
     true
 }
 
-/// Answers a script where each read gives few bytes and each write takes few.
+/// Runs a script over devices that read and write a few bytes at a time.
 #[test]
 fn scripts_are_answered_over_slow_devices(rt: HostRuntime) {
     assert!(rt; all_slow_devices_answer(rt.alloc()));

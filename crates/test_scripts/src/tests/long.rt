@@ -51,14 +51,14 @@ fn long_lines_are_answered(alloc: Global, run: &Run) -> Result<bool, AllocError>
     Ok(true)
 }
 
-/// Answers long lines, where a read gives all bytes.
+/// Answers long lines that one read returns whole.
 #[test]
 fn long_lines_are_answered_or_refused(rt: HostRuntime) -> Result<(), Fail> {
     assert!(rt; long_lines_are_answered(rt.alloc(), &usual_run())?);
     Ok(())
 }
 
-/// Answers long lines, where each read gives a part of a line.
+/// Answers long lines of which each read returns a part.
 #[test]
 fn long_lines_in_parts_are_answered_or_refused(rt: HostRuntime) -> Result<(), Fail> {
     let devices = Devices {

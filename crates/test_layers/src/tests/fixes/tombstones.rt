@@ -35,7 +35,7 @@ enum Row {
     IsNotFixed(Slots, Objects),
 }
 
-/// Returns whether `next` of a key returns the wanted key, or the end of the table if that is None.
+/// Returns whether `next` of a key returns the wanted key. A wanted key of None is the end of the table.
 fn has_next<R: Rows>(table: &Walked<R>, key: Integer, wanted: Option<Integer>) -> bool {
     match key_after(table, key) {
         Ok(found) => is_key(found, wanted),

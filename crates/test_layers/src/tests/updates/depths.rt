@@ -40,11 +40,12 @@ const ROWS: [(&[usize], bool); 5] = [
     (&[MAX_DEPTH, MAX_DEPTH - 1], false),
 ];
 
-/// Pushes the object `{2,1}`, the object `{2,Value}` with the deepest value, and the atom of a refusal.
-fn push_outcomes(alloc: Global, outcomes: &mut Items<Term>) -> Option<()> {
-    outcomes.push(read_term(alloc, "{2,1}").ok()?.0).ok()?;
-    outcomes.push(element_value(alloc, MAX_DEPTH - 1)?).ok()?;
-    outcomes.push(read_term(alloc, "system_limit").ok()?.0).ok()
+/// Pushes the terms that the rows need: the object `{2,1}`, the object `{2,Value}` with the deepest value, and the atom
+/// of a refusal.
+fn push_row_terms(alloc: Global, terms: &mut Items<Term>) -> Option<()> {
+    terms.push(read_term(alloc, "{2,1}").ok()?.0).ok()?;
+    terms.push(element_value(alloc, MAX_DEPTH - 1)?).ok()?;
+    terms.push(read_term(alloc, "system_limit").ok()?.0).ok()
 }
 
 /// Returns whether an object with these element values is `expected`, or is refused as `expected` says, and drops the
@@ -61,14 +62,10 @@ fn values_make(
     makes_it
 }
 
-/// Returns whether each row holds, and a single value of depth `MAX_DEPTH` is refused. The outcomes are those of
-/// `push_outcomes`.
-fn all_rows_hold(
-    alloc: Global,
-    outcomes: &[Term],
-    rows: &[(&'static [usize], bool)],
-) -> Option<bool> {
-    let [object, deepest, refusal] = outcomes else {
+/// Returns whether each row holds, and a single value of depth `MAX_DEPTH` is refused. The terms are those of
+/// `push_row_terms`.
+fn all_rows_hold(alloc: Global, terms: &[Term], rows: &[(&'static [usize], bool)]) -> Option<bool> {
+    let [object, deepest, refusal] = terms else {
         return None;
     };
     for (depths, is_refused) in rows {
@@ -80,12 +77,12 @@ fn all_rows_hold(
     values_make(alloc, object, element_value(alloc, MAX_DEPTH), refusal)
 }
 
-/// Builds the outcomes, and returns whether all rows hold.
+/// Builds the terms, and returns whether all rows hold.
 fn deep_value_rows_hold(alloc: Global) -> Option<bool> {
-    let mut outcomes = Items::new(alloc);
-    let pushed = push_outcomes(alloc, &mut outcomes);
-    let hold = all_rows_hold(alloc, outcomes.as_slice(), &ROWS);
-    drop(outcomes);
+    let mut terms = Items::new(alloc);
+    let pushed = push_row_terms(alloc, &mut terms);
+    let hold = all_rows_hold(alloc, terms.as_slice(), &ROWS);
+    drop(terms);
     pushed?;
     hold
 }

@@ -13,8 +13,8 @@ use node_core::{Limits, Node};
 use std::alloc::{AllocError, Global};
 use std::process::Abort;
 
-/// The number of repetitions, and the end of the numbers that replace N: replies spell it as 2100, and the last number
-/// as 2099. It is more than 2,048, so that an array that doubles is moved.
+/// The number of repetitions. The numbers that replace N are below it, so the last is 2099. It is more than 2,048, so
+/// that an array that doubles is moved.
 const COUNT: u32 = 2_100;
 
 /// The usual limit of processes.

@@ -83,8 +83,8 @@ fn ready_with_retry<R: Rows>(rows: &mut R, bucket: u32) -> Result<bool, AllocErr
     }
 }
 
-/// Inserts a new key, and again if memory runs out. Returns whether it is inserted, and a call that ran out of memory
-/// changed nothing.
+/// Inserts a new key, and tries again if memory runs out. Returns whether it inserted the key, and changed nothing when
+/// memory ran out.
 fn insert_with_retry<R: Rows>(
     rows: &mut R,
     alloc: Global,

@@ -53,7 +53,7 @@ pub fn update_counter_from<R: Rows>(
     answer
 }
 
-/// Builds the value for the second element. It is read for a key that is first; the table checks it again.
+/// Builds the update `{2,Value}`, read as for a table whose key position is 1. The table checks it again.
 pub fn second_element_value(alloc: Global, value: Integer) -> Option<ElementSpecs> {
     let update = tuple(alloc, &[2, value])?;
     let specs = read_element_specs(alloc, &update, 1);
