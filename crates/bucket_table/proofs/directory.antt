@@ -1,5 +1,5 @@
 pub mod SplitKeys
-pub mod Links
+pub mod Segments
 pub mod Placed
 pub mod Search
 pub mod Change

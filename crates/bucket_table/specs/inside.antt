@@ -1,6 +1,6 @@
 pub mod Nodes
 pub mod Directory
-pub mod Padded
+pub mod Segments
 pub mod SplitIndex
 pub mod Search
 pub mod HintWord

@@ -31,6 +31,11 @@ AreUnknown current = (interval : ℕ) → get_or current interval None ≡ None
 abbrev pub HaveSameHints : List (Option (Option ℕ)) → List (Option (Option ℕ)) → Type 0
 HaveSameHints old new = (interval : ℕ) → get_or new interval None ≡ get_or old interval None
 
+-- Each known hint was known before.
+abbrev pub ForgetsHints : List (Option (Option ℕ)) → List (Option (Option ℕ)) → Type 0
+ForgetsHints old new =
+    (interval : ℕ) (first : Option ℕ) → get_or new interval None ≡ Some first → get_or old interval None ≡ Some first
+
 -- The current hints are right, and so are the previous ones, whose intervals are twice as wide.
 pub record HintsAreSound (hints : Hints) (cells : List Cell) : Type 0 where
   pub narrow : hints.interval_bits < 63

@@ -1,29 +1,35 @@
-ghost use Rattle.std.specs.Prelude.{◌≡◌, ◌∷◌, ◌++◌, ◌<◌, ◌≤◌, ◌-◌, ◌^◌, [], Some, None, IfOk, OnOk, OnErr, length, get_or, set, replicate};
+ghost use Rattle.std.specs.Prelude.{◌≡◌, ◌∷◌, ◌++◌, ◌<◌, ◌≤◌, ◌-◌, ◌^◌, [], Some, None, IfOk, OnOk, OnErr, length, get_or, set, replicate, vec_capacity};
+ghost use Rattle.bucket_table.specs.inside.Segments.{SetsLink, AddsSegments};
 
 use node_list::{At, Link};
 use std::alloc::{AllocError, Global};
 use std::marker::Model;
 
-/// The directory: for each bucket the place of its dummy, or none if the bucket is not ready. Only the links up to
-/// the last ready bucket are written.
+/// A segment of the directory has the links of at most this many buckets, which are 128 KiB.
+const LINKS_PER_SEGMENT: usize = 16384;
+
+/// The directory: for each bucket the place of its dummy, or none if the bucket is not ready. It is stored in segments,
+/// so that a doubling copies at most the first one. In each segment only the links up to its last ready bucket are
+/// written.
 #[derive(Drop)]
 pub struct Directory {
-    links: Vec<Link>,
+    first_segment: Vec<Link>,
+    later_segments: Vec<Vec<Link>>,
     buckets: usize,
 }
 
 impl Model for Directory {
     ghost use Rattle.std.specs.Prelude.{List, Option, ℕ};
     ghost use Rattle.std.specs.Coded.{coded_list, coded_option, coded_ℕ};
-    ghost use Rattle.bucket_table.specs.inside.Padded.{padded, HasRoom};
+    ghost use Rattle.bucket_table.specs.inside.Segments.{links_of, HasRoom};
 
     ghost Value = { List (Option ℕ) };
 
     ghost coded = { coded_list (coded_option coded_ℕ) };
 
-    ghost view = { λ d. padded d.links.items d.buckets };
+    ghost view = { λ d. links_of d.first_segment d.later_segments.items d.buckets };
 
-    ghost invariant = { λ d. HasRoom d.links d.buckets };
+    ghost invariant = { λ d. HasRoom d.first_segment d.later_segments.items d.buckets };
 }
 
 impl Directory {
@@ -32,9 +38,13 @@ impl Directory {
         requires { first < 2 ^ 64 - 1 }
         ensures { IfOk result (λ directory. directory ≡ Some first ∷ None ∷ []) }
     {
-        let mut links = Vec::with_capacity(alloc, 2)?;
-        links.push_reserved(Link::to(first));
-        Ok(Directory { links, buckets: 2 })
+        let mut first_segment = Vec::with_capacity(alloc, 2)?;
+        first_segment.push_reserved(Link::to(first));
+        Ok(Directory {
+            first_segment,
+            later_segments: Vec::new(alloc),
+            buckets: 2,
+        })
     }
 
     /// Returns the number of buckets.
@@ -48,8 +58,13 @@ impl Directory {
     pub fn get(&self, bucket: usize) -> Option<At>
         ensures { result ≡ get_or self.now bucket None }
     {
-        if bucket < self.links.len() {
-            self.links[bucket].get()
+        if bucket < LINKS_PER_SEGMENT {
+            return link_at(self.first_segment.as_slice(), bucket);
+        }
+        let segment = bucket / LINKS_PER_SEGMENT - 1;
+        let index = bucket % LINKS_PER_SEGMENT;
+        if segment < self.later_segments.len() {
+            link_at(self.later_segments[segment].as_slice(), index)
         } else {
             None
         }
@@ -61,11 +76,13 @@ impl Directory {
         requires place { at < 2 ^ 64 - 1 }
         ensures { self.new ≡ set self.old bucket (Some at) }
     {
-        if bucket >= self.links.len() {
-            // `double` reserved the memory.
-            let _outcome = self.links.resize(bucket + 1, Link::none());
+        if bucket < LINKS_PER_SEGMENT {
+            set_link(&mut self.first_segment, bucket, at);
+        } else {
+            let segment = bucket / LINKS_PER_SEGMENT - 1;
+            let index = bucket % LINKS_PER_SEGMENT;
+            set_link(&mut self.later_segments[segment], index, at);
         }
-        self.links[bucket] = Link::to(at);
     }
 
     /// Doubles the number of buckets. The new ones are not ready.
@@ -75,8 +92,49 @@ impl Directory {
         ensures err { OnErr result (self.new ≡ self.old) }
     {
         let buckets = 2 * self.buckets;
-        self.links.reserve(buckets - self.links.len())?;
+        let in_first_segment = buckets.min(LINKS_PER_SEGMENT);
+        let missing = in_first_segment.saturating_sub(self.first_segment.len());
+        self.first_segment.reserve(missing)?;
+        let later = buckets.saturating_sub(1) / LINKS_PER_SEGMENT;
+        add_segments(&mut self.later_segments, later)?;
         self.buckets = buckets;
         Ok(())
     }
+}
+
+/// Returns the place in a link of a segment, if it is written.
+fn link_at(segment: &[Link], index: usize) -> Option<At>
+    ensures { result ≡ get_or segment.now index None }
+{
+    if index < segment.len() {
+        segment[index].get()
+    } else {
+        None
+    }
+}
+
+/// Sets a link of a segment that has capacity for it.
+fn set_link(segment: &mut Vec<Link>, index: usize, at: At)
+    requires room { index < vec_capacity segment.old }
+    requires place { at < 2 ^ 64 - 1 }
+    ensures link { SetsLink index at segment.old.items segment.new.items }
+    ensures capacity { vec_capacity segment.old ≤ vec_capacity segment.new }
+{
+    if index >= segment.len() {
+        // `double` reserved the memory.
+        let _outcome = segment.resize(index + 1, Link::none());
+    }
+    segment[index] = Link::to(at);
+}
+
+/// Adds empty segments, with capacity for all their links, up to `count` segments.
+fn add_segments(segments: &mut Vec<Vec<Link>>, count: usize) -> Result<(), AllocError>
+    ensures adds { AddsSegments segments.old.items segments.new.items }
+    ensures ok { OnOk result (count ≤ length segments.new.items) }
+{
+    for _ in segments.len()..count {
+        let segment = Vec::with_capacity(*segments.allocator(), LINKS_PER_SEGMENT)?;
+        segments.push(segment)?;
+    }
+    Ok(())
 }

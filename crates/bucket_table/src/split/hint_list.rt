@@ -1,11 +1,14 @@
 ghost use Rattle.std.specs.Prelude.{◌≡◌, ◌<◌, ◌^◌, [], Some, None, IfOk, OnOk, OnErr, length, get_or, replicate};
-ghost use Rattle.bucket_table.specs.inside.Intervals.{AreUnknown, HaveSameHints, SetsIfUnknown, SetsHint, SetsFirst, ReplacesFirst};
+ghost use Rattle.bucket_table.specs.inside.Intervals.{AreUnknown, ForgetsHints, HaveSameHints, SetsIfUnknown, SetsHint, SetsFirst, ReplacesFirst};
 ghost use Rattle.bucket_table.specs.inside.Rebuild.{SetsEmpty, SetsIfEmpty};
 
 use super::hint::Hint;
 use node_list::At;
 use std::alloc::{AllocError, Global};
 use std::marker::Model;
+
+/// A call frees the memory of at most this many hints, which are 16 KiB. So no call takes long.
+const MAX_HINTS_FREED: usize = 4096;
 
 /// A list of hints, one for each interval. Past the end of the list hints are unknown.
 #[derive(Drop)]
@@ -55,11 +58,13 @@ impl HintList {
         Ok(())
     }
 
-    /// Removes all hints and frees their memory.
-    pub fn free(&mut self)
-        ensures { self.new ≡ [] }
+    /// Removes up to `MAX_HINTS_FREED` hints from the end, and frees their memory.
+    pub fn shrink(&mut self)
+        ensures { ForgetsHints self.old self.new }
     {
-        self.hints = Vec::new(*self.hints.allocator());
+        let len = self.hints.len().saturating_sub(MAX_HINTS_FREED);
+        self.hints.truncate(len);
+        self.hints.shrink_to_fit();
     }
 
     /// Returns the number of hints.

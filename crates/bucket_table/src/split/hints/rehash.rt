@@ -53,8 +53,8 @@ impl Hints {
         self.rehash_pair(list, self.interval_of(split_key) / 2);
     }
 
-    /// Rehashes the next two previous hints and adds some current ones. After the last of them it frees the previous
-    /// hints.
+    /// Rehashes the next three previous hints and adds some current ones. After the last of them each step frees the
+    /// memory of some previous hints.
     fn rehash_step(&mut self, list: &NodeList)
         requires hints { HintsAreSound self.old list.now.cells }
         ensures hints { HintsAreSound self.new list.now.cells }
@@ -65,9 +65,10 @@ impl Hints {
         if rehash_index < self.previous.len() {
             self.rehash_pair(list, rehash_index);
             self.rehash_pair(list, rehash_index + 1);
-            self.rehash_index = rehash_index.saturating_add(2);
+            self.rehash_pair(list, rehash_index + 2);
+            self.rehash_index = rehash_index.saturating_add(3);
         } else {
-            self.previous.free();
+            self.previous.shrink();
         }
     }
 

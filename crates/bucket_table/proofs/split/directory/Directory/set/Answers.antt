@@ -1,33 +1,82 @@
-use Rattle.std.proofs.Common.{◌≡◌, ◌+◌, ◌<◌, ◌≤◌, ◌∙◌, ℕ, List, Option, Some, length, set, sym, ap, subst, arith}
-use Rattle.bucket_table.specs.declared.split.directory.Directory.TheInside.{Inside}
-use Rattle.bucket_table.specs.inside.Padded.{padded}
-use Rattle.bucket_table.proofs.directory.Links.{length-padded, padded-set, padded-set-past, filled}
+use Rattle.std.proofs.Common.{◌≡◌, ◌∷◌, ◌∙◌, ◌-◌, ◌/◌, ◌%◌, ◌<◌, ◌≤◌, ℕ, List, Option, Some, length, set, ap, subst, arith}
+use Rattle.std.proofs.lemmas.List.{length-map}
+use Rattle.bucket_table.specs.inside.Segments.{links_in, SetsLink}
+use Rattle.bucket_table.proofs.directory.Segments.{below, written, link-set, links-set, first-here, first-others, later-here, later-others, room-first, room-later, later-has, segment-links, segment-room}
 use Rattle.bucket_table.proofs.split.directory.Directory.set.Goals as goal
-use Rattle.bucket_table.proofs.split.directory.Directory.set.Goals.{then-bucket-len, else-bucket-len}
 
-pub returns : goal.returns
-returns c =
-    let links = c.self.inside.links.items in
-    let buckets = c.self.inside.buckets in
+pub set_link-requires-clause-room : goal.set_link-requires-clause-room
+set_link-requires-clause-room c =
+    c.self.invariant.first_room c.args.bucket (below c.self.inside.first_segment c.self.inside.later_segments.items c.self.inside.buckets c.args.bucket c.args.self.now c.self.view_is c.requires.below) (omega (arith, c.if-bucket-lt-LINKS_PER_SEGMENT.true))
+
+pub invariant_of-self : goal.invariant_of-self
+invariant_of-self c =
+    let lt = below c.self.inside.first_segment c.self.inside.later_segments.items c.self.inside.buckets c.args.bucket c.args.self.now c.self.view_is c.requires.below in
+    room-first c.self.inside.first_segment c.set_link.new.segment c.self.inside.later_segments.items c.self.inside.buckets c.args.bucket c.args.at c.self.invariant lt (omega (arith, c.if-bucket-lt-LINKS_PER_SEGMENT.true)) c.set_link.ensures.link c.set_link.ensures.capacity
+
+pub index_mut-requires : goal.index_mut-requires
+index_mut-requires c =
+    let lt = below c.self.inside.first_segment c.self.inside.later_segments.items c.self.inside.buckets c.args.bucket c.args.self.now c.self.view_is c.requires.below in
+    omega (arith, later-has c.self.inside.first_segment c.self.inside.later_segments.items c.self.inside.buckets c.args.bucket c.self.invariant lt (omega (arith, c.if-bucket-lt-LINKS_PER_SEGMENT.false)), c.self.inside.later_segments.ok.0)
+
+pub set_link-requires-else-bucket-lt-LINKS_PER_SEGMENT-clause-room : goal.set_link-requires-else-bucket-lt-LINKS_PER_SEGMENT-clause-room
+set_link-requires-else-bucket-lt-LINKS_PER_SEGMENT-clause-room c =
+    let first = c.self.inside.first_segment in
+    let later = c.self.inside.later_segments.items in
+    let n = c.self.inside.buckets in
     let bucket = c.args.bucket in
-    let L : List (Option ℕ) → Type 0 = λ v. bucket < length v in
-    let long = length-padded links buckets c.self.invariant.few in
-    let within : bucket < length (padded links buckets) = subst L (sym c.self.view_is) c.requires.below in
-    let below : bucket < buckets = omega (arith, within, long) in
-    let written : length links ≡ c.len.result = sym (c.len.ensures ∙ c.self.inside.links.ok.0) in
-    let I : Inside → Type 0 = λ i. padded (set i.links.items bucket c.to.result) i.buckets ≡ set (padded links buckets) bucket (Some c.args.at) in
-    let to = ap (λ (o : Option ℕ). set (padded links buckets) bucket o) c.to.ensures in
-    let P : List (Option ℕ) → Type 0 = λ v. padded (set c.if-bucket-len.self-inside.links.items bucket c.to.result) c.if-bucket-len.self-inside.buckets ≡ set v bucket (Some c.args.at) in
+    let lt = below first later n bucket c.args.self.now c.self.view_is c.requires.below in
+    let past : 16384 ≤ bucket = omega (arith, c.if-bucket-lt-LINKS_PER_SEGMENT.false) in
+    let has = later-has first later n bucket c.self.invariant lt past in
+    let segment = bucket / 16384 - 1 in
+    omega (arith, segment-room later segment c.index_mut.result.now has c.index_mut.ensures.value first n c.self.invariant)
+
+pub invariant_of-self-else-bucket-lt-LINKS_PER_SEGMENT : goal.invariant_of-self-else-bucket-lt-LINKS_PER_SEGMENT
+invariant_of-self-else-bucket-lt-LINKS_PER_SEGMENT c =
+    let first = c.self.inside.first_segment in
+    let later = c.self.inside.later_segments.items in
+    let n = c.self.inside.buckets in
+    let bucket = c.args.bucket in
+    let lt = below first later n bucket c.args.self.now c.self.view_is c.requires.below in
+    let past : 16384 ≤ bucket = omega (arith, c.if-bucket-lt-LINKS_PER_SEGMENT.false) in
+    let has = later-has first later n bucket c.self.invariant lt past in
+    let segment = bucket / 16384 - 1 in
+    let call = c.set_link-else-bucket-lt-LINKS_PER_SEGMENT in
+    let links = segment-links later segment c.index_mut.result.now has c.index_mut.ensures.value in
+    let sets = subst (λ (zs : List (Option ℕ)). SetsLink (bucket % 16384) c.args.at zs call.new.segment.items) links call.ensures.link in
+    room-later first call.new.segment later n bucket c.args.at c.self.invariant lt past has sets (omega (arith, segment-room later segment c.index_mut.result.now has c.index_mut.ensures.value first n c.self.invariant, call.ensures.capacity))
+
+pub returns-then-bucket-lt-LINKS_PER_SEGMENT : goal.returns-then-bucket-lt-LINKS_PER_SEGMENT
+returns-then-bucket-lt-LINKS_PER_SEGMENT c =
+    let first = c.self.inside.first_segment.items in
+    let later = links_in c.self.inside.later_segments.items in
+    let n = c.self.inside.buckets in
+    let bucket = c.args.bucket in
+    let lt = below c.self.inside.first_segment c.self.inside.later_segments.items n bucket c.args.self.now c.self.view_is c.requires.below in
+    let small : bucket < 16384 = omega (arith, c.if-bucket-lt-LINKS_PER_SEGMENT.true) in
+    let after = c.set_link.new.segment.items in
+    let P : List (Option ℕ) → Type 0 = λ v. written (after ∷ later) n ≡ set v bucket (Some c.args.at) in
+    subst P c.self.view_is (link-set (first ∷ later) (after ∷ later) n bucket (Some c.args.at) lt
+    (first-here first after later bucket c.args.at small c.set_link.ensures.link)
+    (first-others first after later bucket c.args.at small c.set_link.ensures.link))
+
+pub returns-else-bucket-lt-LINKS_PER_SEGMENT : goal.returns-else-bucket-lt-LINKS_PER_SEGMENT
+returns-else-bucket-lt-LINKS_PER_SEGMENT c =
+    let first = c.self.inside.first_segment in
+    let later = c.self.inside.later_segments.items in
+    let n = c.self.inside.buckets in
+    let bucket = c.args.bucket in
+    let lt = below first later n bucket c.args.self.now c.self.view_is c.requires.below in
+    let past : 16384 ≤ bucket = omega (arith, c.if-bucket-lt-LINKS_PER_SEGMENT.false) in
+    let has = later-has first later n bucket c.self.invariant lt past in
+    let segment = bucket / 16384 - 1 in
+    let call = c.set_link-else-bucket-lt-LINKS_PER_SEGMENT in
+    let after = call.new.segment in
+    let links = segment-links later segment c.index_mut.result.now has c.index_mut.ensures.value in
+    let sets = subst (λ (zs : List (Option ℕ)). SetsLink (bucket % 16384) c.args.at zs after.items) links call.ensures.link in
+    let inside : segment < length (links_in later) = omega (arith, has, length-map later (λ segment. segment.items)) in
+    let P : List (Option ℕ) → Type 0 = λ v. written (first.items ∷ links_in (set later segment after)) n ≡ set v bucket (Some c.args.at) in
     subst P c.self.view_is (
-    elim c.if-bucket-len.branch [
-      | then-bucket-len w ↦
-          let past : length links ≤ bucket = omega (arith, written, w.if-bucket-len.true) in
-          let room = c.self.invariant.room in
-          let ok = w.resize-outcome.ensures.succeeds (omega (arith, below, room)) in
-          let after = filled w.resize-outcome.result links w.resize-outcome.new.self.items (bucket + 1) _ w.none.result ok (omega (arith, past)) c.self.inside.links.ok.0 w.none.ensures w.resize-outcome.ensures.items in
-          subst I (sym w.self-inside-is) (padded-set-past links buckets w.resize-outcome.new.self.items bucket c.to.result below past after ∙ to)
-      | else-bucket-len w ↦
-          let before : bucket < length links = omega (arith, written, w.if-bucket-len.false) in
-          subst I (sym w.self-inside-is) (padded-set links buckets bucket c.to.result before ∙ to)
-    ]
-    )
+    ap (λ segments. written (first.items ∷ segments) n) (links-set later segment after)
+    ∙ link-set (first.items ∷ links_in later) (first.items ∷ set (links_in later) segment after.items) n bucket (Some c.args.at) lt
+    (later-here first.items after.items (links_in later) bucket c.args.at past inside sets)
+    (later-others first.items after.items (links_in later) bucket c.args.at past inside sets))
