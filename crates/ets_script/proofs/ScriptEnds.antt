@@ -1,7 +1,6 @@
 -- What has been read and written when a script ends.
 use Rattle.std.proofs.Common.{◌≡◌, ℕ, suc, List, [], ◌++◌, take, drop, refl, sym, ap, ◌∙◌, subst, Option, append-nil, append_assoc}
-use Rattle.std.specs.Prelude.{⊤, Result, Ok, Err, IfErr, OnOk, OnErr}
-use Rattle.std.specs.Result.{IsErrAnd}
+use Rattle.std.specs.Prelude.{⊤, Result, Ok, Err, OnOk, OnErr}
 use Rattle.std.specs.Io.KnownBytes.{Appends, Consumes, Keeps, IsAtEnd}
 use Rattle.ets_packets.specs.Traffic.{traffic}
 use Rattle.ets_packets.specs.Output.{Sends, Breaks}
@@ -13,7 +12,6 @@ use Rattle.ets_script.specs.Stops.{Stops, Completes}
 use Rattle.ets_script.specs.inside.LineBuffers.{LineBufferState, EndsLine, Waits}
 use Rattle.ets_script.specs.inside.Answered.{AnswersPart, EndsAll, BreaksAtEnd}
 use Rattle.ets_script.specs.declared.answer.Answer.{Answer}
-use Rattle.ets_script.specs.declared.fault.ScriptFault.{ScriptFault}
 use Rattle.ets_script.specs.declared.fault.ScriptFault.TheVariants as faults
 use Rattle.ets_script.proofs.KnownBytes.{taken-front, the_none, consumes-buffered}
 use Rattle.ets_script.proofs.AnsweredLines.{last-lines, no-more, none-is, then-line}
@@ -120,9 +118,3 @@ pub end-err : {T E : Type 0} (r : Result T E) (h : LineBufferState) (s1 s2 : Scr
 end-err (Ok x) h s1 s2 p1 p2 w1 w2 w3 answer answers printed_so broken = tt
 end-err (Err e) h s1 s2 p1 p2 w1 w2 w3 answer answers printed_so broken =
     record { answer = answer; answers = answers; broken = breaks-on w1 w2 w3 (p1 ++ printed answer) p2 printed_so broken }
-
--- a fault is reported as it was found
-pub stop-of-err : {N : Type 0} (start : ScriptState) (before after old new : Option (List ℕ)) (r : Result N ScriptFault) (fault : ScriptFault) → IsErrAnd r (λ returned. returned ≡ fault)
-    → Stops start (traffic (between before after) (between old new)) fault → IfErr r (Stops start (traffic (between before after) (between old new)))
-stop-of-err start before after old new (Ok x) fault returned stops = tt
-stop-of-err start before after old new (Err e) fault returned stops = subst (Stops start (traffic (between before after) (between old new))) (sym returned) stops

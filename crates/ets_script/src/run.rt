@@ -94,6 +94,27 @@ fn run_with<R: Read, W: Write, H: KeyHash + Copy + Drop, L: Observer>(
     ensures err { IfErr result (Stops script
         (flows R.remaining W.contents streams.old streams.new)) }
 {
+    match answer_streams(streams, &mut script, reads, observer) {
+        Ok(()) => Ok(script.into_node()),
+        Err(fault) => {
+            drop(script);
+            Err(fault)
+        }
+    }
+}
+
+/// Answers all lines of the input, with at most this many reads.
+fn answer_streams<R: Read, W: Write, H: KeyHash + Copy + Drop, L: Observer>(
+    streams: &mut Streams<R, W>,
+    script: &mut Script<H>,
+    reads: u32,
+    observer: &mut L,
+) -> Result<(), ScriptFault>
+    ensures ok { OnOk result (Completes script.old script.new
+        (flows R.remaining W.contents streams.old streams.new)) }
+    ensures err { IfErr result (Stops script.old
+        (flows R.remaining W.contents streams.old streams.new)) }
+{
     let alloc = script.allocator();
     let Ok(mut buffer) = LineBuffer::new(alloc, reads) else {
         return Err(ScriptFault::Memory);
@@ -102,14 +123,8 @@ fn run_with<R: Read, W: Write, H: KeyHash + Copy + Drop, L: Observer>(
         return Err(ScriptFault::Memory);
     };
     let mut output = Output::new(&mut bytes, &mut streams.output);
-    answer_all(
-        &mut streams.input,
-        &mut output,
-        &mut buffer,
-        &mut script,
-        observer,
-    )?;
-    Ok(script.into_node())
+    let input = &mut streams.input;
+    answer_all(input, &mut output, &mut buffer, script, observer)
 }
 
 /// Answers all lines, and writes all answers.
