@@ -1,16 +1,17 @@
 // Tests of a node that threads share, and of a server. A `Blank` is an unused ledger, and `L` is its name in types. A
 // ledger has a part for each process and one more: for two processes a test passes `Blank::new(3)`.
-ghost use Rattle.std.specs.Prelude.{◌≡◌, ◌<◌, IfOk};
+ghost use Rattle.std.specs.Prelude.{◌≡◌, ◌<◌};
 
-use ets_term::{Atom, KeyHash, Term};
-use node_core::{Call, Limits};
-use node_shared::{Client, Job, Pids, Seat, Shared, Worked, close};
+use ets_term::{Fnv, KeyHash};
+use node_core::Limits;
+use node_shared::{
+    Caller, Client, Drawn, HistoryId, Job, Pids, Server, Shared, Transcript, Worked, close,
+};
 use std::alloc::Global;
 use std::sync::Wait;
 use std::sync::ledger::Ledger;
-use std::test::Fail;
-use term_text::read_term;
 
+mod calls;
 mod drawing;
 mod ending;
 mod enduring;
@@ -24,25 +25,6 @@ mod reading;
 mod serving;
 mod stressing;
 
-/// Returns the call of this name, with the terms that the text of a list spells.
-fn call(alloc: Global, name: &str, arguments: &str) -> Result<Call, Fail> {
-    let name = Atom::new(alloc, name).map_err(|_| "a name")?;
-    let (term, _) = read_term(alloc, arguments).map_err(|_| "a term")?;
-    match term {
-        Term::List(arguments) => Ok(Call::new(name, arguments.into_vec())),
-        _ => Err("a list")?,
-    }
-}
-
-/// Returns the jobs that ask these calls.
-fn asks(alloc: Global, calls: &[(&str, &str)]) -> Result<Vec<Job>, Fail> {
-    let mut jobs = Vec::new(alloc);
-    for (name, arguments) in calls {
-        jobs.push(Job::Ask(call(alloc, name, arguments)?))?;
-    }
-    Ok(jobs)
-}
-
 /// Returns limits with this number of processes, and all else as usual.
 fn limits(processes: u32) -> Limits
     ensures { result.processes ≡ processes }
@@ -53,15 +35,16 @@ fn limits(processes: u32) -> Limits
     }
 }
 
-/// Opens two numbers, and returns a seat for each.
-fn two_seats(alloc: Global) -> Result<(Pids, Seat, Seat), Fail>
-    ensures one { IfOk result (λ opened. opened.1.seat.table_id ≡ opened.0.table.shared.table_id) }
-    ensures other { IfOk result (λ opened. opened.2.seat.table_id ≡ opened.0.table.shared.table_id) }
+/// Draws the numbers from 0 on, as many as `count`.
+fn draw(alloc: Global, count: usize) -> Option<Vec<Drawn>>
+    requires { 0 < count }
 {
-    let (pids, mut seats) = Pids::open(alloc, 2).map_err(|_| "open")?;
-    let one = seats.pop().ok_or("a seat")?;
-    let other = seats.pop().ok_or("a seat")?;
-    Ok((pids, one, other))
+    let (pids, seats) = Pids::open(alloc, count).ok()?;
+    let mut numbers = Vec::with_capacity(alloc, count).ok()?;
+    for seat in seats {
+        numbers.push(pids.draw(seat)).ok()?;
+    }
+    Some(numbers)
 }
 
 /// Joins `count` clients, by the numbers from 0 on.
@@ -70,39 +53,90 @@ fn join_clients<L: Ledger, H: KeyHash + Copy + Drop, R: Wait>(
     alloc: Global,
     shared: &Shared<L, H>,
     count: usize,
-) -> Result<Vec<Client<L>>, Fail>
+) -> Option<Vec<Client<L>>>
     requires { 0 < count }
 {
-    let (pids, seats) = Pids::open(alloc, count).map_err(|_| "open")?;
-    let mut clients = Vec::with_capacity(alloc, count)?;
-    for seat in seats {
-        let drawn = pids.draw(seat);
-        clients.push(shared.client(rt, drawn).map_err(|_| "a client")?)?;
+    let mut clients = Vec::with_capacity(alloc, count).ok()?;
+    for number in draw(alloc, count)? {
+        clients.push(shared.client(rt, number).ok()?).ok()?;
     }
-    Ok(clients)
+    Some(clients)
+}
+
+/// Joins `count` callers, by the numbers from 0 on.
+fn join_callers<B: HistoryId, R: Wait>(
+    rt: &R,
+    alloc: Global,
+    server: &Server<B, Fnv>,
+    count: usize,
+) -> Option<Vec<Caller<B>>>
+    requires { 0 < count }
+{
+    let mut callers = Vec::with_capacity(alloc, count).ok()?;
+    for number in draw(alloc, count)? {
+        callers.push(server.client(rt, number).ok()?).ok()?;
+    }
+    Some(callers)
+}
+
+/// The jobs of each client of a test.
+trait Plan {
+    /// Returns the jobs of the client of this process.
+    fn jobs(&self, alloc: Global, pid: u32) -> Option<Vec<Job>>;
+}
+
+/// Joins `count` clients, and returns each with its jobs.
+fn join_with_jobs<L: Ledger, H: KeyHash + Copy + Drop, P: Plan, R: Wait>(
+    rt: &R,
+    alloc: Global,
+    shared: &Shared<L, H>,
+    count: usize,
+    plan: &P,
+) -> Option<Vec<(Client<L>, Vec<Job>)>>
+    requires { 0 < count }
+{
+    let mut work = Vec::with_capacity(alloc, count).ok()?;
+    for client in join_clients(rt, alloc, shared, count)? {
+        let jobs = plan.jobs(alloc, client.pid())?;
+        work.push((client, jobs)).ok()?;
+    }
+    Some(work)
 }
 
 /// Returns the clients of the workers, if they did all their jobs.
-fn clients_of_workers<L: Ledger>(
-    alloc: Global,
-    workers: Vec<Worked<L>>,
-) -> Result<Vec<Client<L>>, Fail> {
-    if workers.iter().any(|worker| worker.left > 0) {
-        return Err("a job is left")?;
-    }
-    let mut clients = Vec::with_capacity(alloc, workers.len())?;
+fn clients_of_workers<L: Ledger>(alloc: Global, workers: Vec<Worked<L>>) -> Option<Vec<Client<L>>> {
+    let mut clients = Vec::with_capacity(alloc, workers.len()).ok()?;
     for worker in workers {
-        clients.push(worker.client)?;
+        clients.push(client_of_worker(worker)?).ok()?;
     }
-    Ok(clients)
+    Some(clients)
+}
+
+/// Returns the client of a worker, if no job is left.
+fn client_of_worker<L: Ledger>(worker: Worked<L>) -> Option<Client<L>> {
+    if worker.left > 0 {
+        return None;
+    }
+    Some(worker.client)
+}
+
+/// Closes the sharing, if there are clients, and returns the transcript.
+fn close_all<L: Ledger, H: KeyHash + Copy + Drop>(
+    shared: Shared<L, H>,
+    clients: Option<Vec<Client<L>>>,
+) -> Option<Transcript> {
+    match clients {
+        Some(clients) => close(shared, clients).ok(),
+        None => None,
+    }
 }
 
 /// Closes the sharing, and returns how many entries of the process the transcript has.
 fn count_entries<L: Ledger, H: KeyHash + Copy + Drop>(
     shared: Shared<L, H>,
-    clients: Vec<Client<L>>,
+    clients: Option<Vec<Client<L>>>,
     pid: u32,
-) -> Result<usize, Fail> {
-    let transcript = close(shared, clients).map_err(|_| "close")?;
-    Ok(transcript.of(pid)?.len())
+) -> Option<usize> {
+    let transcript = close_all(shared, clients)?;
+    Some(transcript.of(pid).ok()?.len())
 }

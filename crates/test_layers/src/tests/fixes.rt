@@ -1,5 +1,6 @@
 // Expected answers from the rules of `ets`. A test is a list of calls with their answers, over both forms of rows.
 // `None` means out of memory.
+use self::answers::{Expected, Step, try_insert};
 use super::keep_if_some;
 use bucket_table::{PlainRows, Rows, SplitRows};
 use ets_term::{AllSame, Fnv, Integer, Items, Term};
@@ -8,6 +9,7 @@ use std::alloc::Global;
 use std::process::Abort;
 use table_ops::{Kind, Table};
 
+mod answers;
 mod calls;
 mod free;
 mod refused;
@@ -75,17 +77,9 @@ fn push_key_and_value(items: &mut Items<Term>, key: Integer, value: Integer) -> 
     items.push(Term::Int(value)).ok()
 }
 
-/// Inserts the object `{Key,Value}`. Returns whether the call succeeded.
-fn insert<R: Rows>(
-    alloc: Global,
-    table: &mut Walked<R>,
-    key: Integer,
-    value: Integer,
-) -> Option<bool> {
-    let objects = [build_object(alloc, key, value)?];
-    let inserted = table.insert(&objects).is_ok();
-    drop(objects);
-    Some(inserted)
+/// Inserts the object `{Key,Value}`. Returns whether the object was built and the call succeeded.
+fn insert<R: Rows>(alloc: Global, table: &mut Walked<R>, key: Integer, value: Integer) -> bool {
+    try_insert(table, build_object(alloc, key, value)) == Expected::Done.code()
 }
 
 /// Deletes all objects of a key.
@@ -120,12 +114,73 @@ fn is_key(found: Option<&Term>, wanted: Option<Integer>) -> bool {
     }
 }
 
-/// Makes the first unready bucket ready, or doubles the buckets if all are ready.
-fn grow<R: Rows>(table: &mut Walked<R>) -> Option<()> {
-    if let Some(bucket) = table.first_unready() {
-        let _ = table.ready(bucket).ok()?;
-    } else if table.buckets() < MAX_BUCKETS {
-        let _ = table.grow().ok()?;
+/// Makes the first unready bucket ready, or doubles the buckets if all are ready. Returns whether memory sufficed.
+fn grow<R: Rows>(table: &mut Walked<R>) -> bool {
+    match table.first_unready() {
+        Some(bucket) => table.ready(bucket).is_ok(),
+        None => table.buckets() >= MAX_BUCKETS || table.grow().is_ok(),
     }
-    Some(())
+}
+
+/// What a new table is tried with.
+#[derive(Clone, Copy)]
+enum Trial {
+    /// Each call on many keys, while the buckets double.
+    AllCalls,
+    /// Traversals and releases, which take no memory.
+    NoMemory,
+    /// Calls that may be refused memory, with their answers. The second calls are on the table that the first leave.
+    Refusals(&'static [(Step, Expected)], &'static [(Step, Expected)]),
+    /// Calls that leave tombstones, and what they answer and leave.
+    Tombstones(&'static [tombstones::Row]),
+    /// A traversal that chooses from this many keys while other processes insert, delete and grow the table.
+    Traversal(Keys, BucketsAbove),
+}
+
+/// How many keys a traversal chooses from. Half of them have objects at the start.
+#[derive(Clone, Copy)]
+struct Keys(u32);
+
+/// A number of buckets that a table exceeds after a traversal.
+#[derive(Clone, Copy)]
+struct BucketsAbove(u32);
+
+/// Returns whether this table, which is new, passes a trial. None means out of memory, or a call that fails.
+fn table_passes<R: Rows>(alloc: Global, table: &mut Walked<R>, trial: Trial) -> Option<bool> {
+    match trial {
+        Trial::AllCalls => Some(calls::all_calls_succeed(alloc, table)),
+        Trial::NoMemory => Some(free::takes_no_memory(alloc, table)),
+        Trial::Refusals(first, second) => Some(
+            refused::are_answered_with_retry(alloc, table, first)
+                && refused::are_answered_with_retry(alloc, table, second),
+        ),
+        Trial::Tombstones(rows) => Some(tombstones::all_rows_hold(alloc, table, rows)),
+        Trial::Traversal(keys, buckets) => {
+            let is_exact = walks::traverses_exactly(alloc, table, keys.0)?;
+            Some(is_exact && table.buckets() > buckets.0)
+        }
+    }
+}
+
+/// Returns whether a new table passes a trial, and drops it.
+fn passes<R: Rows>(alloc: Global, table: Walked<R>, trial: Trial) -> Option<bool> {
+    let mut table = table;
+    let passed = table_passes(alloc, &mut table, trial);
+    drop(table);
+    passed
+}
+
+/// Returns whether a table over plain rows passes a trial.
+fn plain_rows_pass(alloc: Global, kind: Kind, trial: Trial) -> Option<bool> {
+    passes(alloc, plain_table(alloc, kind), trial)
+}
+
+/// Returns whether a table over split rows, with keys hashed by FNV-1a, passes a trial.
+fn split_rows_pass(alloc: Global, kind: Kind, trial: Trial) -> Option<bool> {
+    passes(alloc, split_table(alloc, kind)?, trial)
+}
+
+/// Returns whether a table over split rows, with one hash for all keys, passes a trial.
+fn one_bucket_passes(alloc: Global, kind: Kind, trial: Trial) -> Option<bool> {
+    passes(alloc, one_bucket_table(alloc, kind)?, trial)
 }

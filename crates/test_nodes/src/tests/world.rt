@@ -4,6 +4,7 @@ use crate::tests::{Pid, Tid};
 use bucket_table::PlainRows;
 use ets_term::Term;
 use ownership::{World, WorldFault};
+use refused::call_has_answer_with_retry;
 use single_calls::{
     empty_tuple, fix_table, give_away, info_or_undefined, list_of_rights, new_table, set_options,
     tid_or_none,
@@ -117,14 +118,37 @@ fn call_has_answer(
     }
 }
 
+/// How often a call is made.
+#[derive(Clone, Copy)]
+enum Tries {
+    Once,
+    /// Again if memory runs out.
+    AgainIfRefused,
+}
+
+/// Makes the call of a row, and returns whether it has its answer.
+fn row_has_answer(
+    alloc: Global,
+    world: &mut Tables,
+    tries: Tries,
+    row: Row,
+) -> Result<bool, AllocError> {
+    let (call, wanted) = row;
+    match tries {
+        Tries::Once => call_has_answer(alloc, world, call, wanted),
+        Tries::AgainIfRefused => call_has_answer_with_retry(alloc, world, call, wanted),
+    }
+}
+
 /// Makes the calls of the rows in a world, and returns the index of the first one with another answer.
 fn first_wrong_row_in(
     alloc: Global,
     world: &mut Tables,
+    tries: Tries,
     rows: &[Row],
 ) -> Result<Option<usize>, AllocError> {
-    for (index, (call, wanted)) in rows.iter().enumerate() {
-        if !call_has_answer(alloc, world, *call, *wanted)? {
+    for (index, row) in rows.iter().enumerate() {
+        if !row_has_answer(alloc, world, tries, *row)? {
             return Ok(Some(index));
         }
     }
@@ -133,9 +157,9 @@ fn first_wrong_row_in(
 
 /// Makes the calls of the rows in a new world for three processes and four tables, and returns the index of the first
 /// one with another answer.
-fn first_wrong_row(alloc: Global, rows: &[Row]) -> Result<Option<usize>, AllocError> {
+fn first_wrong_row(alloc: Global, tries: Tries, rows: &[Row]) -> Result<Option<usize>, AllocError> {
     let mut world = World::new(alloc, 3, 4);
-    let index = first_wrong_row_in(alloc, &mut world, rows);
+    let index = first_wrong_row_in(alloc, &mut world, tries, rows);
     drop(world);
     index
 }
@@ -147,7 +171,7 @@ fn first_wrong_scenario(
     scenarios: &[&'static [Row]],
 ) -> Result<Option<(usize, usize)>, AllocError> {
     for (scenario, rows) in scenarios.iter().enumerate() {
-        if let Some(row) = first_wrong_row(alloc, *rows)? {
+        if let Some(row) = first_wrong_row(alloc, Tries::Once, *rows)? {
             return Ok(Some((scenario, row)));
         }
     }

@@ -1,8 +1,9 @@
 // Two threads, each of which draws its number, joins and asks.
-ghost use Rattle.std.specs.Prelude.{◌≡◌};
+ghost use Rattle.std.specs.Prelude.{◌≡◌, IfSome};
 ghost use Rattle.std.specs.Thread.{IsSync};
 
-use super::{call, count_entries, limits, two_seats};
+use super::calls::call;
+use super::{count_entries, limits};
 use ets_term::{Fnv, KeyHash};
 use node_core::Call;
 use node_shared::{Client, Pids, Seat, Shared};
@@ -10,9 +11,19 @@ use std::alloc::Global;
 use std::marker::Brand;
 use std::sync::Wait;
 use std::sync::ledger::{Blank, Ledger};
-use std::test::Fail;
 use std::thread;
 use std::thread::Threads;
+
+/// Opens two numbers, and returns a seat for each.
+fn two_seats(alloc: Global) -> Option<(Pids, Seat, Seat)>
+    ensures one { IfSome result (λ opened. opened.1.seat.table_id ≡ opened.0.table.shared.table_id) }
+    ensures other { IfSome result (λ opened. opened.2.seat.table_id ≡ opened.0.table.shared.table_id) }
+{
+    let (pids, mut seats) = Pids::open(alloc, 2).ok()?;
+    let one = seats.pop()?;
+    let other = seats.pop()?;
+    Some((pids, one, other))
+}
 
 /// Joins by the number of a seat and makes a call. Returns the client.
 fn visit<L: Ledger, H: KeyHash + Copy + Drop, R: Wait>(
@@ -62,9 +73,9 @@ fn visitors<L: Ledger + Send + Sync, R: Threads + Wait + Sync>(
     rt: &R,
     alloc: Global,
     shared: &Shared<L, Fnv>,
-) -> Result<Vec<Client<L>>, Fail> {
+) -> Option<Vec<Client<L>>> {
+    let request = call(alloc, ("receive", "[]"))?;
     let (pids, one, other) = two_seats(alloc)?;
-    let request = call(alloc, "receive", "[]")?;
     let (one, other) = visits(rt, shared, &pids, one, other, &request);
     both_clients(alloc, one, other)
 }
@@ -74,14 +85,14 @@ fn both_clients<L: Ledger>(
     alloc: Global,
     one: Option<Client<L>>,
     other: Option<Client<L>>,
-) -> Result<Vec<Client<L>>, Fail> {
-    let mut clients = Vec::with_capacity(alloc, 2)?;
-    clients.push(one.ok_or("a client")?)?;
-    clients.push(other.ok_or("a client")?)?;
+) -> Option<Vec<Client<L>>> {
+    let mut clients = Vec::with_capacity(alloc, 2).ok()?;
+    clients.push(one?).ok()?;
+    clients.push(other?).ok()?;
     if !are_numbered(&clients) {
-        return Err("the numbers 0 and 1")?;
+        return None;
     }
-    Ok(clients)
+    Some(clients)
 }
 
 /// Returns whether two clients have the numbers 0 and 1, in any order.
@@ -97,21 +108,20 @@ fn entries_after_two_visits<L: Ledger + Send + Sync, R: Threads + Wait + Sync>(
     rt: &R,
     alloc: Global,
     blank: Blank,
-) -> Result<usize, Fail>
+) -> Option<usize>
     requires name { blank.name ≡ L.name }
     requires parts { blank.parts ≡ L.parts }
     requires enough { blank.parts ≡ 3 }
 {
     let shared = Shared::<L, Fnv>::new(alloc, blank, limits(2), Fnv);
-    let clients = visitors(rt, alloc, &shared)?;
+    let clients = visitors(rt, alloc, &shared);
     count_entries(shared, clients, 0)
 }
 
 #[test]
-fn two_threads_draw_join_and_ask(rt: HostRuntime) -> Result<(), Fail> {
+fn two_threads_draw_join_and_ask(rt: HostRuntime) {
     assert_eq!(rt;
-        entries_after_two_visits::<Brand, _>(&rt, rt.alloc(), Blank::new(3))?,
-        2
+        entries_after_two_visits::<Brand, _>(&rt, rt.alloc(), Blank::new(3)),
+        Some(2)
     );
-    Ok(())
 }

@@ -1,10 +1,11 @@
 // Eight clients with twenty thousand jobs each, on tables that grow, with ends and heirs among them.
 ghost use Rattle.std.specs.Prelude.{◌≡◌};
 
+use super::calls::call_with;
 use super::keeper::run_while_keeping;
-use super::{call, join_clients, limits};
+use super::{Plan, close_all, join_with_jobs, limits};
 use ets_term::Fnv;
-use node_shared::{Client, Job, Shared, close};
+use node_shared::{Client, Job, Shared};
 use std::alloc::{AllocError, Global};
 use std::marker::Brand;
 use std::sync::Wait;
@@ -26,12 +27,12 @@ const CLIENT_STEPS: usize = 160_008;
 
 /// Returns a job of a client. First it makes its table, with its neighbour as the heir. Then it writes to both tables,
 /// reads the neighbour's, and takes its messages, in turn.
-fn job(alloc: Global, pid: u32, number: u32) -> Result<Job, Fail> {
+fn job(alloc: Global, pid: u32, number: u32) -> Option<Job> {
     if number == END && pid % 2 == 0 {
-        return Ok(Job::End);
+        return Some(Job::End);
     }
-    let arguments = arguments_of_call(alloc, pid, pid ^ 1, number)?;
-    Ok(Job::Ask(call(alloc, name_of_call(number), arguments.as_str())?))
+    let arguments = arguments_of_call(alloc, pid, pid ^ 1, number);
+    Some(Job::Ask(call_with(alloc, (name_of_call(number), arguments))?))
 }
 
 /// Returns the name of the call of a job.
@@ -62,27 +63,28 @@ fn arguments_of_call(
     }
 }
 
-/// Returns all jobs of a client.
-fn jobs(alloc: Global, pid: u32) -> Result<Vec<Job>, Fail> {
-    let mut jobs = Vec::with_capacity(alloc, JOBS as usize)?;
-    for number in 0..JOBS {
-        jobs.push(job(alloc, pid, number)?)?;
+/// Each client does all its jobs.
+#[derive(Drop)]
+struct Endure;
+
+impl Plan for Endure {
+    fn jobs(&self, alloc: Global, pid: u32) -> Option<Vec<Job>> {
+        let mut jobs = Vec::with_capacity(alloc, JOBS as usize).ok()?;
+        for number in 0..JOBS {
+            jobs.push(job(alloc, pid, number)?).ok()?;
+        }
+        Some(jobs)
     }
-    Ok(jobs)
 }
 
-/// Joins eight clients, and returns each with its jobs.
-fn clients_with_jobs<L: Ledger, R: Wait>(
+/// Runs eight clients until all jobs are done, and returns them.
+fn run_eight<L: Ledger + Send + Sync, R: Threads + Wait + Sync>(
     rt: &R,
     alloc: Global,
     shared: &Shared<L, Fnv>,
-) -> Result<Vec<(Client<L>, Vec<Job>)>, Fail> {
-    let mut work = Vec::with_capacity(alloc, CLIENTS)?;
-    for client in join_clients(rt, alloc, shared, CLIENTS)? {
-        let jobs = jobs(alloc, client.pid())?;
-        work.push((client, jobs))?;
-    }
-    Ok(work)
+) -> Option<Vec<Client<L>>> {
+    let work = join_with_jobs(rt, alloc, shared, CLIENTS, &Endure)?;
+    run_while_keeping(rt, alloc, shared, work)
 }
 
 /// Runs eight clients until all jobs are done. Returns how many entries the transcript has.
@@ -90,27 +92,25 @@ fn entries_of_round<L: Ledger + Send + Sync, R: Threads + Wait + Sync>(
     rt: &R,
     alloc: Global,
     blank: Blank,
-) -> Result<usize, Fail>
+) -> Option<usize>
     requires name { blank.name ≡ L.name }
     requires parts { blank.parts ≡ L.parts }
     requires enough { blank.parts ≡ 9 }
 {
     let shared = Shared::<L, Fnv>::new(alloc, blank, limits(8), Fnv);
-    let work = clients_with_jobs(rt, alloc, &shared)?;
-    let clients = run_while_keeping(rt, alloc, &shared, work)?;
-    let transcript = close(shared, clients).map_err(|_| "close")?;
-    Ok(transcript.entries.len())
+    let clients = run_eight(rt, alloc, &shared);
+    Some(close_all(shared, clients)?.entries.len())
 }
 
 /// Runs two rounds, and returns whether the transcript of each has all steps of the clients, and growth steps.
-fn two_rounds_are_complete<R: Threads + Wait + Sync>(rt: &R, alloc: Global) -> Result<bool, Fail> {
+fn two_rounds_are_complete<R: Threads + Wait + Sync>(rt: &R, alloc: Global) -> Option<bool> {
     for _ in 0..2 {
         let entries = entries_of_round::<Brand, R>(rt, alloc, Blank::new(9))?;
         if entries <= CLIENT_STEPS {
-            return Ok(false);
+            return Some(false);
         }
     }
-    Ok(true)
+    Some(true)
 }
 
 // Ten rounds, in five tests, since a test may take one minute.
@@ -118,34 +118,34 @@ fn two_rounds_are_complete<R: Threads + Wait + Sync>(rt: &R, alloc: Global) -> R
 /// Runs the first two of ten rounds.
 #[test]
 fn rounds_one_and_two(rt: HostRuntime) -> Result<(), Fail> {
-    assert!(rt; two_rounds_are_complete(&rt, rt.alloc())?);
+    assert!(rt; two_rounds_are_complete(&rt, rt.alloc()).ok_or("a round")?);
     Ok(())
 }
 
 /// Runs two more rounds.
 #[test]
 fn rounds_three_and_four(rt: HostRuntime) -> Result<(), Fail> {
-    assert!(rt; two_rounds_are_complete(&rt, rt.alloc())?);
+    assert!(rt; two_rounds_are_complete(&rt, rt.alloc()).ok_or("a round")?);
     Ok(())
 }
 
 /// Runs two more rounds.
 #[test]
 fn rounds_five_and_six(rt: HostRuntime) -> Result<(), Fail> {
-    assert!(rt; two_rounds_are_complete(&rt, rt.alloc())?);
+    assert!(rt; two_rounds_are_complete(&rt, rt.alloc()).ok_or("a round")?);
     Ok(())
 }
 
 /// Runs two more rounds.
 #[test]
 fn rounds_seven_and_eight(rt: HostRuntime) -> Result<(), Fail> {
-    assert!(rt; two_rounds_are_complete(&rt, rt.alloc())?);
+    assert!(rt; two_rounds_are_complete(&rt, rt.alloc()).ok_or("a round")?);
     Ok(())
 }
 
 /// Runs the last two rounds.
 #[test]
 fn rounds_nine_and_ten(rt: HostRuntime) -> Result<(), Fail> {
-    assert!(rt; two_rounds_are_complete(&rt, rt.alloc())?);
+    assert!(rt; two_rounds_are_complete(&rt, rt.alloc()).ok_or("a round")?);
     Ok(())
 }

@@ -2,7 +2,7 @@
 // reported.
 ghost use Rattle.std.specs.Prelude.{◌≡◌};
 
-use super::{join_clients, limits, two_seats};
+use super::{draw, join_clients, limits};
 use ets_term::Fnv;
 use node_core::Reply;
 use node_shared::{Book, BookFault, Client, CloseFault, JoinFault, Pids, PidsFault, Shared, close};
@@ -10,7 +10,6 @@ use std::alloc::Global;
 use std::marker::Brand;
 use std::sync::Wait;
 use std::sync::ledger::{Blank, Ledger};
-use std::test::Fail;
 
 /// The greatest number of numbers that can be opened.
 const MOST: usize = 4_096;
@@ -49,21 +48,18 @@ fn refused_number<L: Ledger, R: Wait>(
     rt: &R,
     alloc: Global,
     shared: &Shared<L, Fnv>,
-) -> Result<Option<u32>, Fail> {
-    let (pids, one, other) = two_seats(alloc)?;
-    let _client = shared.client(rt, pids.draw(one)).map_err(|_| "a client")?;
-    match shared.client(rt, pids.draw(other)) {
-        Err(JoinFault::Refused(Reply::SystemLimit, drawn)) => Ok(Some(drawn.pid())),
-        _ => Ok(None),
+) -> Option<u32> {
+    let mut numbers = draw(alloc, 2)?;
+    let second = numbers.pop()?;
+    let _client = shared.client(rt, numbers.pop()?).ok()?;
+    match shared.client(rt, second) {
+        Err(JoinFault::Refused(Reply::SystemLimit, drawn)) => Some(drawn.pid()),
+        _ => None,
     }
 }
 
 /// Returns the number that a new node with one process refuses.
-fn number_past_limit_of_one<L: Ledger, R: Wait>(
-    rt: &R,
-    alloc: Global,
-    blank: Blank,
-) -> Result<Option<u32>, Fail>
+fn number_past_limit_of_one<L: Ledger, R: Wait>(rt: &R, alloc: Global, blank: Blank) -> Option<u32>
     requires name { blank.name ≡ L.name }
     requires parts { blank.parts ≡ L.parts }
     requires enough { blank.parts ≡ 2 }
@@ -76,12 +72,11 @@ fn number_past_limit_of_one<L: Ledger, R: Wait>(
 }
 
 #[test]
-fn a_process_past_the_limit_is_refused(rt: HostRuntime) -> Result<(), Fail> {
+fn a_process_past_the_limit_is_refused(rt: HostRuntime) {
     assert_eq!(rt;
-        number_past_limit_of_one::<Brand, _>(&rt, rt.alloc(), Blank::new(2))?,
+        number_past_limit_of_one::<Brand, _>(&rt, rt.alloc(), Blank::new(2)),
         Some(1)
     );
-    Ok(())
 }
 
 /// Joins two clients, and returns the second one alone.
@@ -89,10 +84,12 @@ fn second_client<L: Ledger, R: Wait>(
     rt: &R,
     alloc: Global,
     shared: &Shared<L, Fnv>,
-) -> Result<Vec<Client<L>>, Fail> {
+) -> Option<Vec<Client<L>>> {
     let mut clients = join_clients(rt, alloc, shared, 2)?;
-    let second = clients.pop().ok_or("a client")?;
-    Ok(vec![in alloc; second]?)
+    let second = clients.pop()?;
+    let _first = clients.pop()?;
+    clients.push(second).ok()?;
+    Some(clients)
 }
 
 /// Closes a sharing of two clients with the second one alone, and returns the fault.
@@ -100,19 +97,20 @@ fn fault_without_the_first<L: Ledger, R: Wait>(
     rt: &R,
     alloc: Global,
     blank: Blank,
-) -> Result<Option<CloseFault>, Fail>
+) -> Option<CloseFault>
     requires name { blank.name ≡ L.name }
     requires parts { blank.parts ≡ L.parts }
     requires enough { blank.parts ≡ 3 }
 {
     let shared = Shared::<L, Fnv>::new(alloc, blank, limits(2), Fnv);
-    let clients = second_client(rt, alloc, &shared)?;
-    Ok(close(shared, clients).err())
+    match second_client(rt, alloc, &shared) {
+        Some(clients) => close(shared, clients).err(),
+        None => None,
+    }
 }
 
 #[test]
-fn a_missing_client_is_reported(rt: HostRuntime) -> Result<(), Fail> {
-    let fault = fault_without_the_first::<Brand, _>(&rt, rt.alloc(), Blank::new(3))?;
+fn a_missing_client_is_reported(rt: HostRuntime) {
+    let fault = fault_without_the_first::<Brand, _>(&rt, rt.alloc(), Blank::new(3));
     assert_eq!(rt; fault, Some(CloseFault::Missing(0)));
-    Ok(())
 }

@@ -8,7 +8,6 @@ use std::alloc::{AllocError, Global};
 use std::sync::Wait;
 use std::sync::atomic::{AtomicBool, Ordering};
 use std::sync::ledger::Ledger;
-use std::test::Fail;
 use std::thread;
 use std::thread::Threads;
 
@@ -52,12 +51,10 @@ pub(super) fn run_while_keeping<
     alloc: Global,
     shared: &Shared<L, H>,
     work: Vec<(Client<L>, Vec<Job>)>,
-) -> Result<Vec<Client<L>>, Fail> {
+) -> Option<Vec<Client<L>>> {
     let are_through = AtomicBool::new(false);
-    clients_of_workers(
-        alloc,
-        run_side_by_side(rt, alloc, shared, work, &are_through)?,
-    )
+    let workers = run_side_by_side(rt, alloc, shared, work, &are_through).ok()?;
+    clients_of_workers(alloc, workers)
 }
 
 /// Runs the jobs in one thread, and in another one pending steps until the jobs are done. Returns the results of the

@@ -1,7 +1,8 @@
 // Pending growth steps are run in turns.
 ghost use Rattle.std.specs.Prelude.{◌≡◌};
 
-use super::{call, join_clients, limits};
+use super::calls::{OTHER_TABLE, TABLE, has_asked};
+use super::{join_clients, limits};
 use ets_term::Fnv;
 use node_shared::{Client, Shared, keep};
 use std::alloc::Global;
@@ -10,20 +11,8 @@ use std::sync::Wait;
 use std::sync::ledger::{Blank, Ledger};
 use std::test::Fail;
 
-/// The arguments that make a table, and those that insert nine objects, after which four growth steps are pending.
-const TABLE: [&str; 2] = [
-    "[t,[named_table]]",
-    "[t,[{1},{2},{3},{4},{5},{6},{7},{8},{9}]]",
-];
-
-/// The same for another table.
-const OTHER: [&str; 2] = [
-    "[u,[named_table]]",
-    "[u,[{1},{2},{3},{4},{5},{6},{7},{8},{9}]]",
-];
-
 /// How many pending steps were run, in calls of `keep`.
-#[derive(Clone, Copy, PartialEq, Eq)]
+#[derive(PartialEq, Drop)]
 struct StepsRun {
     in_three_turns: u32,
     in_nine_turns: u32,
@@ -39,11 +28,11 @@ fn fill_table<L: Ledger, R: Wait>(
     shared: &Shared<L, Fnv>,
     client: &mut Client<L>,
     table: [&str; 2],
-) -> Result<(), Fail> {
+) -> Option<()> {
     let [new, objects] = table;
-    let _name = client.ask(rt, shared, &call(alloc, "new", new)?)?;
-    let _true = client.ask(rt, shared, &call(alloc, "insert", objects)?)?;
-    Ok(())
+    has_asked(rt, alloc, shared, client, ("new", new))?;
+    has_asked(rt, alloc, shared, client, ("insert", objects))?;
+    Some(())
 }
 
 /// Fills two tables, and returns how many pending steps are run in some turns after each.
@@ -51,16 +40,25 @@ fn run_pending_in_turns<L: Ledger, R: Wait>(
     rt: &R,
     alloc: Global,
     shared: &Shared<L, Fnv>,
-) -> Result<StepsRun, Fail> {
+) -> Option<StepsRun> {
     let mut clients = join_clients(rt, alloc, shared, 1)?;
-    let client = clients.first_mut().ok_or("a client")?;
+    fill_and_run(rt, alloc, shared, clients.first_mut()?)
+}
+
+/// Lets a client fill two tables, and returns how many pending steps are run in some turns after each.
+fn fill_and_run<L: Ledger, R: Wait>(
+    rt: &R,
+    alloc: Global,
+    shared: &Shared<L, Fnv>,
+    client: &mut Client<L>,
+) -> Option<StepsRun> {
     fill_table(rt, alloc, shared, client, TABLE)?;
     let in_three_turns = keep(rt, shared, 3);
     let in_nine_turns = keep(rt, shared, 9);
     let in_nine_more_turns = keep(rt, shared, 9);
-    fill_table(rt, alloc, shared, client, OTHER)?;
+    fill_table(rt, alloc, shared, client, OTHER_TABLE)?;
     let of_other_table = keep(rt, shared, 9);
-    Ok(StepsRun {
+    Some(StepsRun {
         in_three_turns,
         in_nine_turns,
         in_nine_more_turns,
@@ -69,11 +67,7 @@ fn run_pending_in_turns<L: Ledger, R: Wait>(
 }
 
 /// Returns how many pending steps of a new node are run in turns.
-fn pending_steps_run<L: Ledger, R: Wait>(
-    rt: &R,
-    alloc: Global,
-    blank: Blank,
-) -> Result<StepsRun, Fail>
+fn pending_steps_run<L: Ledger, R: Wait>(rt: &R, alloc: Global, blank: Blank) -> Option<StepsRun>
     requires name { blank.name ≡ L.name }
     requires parts { blank.parts ≡ L.parts }
     requires enough { blank.parts ≡ 2 }
@@ -93,6 +87,7 @@ fn due_steps_are_done_in_turns(rt: HostRuntime) -> Result<(), Fail> {
         in_nine_more_turns: 0,
         of_other_table: 4,
     };
-    assert!(rt; pending_steps_run::<Brand, _>(&rt, rt.alloc(), Blank::new(2))? == wanted);
+    let run = pending_steps_run::<Brand, _>(&rt, rt.alloc(), Blank::new(2)).ok_or("steps")?;
+    assert!(rt; run == wanted);
     Ok(())
 }

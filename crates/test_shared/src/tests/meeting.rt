@@ -2,7 +2,8 @@
 // until the other client has a reply.
 ghost use Rattle.std.specs.Prelude.{◌≡◌};
 
-use super::{asks, call, clients_of_workers, count_entries, join_clients, limits};
+use super::calls::{asks, has_asked};
+use super::{Plan, clients_of_workers, count_entries, join_with_jobs, limits};
 use ets_term::Fnv;
 use node_core::Reply;
 use node_shared::{Client, Gate, Job, Shared, run_clients};
@@ -11,7 +12,6 @@ use std::marker::Brand;
 use std::sync::Wait;
 use std::sync::atomic::{AtomicBool, Ordering};
 use std::sync::ledger::{Blank, Ledger};
-use std::test::Fail;
 use std::thread;
 use std::thread::Threads;
 use term_text::read_term;
@@ -75,47 +75,62 @@ impl Gate for Meeting {
     }
 }
 
-/// Returns a reader and a writer with their jobs. The reader, which has made the table, reads what the writer inserts.
+/// The reader, which has made the table, reads what the writer inserts.
+#[derive(Drop)]
+struct ReadAndWrite;
+
+impl Plan for ReadAndWrite {
+    fn jobs(&self, alloc: Global, pid: u32) -> Option<Vec<Job>> {
+        if pid == 0 {
+            asks(alloc, &[("lookup", "[t,b]"), ("lookup", "[t,a]")])
+        } else {
+            asks(alloc, &[("lookup", "[t,b]"), ("insert", "[t,{a,1}]")])
+        }
+    }
+}
+
+/// Returns a reader and a writer with their jobs, and the reader has made the table.
 fn reader_and_writer<L: Ledger, R: Wait>(
     rt: &R,
     alloc: Global,
     shared: &Shared<L, Fnv>,
-) -> Result<Vec<(Client<L>, Vec<Job>)>, Fail> {
-    let mut clients = join_clients(rt, alloc, shared, 2)?;
-    let writer = clients.pop().ok_or("a client")?;
-    let mut reader = clients.pop().ok_or("a client")?;
-    let new = call(alloc, "new", "[t,[named_table,public]]")?;
-    let _name = reader.ask(rt, shared, &new)?;
-    let reads = asks(alloc, &[("lookup", "[t,b]"), ("lookup", "[t,a]")])?;
-    let writes = asks(alloc, &[("lookup", "[t,b]"), ("insert", "[t,{a,1}]")])?;
-    Ok(vec![in alloc; (reader, reads), (writer, writes)]?)
+) -> Option<Vec<(Client<L>, Vec<Job>)>> {
+    let mut work = join_with_jobs(rt, alloc, shared, 2, &ReadAndWrite)?;
+    let (reader, _jobs) = work.first_mut()?;
+    has_asked(
+        rt,
+        alloc,
+        shared,
+        reader,
+        ("new", "[t,[named_table,public]]"),
+    )?;
+    Some(work)
 }
 
 /// Returns whether the last reply to the client is the term that a text spells.
-fn last_reply_is<L: Ledger>(alloc: Global, client: &Client<L>, wanted: &str) -> Result<bool, Fail> {
-    let (wanted, _) = read_term(alloc, wanted).map_err(|_| "a term")?;
-    match client.entries().last() {
-        Some(entry) => Ok(matches!(&entry.reply, Reply::Value(term) if *term == wanted)),
-        None => Ok(false),
-    }
+fn last_reply_is<L: Ledger>(alloc: Global, client: &Client<L>, wanted: &str) -> Option<bool> {
+    let entry = client.entries().last()?;
+    let (wanted, _) = read_term(alloc, wanted).ok()?;
+    Some(matches!(&entry.reply, Reply::Value(term) if *term == wanted))
 }
 
-/// Runs both clients, and returns them if the reader found what the writer inserted meanwhile.
+/// Runs both clients, and returns them if neither waited in vain. The reader must have found what the writer inserted
+/// meanwhile.
 fn run_meeting<L: Ledger + Send + Sync, R: Threads + Wait + Sync>(
     rt: &R,
     alloc: Global,
     shared: &Shared<L, Fnv>,
-) -> Result<Vec<Client<L>>, Fail> {
+) -> Option<Vec<Client<L>>> {
     let work = reader_and_writer(rt, alloc, shared)?;
     let meeting = Meeting::new();
-    let clients = clients_of_workers(alloc, run_clients(rt, alloc, shared, work, &meeting)?)?;
-    if meeting.failed.load(Ordering::SeqCst) {
-        return Err("one client waited in vain")?;
+    let workers = run_clients(rt, alloc, shared, work, &meeting).ok()?;
+    let clients = clients_of_workers(alloc, workers)?;
+    let has_met = !meeting.failed.load(Ordering::SeqCst);
+    if has_met && last_reply_is(alloc, clients.first()?, "[{a,1}]")? {
+        Some(clients)
+    } else {
+        None
     }
-    if !last_reply_is(alloc, clients.first().ok_or("a client")?, "[{a,1}]")? {
-        return Err("the reader did not find the object")?;
-    }
-    Ok(clients)
 }
 
 /// Lets two clients meet in a new node, whose ledger has one part more than there are clients. Returns how many entries
@@ -124,21 +139,20 @@ fn entries_after_meeting<L: Ledger + Send + Sync, R: Threads + Wait + Sync>(
     rt: &R,
     alloc: Global,
     blank: Blank,
-) -> Result<usize, Fail>
+) -> Option<usize>
     requires name { blank.name ≡ L.name }
     requires parts { blank.parts ≡ L.parts }
     requires enough { blank.parts ≡ 3 }
 {
     let shared = Shared::<L, Fnv>::new(alloc, blank, limits(2), Fnv);
-    let clients = run_meeting(rt, alloc, &shared)?;
+    let clients = run_meeting(rt, alloc, &shared);
     count_entries(shared, clients, 0)
 }
 
 #[test]
-fn one_client_reads_what_another_inserts_meanwhile(rt: HostRuntime) -> Result<(), Fail> {
+fn one_client_reads_what_another_inserts_meanwhile(rt: HostRuntime) {
     assert_eq!(rt;
-        entries_after_meeting::<Brand, _>(&rt, rt.alloc(), Blank::new(3))?,
-        4
+        entries_after_meeting::<Brand, _>(&rt, rt.alloc(), Blank::new(3)),
+        Some(4)
     );
-    Ok(())
 }

@@ -2,7 +2,8 @@
 // job.
 ghost use Rattle.std.specs.Prelude.{◌≡◌};
 
-use super::{call, clients_of_workers, count_entries, join_clients, limits};
+use super::calls::call;
+use super::{Plan, clients_of_workers, count_entries, join_with_jobs, limits};
 use ets_term::Fnv;
 use node_shared::{Client, Gate, Job, Shared, run_clients};
 use std::alloc::Global;
@@ -75,27 +76,18 @@ impl Gate for Log {
     }
 }
 
-/// Returns a number of jobs that ask `receive`.
-fn receive_jobs(alloc: Global, count: usize) -> Result<Vec<Job>, Fail> {
-    let mut jobs = Vec::new(alloc);
-    for _ in 0..count {
-        jobs.push(Job::Ask(call(alloc, "receive", "[]")?))?;
-    }
-    Ok(jobs)
-}
+/// The client of process 0 has one job, which asks `receive`, that of process 1 has two, and so on.
+#[derive(Drop)]
+struct ReceiveMore;
 
-/// Returns clients with their jobs: one job for the first client, two for the second one, and so on.
-fn with_growing_jobs<L: Ledger>(
-    alloc: Global,
-    clients: Vec<Client<L>>,
-) -> Result<Vec<(Client<L>, Vec<Job>)>, Fail> {
-    let mut work = Vec::with_capacity(alloc, clients.len())?;
-    let mut count = 0usize;
-    for client in clients {
-        count = count.wrapping_add(1);
-        work.push((client, receive_jobs(alloc, count)?))?;
+impl Plan for ReceiveMore {
+    fn jobs(&self, alloc: Global, pid: u32) -> Option<Vec<Job>> {
+        let mut jobs = Vec::new(alloc);
+        for _ in 0..=pid {
+            jobs.push(Job::Ask(call(alloc, ("receive", "[]"))?)).ok()?;
+        }
+        Some(jobs)
     }
-    Ok(work)
 }
 
 /// Runs four clients, and logs each call of `Gate`.
@@ -104,10 +96,10 @@ fn run_with_log<L: Ledger + Send + Sync, R: Threads + Wait + Sync>(
     alloc: Global,
     shared: &Shared<L, Fnv>,
     log: &Log,
-) -> Result<Vec<Client<L>>, Fail> {
-    let clients = join_clients(rt, alloc, shared, 4)?;
-    let work = with_growing_jobs(alloc, clients)?;
-    clients_of_workers(alloc, run_clients(rt, alloc, shared, work, log)?)
+) -> Option<Vec<Client<L>>> {
+    let work = join_with_jobs(rt, alloc, shared, 4, &ReceiveMore)?;
+    let workers = run_clients(rt, alloc, shared, work, log).ok()?;
+    clients_of_workers(alloc, workers)
 }
 
 /// Runs four clients in a new node. Returns the calls of `Gate`, and the number of entries of the last client.
@@ -115,20 +107,22 @@ fn log_of_four<L: Ledger + Send + Sync, R: Threads + Wait + Sync>(
     rt: &R,
     alloc: Global,
     blank: Blank,
-) -> Result<([u64; 5], usize), Fail>
+) -> Option<([u64; 5], usize)>
     requires name { blank.name ≡ L.name }
     requires parts { blank.parts ≡ L.parts }
     requires enough { blank.parts ≡ 5 }
 {
     let shared = Shared::<L, Fnv>::new(alloc, blank, limits(4), Fnv);
     let log = Log::new();
-    let clients = run_with_log(rt, alloc, &shared, &log)?;
-    Ok((log.digits(), count_entries(shared, clients, 3)?))
+    let clients = run_with_log(rt, alloc, &shared, &log);
+    let entries = count_entries(shared, clients, 3)?;
+    Some((log.digits(), entries))
 }
 
 #[test]
 fn the_gate_is_called_before_and_after_each_job(rt: HostRuntime) -> Result<(), Fail> {
-    let (calls, entries) = log_of_four::<Brand, _>(&rt, rt.alloc(), Blank::new(5))?;
+    let logged = log_of_four::<Brand, _>(&rt, rt.alloc(), Blank::new(5));
+    let (calls, entries) = logged.ok_or("a transcript")?;
     // Client 0 has one job, client 1 has two, and so on. There is no other client.
     assert_eq!(rt; calls, [12, 1_234, 123_456, 12_345_678, 0]);
     // The enrolment and four jobs.

@@ -1,19 +1,18 @@
 // Four readers and two writers call one server over a million times, while tables grow, are fixed and traversed, and
 // processes end and leave their tables to heirs. Each of them checks the replies against its own writes.
-ghost use Rattle.std.specs.Prelude.{◌≡◌, ◌<◌, All};
+ghost use Rattle.std.specs.Prelude.{◌≡◌};
 ghost use Rattle.std.specs.Thread.{IsSync};
 
-mod calls;
 mod reader;
 mod writer;
 
-use super::limits;
-use crate::tests::stressing::calls::is_done;
+use super::calls::is_done_with;
+use super::{join_callers, limits};
 use crate::tests::stressing::reader::read_all;
 use crate::tests::stressing::writer::write_all;
 use ets_term::{Fnv, KeyHash};
 use node_core::Limits;
-use node_shared::{Caller, HistoryId, Locking, NewHistory, Pids, Seat, Server};
+use node_shared::{Caller, HistoryId, Locking, NewHistory, Server};
 use std::alloc::Global;
 use std::marker::Brand;
 use std::sync::Wait;
@@ -49,35 +48,17 @@ const WRITER_TEAM: (u32, u32) = (GUESTS, KEPT_KEYS);
 /// The same for the team of a reader.
 const READER_TEAM: (u32, u32) = (0, 0);
 
-/// Joins a caller for each seat.
-fn join_callers<B: HistoryId, R: Wait>(
-    rt: &R,
-    alloc: Global,
-    server: &Server<B, Fnv>,
-    pids: &Pids,
-    seats: Vec<Seat>,
-) -> Result<Vec<Caller<B>>, Fail>
-    requires { All (λ s. s.seat.table_id ≡ pids.now.table.shared.table_id) seats.items }
-{
-    let mut callers = Vec::new(alloc);
-    for seat in seats {
-        let drawn = pids.draw(seat);
-        callers.push(server.client(rt, drawn).map_err(|_| "a caller")?)?;
-    }
-    Ok(callers)
-}
-
 /// Takes a team from the callers. Its last one makes the calls, and the others are guests, from whom it inherits.
 fn take_team<B: HistoryId>(
     alloc: Global,
     callers: &mut Vec<Caller<B>>,
     guests: u32,
-) -> Result<Vec<Caller<B>>, Fail> {
+) -> Option<Vec<Caller<B>>> {
     let mut team = Vec::new(alloc);
     for _ in 0..=guests {
-        team.push(callers.pop().ok_or("a caller")?)?;
+        team.push(callers.pop()?).ok()?;
     }
-    Ok(team)
+    Some(team)
 }
 
 /// Makes the table of a caller, and inserts the keys below `keys`.
@@ -89,13 +70,26 @@ fn set_up<B: HistoryId, R: Wait>(
     keys: u32,
 ) -> Option<()> {
     let table = caller.pid();
-    let arguments = format!(in alloc; "[t{table},[named_table,public]]").ok()?;
-    is_done(rt, alloc, server, caller, ("new", arguments.as_str()))?;
+    let options = format!(in alloc; "[t{table},[named_table,public]]");
+    is_done_with(rt, alloc, server, caller, ("new", options))?;
     for key in 0..keys {
-        let arguments = format!(in alloc; "[t{table},{{{key},0}}]").ok()?;
-        is_done(rt, alloc, server, caller, ("insert", arguments.as_str()))?;
+        let object = format!(in alloc; "[t{table},{{{key},0}}]");
+        is_done_with(rt, alloc, server, caller, ("insert", object))?;
     }
     Some(())
+}
+
+/// Takes a team from the callers, and makes the table of its last one.
+fn form_team<B: HistoryId, R: Wait>(
+    rt: &R,
+    alloc: Global,
+    server: &Server<B, Fnv>,
+    callers: &mut Vec<Caller<B>>,
+    (guests, keys): (u32, u32),
+) -> Option<Vec<Caller<B>>> {
+    let mut team = take_team(alloc, callers, guests)?;
+    set_up(rt, alloc, server, team.last_mut()?, keys)?;
+    Some(team)
 }
 
 /// Joins all callers, and returns the teams, each with its table.
@@ -103,11 +97,10 @@ fn form_teams<B: HistoryId, R: Wait>(
     rt: &R,
     alloc: Global,
     server: &Server<B, Fnv>,
-) -> Result<Vec<Vec<Caller<B>>>, Fail> {
-    let (pids, seats) = Pids::open(alloc, CALLERS).map_err(|_| "open")?;
-    let mut callers = join_callers(rt, alloc, server, &pids, seats)?;
+) -> Option<Vec<Vec<Caller<B>>>> {
+    let mut callers = join_callers(rt, alloc, server, CALLERS)?;
     let mut teams = Vec::new(alloc);
-    for (guests, keys) in [
+    for size in [
         WRITER_TEAM,
         WRITER_TEAM,
         READER_TEAM,
@@ -115,11 +108,11 @@ fn form_teams<B: HistoryId, R: Wait>(
         READER_TEAM,
         READER_TEAM,
     ] {
-        let mut team = take_team(alloc, &mut callers, guests)?;
-        set_up(rt, alloc, server, team.last_mut().ok_or("a caller")?, keys).ok_or("a table")?;
-        teams.push(team)?;
+        teams
+            .push(form_team(rt, alloc, server, &mut callers, size)?)
+            .ok()?;
     }
-    Ok(teams)
+    Some(teams)
 }
 
 /// Runs each team in a thread of its own, and returns how many had only right replies.
@@ -157,11 +150,11 @@ fn team_is_right<B: HistoryId, H: KeyHash + Copy + Drop, R: Wait>(
     mut team: Vec<Caller<B>>,
 ) -> Option<bool> {
     let alloc = *team.allocator();
-    let caller = team.pop()?;
+    let mut caller = team.pop()?;
     if team.is_empty() {
-        read_all(rt, alloc, server, caller)
+        read_all(rt, alloc, server, &mut caller)
     } else {
-        write_all(rt, alloc, server, caller, team)
+        write_all(rt, alloc, server, &mut caller, &mut team)
     }
 }
 
@@ -172,24 +165,33 @@ fn new_server_is_right<B: HistoryId + Send + Sync, R: Threads + Wait + Sync>(
     locking: Locking,
     history: NewHistory,
     limits: Limits,
-) -> Result<bool, Fail>
+) -> Option<bool>
     requires table { history.word.shared.table_id ≡ B.table }
     requires limits { limits ≡ B.limits }
 {
-    let server = Server::<B, Fnv>::new(alloc, locking, history, limits, Fnv)?;
-    let teams = form_teams(rt, alloc, &server)?;
-    Ok(count_right(rt, &server, teams) == TEAMS)
+    let server = Server::<B, Fnv>::new(alloc, locking, history, limits, Fnv).ok()?;
+    teams_are_right(rt, alloc, &server)
+}
+
+/// Forms all teams and lets them make their calls. Returns whether all have only right replies.
+fn teams_are_right<B: HistoryId + Send + Sync, R: Threads + Wait + Sync>(
+    rt: &R,
+    alloc: Global,
+    server: &Server<B, Fnv>,
+) -> Option<bool> {
+    let teams = form_teams(rt, alloc, server)?;
+    Some(count_right(rt, server, teams) == TEAMS)
 }
 
 /// Runs two rounds, one with each lock, and returns whether both have only right replies.
-fn two_rounds_are_right<R: Threads + Wait + Sync>(rt: &R, alloc: Global) -> Result<bool, Fail> {
+fn two_rounds_are_right<R: Threads + Wait + Sync>(rt: &R, alloc: Global) -> Option<bool> {
     for locking in [Locking::Single, Locking::Sharded] {
-        let history = NewHistory::new(alloc)?;
+        let history = NewHistory::new(alloc).ok()?;
         if !new_server_is_right::<Brand, R>(rt, alloc, locking, history, limits(46))? {
-            return Ok(false);
+            return Some(false);
         }
     }
-    Ok(true)
+    Some(true)
 }
 
 // Ten rounds, in five tests, since a test may take one minute.
@@ -197,34 +199,34 @@ fn two_rounds_are_right<R: Threads + Wait + Sync>(rt: &R, alloc: Global) -> Resu
 /// Runs the first two of ten rounds.
 #[test]
 fn stress_one_and_two(rt: HostRuntime) -> Result<(), Fail> {
-    assert!(rt; two_rounds_are_right(&rt, rt.alloc())?);
+    assert!(rt; two_rounds_are_right(&rt, rt.alloc()).ok_or("a round")?);
     Ok(())
 }
 
 /// Runs two more rounds.
 #[test]
 fn stress_three_and_four(rt: HostRuntime) -> Result<(), Fail> {
-    assert!(rt; two_rounds_are_right(&rt, rt.alloc())?);
+    assert!(rt; two_rounds_are_right(&rt, rt.alloc()).ok_or("a round")?);
     Ok(())
 }
 
 /// Runs two more rounds.
 #[test]
 fn stress_five_and_six(rt: HostRuntime) -> Result<(), Fail> {
-    assert!(rt; two_rounds_are_right(&rt, rt.alloc())?);
+    assert!(rt; two_rounds_are_right(&rt, rt.alloc()).ok_or("a round")?);
     Ok(())
 }
 
 /// Runs two more rounds.
 #[test]
 fn stress_seven_and_eight(rt: HostRuntime) -> Result<(), Fail> {
-    assert!(rt; two_rounds_are_right(&rt, rt.alloc())?);
+    assert!(rt; two_rounds_are_right(&rt, rt.alloc()).ok_or("a round")?);
     Ok(())
 }
 
 /// Runs the last two rounds.
 #[test]
 fn stress_nine_and_ten(rt: HostRuntime) -> Result<(), Fail> {
-    assert!(rt; two_rounds_are_right(&rt, rt.alloc())?);
+    assert!(rt; two_rounds_are_right(&rt, rt.alloc()).ok_or("a round")?);
     Ok(())
 }

@@ -1,4 +1,4 @@
-ghost use Rattle.std.specs.Prelude.{◌<◌};
+ghost use Rattle.std.specs.Prelude.{◌≡◌, ◌<◌, [], IfOk};
 
 // What no contract says: calls succeed at every size, and searches are short in ready buckets.
 use bucket_table::{Growth, PlainRows, Readying, Rows, SlotEntry, SplitRows};
@@ -8,6 +8,7 @@ use std::alloc::{AllocError, Global};
 use std::process::Abort;
 
 mod calls;
+mod checks;
 mod free;
 mod growth;
 mod hashes;
@@ -49,6 +50,19 @@ impl Draws {
         self.state = self.state.wrapping_mul(MULTIPLIER).wrapping_add(INCREMENT);
         // The low bits of such a generator repeat soon, so the high ones are used.
         ((self.state >> 33) % (bound as u64)) as u32
+    }
+}
+
+/// Creates split rows, and again if memory runs out.
+pub fn new_rows_with_retry<H: KeyHash + Copy + Drop>(
+    alloc: Global,
+    hash: H,
+) -> Result<SplitRows<H>, AllocError>
+    ensures { IfOk result (λ rows. rows.slots ≡ []) }
+{
+    match SplitRows::new(alloc, hash) {
+        Ok(rows) => Ok(rows),
+        Err(_) => SplitRows::new(alloc, hash),
     }
 }
 
@@ -113,12 +127,55 @@ fn insert<R: Rows>(
     }
 }
 
+/// Inserts the keys from one number up to another, each with the object 1.
+fn insert_range<R: Rows>(
+    rows: &mut R,
+    alloc: Global,
+    first: u32,
+    end: u32,
+) -> Result<(), AllocError> {
+    for number in first..end {
+        insert(rows, alloc, Integer::from(number), 1)?;
+    }
+    Ok(())
+}
+
+/// Replaces the objects of a key's slot. Returns the state before.
+fn replace<R: Rows>(rows: &mut R, key: Integer, objects: Chain) -> KeyState {
+    let term = Term::Int(key);
+    let old_objects = rows.replace(&term, objects);
+    drop(term);
+    state_of_removed(old_objects)
+}
+
 /// Removes the slot of a key. Returns the state before.
 fn remove<R: Rows>(rows: &mut R, key: Integer) -> KeyState {
     let term = Term::Int(key);
     let objects = rows.remove(&term);
     drop(term);
     state_of_removed(objects)
+}
+
+/// Returns whether each key below a number has its own number as its object.
+fn each_has_its_number<R: Rows>(rows: &R, past_keys: u32) -> bool {
+    let mut all_right = true;
+    for key in 0..past_keys {
+        let key = Integer::from(key);
+        all_right = state_at(rows, key) == KeyState::Object(key) && all_right;
+    }
+    all_right
+}
+
+/// Searches for the key of a number. Returns whether it is found, and adds the nodes that the search visits.
+fn is_found<H: KeyHash + Copy + Drop>(
+    rows: &SplitRows<H>,
+    number: u32,
+    visits: &mut Steps,
+) -> bool {
+    let key = Term::Int(Integer::from(number));
+    let found = rows.get_counted(&key, visits).is_some();
+    drop(key);
+    found
 }
 
 /// The number of buckets from which on `ready_some` doubles them no more, so that the tests are fast.
@@ -130,14 +187,25 @@ const DOUBLING_PERIOD: u32 = 50;
 /// The number of buckets that `ready_some` makes ready is below this one.
 const PAST_READIED: u32 = 20;
 
-/// Doubles the buckets now and then, and makes some of them ready in any order.
-fn ready_some<R: Rows>(rows: &mut R, draws: &mut Draws) -> Result<(), AllocError> {
+/// Doubles the buckets now and then.
+fn grow_sometimes<R: Rows>(rows: &mut R, draws: &mut Draws) -> Result<(), AllocError> {
     if rows.buckets() < ENOUGH_BUCKETS && draws.random_below(DOUBLING_PERIOD) == 0 {
         rows.grow()?;
     }
+    Ok(())
+}
+
+/// Makes a random bucket ready.
+fn ready_any<R: Rows>(rows: &mut R, draws: &mut Draws) -> Result<Readying, AllocError> {
+    let bucket = draws.random_below(rows.buckets().max(1));
+    rows.ready(bucket)
+}
+
+/// Doubles the buckets now and then, and makes some of them ready in any order.
+fn ready_some<R: Rows>(rows: &mut R, draws: &mut Draws) -> Result<(), AllocError> {
+    grow_sometimes(rows, draws)?;
     for _ in 0..draws.random_below(PAST_READIED) {
-        let bucket = draws.random_below(rows.buckets().max(1));
-        rows.ready(bucket)?;
+        ready_any(rows, draws)?;
     }
     Ok(())
 }

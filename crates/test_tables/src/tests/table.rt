@@ -1,8 +1,10 @@
 // Expected answers from the rules of the manual. A scenario is a list of steps, each with its answer. `scenario_holds`
 // runs it on tables over each form of rows.
+use super::rows::new_rows_with_retry;
 use answers::Answer;
 use bucket_table::{PlainRows, Rows, SplitRows};
-use ets_term::{AllSame, Fnv, Integer, Position};
+use checks::{Check, both_tables_pass, split_table_passes};
+use ets_term::{AllSame, Integer, KeyHash, Position};
 use std::alloc::Global;
 use steps::run_step;
 use table_ops::{Kind, Table};
@@ -10,6 +12,8 @@ use table_ops::{Kind, Table};
 mod answers;
 mod bad_objects;
 mod calls;
+mod checks;
+mod deletions;
 mod lists;
 mod long;
 mod objects;
@@ -136,68 +140,37 @@ pub struct Keypos(pub u32);
 #[derive(Clone, Copy)]
 pub struct MaxObjects(pub u32);
 
+/// A table without objects: its kind, its keypos and its greatest number of objects.
+#[derive(Clone, Copy)]
+pub struct Empty(pub Kind, pub Keypos, pub MaxObjects);
+
 /// Creates a table over plain rows.
-fn plain_table(alloc: Global, kind: Kind, keypos: Keypos, limit: MaxObjects) -> Table<PlainRows> {
+fn plain_table(alloc: Global, empty: Empty) -> Table<PlainRows> {
+    let Empty(kind, keypos, limit) = empty;
     Table::new(alloc, PlainRows::new(alloc), kind, keypos.0.max(1), limit.0)
 }
 
-/// Creates a table over split rows with the usual hash. `None` means out of memory.
-fn split_table(
+/// Creates a table over split rows with this hash, and its rows again if memory runs out. `None` means out of memory.
+fn split_table<H: KeyHash + Copy + Drop>(
     alloc: Global,
-    kind: Kind,
-    keypos: Keypos,
-    limit: MaxObjects,
-) -> Option<Table<SplitRows<Fnv>>> {
-    let rows = SplitRows::new(alloc, Fnv).ok()?;
-    Some(Table::new(alloc, rows, kind, keypos.0.max(1), limit.0))
-}
-
-/// Creates a table over split rows with one hash for all keys. `None` means out of memory.
-fn one_bucket_table(
-    alloc: Global,
-    kind: Kind,
-    keypos: Keypos,
-    limit: MaxObjects,
-) -> Option<Table<SplitRows<AllSame>>> {
-    let rows = SplitRows::new(alloc, AllSame).ok()?;
+    hash: H,
+    empty: Empty,
+) -> Option<Table<SplitRows<H>>> {
+    let Empty(kind, keypos, limit) = empty;
+    let rows = new_rows_with_retry(alloc, hash).ok()?;
     Some(Table::new(alloc, rows, kind, keypos.0.max(1), limit.0))
 }
 
 /// A table by its kind, its keypos and its greatest number of objects, and the steps on it with their answers.
 type Scenario = (Kind, Keypos, MaxObjects, &'static [(Step, Answer)]);
 
-/// Returns whether each step has its answer over plain rows.
-fn scenario_holds_on_plain_rows(alloc: Global, scenario: Scenario) -> bool {
-    let (kind, keypos, limit, steps) = scenario;
-    let mut table = plain_table(alloc, kind, keypos, limit);
-    let all_answer = steps_answer(alloc, &mut table, steps);
-    drop(table);
-    all_answer
-}
-
-/// Returns whether each step has its answer over split rows. `None` means out of memory.
-fn scenario_holds_on_split_rows(alloc: Global, scenario: Scenario) -> Option<bool> {
-    let (kind, keypos, limit, steps) = scenario;
-    let mut table = split_table(alloc, kind, keypos, limit)?;
-    let all_answer = steps_answer(alloc, &mut table, steps);
-    drop(table);
-    Some(all_answer)
-}
-
-/// Returns whether each step has its answer if all keys share a hash. `None` means out of memory.
-fn scenario_holds_in_one_bucket(alloc: Global, scenario: Scenario) -> Option<bool> {
-    let (kind, keypos, limit, steps) = scenario;
-    let mut table = one_bucket_table(alloc, kind, keypos, limit)?;
-    let all_answer = steps_answer(alloc, &mut table, steps);
-    drop(table);
-    Some(all_answer)
-}
-
-/// Returns whether each step has its answer over each form of rows.
+/// Returns whether each step has its answer over each form of rows, and if all keys share a hash.
 fn scenario_holds(alloc: Global, scenario: Scenario) -> bool {
-    scenario_holds_on_plain_rows(alloc, scenario)
-        && scenario_holds_on_split_rows(alloc, scenario) == Some(true)
-        && scenario_holds_in_one_bucket(alloc, scenario) == Some(true)
+    let (kind, keypos, limit, steps) = scenario;
+    let empty = Empty(kind, keypos, limit);
+    let check = Check::Answer(steps);
+    both_tables_pass(alloc, empty, check)
+        && split_table_passes(alloc, AllSame, empty, check) == Some(true)
 }
 
 /// Returns the index of the first scenario with a wrong answer over some form of rows.

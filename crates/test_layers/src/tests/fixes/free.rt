@@ -24,59 +24,56 @@ fn count_traversed<R: Rows>(table: &Walked<R>) -> (usize, usize) {
     (keys, objects)
 }
 
+/// Returns whether a table is fixed and has this number of slots.
+fn is_fixed_with_slots<R: Rows>(table: &Walked<R>, slots: usize) -> bool {
+    table.is_fixed() && table.slots() == slots
+}
+
 /// Returns whether a traversal skips a deleted key, and its tombstone is removed when both processes have released
 /// their fixes.
 fn traverses_and_releases<R: Rows>(table: &mut Walked<R>) -> bool {
     let whole = count_traversed(table) == (3, 3);
     delete(table, 2);
-    let skipped = count_traversed(table) == (2, 2) && table.slots() == 3;
+    let skipped = count_traversed(table) == (2, 2);
+    let has_tombstone = is_fixed_with_slots(table, 3);
     table.release_all(0);
-    let still_fixed = table.is_fixed() && table.slots() == 3;
+    let still_has_tombstone = is_fixed_with_slots(table, 3);
     table.release_all(1);
-    whole && skipped && still_fixed && !table.is_fixed() && table.slots() == 2
+    let is_free = !table.is_fixed() && table.slots() == 2;
+    whole && skipped && has_tombstone && still_has_tombstone && is_free
 }
 
-/// Inserts the keys 1 to 3, and fixes the table twice for process 0 and once for process 1.
-fn insert_and_fix<R: Rows>(alloc: Global, table: &mut Walked<R>) -> Option<()> {
-    for key in 1..4u32 {
-        let key = Integer::from(key);
-        let _ = insert(alloc, table, key, key)?;
-    }
-    table.fix(0).ok()?;
-    table.fix(0).ok()?;
-    table.fix(1).ok()
+/// Inserts the keys 1 to 3, and fixes the table twice for process 0 and once for process 1. Returns
+/// whether all calls succeed.
+fn insert_and_fix<R: Rows>(alloc: Global, table: &mut Walked<R>) -> bool {
+    insert(alloc, table, 1, 1)
+        && insert(alloc, table, 2, 2)
+        && insert(alloc, table, 3, 3)
+        && table.fix(0).is_ok()
+        && table.fix(0).is_ok()
+        && table.fix(1).is_ok()
 }
 
 /// Returns whether a traversal and the releases succeed between two marks. Before them, an insertion gives objects to a
 /// tombstone again.
-fn takes_no_memory<R: Rows>(alloc: Global, table: &mut Walked<R>) -> Option<bool> {
-    insert_and_fix(alloc, table)?;
+pub(super) fn takes_no_memory<R: Rows>(alloc: Global, table: &mut Walked<R>) -> bool {
+    let filled = insert_and_fix(alloc, table);
     delete(table, 3);
-    let _ = insert(alloc, table, 3, 3)?;
+    let refilled = insert(alloc, table, 3, 3);
     let began = request_mark(alloc);
     let done = traverses_and_releases(table);
     let ended = request_mark(alloc);
-    Some(began && done && ended)
-}
-
-/// Returns whether a table over plain rows traverses and releases without memory.
-fn plain_rows_take_no_memory(alloc: Global) -> Option<bool> {
-    let mut table = plain_table(alloc, Kind::Bag);
-    let is_free = takes_no_memory(alloc, &mut table);
-    drop(table);
-    is_free
-}
-
-/// Returns whether a table over split rows traverses and releases without memory.
-fn split_rows_take_no_memory(alloc: Global) -> Option<bool> {
-    let mut table = split_table(alloc, Kind::Set)?;
-    let is_free = takes_no_memory(alloc, &mut table);
-    drop(table);
-    is_free
+    filled && refilled && began && done && ended
 }
 
 #[test]
 fn traversals_and_releases_take_no_memory(rt: HostRuntime) {
-    assert_eq!(rt; plain_rows_take_no_memory(rt.alloc()), Some(true));
-    assert_eq!(rt; split_rows_take_no_memory(rt.alloc()), Some(true));
+    assert_eq!(rt;
+        plain_rows_pass(rt.alloc(), Kind::Bag, Trial::NoMemory),
+        Some(true)
+    );
+    assert_eq!(rt;
+        split_rows_pass(rt.alloc(), Kind::Set, Trial::NoMemory),
+        Some(true)
+    );
 }

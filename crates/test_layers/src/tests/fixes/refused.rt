@@ -1,14 +1,12 @@
 // Out of memory. `.ci/refusals` runs these tests with each allocation refused in turn. A call that ran out of memory
 // must have changed nothing: no key, no order, no fix. Made again, it must have the answer of ample memory.
-use self::steps::Expected::{Done, IsFixed, IsNotFixed, NotDone, Objects, Refused};
-use self::steps::Step::{
+use super::answers::Expected::{Done, IsFixed, IsNotFixed, NotDone, Objects, Refused};
+use super::answers::Step::{
     AllObjects, Delete, DeleteObject, Fix, Grow, Insert, InsertNew, LookupSecond, Ready, Release,
     Take,
 };
-use self::steps::{Expected, OUT_OF_MEMORY, Step, answer_code, number_of};
+use super::answers::{OUT_OF_MEMORY, answer_code, is_answered, number_of};
 use super::*;
-
-mod steps;
 
 /// The factor of the digest of the keys before: a prime, so that another order gives another digest.
 const KEY_FACTOR: Integer = 1_000_003;
@@ -60,21 +58,21 @@ fn runs_with_retry<R: Rows>(
     if first != OUT_OF_MEMORY {
         return first == wanted.code();
     }
-    visible_state(table) == before && answer_code(alloc, table, step) == wanted.code()
+    visible_state(table) == before && is_answered(alloc, table, step, wanted)
 }
 
-/// Returns the index of the first call with another answer.
-fn first_mismatch_with_retry<R: Rows>(
+/// Returns whether each call has its answer, at once or again.
+pub(super) fn are_answered_with_retry<R: Rows>(
     alloc: Global,
     table: &mut Walked<R>,
     steps: &[(Step, Expected)],
-) -> Option<usize> {
-    for (index, (step, wanted)) in steps.iter().enumerate() {
+) -> bool {
+    for (step, wanted) in steps {
         if !runs_with_retry(alloc, table, *step, *wanted) {
-            return Some(index);
+            return false;
         }
     }
-    None
+    true
 }
 
 /// Calls on a bag, from the first insertion to the last release, with their answers.
@@ -117,17 +115,12 @@ const GROWTH: [(Step, Expected); 8] = [
     (Ready, Done),
 ];
 
-/// Returns the index of the first call with another answer, on a bag over plain rows.
-fn first_mismatch_on_plain_rows(alloc: Global, steps: &[(Step, Expected)]) -> Option<usize> {
-    let mut table = plain_table(alloc, Kind::Bag);
-    let mismatch = first_mismatch_with_retry(alloc, &mut table, steps);
-    drop(table);
-    mismatch
-}
-
 #[test]
 fn a_refused_call_of_plain_rows_is_called_again(rt: HostRuntime) {
-    assert_eq!(rt; first_mismatch_on_plain_rows(rt.alloc(), &LIFE), None);
+    assert_eq!(rt;
+        plain_rows_pass(rt.alloc(), Kind::Bag, Trial::Refusals(&LIFE, &[])),
+        Some(true)
+    );
 }
 
 /// Builds a table with one hash for all keys, again if memory runs out.
@@ -140,11 +133,8 @@ fn one_bucket_table_with_retry(alloc: Global, kind: Kind) -> Option<Walked<Split
 
 /// Returns whether the calls have their answers over split rows, whose buckets then double.
 fn calls_hold_on_split_rows(alloc: Global) -> Option<bool> {
-    let mut table = one_bucket_table_with_retry(alloc, Kind::Bag)?;
-    let life = first_mismatch_with_retry(alloc, &mut table, &LIFE);
-    let growth = first_mismatch_with_retry(alloc, &mut table, &GROWTH);
-    drop(table);
-    Some(life.is_none() && growth.is_none())
+    let table = one_bucket_table_with_retry(alloc, Kind::Bag)?;
+    passes(alloc, table, Trial::Refusals(&LIFE, &GROWTH))
 }
 
 #[test]

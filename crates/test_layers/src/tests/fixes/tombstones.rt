@@ -7,15 +7,15 @@ use super::*;
 
 /// How many slots a table has, tombstones included.
 #[derive(Clone, Copy)]
-struct Slots(usize);
+pub(super) struct Slots(usize);
 
 /// How many objects a table has.
 #[derive(Clone, Copy)]
-struct Objects(usize);
+pub(super) struct Objects(usize);
 
 /// A call, or what a call must answer, or what a table must have.
 #[derive(Clone, Copy)]
-enum Row {
+pub(super) enum Row {
     Insert(Object),
     Delete(Key),
     Fix(Pid),
@@ -73,46 +73,31 @@ fn expectation_holds<R: Rows>(table: &Walked<R>, row: Row) -> bool {
 }
 
 /// Makes the call of a row, if it is one, and returns whether its answer is the expected one.
-fn row_holds<R: Rows>(alloc: Global, table: &mut Walked<R>, row: Row) -> Option<bool> {
+fn row_holds<R: Rows>(alloc: Global, table: &mut Walked<R>, row: Row) -> bool {
     match row {
         Row::Insert(object) => insert(alloc, table, object.0, object.1),
-        Row::Fix(pid) => Some(table.fix(pid.0).is_ok()),
+        Row::Fix(pid) => table.fix(pid.0).is_ok(),
         _ => {
             make_call(table, row);
-            Some(expectation_holds(table, row))
+            expectation_holds(table, row)
         }
     }
 }
 
-/// Returns whether all rows hold, one after the other. None means out of memory.
-fn all_rows_hold<R: Rows>(alloc: Global, table: &mut Walked<R>, rows: &[Row]) -> Option<bool> {
+/// Returns whether all rows hold, one after the other.
+pub(super) fn all_rows_hold<R: Rows>(alloc: Global, table: &mut Walked<R>, rows: &[Row]) -> bool {
     for row in rows {
-        if !row_holds(alloc, table, *row)? {
-            return Some(false);
+        if !row_holds(alloc, table, *row) {
+            return false;
         }
     }
-    Some(true)
-}
-
-/// Returns whether all rows hold on a set over plain rows.
-fn hold_on_plain_rows(alloc: Global, rows: &[Row]) -> Option<bool> {
-    let mut table = plain_table(alloc, Kind::Set);
-    let hold = all_rows_hold(alloc, &mut table, rows);
-    drop(table);
-    hold
-}
-
-/// Returns whether all rows hold on a set over split rows with one hash for all keys.
-fn hold_in_one_bucket(alloc: Global, rows: &[Row]) -> Option<bool> {
-    let mut table = one_bucket_table(alloc, Kind::Set)?;
-    let hold = all_rows_hold(alloc, &mut table, rows);
-    drop(table);
-    hold
+    true
 }
 
 /// Returns whether all rows hold on both forms of a set.
-fn hold_on_both_tables(alloc: Global, rows: &[Row]) -> Option<bool> {
-    Some(hold_on_plain_rows(alloc, rows)? && hold_in_one_bucket(alloc, rows)?)
+fn hold_on_both_tables(alloc: Global, rows: &'static [Row]) -> Option<bool> {
+    let trial = Trial::Tombstones(rows);
+    Some(plain_rows_pass(alloc, Kind::Set, trial)? && one_bucket_passes(alloc, Kind::Set, trial)?)
 }
 
 /// Key 1 is deleted from a fixed table, and inserted again.

@@ -12,8 +12,8 @@ const FIRST_PID: u32 = 7;
 /// Another process that fixes the table, and releases it first.
 const SECOND_PID: u32 = 8;
 
-/// How many keys a traversal chooses from. Half of them have objects at the start.
-const KEYS: u32 = 4000;
+/// How many keys most traversals choose from.
+const KEYS: Keys = Keys(4000);
 
 /// The start of the pseudo-random sequence. Any number does.
 const FIRST_SEED: u64 = 20251122;
@@ -78,20 +78,21 @@ fn removes_tombstones<R: Rows>(table: &mut Walked<R>, present: usize) -> bool {
 }
 
 /// Inserts the keys below a number, each with the value 1. Returns whether all calls succeeded.
-fn insert_keys<R: Rows>(alloc: Global, table: &mut Walked<R>, keys: u32) -> Option<bool> {
+fn insert_keys<R: Rows>(alloc: Global, table: &mut Walked<R>, keys: u32) -> bool {
     for key in 0..keys {
-        if !insert(alloc, table, Integer::from(key), 1)? {
-            return Some(false);
+        if !insert(alloc, table, Integer::from(key), 1) {
+            return false;
         }
     }
-    Some(true)
+    true
 }
 
 /// Returns whether a traversal of `count` keys visited each stable key. At least a twentieth of the keys must be
 /// stable, and `count` at least half of all.
 fn visits_all(expectation: &Expectation, count: u32) -> bool {
-    let (stable, visited) = expectation.count_stable();
-    visited == stable && stable >= expectation.keys as usize / 20 && count >= expectation.keys / 2
+    expectation.has_visited_stable()
+        && expectation.count_stable() >= expectation.keys as usize / 20
+        && count >= expectation.keys / 2
 }
 
 /// Returns whether a traversal of a fixed table is exact, all keys then have their objects, and the tombstones are
@@ -112,61 +113,39 @@ fn traverses_fixed_exactly<R: Rows>(
 }
 
 /// Returns whether a traversal of a table that begins with half of the keys is exact.
-fn traverses_exactly<R: Rows>(alloc: Global, table: &mut Walked<R>, keys: u32) -> Option<bool> {
-    let filled = insert_keys(alloc, table, keys / 2)?;
+pub(super) fn traverses_exactly<R: Rows>(
+    alloc: Global,
+    table: &mut Walked<R>,
+    keys: u32,
+) -> Option<bool> {
+    let filled = insert_keys(alloc, table, keys / 2);
     let mut expectation = Expectation::new(alloc, keys)?;
     let is_exact = traverses_fixed_exactly(alloc, table, &mut expectation);
     drop(expectation);
     Some(filled && is_exact?)
 }
 
-/// Returns whether a traversal of a table that begins with half of the keys is exact, and the table has more than
-/// `buckets` buckets at the end.
-fn traverses_exactly_while_growing<R: Rows>(
-    alloc: Global,
-    table: &mut Walked<R>,
-    keys: u32,
-    buckets: u32,
-) -> Option<bool> {
-    Some(traverses_exactly(alloc, table, keys)? && table.buckets() > buckets)
-}
+/// A traversal of a table whose buckets need not double.
+const WALK: Trial = Trial::Traversal(KEYS, BucketsAbove(0));
 
-/// Returns whether a traversal of a bag over plain rows is exact.
-fn traverses_plain_rows_exactly(alloc: Global) -> Option<bool> {
-    let mut table = plain_table(alloc, Kind::Bag);
-    let is_exact = traverses_exactly(alloc, &mut table, KEYS);
-    drop(table);
-    is_exact
-}
+/// A traversal while the buckets double to more than 1,000.
+const GROWING_WALK: Trial = Trial::Traversal(KEYS, BucketsAbove(1000));
+
+/// A traversal of fewer keys, while the buckets double to more than 50.
+const SHORT_GROWING_WALK: Trial = Trial::Traversal(Keys(800), BucketsAbove(50));
 
 #[test]
 fn traversals_of_plain_rows_are_exact(rt: HostRuntime) {
-    assert!(rt; traverses_plain_rows_exactly(rt.alloc()) == Some(true));
-}
-
-/// Returns whether a traversal of a table over split rows is exact, while the buckets double to more than 1,000.
-fn traverses_split_rows_exactly(alloc: Global, kind: Kind) -> Option<bool> {
-    let mut table = split_table(alloc, kind)?;
-    let is_exact = traverses_exactly_while_growing(alloc, &mut table, KEYS, 1000);
-    drop(table);
-    is_exact
+    assert!(rt; plain_rows_pass(rt.alloc(), Kind::Bag, WALK) == Some(true));
 }
 
 #[test]
 fn traversals_of_split_rows_are_exact(rt: HostRuntime) {
-    assert!(rt; traverses_split_rows_exactly(rt.alloc(), Kind::Set) == Some(true));
-    assert!(rt; traverses_split_rows_exactly(rt.alloc(), Kind::Bag) == Some(true));
-}
-
-/// Returns whether a traversal is exact while the buckets double to more than 50, if all keys have one hash.
-fn traverses_one_bucket_exactly(alloc: Global) -> Option<bool> {
-    let mut table = one_bucket_table(alloc, Kind::Bag)?;
-    let is_exact = traverses_exactly_while_growing(alloc, &mut table, 800, 50);
-    drop(table);
-    is_exact
+    assert!(rt; split_rows_pass(rt.alloc(), Kind::Set, GROWING_WALK) == Some(true));
+    assert!(rt; split_rows_pass(rt.alloc(), Kind::Bag, GROWING_WALK) == Some(true));
 }
 
 #[test]
 fn traversals_of_one_bucket_are_exact(rt: HostRuntime) {
-    assert!(rt; traverses_one_bucket_exactly(rt.alloc()) == Some(true));
+    assert!(rt; one_bucket_passes(rt.alloc(), Kind::Bag, SHORT_GROWING_WALK) == Some(true));
 }

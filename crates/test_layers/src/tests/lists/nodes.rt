@@ -121,6 +121,11 @@ fn unlinks(list: &mut NodeList, at: At, number: Integer) -> bool
     same
 }
 
+/// Returns whether searches visit the wanted numbers of nodes, and the list has two nodes.
+fn has_two_nodes(list: &NodeList, wanted: &[(u64, Visits)]) -> bool {
+    first_key_mismatch(list, wanted) == None && list.len() == 2
+}
+
 /// Returns whether an item is unlinked, and its place is used again.
 fn unlinks_item(
     list: &mut NodeList,
@@ -129,9 +134,7 @@ fn unlinks_item(
 ) -> Result<bool, AllocError> {
     add_dummy(list, 8)?;
     let at = add_item(list, alloc, 5, 1)?;
-    let unlinked = unlinks(list, at, 1)
-        && first_key_mismatch(list, wanted) == None
-        && list.len() == 2;
+    let unlinked = unlinks(list, at, 1) && has_two_nodes(list, wanted);
     Ok(add_item(list, alloc, 9, 1)? == at && unlinked)
 }
 

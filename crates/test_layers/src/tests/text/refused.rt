@@ -41,6 +41,11 @@ fn prints_with_retry(alloc: Global, term: &Term, text: &mut String) -> bool {
     }
 }
 
+/// Prints a term after the front, at once or again. Returns whether the text is then `printed`.
+fn prints_text_with_retry(alloc: Global, term: &Term, text: &mut String, printed: &str) -> bool {
+    prints_with_retry(alloc, term, text) && text.as_str() == printed
+}
+
 /// Returns whether the term of a text is printed after the front as `printed`, at once or again.
 fn is_read_and_printed_with_retry(alloc: Global, text: &str, printed: &str) -> Option<bool> {
     let term = term_with_retry(alloc, text)?;
@@ -52,7 +57,7 @@ fn is_read_and_printed_with_retry(alloc: Global, text: &str, printed: &str) -> O
 /// Returns whether a term is printed after the front as `printed`, at once or again.
 fn is_printed_with_retry(alloc: Global, term: &Term, printed: &str) -> Option<bool> {
     let mut text = front_with_retry(alloc)?;
-    let same = prints_with_retry(alloc, term, &mut text) && text.as_str() == printed;
+    let same = prints_text_with_retry(alloc, term, &mut text, printed);
     drop(text);
     Some(same)
 }
@@ -98,13 +103,21 @@ fn what_was_refused_is_read_and_printed_again(rt: HostRuntime) {
     assert_eq!(rt; first_mismatch_with_retry(rt.alloc(), &TERMS), None);
 }
 
+/// Returns whether a text has this syntax error, at once or again.
+fn has_fault_with_retry(alloc: Global, text: &str, fault: TextFault) -> bool {
+    let read = read_with_retry(alloc, text);
+    let same = matches!(&read, Err(own) if *own == fault);
+    drop(read);
+    same
+}
+
 /// Returns the first text with another syntax error.
 fn first_fault_mismatch_with_retry(
     alloc: Global,
     rows: &[(&'static str, TextFault)],
 ) -> Option<&'static str> {
     for (text, fault) in rows {
-        if read_with_retry(alloc, *text).err() != Some(*fault) {
+        if !has_fault_with_retry(alloc, *text, *fault) {
             return Some(*text);
         }
     }

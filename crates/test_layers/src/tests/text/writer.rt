@@ -35,6 +35,14 @@ impl Write for FailingWriter {
     }
 }
 
+/// Writes a term. Returns whether the writer failed.
+fn fails_to_write(term: &Term, out: &mut FailingWriter) -> bool {
+    let written = write_term(term, out);
+    let failed = matches!(&written, Err(WriteFault::Io(_)));
+    drop(written);
+    failed
+}
+
 /// Returns whether a writer that fails after `left` bytes has taken this prefix of the text.
 fn leaves_a_prefix(alloc: Global, term: &Term, text: &str, left: usize) -> bool {
     let mut out = FailingWriter {
@@ -42,20 +50,24 @@ fn leaves_a_prefix(alloc: Global, term: &Term, text: &str, left: usize) -> bool 
         max_write_bytes: 1,
         writes_before_fault: left,
     };
-    let written = write_term(term, &mut out);
-    let failed = matches!(&written, Err(WriteFault::Io(_)));
-    drop(written);
+    let failed = fails_to_write(term, &mut out);
     let is_prefix = out.taken.len() == left && text.as_bytes().starts_with(out.taken.as_slice());
     drop(out);
     failed && is_prefix
 }
 
+/// Writes a term to a list of bytes. Returns whether it succeeded.
+fn writes_to_list(term: &Term, whole: &mut Vec<u8>) -> bool {
+    let written = write_term(term, whole);
+    let done = written.is_ok();
+    drop(written);
+    done
+}
+
 /// Returns whether a term is written as this text.
 pub fn is_written_as(alloc: Global, term: &Term, text: &str) -> bool {
     let mut whole = Vec::new(alloc);
-    let written = write_term(term, &mut whole);
-    let done = written.is_ok();
-    drop(written);
+    let done = writes_to_list(term, &mut whole);
     let same = whole.as_slice() == text.as_bytes();
     drop(whole);
     done && same
@@ -91,27 +103,38 @@ fn a_fault_leaves_a_prefix_of_the_text(rt: HostRuntime) {
 /// How many bytes a writer takes at a time.
 const PART: usize = 1_000;
 
-/// Returns whether 100,000 bytes are written in 100 parts of `PART` bytes.
-fn is_written_in_parts(alloc: Global) -> Result<bool, AllocError> {
-    let text = repeat_text(alloc, "0123456789", 10_000)?;
+/// Returns whether a writer takes the whole text, and its last write is the last that succeeds.
+fn takes_whole_text(text: &str, out: &mut FailingWriter) -> bool {
+    let written = write_bytes(text.as_bytes(), out);
+    let done = written.is_ok();
+    drop(written);
+    done && out.taken.as_slice() == text.as_bytes() && out.writes_before_fault == 0
+}
+
+/// Returns whether a text is written in 100 parts of `PART` bytes.
+fn is_written_in_parts(alloc: Global, text: &str) -> bool {
     let mut out = FailingWriter {
         taken: Vec::new(alloc),
         max_write_bytes: PART,
         writes_before_fault: 100,
     };
-    let written = write_bytes(text.as_bytes(), &mut out);
-    let done = written.is_ok();
-    drop(written);
-    let whole = out.taken.as_slice() == text.as_bytes() && out.writes_before_fault == 0;
+    let whole = takes_whole_text(text, &mut out);
     drop(out);
+    whole
+}
+
+/// Returns whether 100,000 bytes are written in 100 parts.
+fn long_text_is_written_in_parts(alloc: Global) -> Result<bool, AllocError> {
+    let text = repeat_text(alloc, "0123456789", 10_000)?;
+    let written = is_written_in_parts(alloc, text.as_str());
     drop(text);
-    Ok(done && whole)
+    Ok(written)
 }
 
 /// Checks a writer that takes a hundredth of the bytes at a time.
 #[test]
 fn a_writer_may_take_a_hundredth(rt: HostRuntime) {
-    assert!(rt; is_written_in_parts(rt.alloc()) == Ok(true));
+    assert!(rt; long_text_is_written_in_parts(rt.alloc()) == Ok(true));
 }
 
 /// Returns whether a writer that takes nothing makes the fault `Zero`.

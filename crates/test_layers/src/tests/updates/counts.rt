@@ -1,4 +1,4 @@
-use super::rows::{Call, first_mismatch};
+use super::rows::{Call, Update, first_mismatch, first_valid_text};
 use super::*;
 
 /// Returns whether `update_counter` has the expected answer and leaves the expected object. `expected` is the two.
@@ -13,7 +13,8 @@ fn counts_on_a_copy(alloc: Global, object: &Term, ops: &Ops, expected: (&Term, &
     match apply_ops(alloc, object, ops) {
         Ok((copy, answer)) => {
             let same = answer == *expected_answer && copy == *expected_object;
-            drop((copy, answer));
+            drop(copy);
+            drop(answer);
             same
         }
         Err(fault) => is_refusal(&fault, expected_answer),
@@ -75,7 +76,7 @@ const COUNTED: [&str; 16] = [
 #[test]
 fn operations_on_counters_succeed(rt: HostRuntime) {
     assert_eq!(rt;
-        first_mismatch(rt.alloc(), Call::Count(1), &COUNTED),
+        first_mismatch(rt.alloc(), Call::UpdateCounter(1), &COUNTED),
         Some(None)
     );
 }
@@ -98,7 +99,7 @@ const REFUSED: [&str; 10] = [
 #[test]
 fn refused_operations_leave_the_object(rt: HostRuntime) {
     assert_eq!(rt;
-        first_mismatch(rt.alloc(), Call::Count(1), &REFUSED),
+        first_mismatch(rt.alloc(), Call::UpdateCounter(1), &REFUSED),
         Some(None)
     );
 }
@@ -114,27 +115,9 @@ const KEY_SECOND: [&str; 3] = [
 #[test]
 fn the_key_may_be_the_second_element(rt: HostRuntime) {
     assert_eq!(rt;
-        first_mismatch(rt.alloc(), Call::Count(2), &KEY_SECOND),
+        first_mismatch(rt.alloc(), Call::UpdateCounter(2), &KEY_SECOND),
         Some(None)
     );
-}
-
-/// Returns whether a text is not an operation on an object whose key is first.
-fn is_no_update(alloc: Global, text: &str) -> Option<bool> {
-    let (update, _) = read_term(alloc, text).ok()?;
-    let fault = read_ops(alloc, &update, 1).err();
-    drop(update);
-    Some(matches!(fault, Some(CounterFault::Badarg)))
-}
-
-/// Returns the first text that is read as operations on an object whose key is first.
-fn first_valid_update(alloc: Global, texts: &[&'static str]) -> Option<Option<&'static str>> {
-    for text in texts {
-        if !is_no_update(alloc, *text)? {
-            return Some(Some(*text));
-        }
-    }
-    Some(None)
 }
 
 /// Texts that are not operations on an object whose key is first.
@@ -162,5 +145,8 @@ const WRONG: [&str; 18] = [
 /// Checks that no text of `WRONG` is read as operations.
 #[test]
 fn texts_that_are_no_operations_are_refused(rt: HostRuntime) {
-    assert_eq!(rt; first_valid_update(rt.alloc(), &WRONG), Some(None));
+    assert_eq!(rt;
+        first_valid_text(rt.alloc(), Update::Operations, &WRONG),
+        Some(None)
+    );
 }

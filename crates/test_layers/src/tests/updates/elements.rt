@@ -1,4 +1,4 @@
-use super::rows::{Call, first_mismatch};
+use super::rows::{Call, Update, first_mismatch, first_valid_text};
 use super::*;
 
 /// Returns whether `write_elements` makes the object `expected`, or is refused as `expected` says and leaves the object
@@ -76,24 +76,6 @@ fn values_of_elements(rt: HostRuntime) {
     );
 }
 
-/// Returns whether a text is not an element value for an object whose key is first.
-fn is_no_value(alloc: Global, text: &str) -> Option<bool> {
-    let (values, _) = read_term(alloc, text).ok()?;
-    let fault = read_element_specs(alloc, &values, 1).err();
-    drop(values);
-    Some(matches!(fault, Some(CounterFault::Badarg)))
-}
-
-/// Returns the first text that is read as element values for an object whose key is first.
-fn first_valid_value(alloc: Global, texts: &[&'static str]) -> Option<Option<&'static str>> {
-    for text in texts {
-        if !is_no_value(alloc, *text)? {
-            return Some(Some(*text));
-        }
-    }
-    Some(None)
-}
-
 /// Texts that are not element values for an object whose key is first.
 const WRONG: [&str; 15] = [
     "{0,x}",
@@ -116,5 +98,8 @@ const WRONG: [&str; 15] = [
 /// Checks that no text of `WRONG` is read as element values.
 #[test]
 fn texts_that_are_no_values_are_refused(rt: HostRuntime) {
-    assert_eq!(rt; first_valid_value(rt.alloc(), &WRONG), Some(None));
+    assert_eq!(rt;
+        first_valid_text(rt.alloc(), Update::Values, &WRONG),
+        Some(None)
+    );
 }

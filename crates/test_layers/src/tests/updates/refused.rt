@@ -1,10 +1,10 @@
 // Out of memory. `.ci/refusals` runs these tests with each allocation refused in turn. A call that ran out of memory
 // must have left the object as it was. Made again, it must have the answer of ample memory.
 use super::retries::{
-    apply_with_retry, clone_with_retry, is_refused_memory, read_ops_with_retry,
-    read_specs_with_retry, start_with_retry, update_with_retry,
+    apply_elements_with_retry, apply_with_retry, clone_with_retry, read_ops_with_retry,
+    read_specs_with_retry, start_with_elements_with_retry, start_with_retry, update_with_retry,
 };
-use super::rows::{COUNT_LABELS, WRITE_DEFAULT_LABELS, WRITE_LABELS, has_labels};
+use super::rows::{COUNTER_LABELS, WRITE_DEFAULT_LABELS, WRITE_LABELS, has_labels};
 use super::*;
 use crate::tests::text::refused::term_with_retry;
 
@@ -18,7 +18,8 @@ fn has_answer_and_object(
     match outcome {
         Ok((object, answer)) => {
             let same = answer == *expected_answer && object == *expected_object;
-            drop((object, answer));
+            drop(object);
+            drop(answer);
             same
         }
         Err(fault) => is_refusal(&fault, expected_answer),
@@ -80,13 +81,9 @@ fn writes_as_expected_with_retry(
     expected: &Term,
 ) -> Option<bool> {
     let specs = read_specs_with_retry(alloc, values)?;
-    let outcome = apply_elements(alloc, object, &specs);
-    if !is_refused_memory(&outcome) {
-        return Some(has_answer(outcome, expected));
-    }
-    drop(outcome);
-    let second_outcome = apply_elements(alloc, object, &specs);
-    Some(has_answer(second_outcome, expected))
+    let outcome = apply_elements_with_retry(alloc, object, &specs);
+    drop(specs);
+    Some(has_answer(outcome, expected))
 }
 
 /// Returns whether a default object with this key and these element values is `expected`, or is refused as `expected`
@@ -99,20 +96,16 @@ fn writes_default_as_expected_with_retry(
     expected: &Term,
 ) -> Option<bool> {
     let specs = read_specs_with_retry(alloc, values)?;
-    let outcome = start_with_elements(alloc, default, 1, key, &specs);
-    if !is_refused_memory(&outcome) {
-        return Some(has_answer(outcome, expected));
-    }
-    drop(outcome);
-    let second_outcome = start_with_elements(alloc, default, 1, key, &specs);
-    Some(has_answer(second_outcome, expected))
+    let outcome = start_with_elements_with_retry(alloc, default, key, &specs);
+    drop(specs);
+    Some(has_answer(outcome, expected))
 }
 
 /// The form of a row of text.
 #[derive(Clone, Copy)]
 enum Call {
     /// `[Object, update, Operations, gives, Answer, leaves, Object]`
-    Count,
+    UpdateCounter,
     /// `[default, Default, key, Key, update, Operations, gives, Answer, leaves, Object]`
     Start,
     /// `[Object, set, Values, gives, Object]`
@@ -133,11 +126,43 @@ const START_LABELS: [(usize, &str); 5] = [
 /// Returns whether a row has the labels of its form.
 fn has_labels_of(call: Call, row: &[Term]) -> bool {
     match call {
-        Call::Count => has_labels(row, &COUNT_LABELS),
+        Call::UpdateCounter => has_labels(row, &COUNTER_LABELS),
         Call::Start => has_labels(row, &START_LABELS),
         Call::Write => has_labels(row, &WRITE_LABELS),
         Call::WriteDefault => has_labels(row, &WRITE_DEFAULT_LABELS),
     }
+}
+
+/// Returns whether the operations of a row have their answer and object, at once or again.
+fn counter_row_holds_with_retry(alloc: Global, row: &[Term]) -> Option<bool> {
+    let [before, _, updates, _, answer, _, after] = row else {
+        return None;
+    };
+    counts_as_expected_with_retry(alloc, before, updates, (answer, after))
+}
+
+/// Returns whether the operations of a row on a default object have their answer and object, at once or again.
+fn start_row_holds_with_retry(alloc: Global, row: &[Term]) -> Option<bool> {
+    let [_, default, _, key, _, updates, _, answer, _, after] = row else {
+        return None;
+    };
+    starts_as_expected_with_retry(alloc, default, key, updates, (answer, after))
+}
+
+/// Returns whether the element values of a row make its object, at once or again.
+fn write_row_holds_with_retry(alloc: Global, row: &[Term]) -> Option<bool> {
+    let [before, _, values, _, expected] = row else {
+        return None;
+    };
+    writes_as_expected_with_retry(alloc, before, values, expected)
+}
+
+/// Returns whether the element values of a row make an object of its default object, at once or again.
+fn write_default_row_holds_with_retry(alloc: Global, row: &[Term]) -> Option<bool> {
+    let [_, default, _, key, _, values, _, expected] = row else {
+        return None;
+    };
+    writes_default_as_expected_with_retry(alloc, default, key, values, expected)
 }
 
 /// Returns whether the call of a row has its answer and object, at once or again. None means a wrong row or out of
@@ -146,20 +171,11 @@ fn row_holds_with_retry(alloc: Global, call: Call, row: &[Term]) -> Option<bool>
     if !has_labels_of(call, row) {
         return None;
     }
-    match (call, row) {
-        (Call::Count, [before, _, updates, _, answer, _, after]) => {
-            counts_as_expected_with_retry(alloc, before, updates, (answer, after))
-        }
-        (Call::Start, [_, default, _, key, _, updates, _, answer, _, after]) => {
-            starts_as_expected_with_retry(alloc, default, key, updates, (answer, after))
-        }
-        (Call::Write, [before, _, values, _, expected]) => writes_as_expected_with_retry(
-            alloc, before, values, expected,
-        ),
-        (Call::WriteDefault, [_, default, _, key, _, values, _, expected]) => {
-            writes_default_as_expected_with_retry(alloc, default, key, values, expected)
-        }
-        _ => None,
+    match call {
+        Call::UpdateCounter => counter_row_holds_with_retry(alloc, row),
+        Call::Start => start_row_holds_with_retry(alloc, row),
+        Call::Write => write_row_holds_with_retry(alloc, row),
+        Call::WriteDefault => write_default_row_holds_with_retry(alloc, row),
     }
 }
 
@@ -186,13 +202,16 @@ fn first_mismatch_with_retry(alloc: Global, rows: &[(Call, &'static str)]) -> Op
 
 /// Updates that take memory: some succeed, and others are refused.
 const UPDATES: [(Call, &str); 9] = [
-    (Call::Count, "[{c,5}, update, 3, gives, 8, leaves, {c,8}]"),
     (
-        Call::Count,
+        Call::UpdateCounter,
+        "[{c,5}, update, 3, gives, 8, leaves, {c,8}]",
+    ),
+    (
+        Call::UpdateCounter,
         "[{c,5,x}, update, [{2,1},{2,1},{2,1},{2,1},{2,1},{2,1},{2,1},{2,1},{2,-9}], gives, [6,7,8,9,10,11,12,13,4], leaves, {c,4,x}]",
     ),
     (
-        Call::Count,
+        Call::UpdateCounter,
         "[{c,5,a}, update, [{2,1},{2,1},{3,1}], gives, badarg, leaves, {c,5,a}]",
     ),
     (

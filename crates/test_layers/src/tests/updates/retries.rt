@@ -26,7 +26,7 @@ pub fn read_specs_with_retry(alloc: Global, values: &Term) -> Option<ElementSpec
 }
 
 /// Returns whether a call ran out of memory.
-pub fn is_refused_memory<T>(outcome: &Result<T, CounterFault>) -> bool {
+fn is_refused_memory<T>(outcome: &Result<T, CounterFault>) -> bool {
     matches!(outcome, Err(CounterFault::Memory))
 }
 
@@ -72,4 +72,33 @@ pub fn start_with_retry(
     }
     drop(outcome);
     start_counter(alloc, default, 1, key, ops)
+}
+
+/// Applies element values to a copy of an object, again if memory runs out.
+pub fn apply_elements_with_retry(
+    alloc: Global,
+    object: &Term,
+    specs: &ElementSpecs,
+) -> Result<Term, CounterFault> {
+    let outcome = apply_elements(alloc, object, specs);
+    if !is_refused_memory(&outcome) {
+        return outcome;
+    }
+    drop(outcome);
+    apply_elements(alloc, object, specs)
+}
+
+/// Applies element values to a default object whose key is first, again if memory runs out.
+pub fn start_with_elements_with_retry(
+    alloc: Global,
+    default: &Term,
+    key: &Term,
+    specs: &ElementSpecs,
+) -> Result<Term, CounterFault> {
+    let outcome = start_with_elements(alloc, default, 1, key, specs);
+    if !is_refused_memory(&outcome) {
+        return outcome;
+    }
+    drop(outcome);
+    start_with_elements(alloc, default, 1, key, specs)
 }

@@ -3,7 +3,7 @@ use super::{Pid, Row, first_wrong_row};
 use std::process::Abort;
 
 /// Arguments and stored objects are at most 128 deep. A step checks its process first, then the depth, then all else.
-const DEEP: [Row; 27] = [
+static DEEP: [Row; 27] = [
     (Enrol(Pid(0)), "<0.0.0>"),
     (Enrol(Pid(1)), "<0.1.0>"),
     (Ask(Pid(0), "new(t,[named_table])"), "t"),

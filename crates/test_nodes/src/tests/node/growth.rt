@@ -44,7 +44,7 @@ type PendingRow = (Row, Pending);
 
 /// Two tables: the first one with a pending step is served first, a fixed table does not grow, and an emptied one has
 /// nothing to do.
-const STEPS: [PendingRow; 15] = [
+static STEPS: [PendingRow; 15] = [
     ((Enrol(Pid(0)), "<0.0.0>"), Nothing),
     (
         (Ask(Pid(0), "new(t,[])"), "#Tid<0>"),

@@ -51,7 +51,7 @@ fn fill_template(alloc: Global, template: &str, number: u32) -> Result<String, A
 }
 
 /// Process 0 and its table t, a duplicate bag.
-const STARTED: [Row; 2] = [
+static STARTED: [Row; 2] = [
     (Enrol(Pid(0)), "<0.0.0>"),
     (Ask(Pid(0), "new(t,[named_table,duplicate_bag])"), "t"),
 ];

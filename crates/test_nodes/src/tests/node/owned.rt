@@ -2,15 +2,17 @@
 // allocation refused in turn. A step that runs out of memory changes nothing, so an equal one has the reply of a first
 // run.
 use super::Event::{Ask, Enrol};
-use super::refused::{build_step_with_retry, reply_has_text_with_retry};
-use super::{Event, Pid, Row};
+use super::refused::{
+    Runner, build_step_with_retry, first_wrong_row_with_retry, reply_has_text_with_retry,
+};
+use super::{Pid, Row};
 use ets_term::Fnv;
-use node_core::{Limits, Node, Reply};
+use node_core::{Node, Reply, Step};
 use std::alloc::{AllocError, Global};
 use std::process::Abort;
 
 /// Objects under new keys, over others, over tombstones and after others; lists, and calls that are refused.
-const OWNED: [Row; 22] = [
+static OWNED: [Row; 22] = [
     (Enrol(Pid(0)), "<0.0.0>"),
     (Ask(Pid(0), "new(t,[named_table])"), "t"),
     (Ask(Pid(0), "new(u,[bag,named_table])"), "u"),
@@ -35,15 +37,16 @@ const OWNED: [Row; 22] = [
     (Ask(Pid(0), "lookup(t,a)"), "[{a,6}]"),
 ];
 
-/// Returns whether a step that the node consumes has this reply. After out of memory the reply must be `NoProcess`.
-fn owned_step_has_reply_with_retry(
+/// Returns whether a step that the node consumes has the reply of its row. After out of memory the reply must be
+/// `NoProcess`.
+pub(super) fn owned_step_has_reply_with_retry(
     alloc: Global,
     node: &mut Node<Fnv>,
-    event: Event,
+    first: Step,
     reply: &mut Reply,
-    wanted: &str,
+    row: Row,
 ) -> Result<bool, AllocError> {
-    let first = build_step_with_retry(alloc, event)?;
+    let (event, wanted) = row;
     if node.step_own(first, reply).is_err() {
         if !matches!(reply, Reply::NoProcess) {
             return Ok(false);
@@ -54,28 +57,10 @@ fn owned_step_has_reply_with_retry(
     reply_has_text_with_retry(alloc, reply, wanted)
 }
 
-/// Returns the place of the first row with another reply.
-fn first_wrong_owned_row(
-    alloc: Global,
-    node: &mut Node<Fnv>,
-    reply: &mut Reply,
-    rows: &[Row],
-) -> Result<Option<usize>, AllocError> {
-    for (place, (event, wanted)) in rows.iter().enumerate() {
-        if !owned_step_has_reply_with_retry(alloc, node, *event, reply, *wanted)? {
-            return Ok(Some(place));
-        }
-    }
-    Ok(None)
-}
-
 #[test]
 fn an_owned_step_has_the_reply_of_a_step(rt: HostRuntime) {
-    let alloc = rt.alloc();
-    let mut node = Node::new(alloc, Limits::usual(), Fnv);
-    let mut reply = Reply::NoProcess;
-    let place = first_wrong_owned_row(alloc, &mut node, &mut reply, &OWNED);
-    drop(reply);
-    drop(node);
-    assert_eq!(rt; place, Ok(None));
+    assert_eq!(rt;
+        first_wrong_row_with_retry(rt.alloc(), Runner::StepOwn, &OWNED),
+        Ok(None)
+    );
 }

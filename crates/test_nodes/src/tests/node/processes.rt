@@ -4,7 +4,7 @@ use node_core::Limits;
 use std::process::Abort;
 
 /// A number is enrolled once, and ends once.
-const ONCE: [Row; 8] = [
+static ONCE: [Row; 8] = [
     (Enrol(Pid(7)), "<0.7.0>"),
     (Enrol(Pid(7)), "** badarg"),
     (Enrol(Pid(4294967295)), "<0.4294967295.0>"),
@@ -21,7 +21,7 @@ fn a_process_enrols_and_ends_once(rt: HostRuntime) {
 }
 
 /// Two processes are the limit, which counts those that have ended.
-const AT_LIMIT: [Row; 6] = [
+static AT_LIMIT: [Row; 6] = [
     (Enrol(Pid(4)), "<0.4.0>"),
     (End(Pid(4)), "true"),
     (Enrol(Pid(5)), "<0.5.0>"),

@@ -7,7 +7,7 @@ use std::alloc::{AllocError, Global};
 use std::process::Abort;
 
 /// Makes a table with one object.
-const SETUP: [Row; 3] = [
+static SETUP: [Row; 3] = [
     (Enrol(Pid(0)), "<0.0.0>"),
     (Ask(Pid(0), "new(t,[named_table])"), "t"),
     (Ask(Pid(0), "insert(t,{a,1})"), "true"),
@@ -20,7 +20,7 @@ type ReadRow = (Pid, &'static str, &'static str);
 const LEFT_TO_STEP: &str = "";
 
 /// Reads and their replies, and calls that `read` leaves to `step`.
-const READS: [ReadRow; 25] = [
+static READS: [ReadRow; 25] = [
     (Pid(0), "lookup(t,a)", "[{a,1}]"),
     (Pid(0), "lookup(t,b)", "[]"),
     (Pid(0), "lookup_element(t,a,2)", "1"),

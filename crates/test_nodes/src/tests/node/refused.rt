@@ -1,6 +1,7 @@
 // Out of memory. `.ci/refusals` runs these tests with each allocation refused in turn. A step that runs out of memory
 // changes nothing, so it has the reply of a first run when it runs again. A test repeats its own allocations.
 use super::Event::{Ask, End, Enrol, Grow, Ready};
+use super::owned::owned_step_has_reply_with_retry;
 use super::{Bucket, Event, Pid, Row, Tid, build_step, reply_has_text};
 use ets_term::Fnv;
 use node_core::{Limits, Node, Reply, Step};
@@ -35,19 +36,6 @@ pub(super) fn reply_has_text_with_retry(
     }
 }
 
-/// Runs the step of an event, again if memory runs out, and returns whether it has this reply.
-fn event_has_reply_with_retry(
-    alloc: Global,
-    node: &mut Node<Fnv>,
-    event: Event,
-    wanted: &str,
-) -> Result<bool, AllocError> {
-    let step = build_step_with_retry(alloc, event)?;
-    let answered = step_has_reply_with_retry(alloc, node, &step, wanted);
-    drop(step);
-    answered
-}
-
 /// Runs a step, again if memory runs out, and returns whether it has this reply.
 fn step_has_reply_with_retry(
     alloc: Global,
@@ -61,8 +49,90 @@ fn step_has_reply_with_retry(
     same
 }
 
+/// Runs a step, again if memory runs out, and returns whether it writes this reply over another. After out of memory
+/// the reply must be `NoProcess`.
+fn overwrites_reply(
+    alloc: Global,
+    node: &mut Node<Fnv>,
+    step: &Step,
+    reply: &mut Reply,
+    wanted: &str,
+) -> Result<bool, AllocError> {
+    if node.step_into(step, reply).is_err() {
+        if !matches!(reply, Reply::NoProcess) {
+            return Ok(false);
+        }
+        node.step_into(step, reply)?;
+    }
+    reply_has_text_with_retry(alloc, reply, wanted)
+}
+
+/// How a node runs a step: it returns a reply, writes one over the reply before, or consumes the step as it does so.
+#[derive(Clone, Copy)]
+pub(super) enum Runner {
+    Step,
+    StepInto,
+    StepOwn,
+}
+
+/// Runs the step of a row, again if memory runs out, and returns whether it has its reply, over the one before.
+fn row_has_reply_with_retry(
+    alloc: Global,
+    node: &mut Node<Fnv>,
+    runner: Runner,
+    reply: &mut Reply,
+    row: Row,
+) -> Result<bool, AllocError> {
+    let (event, wanted) = row;
+    let step = build_step_with_retry(alloc, event)?;
+    match runner {
+        Runner::StepOwn => owned_step_has_reply_with_retry(alloc, node, step, reply, row),
+        Runner::StepInto => {
+            let same = overwrites_reply(alloc, node, &step, reply, wanted);
+            drop(step);
+            same
+        }
+        Runner::Step => {
+            let same = step_has_reply_with_retry(alloc, node, &step, wanted);
+            drop(step);
+            same
+        }
+    }
+}
+
+/// Runs the rows in a node, each again if memory runs out, and returns the index of the first one with another reply.
+fn first_wrong_row_again_in(
+    alloc: Global,
+    node: &mut Node<Fnv>,
+    runner: Runner,
+    reply: &mut Reply,
+    rows: &[Row],
+) -> Result<Option<usize>, AllocError> {
+    for (index, row) in rows.iter().enumerate() {
+        if !row_has_reply_with_retry(alloc, node, runner, reply, *row)? {
+            return Ok(Some(index));
+        }
+    }
+    Ok(None)
+}
+
+/// Runs the rows in a new node, each again if memory runs out, and returns the index of the first one with another
+/// reply.
+pub(super) fn first_wrong_row_with_retry(
+    alloc: Global,
+    runner: Runner,
+    rows: &[Row],
+) -> Result<Option<usize>, AllocError> {
+    let mut node = Node::new(alloc, Limits::usual(), Fnv);
+    let mut reply = Reply::NoProcess;
+    let index = first_wrong_row_again_in(alloc, &mut node, runner, &mut reply, rows);
+    drop(reply);
+    drop(node);
+    index
+}
+
 /// Steps, each with its reply when memory suffices.
-const STEPS: [Row; 27] = [
+static STEPS: [Row; 27] = [
     (Enrol(Pid(0)), "<0.0.0>"),
     (
         Ask(
@@ -107,36 +177,16 @@ const STEPS: [Row; 27] = [
     (Ask(Pid(2), "info(#Tid<0>,fixed)"), "false"),
 ];
 
-/// Runs the rows in a node, each again if memory runs out, and returns the index of the first one with another reply.
-fn first_wrong_row_again_in(
-    alloc: Global,
-    node: &mut Node<Fnv>,
-    rows: &[Row],
-) -> Result<Option<usize>, AllocError> {
-    for (index, (event, wanted)) in rows.iter().enumerate() {
-        if !event_has_reply_with_retry(alloc, node, *event, *wanted)? {
-            return Ok(Some(index));
-        }
-    }
-    Ok(None)
-}
-
-/// Runs the rows in a new node, each again if memory runs out, and returns the index of the first one with another
-/// reply.
-fn first_wrong_row_with_retry(alloc: Global, rows: &[Row]) -> Result<Option<usize>, AllocError> {
-    let mut node = Node::new(alloc, Limits::usual(), Fnv);
-    let index = first_wrong_row_again_in(alloc, &mut node, rows);
-    drop(node);
-    index
-}
-
 #[test]
 fn a_refused_step_is_done_again(rt: HostRuntime) {
-    assert_eq!(rt; first_wrong_row_with_retry(rt.alloc(), &STEPS), Ok(None));
+    assert_eq!(rt;
+        first_wrong_row_with_retry(rt.alloc(), Runner::Step, &STEPS),
+        Ok(None)
+    );
 }
 
 /// Lists written over lists of the same and of another length, with objects of the same and of another shape.
-const LISTS_OVER_LISTS: [Row; 14] = [
+static LISTS_OVER_LISTS: [Row; 14] = [
     (Enrol(Pid(0)), "<0.0.0>"),
     (Ask(Pid(0), "new(t,[named_table,bag])"), "t"),
     (
@@ -156,49 +206,10 @@ const LISTS_OVER_LISTS: [Row; 14] = [
     (Ask(Pid(0), "lookup(t,b)"), "[{b,2}]"),
 ];
 
-/// Runs a step, again if memory runs out, and returns whether it writes this reply over another. After out of memory
-/// the reply must be `NoProcess`.
-fn overwrites_reply(
-    alloc: Global,
-    node: &mut Node<Fnv>,
-    step: &Step,
-    reply: &mut Reply,
-    wanted: &str,
-) -> Result<bool, AllocError> {
-    if node.step_into(step, reply).is_err() {
-        if !matches!(reply, Reply::NoProcess) {
-            return Ok(false);
-        }
-        node.step_into(step, reply)?;
-    }
-    reply_has_text_with_retry(alloc, reply, wanted)
-}
-
-/// Runs the rows, each over the reply before, and returns the index of the first one with another reply.
-fn first_wrong_overwriting_step(
-    alloc: Global,
-    node: &mut Node<Fnv>,
-    reply: &mut Reply,
-    rows: &[Row],
-) -> Result<Option<usize>, AllocError> {
-    for (index, (event, wanted)) in rows.iter().enumerate() {
-        let step = build_step_with_retry(alloc, *event)?;
-        let is_right = overwrites_reply(alloc, node, &step, reply, *wanted);
-        drop(step);
-        if !is_right? {
-            return Ok(Some(index));
-        }
-    }
-    Ok(None)
-}
-
 #[test]
 fn a_reply_is_written_over_another(rt: HostRuntime) {
-    let alloc = rt.alloc();
-    let mut node = Node::new(alloc, Limits::usual(), Fnv);
-    let mut reply = Reply::NoProcess;
-    let index = first_wrong_overwriting_step(alloc, &mut node, &mut reply, &LISTS_OVER_LISTS);
-    drop(reply);
-    drop(node);
-    assert_eq!(rt; index, Ok(None));
+    assert_eq!(rt;
+        first_wrong_row_with_retry(rt.alloc(), Runner::StepInto, &LISTS_OVER_LISTS),
+        Ok(None)
+    );
 }

@@ -6,7 +6,7 @@ use std::alloc::{AllocError, Global};
 use std::process::Abort;
 
 /// One table is the limit.
-const AT_LIMIT: [Row; 5] = [
+static AT_LIMIT: [Row; 5] = [
     (Enrol(Pid(0)), "<0.0.0>"),
     (Ask(Pid(0), "new(t,[named_table])"), "t"),
     (Ask(Pid(0), "new(u,[])"), "** system_limit"),
@@ -28,7 +28,7 @@ fn as_many_are_made_as_the_limit(rt: HostRuntime) {
 }
 
 /// Makes a table named t, and one without a name.
-const TWO_TABLES: [Row; 3] = [
+static TWO_TABLES: [Row; 3] = [
     (Enrol(Pid(0)), "<0.0.0>"),
     (Ask(Pid(0), "new(t,[named_table])"), "t"),
     (Ask(Pid(0), "new(u,[])"), "#Tid<1>"),
@@ -71,7 +71,7 @@ fn resolve_text(alloc: Global, named: &str) -> Result<Option<Tid>, AllocError> {
 }
 
 /// What a term names in a node with these two tables.
-const NAMED: [(&str, Option<Tid>); 7] = [
+static NAMED: [(&str, Option<Tid>); 7] = [
     ("t", Some(Tid(0))),
     ("#Tid<0>", Some(Tid(0))),
     ("#Tid<1>", Some(Tid(1))),
@@ -100,7 +100,7 @@ fn names_and_identifiers_are_resolved(rt: HostRuntime) {
 }
 
 /// Makes two tables; a third is refused.
-const REFUSED: [Row; 4] = [
+static REFUSED: [Row; 4] = [
     (Enrol(Pid(0)), "<0.0.0>"),
     (Ask(Pid(0), "new(t,[named_table])"), "t"),
     (Ask(Pid(0), "new(u,[])"), "#Tid<1>"),

@@ -8,7 +8,7 @@ use std::alloc::{AllocError, Global};
 use std::process::Abort;
 
 /// Each kind of step, answered and refused.
-const EACH_KIND: [Row; 16] = [
+static EACH_KIND: [Row; 16] = [
     (Enrol(Pid(0)), "<0.0.0>"),
     (Enrol(Pid(0)), "** badarg"),
     (Ask(Pid(0), "new(t,[named_table])"), "t"),
@@ -58,47 +58,19 @@ fn first_wrong_answer(
     Ok(None)
 }
 
-/// Runs the rows by `run_through`, and returns the index of the first one with another reply, or without one.
+/// Runs the steps of the rows by `run_through`, and returns the index of the first row with another reply, or without
+/// one.
 fn first_wrong_row_through(
     alloc: Global,
     node: &mut Node<Fnv>,
+    steps: &[Step],
     rows: &[Row],
 ) -> Result<Option<usize>, AllocError> {
-    let steps = steps_of(alloc, rows)?;
-    let answers = node.run_through(steps.as_slice());
-    drop(steps);
-    let answers = answers?;
+    let answers = node.run_through(steps)?;
     let index = first_wrong_answer(alloc, rows, answers.as_slice());
     drop(answers);
     index
 }
-
-/// Runs the rows by `run_through` in a new node, and returns the index of the first one with another reply.
-fn first_wrong_row_through_new_node(
-    alloc: Global,
-    rows: &[Row],
-) -> Result<Option<usize>, AllocError> {
-    let mut node = Node::new(alloc, Limits::usual(), Fnv);
-    let index = first_wrong_row_through(alloc, &mut node, rows);
-    drop(node);
-    index
-}
-
-#[test]
-fn every_step_is_answered_where_there_is_memory(rt: HostRuntime) {
-    assert_eq!(rt;
-        first_wrong_row_through_new_node(rt.alloc(), &EACH_KIND),
-        Ok(None)
-    );
-}
-
-/// Starts a process twice and ends it twice.
-const TWICE: [Row; 4] = [
-    (Enrol(Pid(0)), "<0.0.0>"),
-    (Enrol(Pid(0)), "** badarg"),
-    (End(Pid(0)), "true"),
-    (End(Pid(0)), "** noproc"),
-];
 
 /// Returns the index of the first row with another reply, or without one.
 fn first_wrong_reply(
@@ -117,16 +89,14 @@ fn first_wrong_reply(
     Ok(None)
 }
 
-/// Runs the rows by `run`, and returns the index of the first one with another reply.
+/// Runs the steps of the rows by `run`, and returns the index of the first row with another reply, or without one.
 fn first_wrong_row_of_run(
     alloc: Global,
     node: &mut Node<Fnv>,
+    steps: &[Step],
     rows: &[Row],
 ) -> Result<Option<usize>, AllocError> {
-    let steps = steps_of(alloc, rows)?;
-    let ran = node.run(steps.as_slice());
-    drop(steps);
-    match ran {
+    match node.run(steps) {
         Ok(replies) => {
             let index = first_wrong_reply(alloc, rows, replies.as_slice());
             drop(replies);
@@ -139,25 +109,65 @@ fn first_wrong_row_of_run(
     }
 }
 
-/// Runs the rows by `run` in a new node, and returns the index of the first one with another reply.
-fn first_wrong_row_of_run_in_new_node(
+/// How a node runs steps.
+#[derive(Clone, Copy)]
+enum Runner {
+    Run,
+    RunThrough,
+}
+
+/// Runs the steps of the rows in a new node, and returns the index of the first row with another reply, or without one.
+fn first_wrong_row_of_steps(
     alloc: Global,
+    runner: Runner,
+    steps: &[Step],
     rows: &[Row],
 ) -> Result<Option<usize>, AllocError> {
     let mut node = Node::new(alloc, Limits::usual(), Fnv);
-    let index = first_wrong_row_of_run(alloc, &mut node, rows);
+    let index = match runner {
+        Runner::Run => first_wrong_row_of_run(alloc, &mut node, steps, rows),
+        Runner::RunThrough => first_wrong_row_through(alloc, &mut node, steps, rows),
+    };
     drop(node);
     index
 }
 
+/// Runs the rows in a new node, and returns the index of the first one with another reply, or without one.
+fn first_wrong_row_by(
+    alloc: Global,
+    runner: Runner,
+    rows: &[Row],
+) -> Result<Option<usize>, AllocError> {
+    let steps = steps_of(alloc, rows)?;
+    let index = first_wrong_row_of_steps(alloc, runner, steps.as_slice(), rows);
+    drop(steps);
+    index
+}
+
+#[test]
+fn every_step_is_answered_where_there_is_memory(rt: HostRuntime) {
+    assert_eq!(rt;
+        first_wrong_row_by(rt.alloc(), Runner::RunThrough, &EACH_KIND),
+        Ok(None)
+    );
+}
+
+/// Starts a process twice and ends it twice.
+static TWICE: [Row; 4] = [
+    (Enrol(Pid(0)), "<0.0.0>"),
+    (Enrol(Pid(0)), "** badarg"),
+    (End(Pid(0)), "true"),
+    (End(Pid(0)), "** noproc"),
+];
+
 #[test]
 fn a_run_answers_refused_steps(rt: HostRuntime) {
     assert_eq!(rt;
-        first_wrong_row_of_run_in_new_node(rt.alloc(), &TWICE),
+        first_wrong_row_by(rt.alloc(), Runner::Run, &TWICE),
         Ok(None)
     );
     assert_eq!(rt;
-        first_wrong_row_of_run_in_new_node(rt.alloc(), &EACH_KIND),
+        first_wrong_row_by(rt.alloc(), Runner::Run, &EACH_KIND),
         Ok(None)
     );
 }

@@ -12,14 +12,14 @@ use starts::{
 };
 use std::alloc::{AllocError, Global};
 use std::process::Abort;
-use trials::{KeysSeen, NextStepHasReply, WalkTrial, walk_and_step, walk_finds_keys};
+use trials::{WalkEnd, WalkTrial, walk_ends};
 
 mod plan_follower;
 mod starts;
 mod trials;
 
 /// Nine keys, each of which another process deletes and inserts again after it is visited.
-const KEYS_AGAIN: WalkTrial<'static> = WalkTrial {
+static KEYS_AGAIN: WalkTrial<'static> = WalkTrial {
     rows: &NINE_KEYS,
     walker: 0,
     limit: 100,
@@ -28,13 +28,13 @@ const KEYS_AGAIN: WalkTrial<'static> = WalkTrial {
 
 #[test]
 fn keys_that_go_and_come_again_are_walked_once(rt: HostRuntime) {
-    let all_keys = "[1,2,3,4,5,6,7,8,9]";
-    assert!(rt; walk_finds_keys(rt.alloc(), Fnv, KEYS_AGAIN, all_keys) == Ok(true));
-    assert!(rt; walk_finds_keys(rt.alloc(), AllSame, KEYS_AGAIN, all_keys) == Ok(true));
+    let all_keys = WalkEnd::Keys("[1,2,3,4,5,6,7,8,9]");
+    assert!(rt; walk_ends(rt.alloc(), Fnv, KEYS_AGAIN, all_keys, IS_NOT_FIXED) == Ok(true));
+    assert!(rt; walk_ends(rt.alloc(), AllSame, KEYS_AGAIN, all_keys, IS_NOT_FIXED) == Ok(true));
 }
 
 /// Seventy keys of a protected table, walked by a process that does not own it.
-const BY_ANOTHER: WalkTrial<'static> = WalkTrial {
+static BY_ANOTHER: WalkTrial<'static> = WalkTrial {
     rows: &SEVENTY_KEYS,
     walker: 7,
     limit: 70,
@@ -43,13 +43,14 @@ const BY_ANOTHER: WalkTrial<'static> = WalkTrial {
 
 #[test]
 fn seventy_keys_are_walked_by_another_process(rt: HostRuntime) {
-    let all_keys =
-        "[1,2,3,4,5,6,7,8,9,10,11,12,13,14,15,16,17,18,19,20,21,22,23,24,25,26,27,28,29,30,31,32,33,34,35,36,37,38,39,40,41,42,43,44,45,46,47,48,49,50,51,52,53,54,55,56,57,58,59,60,61,62,63,64,65,66,67,68,69,70]";
-    assert!(rt; walk_finds_keys(rt.alloc(), Fnv, BY_ANOTHER, all_keys) == Ok(true));
+    let all_keys = WalkEnd::Keys(
+        "[1,2,3,4,5,6,7,8,9,10,11,12,13,14,15,16,17,18,19,20,21,22,23,24,25,26,27,28,29,30,31,32,33,34,35,36,37,38,39,40,41,42,43,44,45,46,47,48,49,50,51,52,53,54,55,56,57,58,59,60,61,62,63,64,65,66,67,68,69,70]",
+    );
+    assert!(rt; walk_ends(rt.alloc(), Fnv, BY_ANOTHER, all_keys, IS_NOT_FIXED) == Ok(true));
 }
 
 /// One key, after which another process inserts one key in each turn.
-const FURTHER: WalkTrial<'static> = WalkTrial {
+static FURTHER: WalkTrial<'static> = WalkTrial {
     rows: &ONE_KEY,
     walker: 0,
     limit: 5,
@@ -58,12 +59,18 @@ const FURTHER: WalkTrial<'static> = WalkTrial {
 
 #[test]
 fn a_key_past_the_limit_ends_the_walk(rt: HostRuntime) {
-    let end = (
-        Some(WalkFault::LimitReached),
-        KeysSeen(5),
-        NextStepHasReply(true),
-    );
-    assert!(rt; walk_and_step(rt.alloc(), AllSame, FURTHER, IS_NOT_FIXED) == Ok(end));
+    let end = WalkEnd::FaultAfter(&WalkFault::LimitReached, 5);
+    assert!(rt; walk_ends(rt.alloc(), AllSame, FURTHER, end, IS_NOT_FIXED) == Ok(true));
+}
+
+/// Returns a walk over two keys while others follow a plan.
+fn on_two_keys(plan: Plan) -> WalkTrial<'static> {
+    WalkTrial {
+        rows: &TWO_KEYS,
+        walker: 0,
+        limit: 9,
+        plan,
+    }
 }
 
 /// What others do in a walk over two keys, and a step after it with its reply.
@@ -87,20 +94,17 @@ fn first_wrong_stop(
 /// row.
 fn walk_stops(alloc: Global, stop: Stop, wanted: &WalkFault) -> Result<bool, AllocError> {
     let (plan, next_row) = stop;
-    let trial = WalkTrial {
-        rows: &TWO_KEYS,
-        walker: 0,
-        limit: 9,
-        plan,
-    };
-    let (fault, _, has_reply) = walk_and_step(alloc, Fnv, trial, next_row)?;
-    let same = fault.as_ref() == Some(wanted);
-    drop(fault);
-    Ok(same && has_reply.0)
+    walk_ends(
+        alloc,
+        Fnv,
+        on_two_keys(plan),
+        WalkEnd::Fault(wanted),
+        next_row,
+    )
 }
 
 /// Others delete the table, or make another one of its name, which stays as it is.
-const LOST: [Stop; 3] = [
+static LOST: [Stop; 3] = [
     (
         Plan::Always(&DELETES_TABLE),
         (Ask(Pid(0), "whereis(t)"), "undefined"),
@@ -124,7 +128,7 @@ fn a_table_that_goes_is_lost(rt: HostRuntime) {
 const KEYS_LEFT: Row = (Ask(Pid(0), "tab2list(t)"), "any order: [{1,a},{2,b},{3,c}]");
 
 /// Others hand in a step of the walker itself.
-const OWN_STEPS: [Stop; 6] = [
+static OWN_STEPS: [Stop; 6] = [
     (Plan::Always(&WALKER_ENROLS), KEYS_LEFT),
     (Plan::Always(&WALKER_ENROLS), IS_NOT_FIXED),
     (Plan::Always(&WALKER_ENDS), KEYS_LEFT),
@@ -150,44 +154,67 @@ fn out_of_memory_ends_the_walk(rt: HostRuntime) {
     );
 }
 
-/// Others delete all objects after each key.
-const EMPTIED: WalkTrial<'static> = WalkTrial {
-    rows: &TWO_KEYS,
-    walker: 0,
-    limit: 9,
-    plan: Plan::Always(&DELETES_ALL_OBJECTS),
-};
-
 #[test]
 fn a_table_that_is_emptied_has_one_key(rt: HostRuntime) {
-    assert!(rt;
-        walk_and_step(rt.alloc(), Fnv, EMPTIED, IS_NOT_FIXED)
-            == Ok((None, KeysSeen(1), NextStepHasReply(true)))
-    );
+    let emptied = on_two_keys(Plan::Always(&DELETES_ALL_OBJECTS));
+    let end = WalkEnd::KeysSeen(1);
+    assert!(rt; walk_ends(rt.alloc(), Fnv, emptied, end, IS_NOT_FIXED) == Ok(true));
 }
 
-/// Walks after these steps, and returns the fault of the walk.
-fn fault_of(alloc: Global, rows: &[Row], limit: u32) -> Result<Option<WalkFault>, AllocError> {
+/// Walks after these steps, and returns whether the walk ends with this fault and the step after it has its reply.
+fn walk_has_fault(
+    alloc: Global,
+    rows: &[Row],
+    limit: u32,
+    fault: &WalkFault,
+    next_row: Row,
+) -> Result<bool, AllocError> {
     let trial = WalkTrial {
         rows,
         walker: 0,
         limit,
         plan: Plan::DeleteAndInsert,
     };
-    let (fault, _, _) = walk_and_step(alloc, Fnv, trial, IS_NOT_FIXED)?;
-    Ok(fault)
+    walk_ends(alloc, Fnv, trial, WalkEnd::Fault(fault), next_row)
+}
+
+/// Asks the owner whether the table of process 1 is fixed, which it is not.
+const IS_NOT_FIXED_BY_ANOTHER: Row = (Ask(Pid(1), "info(t,fixed)"), "false");
+
+/// Asks as process 0, which does not live.
+const HAS_NO_PROCESS: Row = (Ask(Pid(0), "info(t,fixed)"), "** noproc");
+
+/// Walks that begin without a table to read: the steps before each, and the step after it.
+static NOT_READ: [(&[Row], Row); 3] = [
+    (&PRIVATE_TABLE_OF_ANOTHER, IS_NOT_FIXED_BY_ANOTHER),
+    (&WALKER_HAS_ENDED, IS_NOT_FIXED_BY_ANOTHER),
+    (&[], HAS_NO_PROCESS),
+];
+
+/// Returns the index of the first row whose walk ends without this fault, or whose step then has another reply.
+fn first_wrong_fault(
+    alloc: Global,
+    fault: &WalkFault,
+    rows: &[(&'static [Row], Row)],
+) -> Result<Option<usize>, AllocError> {
+    for (index, (before, next_row)) in rows.iter().enumerate() {
+        if !walk_has_fault(alloc, *before, 9, fault, *next_row)? {
+            return Ok(Some(index));
+        }
+    }
+    Ok(None)
 }
 
 #[test]
 fn a_table_that_is_not_to_be_read_is_lost(rt: HostRuntime) {
-    let lost = Ok(Some(WalkFault::Lost));
-    assert!(rt; fault_of(rt.alloc(), &PRIVATE_TABLE_OF_ANOTHER, 9) == lost);
-    assert!(rt; fault_of(rt.alloc(), &WALKER_HAS_ENDED, 9) == lost);
-    assert!(rt; fault_of(rt.alloc(), &[], 9) == lost);
+    assert_eq!(rt;
+        first_wrong_fault(rt.alloc(), &WalkFault::Lost, &NOT_READ),
+        Ok(None)
+    );
 }
 
 /// An empty table, and a walk that may visit no key.
-const NO_LIMIT: WalkTrial<'static> = WalkTrial {
+static NO_LIMIT: WalkTrial<'static> = WalkTrial {
     rows: &NO_KEYS,
     walker: 0,
     limit: 0,
@@ -196,6 +223,8 @@ const NO_LIMIT: WalkTrial<'static> = WalkTrial {
 
 #[test]
 fn no_key_is_within_no_limit(rt: HostRuntime) {
-    assert!(rt; walk_finds_keys(rt.alloc(), Fnv, NO_LIMIT, "[]") == Ok(true));
-    assert!(rt; fault_of(rt.alloc(), &TWO_KEYS, 0) == Ok(Some(WalkFault::LimitReached)));
+    let alloc = rt.alloc();
+    let fault = WalkFault::LimitReached;
+    assert!(rt; walk_ends(alloc, Fnv, NO_LIMIT, WalkEnd::Keys("[]"), IS_NOT_FIXED) == Ok(true));
+    assert!(rt; walk_has_fault(alloc, &TWO_KEYS, 0, &fault, IS_NOT_FIXED) == Ok(true));
 }

@@ -2,7 +2,7 @@
 mod misuses;
 
 use super::{Event, Row, build_step};
-use ets_term::{Fnv, KeyHash};
+use ets_term::Fnv;
 use node_core::{Limits, Node, Reply, Step};
 use node_reasons::{Reason, why};
 use std::alloc::{AllocError, Global};
@@ -17,9 +17,9 @@ fn reason_has_words(alloc: Global, reason: Reason, wanted: &str) -> Result<bool,
 }
 
 /// Returns whether a step with this reply has this reason. Without words, the reply must be a value.
-fn has_reason<H: KeyHash + Copy + Drop>(
+fn has_reason(
     alloc: Global,
-    node: &Node<H>,
+    node: &Node<Fnv>,
     step: &Step,
     reply: &Reply,
     wanted: &str,
@@ -31,9 +31,9 @@ fn has_reason<H: KeyHash + Copy + Drop>(
 }
 
 /// Runs the step of an event, and returns whether its reply has this reason.
-fn event_has_reason<H: KeyHash + Copy + Drop>(
+fn event_has_reason(
     alloc: Global,
-    node: &mut Node<H>,
+    node: &mut Node<Fnv>,
     event: Event,
     wanted: &str,
 ) -> Result<bool, AllocError> {
@@ -44,9 +44,9 @@ fn event_has_reason<H: KeyHash + Copy + Drop>(
 }
 
 /// Runs a step, and returns whether its reply has this reason.
-fn step_has_reason<H: KeyHash + Copy + Drop>(
+fn step_has_reason(
     alloc: Global,
-    node: &mut Node<H>,
+    node: &mut Node<Fnv>,
     step: &Step,
     wanted: &str,
 ) -> Result<bool, AllocError> {
@@ -57,9 +57,9 @@ fn step_has_reason<H: KeyHash + Copy + Drop>(
 }
 
 /// Runs the rows in a node, and returns the index of the first one with another reason.
-fn first_wrong_reason_in<H: KeyHash + Copy + Drop>(
+fn first_wrong_reason_in(
     alloc: Global,
-    node: &mut Node<H>,
+    node: &mut Node<Fnv>,
     rows: &[Row],
 ) -> Result<Option<usize>, AllocError> {
     for (index, (event, wanted)) in rows.iter().enumerate() {

@@ -3,7 +3,7 @@ use super::{DONE, Pid, Row, Tid, first_wrong_scenario};
 use std::process::Abort;
 
 /// A living heir inherits.
-const INHERITED: [Row; 11] = [
+static INHERITED: [Row; 11] = [
     (Enrol(Pid(0)), DONE),
     (Enrol(Pid(1)), DONE),
     (New(Pid(0), "t", "[named_table,{heir,<0.1.0>,gift}]"), "t"),
@@ -18,7 +18,7 @@ const INHERITED: [Row; 11] = [
 ];
 
 /// Tables without a living heir are deleted.
-const NO_HEIR: [Row; 12] = [
+static NO_HEIR: [Row; 12] = [
     (Enrol(Pid(0)), DONE),
     (Enrol(Pid(1)), DONE),
     (New(Pid(0), "t", "[named_table,{heir,<0.1.0>,gift}]"), "t"),
@@ -34,7 +34,7 @@ const NO_HEIR: [Row; 12] = [
 ];
 
 /// Messages come in order of creation.
-const IN_ORDER: [Row; 11] = [
+static IN_ORDER: [Row; 11] = [
     (Enrol(Pid(0)), DONE),
     (Enrol(Pid(1)), DONE),
     (Enrol(Pid(2)), DONE),
@@ -52,7 +52,7 @@ const IN_ORDER: [Row; 11] = [
 ];
 
 /// An exit releases the fixes of its process.
-const FIXES: [Row; 12] = [
+static FIXES: [Row; 12] = [
     (Enrol(Pid(0)), DONE),
     (Enrol(Pid(1)), DONE),
     (Enrol(Pid(2)), DONE),
@@ -68,7 +68,7 @@ const FIXES: [Row; 12] = [
 ];
 
 /// A number is enrolled once.
-const ENROLLED: [Row; 8] = [
+static ENROLLED: [Row; 8] = [
     (Enrol(Pid(7)), DONE),
     (Enrol(Pid(7)), "** badarg"),
     (Enrol(Pid(0)), DONE),
@@ -79,11 +79,9 @@ const ENROLLED: [Row; 8] = [
     (End(Pid(1)), "** noproc"),
 ];
 
-/// The rows of each world.
-const SCENARIOS: [&[Row]; 5] = [&INHERITED, &NO_HEIR, &IN_ORDER, &FIXES, &ENROLLED];
-
 /// Runs the rows about the ends of processes.
 #[test]
 fn processes_enrol_and_end(rt: HostRuntime) {
-    assert_eq!(rt; first_wrong_scenario(rt.alloc(), &SCENARIOS), Ok(None));
+    let scenarios: [&[Row]; 5] = [&INHERITED, &NO_HEIR, &IN_ORDER, &FIXES, &ENROLLED];
+    assert_eq!(rt; first_wrong_scenario(rt.alloc(), &scenarios), Ok(None));
 }

@@ -135,15 +135,18 @@ fn owner_and_fix_after(id: u32, turns: u32) -> (u32, bool) {
     (owner, owner != GONE && !is_ended(fixer_of(id), turns))
 }
 
-/// Enrols all processes, makes a table with an heir for each, and fixes each table by some process.
-fn fill_world(alloc: Global, world: &mut Tables) -> Result<(), WorldFault> {
+/// Enrols all processes.
+fn enrol_all(world: &mut Tables) -> Result<(), WorldFault> {
     for pid in 0..MANY {
         world.enrol(pid)?;
     }
+    Ok(())
+}
+
+/// Makes a table of each process, with an heir, and fixes it by some process.
+fn make_and_fix_all(alloc: Global, world: &mut Tables) -> Result<(), WorldFault> {
     for id in 0..MANY {
         make_with_heir(alloc, world, id, heir_of(id))?;
-    }
-    for id in 0..MANY {
         drop(fix_table(alloc, world, fixer_of(id), id)?);
     }
     Ok(())
@@ -175,7 +178,8 @@ fn first_wrong_table_while_ending(world: &mut Tables) -> Result<Option<(u32, u32
 
 /// Fills a world and ends all its processes. Returns the first wrong turn, and the table.
 fn first_wrong_turn(alloc: Global, world: &mut Tables) -> Result<Option<(u32, u32)>, WorldFault> {
-    fill_world(alloc, world)?;
+    enrol_all(world)?;
+    make_and_fix_all(alloc, world)?;
     first_wrong_table_while_ending(world)
 }
 

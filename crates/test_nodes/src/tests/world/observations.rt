@@ -7,7 +7,7 @@ use ownership::InfoItem;
 use std::alloc::{AllocError, Global};
 
 /// The items of tables that are observed.
-const ITEMS: [InfoItem; 10] = [
+static ITEMS: [InfoItem; 10] = [
     InfoItem::Name,
     InfoItem::NamedTable,
     InfoItem::Owner,
@@ -79,12 +79,22 @@ fn observe_items(
     Ok(())
 }
 
-/// Appends for each process whether it may read and write a table, and owns it.
-fn observe_rights(world: &Tables, id: u32, observed: &mut Vec<Term>) -> Result<(), AllocError> {
+/// Appends whether a process may read and write a table, and owns it.
+fn observe_rights(
+    world: &Tables,
+    pid: u32,
+    id: u32,
+    observed: &mut Vec<Term>,
+) -> Result<(), AllocError> {
+    add_flag(observed, world.may_read(pid, id))?;
+    add_flag(observed, world.may_write(pid, id))?;
+    add_flag(observed, world.is_owner(pid, id))
+}
+
+/// Appends the rights of each process in a table.
+fn observe_all_rights(world: &Tables, id: u32, observed: &mut Vec<Term>) -> Result<(), AllocError> {
     for pid in 0..4 {
-        add_flag(observed, world.may_read(pid, id))?;
-        add_flag(observed, world.may_write(pid, id))?;
-        add_flag(observed, world.is_owner(pid, id))?;
+        observe_rights(world, pid, id, observed)?;
     }
     Ok(())
 }
@@ -106,33 +116,45 @@ fn observe_name(
 }
 
 /// The names of tables that are observed.
-const NAMES: [&str; 5] = ["a_name_longer_than_its_place", "u", "v", "w", "x"];
+static NAMES: [&str; 5] = ["a_name_longer_than_its_place", "u", "v", "w", "x"];
 
-/// Appends all that can be observed of the world: how many tables were made, each process, each table and each name.
-fn observe_all(
+/// Appends each process, each table with these items, and the rights in it.
+fn observe_numbers(
     alloc: Global,
     world: &Tables,
     items: &[InfoItem],
-    names: &[&'static str],
     observed: &mut Vec<Term>,
 ) -> Result<(), AllocError> {
-    add_observation(observed, Term::Int(Integer::from(world.made())))?;
     for number in 0..4 {
         observe_process(alloc, world, number, observed)?;
         observe_items(world, number, items, observed)?;
-        observe_rights(world, number, observed)?;
+        observe_all_rights(world, number, observed)?;
     }
+    Ok(())
+}
+
+/// Appends the tables that have these names.
+fn observe_names(
+    alloc: Global,
+    world: &Tables,
+    names: &[&'static str],
+    observed: &mut Vec<Term>,
+) -> Result<(), AllocError> {
     for name in names {
         observe_name(alloc, world, *name, observed)?;
     }
     Ok(())
 }
 
+/// Appends all that can be observed of the world: how many tables were made, each process, each table and each name.
+fn observe_all(alloc: Global, world: &Tables, observed: &mut Vec<Term>) -> Result<(), AllocError> {
+    add_observation(observed, Term::Int(Integer::from(world.made())))?;
+    observe_numbers(alloc, world, &ITEMS, observed)?;
+    observe_names(alloc, world, &NAMES, observed)
+}
+
 /// Returns all that can be observed of a world.
 pub fn observe_world(alloc: Global, world: &Tables) -> Result<Vec<Term>, AllocError> {
     let mut observed = Vec::with_capacity(alloc, 128)?;
-    keep_if_ok(
-        observe_all(alloc, world, &ITEMS, &NAMES, &mut observed),
-        observed,
-    )
+    keep_if_ok(observe_all(alloc, world, &mut observed), observed)
 }

@@ -3,7 +3,7 @@ use super::{Pid, Row, Tid, first_wrong_scenario};
 use std::process::Abort;
 
 /// All options are read, and the last one of a kind counts.
-const READ: [Row; 12] = [
+static READ: [Row; 12] = [
     (
         New(
             Pid(0),
@@ -26,7 +26,7 @@ const READ: [Row; 12] = [
 ];
 
 /// Tuning options change nothing.
-const TUNING: [Row; 4] = [
+static TUNING: [Row; 4] = [
     (
         New(
             Pid(0),
@@ -48,7 +48,7 @@ const TUNING: [Row; 4] = [
 ];
 
 /// Four tables are the limit. A taken name is refused before the limit.
-const AT_LIMIT: [Row; 6] = [
+static AT_LIMIT: [Row; 6] = [
     (New(Pid(0), "a", "[]"), "#Tid<0>"),
     (New(Pid(0), "b", "[]"), "#Tid<1>"),
     (New(Pid(0), "c", "[named_table]"), "c"),
@@ -57,11 +57,9 @@ const AT_LIMIT: [Row; 6] = [
     (New(Pid(0), "e", "[]"), "** system_limit"),
 ];
 
-/// The rows of each world.
-const SCENARIOS: [&[Row]; 3] = [&READ, &TUNING, &AT_LIMIT];
-
 /// Runs the rows about the options of tables.
 #[test]
 fn options_and_items(rt: HostRuntime) {
-    assert_eq!(rt; first_wrong_scenario(rt.alloc(), &SCENARIOS), Ok(None));
+    let scenarios: [&[Row]; 3] = [&READ, &TUNING, &AT_LIMIT];
+    assert_eq!(rt; first_wrong_scenario(rt.alloc(), &scenarios), Ok(None));
 }

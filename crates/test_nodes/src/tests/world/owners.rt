@@ -3,7 +3,7 @@ use super::{DONE, Pid, Row, Tid, first_wrong_scenario};
 use std::process::Abort;
 
 /// An owner gives its table away.
-const GIVEN: [Row; 14] = [
+static GIVEN: [Row; 14] = [
     (Enrol(Pid(0)), DONE),
     (Enrol(Pid(1)), DONE),
     (New(Pid(0), "x", "[]"), "#Tid<0>"),
@@ -21,7 +21,7 @@ const GIVEN: [Row; 14] = [
 ];
 
 /// An owner sets the heir.
-const HEIRS: [Row; 13] = [
+static HEIRS: [Row; 13] = [
     (Enrol(Pid(0)), DONE),
     (Enrol(Pid(1)), DONE),
     (New(Pid(0), "t", "[named_table]"), "t"),
@@ -38,7 +38,7 @@ const HEIRS: [Row; 13] = [
 ];
 
 /// Protection says who uses a table.
-const RIGHTS: [Row; 9] = [
+static RIGHTS: [Row; 9] = [
     (New(Pid(0), "a", "[public]"), "#Tid<0>"),
     (New(Pid(0), "b", "[]"), "#Tid<1>"),
     (New(Pid(0), "c", "[private]"), "#Tid<2>"),
@@ -51,7 +51,7 @@ const RIGHTS: [Row; 9] = [
 ];
 
 /// A name is free once its table is gone.
-const NAMES: [Row; 12] = [
+static NAMES: [Row; 12] = [
     (New(Pid(0), "t", "[named_table]"), "t"),
     (New(Pid(0), "t", "[]"), "#Tid<1>"),
     (New(Pid(0), "t", "[named_table]"), "** badarg"),
@@ -66,11 +66,9 @@ const NAMES: [Row; 12] = [
     (Drop(Tid(0)), DONE),
 ];
 
-/// The rows of each world.
-const SCENARIOS: [&[Row]; 4] = [&GIVEN, &HEIRS, &RIGHTS, &NAMES];
-
 /// Runs the rows about owners, heirs, rights and names.
 #[test]
 fn owners_names_and_rights(rt: HostRuntime) {
-    assert_eq!(rt; first_wrong_scenario(rt.alloc(), &SCENARIOS), Ok(None));
+    let scenarios: [&[Row]; 4] = [&GIVEN, &HEIRS, &RIGHTS, &NAMES];
+    assert_eq!(rt; first_wrong_scenario(rt.alloc(), &scenarios), Ok(None));
 }

@@ -3,15 +3,15 @@
 // own allocations.
 use super::Call::{End, Enrol, Fix, Give, Info, New, Receive, Set};
 use super::observations::observe_world;
-use super::{Call, DONE, Pid, Row, Tables, Tid, answer, refusal};
+use super::{Call, DONE, Pid, Row, Tables, Tid, Tries, answer, first_wrong_row, refusal};
 use crate::tests::text::is_spelled;
 use ets_term::Term;
-use ownership::{World, WorldFault};
+use ownership::WorldFault;
 use std::alloc::{AllocError, Global};
 use std::process::Abort;
 
 /// Calls, each with its answer when memory suffices.
-const CALLS: [Row; 28] = [
+static CALLS: [Row; 28] = [
     (Enrol(Pid(0)), DONE),
     (Enrol(Pid(1)), DONE),
     (Enrol(Pid(1)), "** badarg"),
@@ -128,7 +128,7 @@ fn call_has_answer_or_is_refused_once(
 }
 
 /// Makes a call, again if memory runs out, and returns whether it has this answer and changed nothing before.
-fn call_has_answer_with_retry(
+pub(super) fn call_has_answer_with_retry(
     alloc: Global,
     world: &mut Tables,
     call: Call,
@@ -140,31 +140,10 @@ fn call_has_answer_with_retry(
     done
 }
 
-/// Makes the calls of the rows, each again if memory runs out, and returns the index of the first one with another
-/// answer.
-fn first_wrong_row_again_in(
-    alloc: Global,
-    world: &mut Tables,
-    rows: &[Row],
-) -> Result<Option<usize>, AllocError> {
-    for (index, (call, wanted)) in rows.iter().enumerate() {
-        if !call_has_answer_with_retry(alloc, world, *call, *wanted)? {
-            return Ok(Some(index));
-        }
-    }
-    Ok(None)
-}
-
-/// Makes the calls of the rows in a new world, each again if memory runs out, and returns the index of the first one
-/// with another answer.
-fn first_wrong_row_with_retry(alloc: Global, rows: &[Row]) -> Result<Option<usize>, AllocError> {
-    let mut world = World::new(alloc, 3, 4);
-    let index = first_wrong_row_again_in(alloc, &mut world, rows);
-    drop(world);
-    index
-}
-
 #[test]
 fn a_refused_call_is_called_again(rt: HostRuntime) {
-    assert_eq!(rt; first_wrong_row_with_retry(rt.alloc(), &CALLS), Ok(None));
+    assert_eq!(rt;
+        first_wrong_row(rt.alloc(), Tries::AgainIfRefused, &CALLS),
+        Ok(None)
+    );
 }

@@ -116,14 +116,20 @@ fn push_rights(
     id: u32,
     rights: &mut Items<Term>,
 ) -> Result<(), AllocError> {
-    if world.may_read(pid, id) {
-        rights.push(term(alloc, "read")?)?;
-    }
-    if world.may_write(pid, id) {
-        rights.push(term(alloc, "write")?)?;
-    }
-    if world.is_owner(pid, id) {
-        rights.push(term(alloc, "own")?)?;
+    push_right(alloc, rights, "read", world.may_read(pid, id))?;
+    push_right(alloc, rights, "write", world.may_write(pid, id))?;
+    push_right(alloc, rights, "own", world.is_owner(pid, id))
+}
+
+/// Appends what a process may do, if it may.
+fn push_right(
+    alloc: Global,
+    rights: &mut Items<Term>,
+    right: &str,
+    is_allowed: bool,
+) -> Result<(), AllocError> {
+    if is_allowed {
+        rights.push(term(alloc, right)?)?;
     }
     Ok(())
 }

@@ -1,10 +1,10 @@
 // A reader: it reads the tables of the writers and its own, and traverses fixed tables.
-use super::calls::{call, is_done, read_lists};
 use super::{KEPT_KEYS, READS, WRITERS};
+use crate::tests::calls::{call_with, is_done_with, read_lists};
 use ets_term::{KeyHash, Term};
 use node_core::Reply;
 use node_shared::{Caller, HistoryId, Server};
-use std::alloc::Global;
+use std::alloc::{AllocError, Global};
 use std::sync::Wait;
 
 /// A bound of the loop over the keys of a table, which has fewer.
@@ -28,18 +28,18 @@ pub(super) fn read_all<B: HistoryId, H: KeyHash + Copy + Drop, R: Wait>(
     rt: &R,
     alloc: Global,
     server: &Server<B, H>,
-    mut caller: Caller<B>,
+    caller: &mut Caller<B>,
 ) -> Option<bool> {
     for turn in 0..READS {
-        if !turn_is_right(rt, alloc, server, &mut caller, turn)? {
+        if !turn_is_right(rt, alloc, server, caller, turn)? {
             return Some(false);
         }
     }
     Some(true)
 }
 
-/// Makes the call of a turn: a traversal, a write, a read of what was written, or mostly a lookup of a kept key. Returns
-/// whether its reply is right.
+/// Makes the call of a turn: a traversal, a write, a read of what was written, or mostly a lookup of a kept key.
+/// Returns whether its reply is right.
 fn turn_is_right<B: HistoryId, H: KeyHash + Copy + Drop, R: Wait>(
     rt: &R,
     alloc: Global,
@@ -53,10 +53,14 @@ fn turn_is_right<B: HistoryId, H: KeyHash + Copy + Drop, R: Wait>(
     let own_table = caller.pid();
     match turn % OWN_WRITE_PERIOD {
         0 => {
-            let object = format!(in alloc; "[t{own_table},{{own,{turn}}}]").ok()?;
-            is_done(rt, alloc, server, caller, ("insert", object.as_str()))
+            let object = format!(in alloc; "[t{own_table},{{own,{turn}}}]");
+            is_done_with(rt, alloc, server, caller, ("insert", object))
         }
-        1 => finds_own_object(rt, alloc, server, caller, turn.wrapping_sub(1)),
+        1 => {
+            let written = turn.wrapping_sub(1);
+            let pattern = format!(in alloc; "[t{own_table},{{own,{written}}}]");
+            read_lists(rt, alloc, server, caller, ("match_object", pattern), 1)
+        }
         _ if turn % TRAVERSAL_PERIOD == turn_of_one => traversal_is_whole(
             rt, alloc, server, caller, one,
         ),
@@ -65,30 +69,10 @@ fn turn_is_right<B: HistoryId, H: KeyHash + Copy + Drop, R: Wait>(
         ),
         _ => {
             let key = turn.wrapping_mul(KEY_DISTANCE) % KEPT_KEYS;
-            let arguments = format!(in alloc; "[t{writer},{key}]").ok()?;
-            read_lists(rt, alloc, server, caller, ("lookup", arguments.as_str()), 1)
+            let arguments = format!(in alloc; "[t{writer},{key}]");
+            read_lists(rt, alloc, server, caller, ("lookup", arguments), 1)
         }
     }
-}
-
-/// Returns whether the caller's own table has the object that it wrote in this turn.
-fn finds_own_object<B: HistoryId, H: KeyHash + Copy + Drop, R: Wait>(
-    rt: &R,
-    alloc: Global,
-    server: &Server<B, H>,
-    caller: &Caller<B>,
-    turn: u32,
-) -> Option<bool> {
-    let own_table = caller.pid();
-    let pattern = format!(in alloc; "[t{own_table},{{own,{turn}}}]").ok()?;
-    read_lists(
-        rt,
-        alloc,
-        server,
-        caller,
-        ("match_object", pattern.as_str()),
-        1,
-    )
 }
 
 /// Fixes the table of a writer and traverses it. Returns whether each kept key was visited once.
@@ -99,34 +83,39 @@ fn traversal_is_whole<B: HistoryId, H: KeyHash + Copy + Drop, R: Wait>(
     caller: &mut Caller<B>,
     writer: u32,
 ) -> Option<bool> {
-    let fix = format!(in alloc; "[t{writer},true]").ok()?;
-    let release = format!(in alloc; "[t{writer},false]").ok()?;
-    let is_fixed = is_done(rt, alloc, server, caller, ("safe_fixtable", fix.as_str()))?;
-    let visits = count_visits(rt, alloc, server, caller, writer)?;
-    let is_released = is_done(
-        rt,
-        alloc,
-        server,
-        caller,
-        ("safe_fixtable", release.as_str()),
-    )?;
-    Some(is_fixed && is_released && visits.iter().all(|times| *times == 1))
+    let fix = format!(in alloc; "[t{writer},true]");
+    let is_fixed = is_done_with(rt, alloc, server, caller, ("safe_fixtable", fix))?;
+    let is_whole = visits_are_right(rt, alloc, server, caller, writer)?;
+    let release = format!(in alloc; "[t{writer},false]");
+    let is_released = is_done_with(rt, alloc, server, caller, ("safe_fixtable", release))?;
+    Some(is_fixed && is_whole && is_released)
 }
 
-/// Traverses the table of a writer, and returns how often each kept key was visited.
-fn count_visits<B: HistoryId, H: KeyHash + Copy + Drop, R: Wait>(
+/// Traverses the table of a writer, and returns whether each kept key was visited once.
+fn visits_are_right<B: HistoryId, H: KeyHash + Copy + Drop, R: Wait>(
     rt: &R,
     alloc: Global,
     server: &Server<B, H>,
     caller: &Caller<B>,
     writer: u32,
-) -> Option<Vec<u8>> {
+) -> Option<bool> {
     let mut visits = Vec::new(alloc);
-    for _ in 0..KEPT_KEYS {
-        visits.push(0).ok()?;
-    }
-    let first = format!(in alloc; "[t{writer}]").ok()?;
-    let mut current = key_of(rt, alloc, server, caller, ("first", first.as_str()))?;
+    visits.resize(KEPT_KEYS as usize, 0).ok()?;
+    count_visits(rt, server, caller, writer, &mut visits)?;
+    Some(visits.iter().all(|times| *times == 1))
+}
+
+/// Traverses the table of a writer, and counts how often each kept key is visited.
+fn count_visits<B: HistoryId, H: KeyHash + Copy + Drop, R: Wait>(
+    rt: &R,
+    server: &Server<B, H>,
+    caller: &Caller<B>,
+    writer: u32,
+    visits: &mut Vec<u8>,
+) -> Option<()> {
+    let alloc = *visits.allocator();
+    let first = format!(in alloc; "[t{writer}]");
+    let mut current = key_of(rt, alloc, server, caller, ("first", first))?;
     for _ in 0..MAX_KEYS {
         let Some(key) = current else {
             break;
@@ -134,10 +123,10 @@ fn count_visits<B: HistoryId, H: KeyHash + Copy + Drop, R: Wait>(
         if let Some(times) = visits.get_mut(key as usize) {
             *times = u8::saturating_add(*times, 1);
         }
-        let next = format!(in alloc; "[t{writer},{key}]").ok()?;
-        current = key_of(rt, alloc, server, caller, ("next", next.as_str()))?;
+        let next = format!(in alloc; "[t{writer},{key}]");
+        current = key_of(rt, alloc, server, caller, ("next", next))?;
     }
-    Some(visits)
+    Some(())
 }
 
 /// Makes a read, and returns the key that it replies. The inner `None` is a reply that is no number.
@@ -146,9 +135,9 @@ fn key_of<B: HistoryId, H: KeyHash + Copy + Drop, R: Wait>(
     alloc: Global,
     server: &Server<B, H>,
     caller: &Caller<B>,
-    asked: (&str, &str),
+    asked: (&str, Result<String, AllocError>),
 ) -> Option<Option<u32>> {
-    let asked = call(alloc, asked)?;
+    let asked = call_with(alloc, asked)?;
     Some(match caller.read(rt, server, &asked).ok()? {
         Some(Reply::Value(Term::Int(key))) => u32::try_from(key).ok(),
         _ => None,

@@ -1,4 +1,5 @@
-use super::sweeps::sweep_both;
+use super::checks::{Check, plain_rows_pass, split_rows_pass};
+use super::sweeps::sweep_sometimes;
 use super::traversals::traverses;
 use super::*;
 
@@ -67,14 +68,6 @@ fn put<R: Rows>(
     Ok(KeyState::Nothing)
 }
 
-/// Replaces the objects of a key's slot by none, which leaves a tombstone. Returns the state before.
-fn leave_tombstone<R: Rows>(rows: &mut R, alloc: Global, key: Integer) -> KeyState {
-    let term = Term::Int(key);
-    let objects = rows.replace(&term, Chain::new(alloc));
-    drop(term);
-    state_of_removed(objects)
-}
-
 /// Removes the slot at the place of a key. Returns the state before.
 fn remove_at_place<R: Rows>(rows: &mut R, key: Integer) -> KeyState {
     let term = Term::Int(key);
@@ -100,7 +93,7 @@ fn run_call<R: Rows>(
     match call {
         Call::Insert(value) => insert(rows, alloc, key, value),
         Call::Put(value) => put(rows, alloc, key, value),
-        Call::LeaveTombstone => Ok(leave_tombstone(rows, alloc, key)),
+        Call::LeaveTombstone => Ok(replace(rows, key, Chain::new(alloc))),
         Call::Remove => Ok(remove(rows, key)),
         Call::RemoveAtPlace => Ok(remove_at_place(rows, key)),
     }
@@ -156,9 +149,8 @@ fn new_list(alloc: Global) -> Result<Vec<KeyState>, AllocError> {
     }
 }
 
-/// Makes a round of calls on keys, growth steps, and sometimes a call on all slots. Returns whether rows and list
-/// agree.
-fn round_agrees<R: Rows>(
+/// Makes `CALLS_IN_ROUND` calls on keys. Returns whether rows and list agree in each.
+fn all_calls_agree<R: Rows>(
     rows: &mut R,
     alloc: Global,
     list: &mut [KeyState],
@@ -168,10 +160,20 @@ fn round_agrees<R: Rows>(
     for _ in 0..CALLS_IN_ROUND {
         all_agree = calls_agree(rows, alloc, list, draws)? && all_agree;
     }
+    Ok(all_agree)
+}
+
+/// Makes a round of calls on keys, growth steps, and sometimes a call on all slots. Returns whether rows and list
+/// agree.
+fn round_agrees<R: Rows>(
+    rows: &mut R,
+    alloc: Global,
+    list: &mut [KeyState],
+    draws: &mut Draws,
+) -> Result<bool, AllocError> {
+    let all_agree = all_calls_agree(rows, alloc, list, draws)?;
     ready_some(rows, draws)?;
-    if draws.random_below(4) == 0 {
-        sweep_both(rows, list, draws);
-    }
+    sweep_sometimes(rows, list, draws);
     Ok(states_agree(rows, list) && all_agree)
 }
 
@@ -190,45 +192,29 @@ fn rounds_agree<R: Rows>(
 }
 
 /// Returns whether 5,000 calls on rows and on a list agree.
-fn rows_agree_with_list<R: Rows>(rows: &mut R, alloc: Global) -> Result<bool, AllocError> {
+pub(super) fn rows_agree_with_list<R: Rows>(
+    rows: &mut R,
+    alloc: Global,
+) -> Result<bool, AllocError> {
     let mut list = new_list(alloc)?;
     let agreed = rounds_agree(rows, alloc, list.as_mut_slice());
     drop(list);
     agreed
 }
 
-/// Makes the calls on new split rows with this hash, and returns whether they agree with the list.
-fn split_agrees_with_list<H: KeyHash + Copy + Drop>(
-    alloc: Global,
-    hash: H,
-) -> Result<bool, AllocError> {
-    let mut rows = SplitRows::new(alloc, hash)?;
-    let agreed = rows_agree_with_list(&mut rows, alloc);
-    drop(rows);
-    agreed
-}
-
-/// Makes the calls on new plain rows, and returns whether they agree with the list.
-fn plain_agrees_with_list(alloc: Global) -> Result<bool, AllocError> {
-    let mut rows = PlainRows::new(alloc);
-    let agreed = rows_agree_with_list(&mut rows, alloc);
-    drop(rows);
-    agreed
-}
-
 #[test]
 fn plain_rows_are_a_list(rt: HostRuntime) {
-    assert!(rt; plain_agrees_with_list(rt.alloc()) == Ok(true));
+    assert!(rt; plain_rows_pass(rt.alloc(), Check::AgreeWithList) == Ok(true));
 }
 
 #[test]
 fn split_rows_are_a_list(rt: HostRuntime) {
-    assert!(rt; split_agrees_with_list(rt.alloc(), Fnv) == Ok(true));
-    assert!(rt; split_agrees_with_list(rt.alloc(), Even) == Ok(true));
+    assert!(rt; split_rows_pass(rt.alloc(), Fnv, Check::AgreeWithList) == Ok(true));
+    assert!(rt; split_rows_pass(rt.alloc(), Even, Check::AgreeWithList) == Ok(true));
 }
 
 #[test]
 fn split_rows_of_one_hash_are_a_list(rt: HostRuntime) {
-    assert!(rt; split_agrees_with_list(rt.alloc(), AllSame) == Ok(true));
-    assert!(rt; split_agrees_with_list(rt.alloc(), Greatest) == Ok(true));
+    assert!(rt; split_rows_pass(rt.alloc(), AllSame, Check::AgreeWithList) == Ok(true));
+    assert!(rt; split_rows_pass(rt.alloc(), Greatest, Check::AgreeWithList) == Ok(true));
 }

@@ -1,4 +1,5 @@
 // Calls that take no memory: `.ci/refusals` refuses each allocation between two marks.
+use super::checks::{Check, plain_rows_pass, split_rows_pass};
 use super::*;
 
 /// More bytes than any machine has, so that each request is refused. To `.ci/refusals` such a request marks the start
@@ -53,95 +54,86 @@ fn sum_of_objects<R: Rows>(rows: &R) -> Integer {
     total
 }
 
-/// The sums of the objects before the calls, after the object of key 1 is replaced, and after key 2 is removed.
+/// The sums of the objects before the calls, after the object of key 1 is replaced, and after key 2 is removed; and the
+/// states of both keys before.
 #[derive(Clone, Copy, PartialEq, Eq)]
 struct Observed {
     sum: Integer,
+    replaced: KeyState,
     sum_replaced: Integer,
+    removed: KeyState,
     sum_removed: Integer,
     /// The number of slots after `clear` and `purge`.
     slots_cleared: usize,
 }
 
 /// Replaces the object of key 1 by 10, removes key 2, and then removes all keys. Returns what rows have in between.
-fn run_free_calls<R: Rows>(rows: &mut R, alloc: Global) -> Option<Observed> {
+fn run_free_calls<R: Rows>(rows: &mut R, alloc: Global) -> Observed {
     let sum = sum_of_objects(rows);
-    let key = Term::Int(1);
-    let old_state = state_of_removed(rows.replace(&key, Chain::one(alloc, Term::Int(10))));
-    drop(key);
+    let replaced = replace(rows, 1, Chain::one(alloc, Term::Int(10)));
     let sum_replaced = sum_of_objects(rows);
-    let removed_state = remove(rows, 2);
+    let removed = remove(rows, 2);
     let sum_removed = sum_of_objects(rows);
     rows.clear(true);
     rows.purge();
-    if old_state != KeyState::Object(1) || removed_state != KeyState::Object(2) {
-        return None;
-    }
-    Some(Observed {
+    Observed {
         sum,
+        replaced,
         sum_replaced,
+        removed,
         sum_removed,
         slots_cleared: rows.len(),
-    })
+    }
 }
 
 /// Makes the calls between two marks, and returns whether they have the right results.
-fn calls_take_no_memory<R: Rows>(rows: &mut R, alloc: Global) -> Result<bool, AllocError> {
+pub(super) fn calls_take_no_memory<R: Rows>(
+    rows: &mut R,
+    alloc: Global,
+) -> Result<bool, AllocError> {
     fill_with_keys(rows, alloc)?;
     let began = mark(alloc);
     let observed = run_free_calls(rows, alloc);
     let ended = mark(alloc);
     let wanted = Observed {
         sum: 1 + 2 + 3 + 4,
+        replaced: KeyState::Object(1),
         sum_replaced: 10 + 2 + 3 + 4,
+        removed: KeyState::Object(2),
         sum_removed: 10 + 3 + 4,
         slots_cleared: 0,
     };
-    Ok(began && ended && observed == Some(wanted))
-}
-
-/// Makes the calls on new plain rows, and returns whether they have the right results.
-fn plain_calls_take_no_memory(alloc: Global) -> Result<bool, AllocError> {
-    let mut rows = PlainRows::new(alloc);
-    let free = calls_take_no_memory(&mut rows, alloc);
-    drop(rows);
-    free
-}
-
-/// Makes the calls on new split rows, and returns whether they have the right results.
-fn split_calls_take_no_memory(alloc: Global) -> Result<bool, AllocError> {
-    let mut rows = SplitRows::new(alloc, Fnv)?;
-    let free = calls_take_no_memory(&mut rows, alloc);
-    drop(rows);
-    free
+    Ok(began && ended && observed == wanted)
 }
 
 #[test]
 fn rows_take_no_memory(rt: HostRuntime) {
-    assert!(rt; plain_calls_take_no_memory(rt.alloc()) == Ok(true));
-    assert!(rt; split_calls_take_no_memory(rt.alloc()) == Ok(true));
+    assert!(rt; plain_rows_pass(rt.alloc(), Check::TakeNoMemory) == Ok(true));
+    assert!(rt; split_rows_pass(rt.alloc(), Fnv, Check::TakeNoMemory) == Ok(true));
 }
 
 /// Returns whether a counted search finds a key and misses another between two marks.
 fn counted_searches_are_right(rows: &SplitRows<Fnv>, alloc: Global) -> bool {
-    let (three, nine) = (Term::Int(3), Term::Int(9));
     let mut steps = Steps::new();
     let began = mark(alloc);
-    let found = rows.get_counted(&three, &mut steps).is_some();
-    let missed = rows.get_counted(&nine, &mut steps).is_none();
+    let found = is_found(rows, 3, &mut steps);
+    let missed = !is_found(rows, 9, &mut steps);
     let ended = mark(alloc);
-    drop((three, nine));
     began && found && missed && ended && steps.count() > 0
+}
+
+/// Inserts the keys 1 to 4, and returns whether counted searches are then right.
+fn filled_rows_are_searched(rows: &mut SplitRows<Fnv>, alloc: Global) -> Result<bool, AllocError> {
+    fill_with_keys(rows, alloc)?;
+    Ok(counted_searches_are_right(rows, alloc))
 }
 
 /// Searches new split rows between two marks, and returns whether the searches are right.
 fn split_searches_take_no_memory(alloc: Global) -> Result<bool, AllocError> {
     let mut rows = SplitRows::new(alloc, Fnv)?;
-    let filled = fill_with_keys(&mut rows, alloc);
-    let counted = counted_searches_are_right(&rows, alloc);
+    let searched = filled_rows_are_searched(&mut rows, alloc);
     drop(rows);
-    filled?;
-    Ok(counted)
+    searched
 }
 
 #[test]

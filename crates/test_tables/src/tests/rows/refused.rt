@@ -1,5 +1,7 @@
 // Out of memory. `.ci/refusals` runs these tests with each allocation refused in turn. A call that ran out of memory
 // must have changed nothing, and must succeed when it is made again.
+use super::checks::{Check, plain_rows_pass, split_rows_pass};
+use super::growth::{grows, ready_answers};
 use super::several::{put_three, three_keys};
 use super::*;
 
@@ -53,68 +55,67 @@ fn hash_of_rows<R: Rows>(rows: &R) -> u64 {
     hash
 }
 
-/// Puts three rows, and again if memory runs out. Returns whether they are put, and a call that ran out of memory
-/// changed nothing.
-fn put_with_retry<R: Rows>(rows: &mut R, alloc: Global, time: u32) -> Result<bool, AllocError> {
+/// A call that takes memory.
+#[derive(Clone, Copy)]
+enum Call {
+    /// Puts the three rows of a number.
+    PutThree(u32),
+    /// Doubles the buckets.
+    Grow,
+    /// Makes a bucket ready.
+    Ready(u32),
+    /// Inserts a new key.
+    Insert(Integer),
+}
+
+/// Makes a call. Returns whether it does what it must if memory suffices.
+fn run_call<R: Rows>(rows: &mut R, alloc: Global, call: Call) -> Result<bool, AllocError> {
+    match call {
+        Call::PutThree(number) => put_three(rows, alloc, three_keys(number)),
+        Call::Grow => grows(rows, 1, Growth::Grown),
+        Call::Ready(bucket) => ready_answers(rows, bucket, Readying::Ready),
+        Call::Insert(key) => Ok(insert(rows, alloc, key, key)? == KeyState::Nothing),
+    }
+}
+
+/// Makes a call, and again if memory runs out. Returns whether it does what it must, and changed nothing when memory
+/// ran out.
+fn runs_with_retry<R: Rows>(rows: &mut R, alloc: Global, call: Call) -> Result<bool, AllocError> {
     let before = hash_of_rows(rows);
-    match put_three(rows, alloc, three_keys(time)) {
+    match run_call(rows, alloc, call) {
         Ok(done) => Ok(done),
-        Err(_) => Ok(hash_of_rows(rows) == before && put_three(rows, alloc, three_keys(time))?),
+        Err(_) => {
+            let unchanged = hash_of_rows(rows) == before;
+            let done = run_call(rows, alloc, call)?;
+            Ok(unchanged && done)
+        }
     }
 }
 
-/// Doubles the buckets, and again if memory runs out. Returns whether they are doubled, and a call that ran out of
-/// memory changed nothing.
-fn grow_with_retry<R: Rows>(rows: &mut R) -> Result<bool, AllocError> {
-    let before = hash_of_rows(rows);
-    match rows.grow() {
-        Ok(growth) => Ok(growth == Growth::Grown),
-        Err(_) => Ok(hash_of_rows(rows) == before && rows.grow()? == Growth::Grown),
-    }
+/// Puts three rows, doubles the buckets, and makes the first unready one ready, each again if memory runs out.
+fn grows_with_retry<R: Rows>(rows: &mut R, alloc: Global, time: u32) -> Result<bool, AllocError> {
+    let put = runs_with_retry(rows, alloc, Call::PutThree(time))?;
+    let grown = runs_with_retry(rows, alloc, Call::Grow)?;
+    let bucket = rows.first_unready().unwrap_or(0);
+    let readied = runs_with_retry(rows, alloc, Call::Ready(bucket))?;
+    Ok(put && grown && readied)
 }
 
-/// Makes a bucket ready, and again if memory runs out. Returns whether it becomes ready, and a call that ran out of
-/// memory changed nothing.
-fn ready_with_retry<R: Rows>(rows: &mut R, bucket: u32) -> Result<bool, AllocError> {
-    let before = hash_of_rows(rows);
-    match rows.ready(bucket) {
-        Ok(readying) => Ok(readying == Readying::Ready),
-        Err(_) => Ok(hash_of_rows(rows) == before && rows.ready(bucket)? == Readying::Ready),
+/// Returns whether rows are put, and buckets doubled and made ready, each again if memory runs out.
+fn all_grow_with_retry<R: Rows>(rows: &mut R, alloc: Global) -> Result<bool, AllocError> {
+    let mut all_right = true;
+    for time in 0..TIMES {
+        all_right = grows_with_retry(rows, alloc, time)? && all_right;
     }
-}
-
-/// Inserts a new key, and tries again if memory runs out. Returns whether it inserted the key, and changed nothing when
-/// memory ran out.
-fn insert_with_retry<R: Rows>(
-    rows: &mut R,
-    alloc: Global,
-    key: Integer,
-) -> Result<bool, AllocError> {
-    let before = hash_of_rows(rows);
-    match insert(rows, alloc, key, key) {
-        Ok(state) => Ok(state == KeyState::Nothing),
-        Err(_) => Ok(
-            hash_of_rows(rows) == before && insert(rows, alloc, key, key)? == KeyState::Nothing,
-        ),
-    }
+    Ok(all_right)
 }
 
 /// Returns whether rows are put, buckets doubled and made ready, and a key inserted, each again if memory runs out.
-fn runs_with_retry<R: Rows>(rows: &mut R, alloc: Global) -> Result<bool, AllocError> {
-    let mut all_right = true;
-    for time in 0..TIMES {
-        all_right = put_with_retry(rows, alloc, time)? && all_right;
-        all_right = grow_with_retry(rows)? && all_right;
-        let bucket = rows.first_unready().unwrap_or(0);
-        all_right = ready_with_retry(rows, bucket)? && all_right;
-    }
+pub(super) fn all_run_with_retry<R: Rows>(rows: &mut R, alloc: Global) -> Result<bool, AllocError> {
     let keys_put = TIMES.wrapping_mul(3);
-    all_right = insert_with_retry(rows, alloc, Integer::from(keys_put))? && all_right;
-    for key in 0..keys_put {
-        let key = Integer::from(key);
-        all_right = state_at(rows, key) == KeyState::Object(key) && all_right;
-    }
-    Ok(all_right)
+    let grown = all_grow_with_retry(rows, alloc)?;
+    let inserted = runs_with_retry(rows, alloc, Call::Insert(Integer::from(keys_put)))?;
+    Ok(grown && inserted && each_has_its_number(rows, keys_put))
 }
 
 /// A number of slots that take more bytes than one allocation may have, which is 2^63 - 1: the key of a slot alone has
@@ -122,52 +123,20 @@ fn runs_with_retry<R: Rows>(rows: &mut R, alloc: Global) -> Result<bool, AllocEr
 const UNALLOCATABLE_SLOTS: usize = 1 << 58;
 
 /// Returns whether capacity for more slots than memory can hold is refused, and nothing is changed.
-fn refuses_too_much<R: Rows>(rows: &mut R, alloc: Global) -> Result<bool, AllocError> {
-    let put = put_with_retry(rows, alloc, 0)?;
+pub(super) fn refuses_too_much<R: Rows>(rows: &mut R, alloc: Global) -> Result<bool, AllocError> {
+    let put = runs_with_retry(rows, alloc, Call::PutThree(0))?;
     let before = hash_of_rows(rows);
     let refused = rows.reserve(usize::MAX).is_err() && rows.reserve(UNALLOCATABLE_SLOTS).is_err();
     Ok(put && refused && hash_of_rows(rows) == before)
 }
 
-/// Creates split rows, and again if memory runs out.
-fn new_rows_with_retry(alloc: Global) -> Result<SplitRows<Fnv>, AllocError> {
-    match SplitRows::new(alloc, Fnv) {
-        Ok(rows) => Ok(rows),
-        Err(_) => SplitRows::new(alloc, Fnv),
-    }
-}
-
-/// Returns whether the calls on new split rows succeed, each again if memory runs out.
-fn split_runs_with_retry(alloc: Global) -> Result<bool, AllocError> {
-    let mut rows = new_rows_with_retry(alloc)?;
-    let done = runs_with_retry(&mut rows, alloc);
-    drop(rows);
-    done
-}
-
 #[test]
 fn a_refused_call_is_called_again(rt: HostRuntime) {
-    assert!(rt; split_runs_with_retry(rt.alloc()) == Ok(true));
-}
-
-/// Returns whether new split rows refuse too much capacity.
-fn split_refuses_too_much(alloc: Global) -> Result<bool, AllocError> {
-    let mut rows = new_rows_with_retry(alloc)?;
-    let refused = refuses_too_much(&mut rows, alloc);
-    drop(rows);
-    refused
-}
-
-/// Returns whether new plain rows refuse too much capacity.
-fn plain_refuses_too_much(alloc: Global) -> Result<bool, AllocError> {
-    let mut rows = PlainRows::new(alloc);
-    let refused = refuses_too_much(&mut rows, alloc);
-    drop(rows);
-    refused
+    assert!(rt; split_rows_pass(rt.alloc(), Fnv, Check::RunWithRetry) == Ok(true));
 }
 
 #[test]
 fn too_much_capacity_is_refused(rt: HostRuntime) {
-    assert!(rt; split_refuses_too_much(rt.alloc()) == Ok(true));
-    assert!(rt; plain_refuses_too_much(rt.alloc()) == Ok(true));
+    assert!(rt; split_rows_pass(rt.alloc(), Fnv, Check::RefuseTooMuch) == Ok(true));
+    assert!(rt; plain_rows_pass(rt.alloc(), Check::RefuseTooMuch) == Ok(true));
 }

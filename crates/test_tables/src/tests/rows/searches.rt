@@ -7,15 +7,15 @@ const MOMENTS: usize = 1_000;
 const SEARCHES: usize = 334;
 
 /// Returns the bucket of a key: its hash modulo the number of buckets, which is a power of two.
-fn bucket_of<H: KeyHash + Copy + Drop>(hash: H, key: &Term, buckets: u32) -> u32 {
-    hash.hash32(key).checked_rem(buckets).unwrap_or(0)
+fn bucket_of<H: KeyHash + Copy + Drop>(hash: H, number: u32, buckets: u32) -> u32 {
+    let key = Term::Int(Integer::from(number));
+    let bucket = hash.hash32(&key).checked_rem(buckets).unwrap_or(0);
+    drop(key);
+    bucket
 }
 
-/// Adds the slot of a key to the count of its bucket.
-fn count_slot<H: KeyHash + Copy + Drop>(counts: &mut [u64], hash: H, buckets: u32, number: u32) {
-    let key = Term::Int(Integer::from(number));
-    let bucket = bucket_of(hash, &key, buckets);
-    drop(key);
+/// Adds one to the count of a bucket.
+fn count_in(counts: &mut [u64], bucket: u32) {
     if let Some(count) = counts.get_mut(bucket as usize) {
         *count = count.wrapping_add(1);
     }
@@ -33,23 +33,25 @@ fn zeros(alloc: Global, count: usize) -> Result<Vec<u64>, AllocError> {
     }
 }
 
-/// Returns how many slots each bucket has.
-fn count_by_bucket<H: KeyHash + Copy + Drop>(
-    alloc: Global,
-    hash: H,
-    buckets: u32,
-    slots: u32,
-) -> Result<Vec<u64>, AllocError> {
-    let mut counts = zeros(alloc, buckets as usize)?;
+/// Adds to the count of each bucket how many slots it has.
+fn count_slots<H: KeyHash + Copy + Drop>(counts: &mut [u64], hash: H, buckets: u32, slots: u32) {
     for number in 0..slots {
-        count_slot(counts.as_mut_slice(), hash, buckets, number);
+        count_in(counts, bucket_of(hash, number, buckets));
     }
-    Ok(counts)
 }
 
 /// The most nodes other than those of its keys that a search in a ready bucket visits: the dummy at the bucket's start,
 /// and the node after the bucket.
 const MAX_EXTRA_VISITS: u64 = 2;
+
+/// Returns the most nodes that a search in a bucket visits if it is ready.
+fn max_visits(counts: &[u64], bucket: u32) -> u64 {
+    counts
+        .get(bucket as usize)
+        .copied()
+        .unwrap_or(0)
+        .wrapping_add(MAX_EXTRA_VISITS)
+}
 
 /// Searches for a key, and returns whether it is found exactly if it is below the number of slots, and then visits at
 /// least one node. In a ready bucket of n keys it must visit at most n + `MAX_EXTRA_VISITS` nodes.
@@ -60,17 +62,10 @@ fn search_is_right<H: KeyHash + Copy + Drop>(
     slots: u32,
     key_number: u32,
 ) -> bool {
-    let key = Term::Int(Integer::from(key_number));
     let mut visits = Steps::new();
-    let found = rows.get_counted(&key, &mut visits).is_some();
-    let bucket = bucket_of(hash, &key, rows.buckets());
-    drop(key);
-    let max_visits = counts
-        .get(bucket as usize)
-        .copied()
-        .unwrap_or(0)
-        .wrapping_add(MAX_EXTRA_VISITS);
-    let visits_few_nodes = visits.count() <= max_visits || !rows.is_ready(bucket);
+    let found = is_found(rows, key_number, &mut visits);
+    let bucket = bucket_of(hash, key_number, rows.buckets());
+    let visits_few_nodes = visits.count() <= max_visits(counts, bucket) || !rows.is_ready(bucket);
     found == (key_number < slots) && visits_few_nodes && (visits.count() >= 1 || !found)
 }
 
@@ -93,8 +88,8 @@ fn searches_are_right<H: KeyHash + Copy + Drop>(
 /// The number of keys from 0 on that are inserted at a moment is below this one.
 const PAST_NEW_KEYS: u32 = 20;
 
-/// Inserts the next few keys, up to a total. Returns how many there are now.
-fn put_some<R: Rows>(
+/// Inserts the next few keys, up to a total, and makes some buckets ready. Returns how many keys there are now.
+fn grow_some<R: Rows>(
     rows: &mut R,
     alloc: Global,
     slots: u32,
@@ -104,9 +99,8 @@ fn put_some<R: Rows>(
     let new_total = slots
         .saturating_add(draws.random_below(PAST_NEW_KEYS))
         .min(max_slots);
-    for number in slots..new_total {
-        insert(rows, alloc, Integer::from(number), 1)?;
-    }
+    insert_range(rows, alloc, slots, new_total)?;
+    ready_some(rows, draws)?;
     Ok(new_total)
 }
 
@@ -118,7 +112,9 @@ fn searches_are_right_now<H: KeyHash + Copy + Drop>(
     slots: u32,
     draws: &mut Draws,
 ) -> Result<bool, AllocError> {
-    let counts = count_by_bucket(alloc, hash, rows.buckets(), slots)?;
+    let buckets = rows.buckets();
+    let mut counts = zeros(alloc, buckets as usize)?;
+    count_slots(counts.as_mut_slice(), hash, buckets, slots);
     let right = searches_are_right(rows, hash, counts.as_slice(), slots, draws);
     drop(counts);
     Ok(right)
@@ -135,8 +131,7 @@ fn searches_are_right_as_rows_grow<H: KeyHash + Copy + Drop>(
     let mut slots = 0;
     let mut all_right = true;
     for _ in 0..MOMENTS {
-        slots = put_some(rows, alloc, slots, max_slots, &mut draws)?;
-        ready_some(rows, &mut draws)?;
+        slots = grow_some(rows, alloc, slots, max_slots, &mut draws)?;
         all_right = searches_are_right_now(rows, alloc, hash, slots, &mut draws)? && all_right;
     }
     Ok(all_right)

@@ -1,3 +1,4 @@
+use super::checks::{Check, plain_rows_pass, split_rows_pass};
 use super::*;
 
 /// How often three rows are put at once.
@@ -42,44 +43,22 @@ pub fn three_keys(number: u32) -> (Integer, Integer, Integer) {
 }
 
 /// Puts three rows at a time, at moments of growth, and returns whether each of them is then found.
-fn puts_by_threes<R: Rows>(rows: &mut R, alloc: Global) -> Result<bool, AllocError> {
+pub(super) fn puts_by_threes<R: Rows>(rows: &mut R, alloc: Global) -> Result<bool, AllocError> {
     let mut draws = Draws::new();
     let mut all_right = true;
     for time in 0..TIMES {
         all_right = put_three(rows, alloc, three_keys(time))? && all_right;
         ready_some(rows, &mut draws)?;
     }
-    for key in 0..TIMES.wrapping_mul(3) {
-        let key = Integer::from(key);
-        all_right = state_at(rows, key) == KeyState::Object(key) && all_right;
-    }
-    Ok(all_right && rows.len() == 3 * TIMES as usize)
-}
-
-/// Returns whether new split rows with this hash store three rows at a time.
-fn split_puts_by_threes<H: KeyHash + Copy + Drop>(
-    alloc: Global,
-    hash: H,
-) -> Result<bool, AllocError> {
-    let mut rows = SplitRows::new(alloc, hash)?;
-    let put = puts_by_threes(&mut rows, alloc);
-    drop(rows);
-    put
-}
-
-/// Returns whether new plain rows store three rows at a time.
-fn plain_puts_by_threes(alloc: Global) -> Result<bool, AllocError> {
-    let mut rows = PlainRows::new(alloc);
-    let put = puts_by_threes(&mut rows, alloc);
-    drop(rows);
-    put
+    let all_there = each_has_its_number(rows, TIMES.wrapping_mul(3));
+    Ok(all_right && all_there && rows.len() == 3 * TIMES as usize)
 }
 
 #[test]
 fn three_rows_are_put_at_once(rt: HostRuntime) {
     let alloc = rt.alloc();
-    assert!(rt; plain_puts_by_threes(alloc) == Ok(true));
-    assert!(rt; split_puts_by_threes(alloc, Fnv) == Ok(true));
-    assert!(rt; split_puts_by_threes(alloc, Even) == Ok(true));
-    assert!(rt; split_puts_by_threes(alloc, Greatest) == Ok(true));
+    assert!(rt; plain_rows_pass(alloc, Check::PutByThrees) == Ok(true));
+    assert!(rt; split_rows_pass(alloc, Fnv, Check::PutByThrees) == Ok(true));
+    assert!(rt; split_rows_pass(alloc, Even, Check::PutByThrees) == Ok(true));
+    assert!(rt; split_rows_pass(alloc, Greatest, Check::PutByThrees) == Ok(true));
 }

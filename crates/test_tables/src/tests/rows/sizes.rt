@@ -1,3 +1,4 @@
+use super::checks::{Check, plain_rows_pass, split_rows_pass};
 use super::*;
 
 /// More than 65,536 slots, so that arrays and directories pass each lower power of two.
@@ -57,71 +58,47 @@ fn removes_all<R: Rows>(rows: &mut R) -> bool {
 }
 
 /// Returns whether all keys are inserted, then replaced, and then removed.
-fn inserts_replaces_and_removes<R: Rows>(rows: &mut R, alloc: Global) -> Result<bool, AllocError> {
+pub(super) fn inserts_replaces_and_removes<R: Rows>(
+    rows: &mut R,
+    alloc: Global,
+) -> Result<bool, AllocError> {
     rows.reserve(3)?;
     Ok(inserts_all(rows, alloc)? && replaces_all(rows, alloc)? && removes_all(rows))
 }
 
-/// Returns whether `clear` leaves a tombstone for each slot and `purge` removes them, or `clear` removes all at once.
-fn clears_and_purges<R: Rows>(rows: &mut R, alloc: Global) -> Result<bool, AllocError> {
-    let filled = inserts_all(rows, alloc)?;
+/// Returns whether `clear` leaves a tombstone for each slot and `purge` removes them.
+fn clears_then_purges<R: Rows>(rows: &mut R) -> bool {
     rows.clear(true);
     let cleared = rows.len() == SLOTS as usize && state_at(rows, 0) == KeyState::Tombstone;
     rows.purge();
-    let purged = rows.len() == 0;
+    cleared && rows.len() == 0
+}
+
+/// Returns whether `clear` and then `purge` remove all slots, or `clear` removes all at once.
+pub(super) fn clears_and_purges<R: Rows>(rows: &mut R, alloc: Global) -> Result<bool, AllocError> {
+    let filled = inserts_all(rows, alloc)?;
+    let swept = clears_then_purges(rows);
     let again = inserts_all(rows, alloc)?;
     rows.clear(false);
-    Ok(filled && cleared && purged && again && rows.len() == 0)
-}
-
-/// Returns whether new split rows insert, replace and remove all keys.
-fn split_rows_serve_all_keys(alloc: Global) -> Result<bool, AllocError> {
-    let mut rows = SplitRows::new(alloc, Fnv)?;
-    let served = inserts_replaces_and_removes(&mut rows, alloc);
-    drop(rows);
-    served
-}
-
-/// Returns whether new plain rows insert, replace and remove all keys.
-fn plain_rows_serve_all_keys(alloc: Global) -> Result<bool, AllocError> {
-    let mut rows = PlainRows::new(alloc);
-    let served = inserts_replaces_and_removes(&mut rows, alloc);
-    drop(rows);
-    served
+    Ok(filled && swept && again && rows.len() == 0)
 }
 
 #[test]
 fn split_rows_serve(rt: HostRuntime) {
-    assert!(rt; split_rows_serve_all_keys(rt.alloc()) == Ok(true));
+    assert!(rt; split_rows_pass(rt.alloc(), Fnv, Check::InsertReplaceAndRemove) == Ok(true));
 }
 
 #[test]
 fn plain_rows_serve(rt: HostRuntime) {
-    assert!(rt; plain_rows_serve_all_keys(rt.alloc()) == Ok(true));
-}
-
-/// Returns whether new split rows clear and purge all slots.
-fn split_clears_and_purges(alloc: Global) -> Result<bool, AllocError> {
-    let mut rows = SplitRows::new(alloc, Fnv)?;
-    let swept = clears_and_purges(&mut rows, alloc);
-    drop(rows);
-    swept
-}
-
-/// Returns whether new plain rows clear and purge all slots.
-fn plain_clears_and_purges(alloc: Global) -> Result<bool, AllocError> {
-    let mut rows = PlainRows::new(alloc);
-    let swept = clears_and_purges(&mut rows, alloc);
-    drop(rows);
-    swept
+    assert!(rt; plain_rows_pass(rt.alloc(), Check::InsertReplaceAndRemove) == Ok(true));
 }
 
 #[test]
 fn split_rows_are_swept(rt: HostRuntime) {
-    assert!(rt; split_clears_and_purges(rt.alloc()) == Ok(true));
+    assert!(rt; split_rows_pass(rt.alloc(), Fnv, Check::ClearAndPurge) == Ok(true));
 }
 
 #[test]
 fn plain_rows_are_swept(rt: HostRuntime) {
-    assert!(rt; plain_clears_and_purges(rt.alloc()) == Ok(true));
+    assert!(rt; plain_rows_pass(rt.alloc(), Check::ClearAndPurge) == Ok(true));
 }

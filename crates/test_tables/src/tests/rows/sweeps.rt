@@ -22,20 +22,33 @@ fn state_after_sweep(sweep: Sweep, before: KeyState) -> KeyState {
     }
 }
 
-/// Makes a call on all slots of rows and of the list: most often it purges.
-pub(super) fn sweep_both<R: Rows>(rows: &mut R, list: &mut [KeyState], draws: &mut Draws) {
-    let sweep = match draws.random_below(6) {
+/// Draws a call on all slots: most often it purges.
+fn draw_sweep(draws: &mut Draws) -> Sweep {
+    match draws.random_below(6) {
         0 => Sweep::LeaveTombstones,
         1 => Sweep::RemoveSlots,
         _ => Sweep::Purge,
-    };
+    }
+}
+
+/// Makes a call on all slots of the list.
+fn sweep_list(list: &mut [KeyState], sweep: Sweep) {
+    for state in list.iter_mut() {
+        let before = *state;
+        *state = state_after_sweep(sweep, before);
+    }
+}
+
+/// Makes a call on all slots of rows and of the list, once in about four calls.
+pub(super) fn sweep_sometimes<R: Rows>(rows: &mut R, list: &mut [KeyState], draws: &mut Draws) {
+    if draws.random_below(4) != 0 {
+        return;
+    }
+    let sweep = draw_sweep(draws);
     match sweep {
         Sweep::LeaveTombstones => rows.clear(true),
         Sweep::RemoveSlots => rows.clear(false),
         Sweep::Purge => rows.purge(),
     }
-    for state in list.iter_mut() {
-        let before = *state;
-        *state = state_after_sweep(sweep, before);
-    }
+    sweep_list(list, sweep);
 }

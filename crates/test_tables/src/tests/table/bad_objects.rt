@@ -1,11 +1,12 @@
 // Lists with a term that is not an object, at each index.
 use super::answers::Answer::{Badarg, True};
+use super::checks::{Check, plain_table_passes, split_table_passes};
 use super::objects::object_at_end;
 use super::single_calls::{insert, try_insert, try_insert_new};
-use super::terms::{as_integer, tuple};
-use super::{Keypos, MaxObjects, plain_table, split_table};
+use super::terms::{as_integer, push_built, tuple};
+use super::{Empty, Keypos, MaxObjects};
 use bucket_table::Rows;
-use ets_term::{Items, Term};
+use ets_term::{Fnv, Items, Term};
 use std::alloc::Global;
 use std::process::Abort;
 use table_ops::{Kind, Table};
@@ -28,7 +29,7 @@ fn push_objects(
     bad: &Term,
 ) -> Option<()> {
     for index in 0..length {
-        objects.push(object_at(alloc, index, bad_index, bad)?).ok()?;
+        push_built(objects, object_at(alloc, index, bad_index, bad))?;
     }
     Some(())
 }
@@ -76,7 +77,7 @@ fn refuses_and_drops<R: Rows>(
 }
 
 /// Returns whether no list with a term that is not an object is inserted into a table of `{3,0}`.
-fn refuses_bad_terms<R: Rows>(alloc: Global, table: &mut Table<R>) -> Option<bool> {
+pub fn refuses_bad_terms<R: Rows>(alloc: Global, table: &mut Table<R>) -> Option<bool> {
     Some(
         insert(table, tuple(alloc, &[3, 0]))? == True.number()
             && refuses_and_drops(alloc, table, Some(Term::Int(7)))?
@@ -85,24 +86,11 @@ fn refuses_bad_terms<R: Rows>(alloc: Global, table: &mut Table<R>) -> Option<boo
     )
 }
 
-/// Returns whether a set over plain rows refuses lists with bad terms.
-fn plain_refuses_bad_terms(alloc: Global) -> Option<bool> {
-    let mut table = plain_table(alloc, Kind::Set, Keypos(1), MaxObjects(10));
-    let refused = refuses_bad_terms(alloc, &mut table);
-    drop(table);
-    refused
-}
-
-/// Returns whether a duplicate bag over split rows refuses lists with bad terms.
-fn split_refuses_bad_terms(alloc: Global) -> Option<bool> {
-    let mut table = split_table(alloc, Kind::DuplicateBag, Keypos(1), MaxObjects(10))?;
-    let refused = refuses_bad_terms(alloc, &mut table);
-    drop(table);
-    refused
-}
-
 #[test]
 fn a_bad_object_at_each_place(rt: HostRuntime) {
-    assert!(rt; plain_refuses_bad_terms(rt.alloc()) == Some(true));
-    assert!(rt; split_refuses_bad_terms(rt.alloc()) == Some(true));
+    let alloc = rt.alloc();
+    let set = Empty(Kind::Set, Keypos(1), MaxObjects(10));
+    let bag = Empty(Kind::DuplicateBag, Keypos(1), MaxObjects(10));
+    assert!(rt; plain_table_passes(alloc, set, Check::RefuseBadTerms) == Some(true));
+    assert!(rt; split_table_passes(alloc, Fnv, bag, Check::RefuseBadTerms) == Some(true));
 }

@@ -1,9 +1,10 @@
 // Lists of objects whose keys repeat. The key of an object is its index modulo `KEYS`, its value the last digit of the
 // index.
 use super::answers::Answer::{self, False, SystemLimit, True};
+use super::checks::{Check, both_tables_pass};
 use super::single_calls::{lookup_digits, try_insert, try_insert_new};
-use super::terms::tuple;
-use super::{Keypos, MaxObjects, plain_table, split_table};
+use super::terms::{push_built, tuple};
+use super::{Empty, Keypos, MaxObjects};
 use bucket_table::Rows;
 use ets_term::{Integer, Items, Term};
 use std::alloc::Global;
@@ -21,7 +22,7 @@ const DIFFERENT_OBJECTS: u32 = 970;
 
 /// A table, the answer of the insertion, and what the table then has.
 #[derive(Clone, Copy)]
-struct Row {
+pub struct Row {
     kind: Kind,
     max_objects: MaxObjects,
     answer: Answer,
@@ -94,7 +95,7 @@ fn push_objects(alloc: Global, objects: &mut Items<Term>) -> Option<()> {
     for index in 0..OBJECTS {
         let key = Integer::from(index % KEYS);
         let value = Integer::from(index % 10);
-        objects.push(tuple(alloc, &[key, value])?).ok()?;
+        push_built(objects, tuple(alloc, &[key, value]))?;
     }
     Some(())
 }
@@ -107,12 +108,12 @@ fn has_contents<R: Rows>(table: &Table<R>, row: Row) -> bool {
 }
 
 /// Returns whether `insert` of the list does what the row says.
-fn inserts<R: Rows>(table: &mut Table<R>, list: &[Term], row: Row) -> bool {
+pub fn inserts<R: Rows>(table: &mut Table<R>, list: &[Term], row: Row) -> bool {
     try_insert(table, list) == row.answer.number() && has_contents(table, row)
 }
 
 /// Returns whether `insert_new` of the list does what the row says, and does not insert it again.
-fn inserts_new<R: Rows>(table: &mut Table<R>, list: &[Term], row: Row) -> bool {
+pub fn inserts_new<R: Rows>(table: &mut Table<R>, list: &[Term], row: Row) -> bool {
     let answer = row.answer.number();
     let again = match row.answer {
         True => False.number(),
@@ -123,35 +124,17 @@ fn inserts_new<R: Rows>(table: &mut Table<R>, list: &[Term], row: Row) -> bool {
         && try_insert_new(table, list) == again
 }
 
-/// Returns whether `insert` and `insert_new` do what the row says, each on a new table over plain rows.
-fn row_holds_on_plain_rows(alloc: Global, list: &[Term], row: Row) -> bool {
-    let mut first = plain_table(alloc, row.kind, Keypos(1), row.max_objects);
-    let done = inserts(&mut first, list, row);
-    drop(first);
-    let mut second = plain_table(alloc, row.kind, Keypos(1), row.max_objects);
-    let done_new = inserts_new(&mut second, list, row);
-    drop(second);
-    done && done_new
-}
-
-/// Returns whether `insert` and `insert_new` do what the row says, each on a new table over split rows. `None` means
-/// out of memory.
-fn row_holds_on_split_rows(alloc: Global, list: &[Term], row: Row) -> Option<bool> {
-    let mut first = split_table(alloc, row.kind, Keypos(1), row.max_objects)?;
-    let done = inserts(&mut first, list, row);
-    drop(first);
-    let mut second = split_table(alloc, row.kind, Keypos(1), row.max_objects)?;
-    let done_new = inserts_new(&mut second, list, row);
-    drop(second);
-    Some(done && done_new)
+/// Returns whether `insert` and `insert_new` do what the row says, each on new tables over each form of rows.
+fn row_holds(alloc: Global, list: &[Term], row: Row) -> bool {
+    let empty = Empty(row.kind, Keypos(1), row.max_objects);
+    both_tables_pass(alloc, empty, Check::Insert(list, row))
+        && both_tables_pass(alloc, empty, Check::InsertNew(list, row))
 }
 
 /// Returns the index of the first row whose table differs.
 fn first_row_mismatch(alloc: Global, list: &[Term], rows: &[Row]) -> Option<usize> {
     for (index, row) in rows.iter().enumerate() {
-        if !row_holds_on_plain_rows(alloc, list, *row)
-            || row_holds_on_split_rows(alloc, list, *row) != Some(true)
-        {
+        if !row_holds(alloc, list, *row) {
             return Some(index);
         }
     }

@@ -8,12 +8,13 @@ use super::Step::{
 use super::answers::Answer::{
     Deleted, False, Int, Matched, Objects, OneValue, Selected, Slots, True,
 };
+use super::checks::{Check, plain_table_passes, split_table_passes};
 use super::{
-    Incr, Key, Keypos, MaxObjects, Object, Pos, Start, Step, Value, answer, one_bucket_table,
-    plain_table, split_table, step_answers, steps_answer,
+    Empty, Incr, Key, Keypos, MaxObjects, Object, Pos, Start, Step, Value, answer, plain_table,
+    step_answers, steps_answer,
 };
 use bucket_table::Rows;
-use ets_term::Integer;
+use ets_term::{AllSame, Fnv, Integer};
 use std::alloc::Global;
 use std::process::Abort;
 use table_ops::{Kind, Table};
@@ -104,33 +105,18 @@ fn tables_answer_alike<A: Rows, B: Rows>(
 }
 
 /// Returns whether a table answers as one over plain rows.
-fn answers_as_plain_table<B: Rows>(alloc: Global, second: &mut Table<B>) -> bool {
-    let mut first = plain_table(alloc, second.kind(), Keypos(1), MAX_OBJECTS);
+pub fn answers_as_plain_table<B: Rows>(alloc: Global, second: &mut Table<B>) -> bool {
+    let mut first = plain_table(alloc, Empty(second.kind(), Keypos(1), MAX_OBJECTS));
     let alike = tables_answer_alike(alloc, &mut first, second, CALLS);
     drop(first);
     alike
 }
 
-/// Returns whether a table over split rows answers as one over plain rows. `None` means out of memory.
-fn split_rows_answer_alike(alloc: Global, kind: Kind) -> Option<bool> {
-    let mut table = split_table(alloc, kind, Keypos(1), MAX_OBJECTS)?;
-    let alike = answers_as_plain_table(alloc, &mut table);
-    drop(table);
-    Some(alike)
-}
-
-/// Returns whether a table in which all keys share a hash answers as one over plain rows. `None` means out of memory.
-fn one_bucket_answers_alike(alloc: Global, kind: Kind) -> Option<bool> {
-    let mut table = one_bucket_table(alloc, kind, Keypos(1), MAX_OBJECTS)?;
-    let alike = answers_as_plain_table(alloc, &mut table);
-    drop(table);
-    Some(alike)
-}
-
-/// Returns whether tables of this kind answer alike over each form of rows.
+/// Returns whether tables of this kind answer alike over each form of rows, and if all keys share a hash.
 fn all_rows_answer_alike(alloc: Global, kind: Kind) -> bool {
-    split_rows_answer_alike(alloc, kind) == Some(true)
-        && one_bucket_answers_alike(alloc, kind) == Some(true)
+    let empty = Empty(kind, Keypos(1), MAX_OBJECTS);
+    split_table_passes(alloc, Fnv, empty, Check::AnswerAsPlainTable) == Some(true)
+        && split_table_passes(alloc, AllSame, empty, Check::AnswerAsPlainTable) == Some(true)
 }
 
 #[test]
@@ -151,20 +137,20 @@ fn duplicate_bags_answer_alike(rt: HostRuntime) {
 /// The number of insertions for each `Grow`. The buckets double far more often than they fill.
 const GROW_PERIOD: u32 = 8;
 
-/// Returns whether a table answers as it must while it grows object by object, and deletes all at the end. All calls
-/// are checked at the powers of two alone, which keeps the test fast.
-fn answers_as_it_grows<R: Rows>(alloc: Global, table: &mut Table<R>, objects: u32) -> bool {
-    for key in 0..objects {
-        if !step_answers(alloc, table, Insert(Object(key as Integer, 1)), True) {
-            return false;
-        }
-        if !step_answers(alloc, table, CountObjects, Objects(key as Integer + 1)) {
-            return false;
-        }
-        if key % GROW_PERIOD == 0 && !step_answers(alloc, table, Grow, True) {
-            return false;
-        }
-        if key.is_power_of_two() && !each_call_answers(alloc, table, key as Integer) {
+/// Inserts an object, and returns whether a table then answers as it must. All calls are checked at the powers of two
+/// alone, which keeps the test fast.
+fn answers_at<R: Rows>(alloc: Global, table: &mut Table<R>, key: u32) -> bool {
+    let number = key as Integer;
+    step_answers(alloc, table, Insert(Object(number, 1)), True)
+        && step_answers(alloc, table, CountObjects, Objects(number.wrapping_add(1)))
+        && (key % GROW_PERIOD != 0 || step_answers(alloc, table, Grow, True))
+        && (!key.is_power_of_two() || each_call_answers(alloc, table, number))
+}
+
+/// Returns whether a table answers as it must while it grows object by object, and deletes all at the end.
+pub fn answers_as_it_grows<R: Rows>(alloc: Global, table: &mut Table<R>) -> bool {
+    for key in 0..OBJECTS {
+        if !answers_at(alloc, table, key) {
             return false;
         }
     }
@@ -172,7 +158,7 @@ fn answers_as_it_grows<R: Rows>(alloc: Global, table: &mut Table<R>, objects: u3
         alloc,
         table,
         SelectDeleteBelow(2, RemoveSlot),
-        Deleted(objects as Integer),
+        Deleted(OBJECTS as Integer),
     )
 }
 
@@ -200,24 +186,9 @@ fn each_call_answers<R: Rows>(alloc: Global, table: &mut Table<R>, last: Integer
     steps_answer(alloc, table, &rows)
 }
 
-/// Returns whether a table over plain rows answers as it must while it grows.
-fn plain_answers_as_it_grows(alloc: Global) -> bool {
-    let mut table = plain_table(alloc, Kind::Set, Keypos(1), MAX_OBJECTS);
-    let filled = answers_as_it_grows(alloc, &mut table, OBJECTS);
-    drop(table);
-    filled
-}
-
-/// Returns whether a table over split rows answers as it must while it grows. `None` means out of memory.
-fn split_answers_as_it_grows(alloc: Global) -> Option<bool> {
-    let mut table = split_table(alloc, Kind::Set, Keypos(1), MAX_OBJECTS)?;
-    let filled = answers_as_it_grows(alloc, &mut table, OBJECTS);
-    drop(table);
-    Some(filled)
-}
-
 #[test]
 fn a_table_answers_as_it_fills_and_empties(rt: HostRuntime) {
-    assert!(rt; plain_answers_as_it_grows(rt.alloc()));
-    assert!(rt; split_answers_as_it_grows(rt.alloc()) == Some(true));
+    let set = Empty(Kind::Set, Keypos(1), MAX_OBJECTS);
+    assert!(rt; plain_table_passes(rt.alloc(), set, Check::AnswerAsItGrows) == Some(true));
+    assert!(rt; split_table_passes(rt.alloc(), Fnv, set, Check::AnswerAsItGrows) == Some(true));
 }

@@ -7,15 +7,16 @@ use super::Step::{
 use super::answers::Answer::{
     self, Badarg, False, Int, ListOf, Objects, Slots, SystemLimit, True, Values,
 };
+use super::checks::{Check, plain_table_passes, split_table_passes};
 use super::single_calls::{count_of, try_insert, try_insert_new};
 use super::terms::{Part, atom, tuple_of};
 use super::updates::{increment_of_counter, second_element_value};
 use super::{
-    Depth, Incr, Key, Keypos, MaxObjects, Object, Pos, Scenario, Start, Step, Triple, Value,
-    first_mismatch, plain_table, split_table,
+    Depth, Empty, Incr, Key, Keypos, MaxObjects, Object, Pos, Scenario, Start, Step, Triple, Value,
+    first_mismatch,
 };
 use bucket_table::Rows;
-use ets_term::Term;
+use ets_term::{Fnv, Term};
 use std::alloc::Global;
 use std::process::Abort;
 use std::slice;
@@ -160,31 +161,16 @@ fn nothing_is_stored_at<R: Rows>(alloc: Global, table: &mut Table<R>, end: &Term
 }
 
 /// Builds the key `'$end_of_table'`, and returns whether no call finds or changes anything under it.
-fn end_is_no_key<R: Rows>(alloc: Global, table: &mut Table<R>) -> Option<bool> {
+pub fn end_is_no_key<R: Rows>(alloc: Global, table: &mut Table<R>) -> Option<bool> {
     let end = atom(alloc, "$end_of_table")?;
     let is_no_key = nothing_is_stored_at(alloc, table, &end);
     drop(end);
     is_no_key
 }
 
-/// Returns whether `'$end_of_table'` is no key of a table over plain rows.
-fn end_is_no_key_of_plain_rows(alloc: Global) -> Option<bool> {
-    let mut table = plain_table(alloc, Kind::Set, Keypos(1), MaxObjects(10));
-    let is_no_key = end_is_no_key(alloc, &mut table);
-    drop(table);
-    is_no_key
-}
-
-/// Returns whether `'$end_of_table'` is no key of a table over split rows.
-fn end_is_no_key_of_split_rows(alloc: Global) -> Option<bool> {
-    let mut table = split_table(alloc, Kind::Set, Keypos(1), MaxObjects(10))?;
-    let is_no_key = end_is_no_key(alloc, &mut table);
-    drop(table);
-    is_no_key
-}
-
 #[test]
 fn end_of_table_is_no_key(rt: HostRuntime) {
-    assert!(rt; end_is_no_key_of_plain_rows(rt.alloc()) == Some(true));
-    assert!(rt; end_is_no_key_of_split_rows(rt.alloc()) == Some(true));
+    let set = Empty(Kind::Set, Keypos(1), MaxObjects(10));
+    assert!(rt; plain_table_passes(rt.alloc(), set, Check::RefuseEndOfTable) == Some(true));
+    assert!(rt; split_table_passes(rt.alloc(), Fnv, set, Check::RefuseEndOfTable) == Some(true));
 }

@@ -10,21 +10,19 @@ use super::Step::{
 use super::answers::Answer::{
     self, Deleted, False, Int, ListOf, Matched, Objects, Selected, Slots, True, Values,
 };
+use super::checks::{Check, plain_table_passes, split_table_passes};
 use super::single_calls::{count_of, hash_of_objects};
 use super::terms::{pattern_of_key, spec_below};
 use super::{
-    Depth, Incr, Key, Keypos, MaxObjects, OUT_OF_MEMORY, Object, Pos, Start, Step, Value, answer,
-    plain_table,
+    Depth, Empty, Incr, Key, Keypos, MaxObjects, OUT_OF_MEMORY, Object, Pos, Start, Step, Value,
+    answer,
 };
-use bucket_table::{Rows, SplitRows};
-use ets_term::{AllSame, Fnv, Integer, KeyHash};
+use bucket_table::Rows;
+use ets_term::{AllSame, Fnv, Integer};
 use match_spec::{Pattern, Spec};
 use std::alloc::Global;
 use std::process::Abort;
 use table_ops::{Kind, Looks, Table};
-
-/// The greatest number of objects in the tables.
-const MAX_OBJECTS: MaxObjects = MaxObjects(9);
 
 /// Steps on a set, each with its answer when memory suffices.
 const SET_STEPS: [(Step, Answer); 26] = [
@@ -93,95 +91,43 @@ fn answers_with_retry<R: Rows>(
     state_of_table(table) == before && answer(alloc, table, step) == wanted.number()
 }
 
-/// Runs steps, each again if it is refused memory. Returns the index of the first one with another answer.
-fn first_mismatch_with_retry<R: Rows>(
+/// Runs steps, each again if it is refused memory. Returns whether each has its answer.
+pub fn steps_answer_with_retry<R: Rows>(
     alloc: Global,
     table: &mut Table<R>,
     steps: &[(Step, Answer)],
-) -> Option<usize> {
-    for (index, (step, wanted)) in steps.iter().enumerate() {
+) -> bool {
+    for (step, wanted) in steps {
         if !answers_with_retry(alloc, table, *step, *wanted) {
-            return Some(index);
+            return false;
         }
     }
-    None
+    true
 }
 
-/// Returns the index of the first step with another answer over plain rows.
-fn first_mismatch_on_plain_rows(
-    alloc: Global,
-    kind: Kind,
-    steps: &[(Step, Answer)],
-) -> Option<usize> {
-    let mut table = plain_table(alloc, kind, Keypos(1), MAX_OBJECTS);
-    let mismatch = first_mismatch_with_retry(alloc, &mut table, steps);
-    drop(table);
-    mismatch
-}
+/// A set and a bag of at most nine objects.
+const SET: Empty = Empty(Kind::Set, Keypos(1), MaxObjects(9));
+
+const BAG: Empty = Empty(Kind::Bag, Keypos(1), MaxObjects(9));
 
 #[test]
 fn refused_steps_of_plain_rows_run_again(rt: HostRuntime) {
-    assert_eq!(rt;
-        first_mismatch_on_plain_rows(rt.alloc(), Kind::Set, &SET_STEPS),
-        None
-    );
-    assert_eq!(rt;
-        first_mismatch_on_plain_rows(rt.alloc(), Kind::Bag, &BAG_STEPS),
-        None
-    );
-}
-
-/// Creates a table over split rows with this hash. `None` means out of memory.
-fn try_split_table<H: KeyHash + Copy>(
-    alloc: Global,
-    hash: H,
-    kind: Kind,
-) -> Option<Table<SplitRows<H>>> {
-    match SplitRows::new(alloc, hash) {
-        Ok(rows) => Some(Table::new(alloc, rows, kind, 1, MAX_OBJECTS.0)),
-        Err(_) => None,
-    }
-}
-
-/// Creates a table over split rows, again if it is refused memory.
-fn split_table_with_retry<H: KeyHash + Copy>(
-    alloc: Global,
-    hash: H,
-    kind: Kind,
-) -> Option<Table<SplitRows<H>>> {
-    match try_split_table(alloc, hash, kind) {
-        Some(table) => Some(table),
-        None => try_split_table(alloc, hash, kind),
-    }
-}
-
-/// Returns the index of the first step with another answer over split rows with this hash.
-fn first_mismatch_on_split_rows<H: KeyHash + Copy + Drop>(
-    alloc: Global,
-    hash: H,
-    kind: Kind,
-    steps: &[(Step, Answer)],
-) -> Option<usize> {
-    let mut table = split_table_with_retry(alloc, hash, kind)?;
-    let mismatch = first_mismatch_with_retry(alloc, &mut table, steps);
-    drop(table);
-    mismatch
+    let alloc = rt.alloc();
+    assert!(rt; plain_table_passes(alloc, SET, Check::AnswerWithRetry(&SET_STEPS)) == Some(true));
+    assert!(rt; plain_table_passes(alloc, BAG, Check::AnswerWithRetry(&BAG_STEPS)) == Some(true));
 }
 
 #[test]
 fn refused_steps_of_split_rows_run_again(rt: HostRuntime) {
-    assert_eq!(rt;
-        first_mismatch_on_split_rows(rt.alloc(), Fnv, Kind::Set, &SET_STEPS),
-        None
-    );
-    assert_eq!(rt;
-        first_mismatch_on_split_rows(rt.alloc(), AllSame, Kind::Bag, &BAG_STEPS),
-        None
-    );
+    let alloc = rt.alloc();
+    let set_steps = Check::AnswerWithRetry(&SET_STEPS);
+    let bag_steps = Check::AnswerWithRetry(&BAG_STEPS);
+    assert!(rt; split_table_passes(alloc, Fnv, SET, set_steps) == Some(true));
+    assert!(rt; split_table_passes(alloc, AllSame, BAG, bag_steps) == Some(true));
 }
 
 /// Runs the six counted searches, of which the last two delete. Returns whether none of them lowers the counter.
-fn counter_never_falls<R: Rows>(
+fn searches_never_lower<R: Rows>(
     table: &mut Table<R>,
     pattern: &Pattern,
     spec: &Spec,
@@ -203,6 +149,22 @@ fn counter_never_falls<R: Rows>(
     front && third <= fourth && fourth <= fifth && fifth <= looks.count()
 }
 
+/// Returns whether no search lowers the counter, by a pattern and by the match specification that chooses the objects
+/// below an integer. `None` means out of memory.
+fn counter_never_falls_below<R: Rows>(
+    alloc: Global,
+    table: &mut Table<R>,
+    pattern: &Pattern,
+    limit: Integer,
+) -> Option<bool> {
+    let spec = spec_below(alloc, limit)?;
+    let mut looks = Looks::new();
+    let _ = count_of(table.matches_counted(pattern, &mut looks).ok());
+    let never_falls = searches_never_lower(table, pattern, &spec, &mut looks);
+    drop(spec);
+    Some(never_falls)
+}
+
 /// Returns whether no search lowers the counter, by the pattern of a key and by the match specification that chooses
 /// the objects below it. `None` means out of memory.
 fn counter_never_falls_at_key<R: Rows>(
@@ -210,32 +172,22 @@ fn counter_never_falls_at_key<R: Rows>(
     table: &mut Table<R>,
     key: Integer,
 ) -> Option<bool> {
-    let mut looks = Looks::new();
     let pattern = pattern_of_key(alloc, key)?;
-    let Some(spec) = spec_below(alloc, key) else {
-        drop(pattern);
-        return None;
-    };
-    let _ = count_of(table.matches_counted(&pattern, &mut looks).ok());
-    let never_falls = counter_never_falls(table, &pattern, &spec, &mut looks);
-    drop(spec);
+    let never_falls = counter_never_falls_below(alloc, table, &pattern, key);
     drop(pattern);
-    Some(never_falls)
+    never_falls
 }
 
-/// Returns whether no search lowers the counter, on a table of four objects, or of fewer if memory runs out.
-fn counter_never_falls_on_four_objects(alloc: Global) -> bool {
-    let mut table = plain_table(alloc, Kind::Set, Keypos(1), MAX_OBJECTS);
+/// Inserts four objects into a table, or fewer if memory runs out. Returns whether no search lowers the counter.
+pub fn counter_never_falls<R: Rows>(alloc: Global, table: &mut Table<R>) -> bool {
     for key in 1..5u32 {
         let key = Integer::from(key);
-        let _ = answer(alloc, &mut table, Insert(Object(key, key)));
+        let _ = answer(alloc, table, Insert(Object(key, key)));
     }
-    let never_falls = counter_never_falls_at_key(alloc, &mut table, 4);
-    drop(table);
-    never_falls.unwrap_or(true)
+    counter_never_falls_at_key(alloc, table, 4).unwrap_or(true)
 }
 
 #[test]
 fn counters_never_fall(rt: HostRuntime) {
-    assert!(rt; counter_never_falls_on_four_objects(rt.alloc()));
+    assert!(rt; plain_table_passes(rt.alloc(), SET, Check::CountUpwards) == Some(true));
 }

@@ -4,15 +4,20 @@ use ets_term::{Atom, Integer, Items, Term};
 use match_spec::{Pattern, Spec};
 use std::alloc::Global;
 
-/// Returns the value if what was pushed into it succeeded; otherwise drops it and returns `None`.
-fn keep_if_some<T: Drop>(pushed: Option<()>, value: T) -> Option<T> {
+/// Returns the items if what was pushed into them succeeded; otherwise drops them and returns `None`.
+fn keep_if_some(pushed: Option<()>, items: Items<Term>) -> Option<Items<Term>> {
     match pushed {
-        Some(()) => Some(value),
+        Some(()) => Some(items),
         None => {
-            drop(value);
+            drop(items);
             None
         }
     }
+}
+
+/// Appends a term that is built. `None` means out of memory.
+pub fn push_built(items: &mut Items<Term>, built: Option<Term>) -> Option<()> {
+    items.push(built?).ok()
 }
 
 /// Appends integers. `None` means out of memory.
@@ -32,7 +37,7 @@ pub fn tuple(alloc: Global, numbers: &[Integer]) -> Option<Term> {
 /// Appends the tuples of pairs. `None` means out of memory.
 fn push_pairs(alloc: Global, items: &mut Items<Term>, pairs: &[[Integer; 2]]) -> Option<()> {
     for pair in pairs {
-        items.push(tuple(alloc, pair.as_slice())?).ok()?;
+        push_built(items, tuple(alloc, pair.as_slice()))?;
     }
     Some(())
 }
@@ -109,13 +114,18 @@ pub enum Part<'a> {
     Atom(&'a str),
 }
 
+/// Builds the term of a part.
+fn term_of(alloc: Global, part: Part) -> Option<Term> {
+    match part {
+        Part::Int(number) => Some(Term::Int(number)),
+        Part::Atom(text) => atom(alloc, text),
+    }
+}
+
 /// Appends the terms of these parts. `None` means out of memory.
 fn push_parts(alloc: Global, items: &mut Items<Term>, parts: &[Part]) -> Option<()> {
     for part in parts {
-        match *part {
-            Part::Int(number) => items.push(Term::Int(number)).ok()?,
-            Part::Atom(text) => items.push(atom(alloc, text)?).ok()?,
-        }
+        push_built(items, term_of(alloc, *part))?;
     }
     Some(())
 }
@@ -132,7 +142,8 @@ pub fn tuple_of(alloc: Global, parts: &[Part]) -> Option<Term> {
 }
 
 /// Compiles a pattern, and drops its term.
-fn pattern_of(alloc: Global, term: Term) -> Option<Pattern> {
+fn pattern_of(alloc: Global, built: Option<Term>) -> Option<Pattern> {
+    let term = built?;
     let pattern = Pattern::compile(alloc, &term);
     drop(term);
     pattern.ok()
@@ -140,36 +151,36 @@ fn pattern_of(alloc: Global, term: Term) -> Option<Pattern> {
 
 /// Builds the pattern `{Key,'$1'}`.
 pub fn pattern_of_key(alloc: Global, key: Integer) -> Option<Pattern> {
-    pattern_of(alloc, tuple_of(alloc, &[Part::Int(key), Part::Atom("$1")])?)
+    pattern_of(alloc, tuple_of(alloc, &[Part::Int(key), Part::Atom("$1")]))
 }
 
 /// Builds the pattern `{'$1',Value}`.
 pub fn pattern_of_value(alloc: Global, value: Integer) -> Option<Pattern> {
     pattern_of(
         alloc,
-        tuple_of(alloc, &[Part::Atom("$1"), Part::Int(value)])?,
+        tuple_of(alloc, &[Part::Atom("$1"), Part::Int(value)]),
     )
 }
 
-/// Builds the list of one term.
-fn list_of(alloc: Global, term: Term) -> Option<Term> {
+/// Builds the list of one term that is built.
+fn list_of(alloc: Global, built: Option<Term>) -> Option<Term> {
     let mut items = Items::new(alloc);
-    Some(Term::List(keep_if_some(items.push(term).ok(), items)?))
+    Some(Term::List(keep_if_some(push_built(&mut items, built), items)?))
 }
 
 /// Builds 0 in lists within lists, a term of this depth.
 pub fn nested_list(alloc: Global, depth: usize) -> Option<Term> {
-    let mut term = Term::Int(0);
+    let mut term = Some(Term::Int(0));
     for _ in 1..depth {
-        term = list_of(alloc, term)?;
+        term = list_of(alloc, term);
     }
-    Some(term)
+    term
 }
 
 /// Builds the list of one condition or none.
 fn conditions(alloc: Global, condition: Option<&[Part]>) -> Option<Term> {
     match condition {
-        Some(parts) => list_of(alloc, tuple_of(alloc, parts)?),
+        Some(parts) => list_of(alloc, tuple_of(alloc, parts)),
         None => Some(Term::List(Items::new(alloc))),
     }
 }
@@ -181,9 +192,9 @@ fn push_clause(
     pattern: &[Part],
     condition: Option<&[Part]>,
 ) -> Option<()> {
-    items.push(tuple_of(alloc, pattern)?).ok()?;
-    items.push(conditions(alloc, condition)?).ok()?;
-    items.push(list_of(alloc, atom(alloc, "true")?)?).ok()
+    push_built(items, tuple_of(alloc, pattern))?;
+    push_built(items, conditions(alloc, condition))?;
+    push_built(items, list_of(alloc, atom(alloc, "true")))
 }
 
 /// Builds the clause `{Head,Conditions,[true]}`.
@@ -193,7 +204,8 @@ fn clause(alloc: Global, pattern: &[Part], condition: Option<&[Part]>) -> Option
 }
 
 /// Compiles a match specification, and drops its term.
-fn spec_of(alloc: Global, term: Term) -> Option<Spec> {
+fn spec_of(alloc: Global, built: Option<Term>) -> Option<Spec> {
+    let term = built?;
     let spec = Spec::compile(alloc, &term);
     drop(term);
     spec.ok()
@@ -203,24 +215,26 @@ fn spec_of(alloc: Global, term: Term) -> Option<Spec> {
 pub fn spec_below(alloc: Global, limit: Integer) -> Option<Spec> {
     let pattern = [Part::Atom("_"), Part::Atom("$1")];
     let condition = [Part::Atom("<"), Part::Atom("$1"), Part::Int(limit)];
-    let clause = clause(alloc, pattern.as_slice(), Some(condition.as_slice()))?;
-    spec_of(alloc, list_of(alloc, clause)?)
+    let clause = clause(alloc, pattern.as_slice(), Some(condition.as_slice()));
+    spec_of(alloc, list_of(alloc, clause))
 }
 
 /// Appends a clause `{{Key,'_'},[],[true]}` for each key.
 fn push_clauses(alloc: Global, clauses: &mut Items<Term>, keys: &[Integer]) -> Option<()> {
     for key in keys {
         let pattern = [Part::Int(*key), Part::Atom("_")];
-        clauses.push(clause(alloc, pattern.as_slice(), None)?).ok()?;
+        push_built(clauses, clause(alloc, pattern.as_slice(), None))?;
     }
     Some(())
 }
 
+/// Builds the list of a clause for each of these keys.
+fn clauses_of_keys(alloc: Global, keys: &[Integer]) -> Option<Term> {
+    let mut clauses = Items::new(alloc);
+    Some(Term::List(keep_if_some(push_clauses(alloc, &mut clauses, keys), clauses)?))
+}
+
 /// Builds the match specification with a clause `{{Key,'_'},[],[true]}` for each of these keys.
 pub fn spec_of_keys(alloc: Global, keys: &[Integer]) -> Option<Spec> {
-    let mut clauses = Items::new(alloc);
-    spec_of(
-        alloc,
-        Term::List(keep_if_some(push_clauses(alloc, &mut clauses, keys), clauses)?),
-    )
+    spec_of(alloc, clauses_of_keys(alloc, keys))
 }

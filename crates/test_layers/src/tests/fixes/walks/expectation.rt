@@ -66,16 +66,19 @@ impl Expectation {
         }
     }
 
-    /// Returns how many keys had values at all times, and how many of these the traversal has visited.
-    pub(super) fn count_stable(&self) -> (usize, usize) {
-        let stable = self.stable.iter().filter(|stable| **stable).count();
-        let pairs = self.stable.iter().zip(self.visited.iter());
-        (
-            stable,
-            pairs
-                .filter(|(stable, visited)| **stable && **visited)
-                .count(),
-        )
+    /// Returns how many keys had values at all times.
+    pub(super) fn count_stable(&self) -> usize {
+        self.stable.iter().filter(|stable| **stable).count()
+    }
+
+    /// Returns whether the traversal has visited each key that had values at all times.
+    pub(super) fn has_visited_stable(&self) -> bool {
+        for (stable, visited) in self.stable.iter().zip(self.visited.iter()) {
+            if *stable && !*visited {
+                return false;
+            }
+        }
+        true
     }
 
     /// Returns how many keys have values.

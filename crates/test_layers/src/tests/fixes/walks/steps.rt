@@ -1,5 +1,6 @@
 // Pseudo-random steps of other processes, and what they change in the expectation.
 use super::expectation::Expectation;
+use crate::tests::fixes::answers::{Expected, try_delete_object};
 use crate::tests::fixes::{build_object, delete, grow, insert};
 use bucket_table::Rows;
 use ets_term::Integer;
@@ -28,7 +29,7 @@ fn insert_value<R: Rows>(
     expectation: &mut Expectation,
     key: u32,
     value: u32,
-) -> Option<bool> {
+) -> bool {
     let before = if table.kind() == Kind::Set {
         0
     } else {
@@ -45,12 +46,10 @@ fn delete_value<R: Rows>(
     expectation: &mut Expectation,
     key: u32,
     value: u32,
-) -> Option<bool> {
+) -> bool {
     expectation.set_values(key, expectation.values_of(key) & !value);
-    let object = build_object(alloc, Integer::from(key), Integer::from(value))?;
-    let deleted = table.delete_object(&object).is_ok();
-    drop(object);
-    Some(deleted)
+    let object = build_object(alloc, Integer::from(key), Integer::from(value));
+    try_delete_object(table, object) == Expected::Done.code()
 }
 
 /// Deletes all objects of a key.
@@ -67,7 +66,7 @@ fn replace_values<R: Rows>(
     expectation: &mut Expectation,
     key: u32,
     value: u32,
-) -> Option<bool> {
+) -> bool {
     delete(table, Integer::from(key));
     expectation.set_values(key, value);
     insert(alloc, table, Integer::from(key), Integer::from(value))
@@ -81,24 +80,18 @@ fn run_other_step<R: Rows>(
     table: &mut Walked<R>,
     expectation: &mut Expectation,
     seed: u64,
-) -> Option<bool> {
+) -> bool {
     let key = ((seed >> 33) as u32)
         .checked_rem(expectation.keys)
         .unwrap_or(0);
     let value = 1u32 << ((seed >> 30) % 3);
     match (seed >> 20) % 10 {
         0 | 1 => insert_value(alloc, table, expectation, key, value),
-        2 | 3 => Some(delete_values(table, expectation, key)),
+        2 | 3 => delete_values(table, expectation, key),
         4 => delete_value(alloc, table, expectation, key, value),
         5 | 6 => replace_values(alloc, table, expectation, key, value),
-        7 => {
-            let _ = table.ready((seed >> 52) as u32).ok()?;
-            Some(true)
-        }
-        _ => {
-            grow(table)?;
-            Some(true)
-        }
+        7 => table.ready((seed >> 52) as u32).is_ok(),
+        _ => grow(table),
     }
 }
 
@@ -112,7 +105,7 @@ pub(super) fn run_other_steps<R: Rows>(
     let mut seed = seed;
     for _ in 0..STEPS_PER_KEY {
         seed = next_random(seed);
-        if !run_other_step(alloc, table, expectation, seed)? {
+        if !run_other_step(alloc, table, expectation, seed) {
             return None;
         }
     }

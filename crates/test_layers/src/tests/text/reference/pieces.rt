@@ -7,6 +7,47 @@ pub(super) fn is_name_byte(byte: u8) -> bool {
     matches!(byte, b'a'..=b'z' | b'A'..=b'Z' | b'0'..=b'9' | b'_' | b'@')
 }
 
+/// Returns the offset of the first byte from an offset on that is not a blank, a tab or an end of a line.
+fn end_of_blanks(text: &[u8], from: usize) -> usize {
+    for at in from..text.len() {
+        if !matches!(text.get(at), Some(b' ' | b'\t' | b'\n' | b'\r')) {
+            return at;
+        }
+    }
+    text.len()
+}
+
+/// Returns the offset of the first byte from an offset on that may not be in an atom without quotes.
+fn end_of_name(text: &[u8], from: usize) -> usize {
+    for at in from..text.len() {
+        if !matches!(text.get(at), Some(b) if is_name_byte(*b)) {
+            return at;
+        }
+    }
+    text.len()
+}
+
+/// Returns the offset of the first byte from an offset on that is no digit.
+fn end_of_digits(text: &[u8], from: usize) -> usize {
+    for at in from..text.len() {
+        if !matches!(text.get(at), Some(b'0'..=b'9')) {
+            return at;
+        }
+    }
+    text.len()
+}
+
+/// Returns the number of these digits, or the greatest number of 128 bits if theirs is greater.
+fn number_of(digits: &[u8]) -> u128 {
+    let mut n: u128 = 0;
+    for digit in digits {
+        n = n
+            .saturating_mul(10)
+            .saturating_add(u128::from(digit.wrapping_sub(b'0')));
+    }
+    n
+}
+
 impl Reader<'_> {
     /// Returns the next byte, without passing it. At the end of the text it is a syntax error.
     pub(super) fn next_byte(&self) -> Result<u8, TextFault> {
@@ -18,64 +59,44 @@ impl Reader<'_> {
 
     /// Passes blanks, tabs and ends of lines.
     pub(super) fn skip_blanks(&mut self) {
-        for at in self.at..self.text.len() {
-            if !matches!(self.text.get(at), Some(b' ' | b'\t' | b'\n' | b'\r')) {
-                self.at = at;
-                return;
-            }
-        }
-        self.at = self.text.len();
+        self.at = end_of_blanks(self.text, self.at);
     }
 
     /// Passes the bytes of an atom without quotes. Returns the offset of the first.
     pub(super) fn skip_name(&mut self) -> usize {
         let from = self.at;
-        for at in from..self.text.len() {
-            if !self.text.get(at).is_some_and(|b| is_name_byte(*b)) {
-                self.at = at;
-                return from;
-            }
-        }
-        self.at = self.text.len();
+        self.at = end_of_name(self.text, from);
         from
-    }
-
-    /// Passes a digit and returns its value, or returns None if the next byte is no digit.
-    fn take_digit(&mut self) -> Option<u128> {
-        let digit = self.text.get(self.at)?.wrapping_sub(b'0');
-        if digit > 9 {
-            return None;
-        }
-        self.at = self.at.saturating_add(1);
-        Some(u128::from(digit))
     }
 
     /// Reads one digit or more, up to `limit`, of a number that begins at the offset `start`.
     pub(super) fn read_digits(&mut self, start: usize, limit: u128) -> Result<u128, TextFault> {
         let _first = self.next_byte()?;
         let from = self.at;
-        let mut n: u128 = 0;
-        for _ in from..self.text.len() {
-            if let Some(digit) = self.take_digit() {
-                n = n.saturating_mul(10).saturating_add(digit);
-                if n > limit {
-                    return Err(TextFault::OutOfRange(start));
-                }
-            }
-        }
+        self.at = end_of_digits(self.text, from);
+        let n = number_of(self.text.get(from..self.at).unwrap_or(&[]));
         if self.at == from {
-            return Err(TextFault::Unexpected(from));
+            Err(TextFault::Unexpected(from))
+        } else if n > limit {
+            Err(TextFault::OutOfRange(start))
+        } else {
+            Ok(n)
         }
-        Ok(n)
+    }
+
+    /// Passes the byte that must follow.
+    fn pass_byte(&mut self, wanted: u8) -> Result<(), TextFault> {
+        if self.next_byte()? != wanted {
+            return Err(TextFault::Unexpected(self.at));
+        }
+        self.at = self.at.saturating_add(1);
+        Ok(())
     }
 
     /// Passes the bytes that must follow.
     pub(super) fn pass_bytes(&mut self, wanted: &[u8]) -> Result<(), TextFault> {
         for byte in wanted {
-            if self.next_byte()? != *byte {
-                return Err(TextFault::Unexpected(self.at));
-            }
-            self.at = self.at.saturating_add(1);
+            self.pass_byte(*byte)?;
         }
         Ok(())
     }
@@ -108,6 +129,26 @@ impl Reader<'_> {
         Ok(self.quoted.push(b)?)
     }
 
+    /// Reads the next character between quotes. Returns whether it is the backslash of an escape, or None for the closing
+    /// quote.
+    fn read_character(
+        &mut self,
+        is_escaped: bool,
+        quote: u8,
+        max_bytes: usize,
+        fault: TextFault,
+    ) -> Result<Option<bool>, TextFault> {
+        let b = self.next_byte()?;
+        if is_escaped {
+            self.push_escaped(b, quote)?;
+            Ok(Some(false))
+        } else if b == quote {
+            Ok(None)
+        } else {
+            Ok(Some(self.push_character(b, max_bytes, fault)?))
+        }
+    }
+
     /// Reads the characters from a quote up to the closing quote into `quoted`, or fails with `fault` if there are more
     /// than `max_bytes`.
     pub(super) fn read_quoted(
@@ -120,16 +161,12 @@ impl Reader<'_> {
         let mut is_escaped = false;
         for _ in self.at..self.text.len() {
             self.at = self.at.saturating_add(1);
-            let b = self.next_byte()?;
-            if is_escaped {
-                self.push_escaped(b, quote)?;
-                is_escaped = false;
-            } else if b == quote {
+            let Some(begins_escape) = self.read_character(is_escaped, quote, max_bytes, fault)?
+            else {
                 self.at = self.at.saturating_add(1);
                 return Ok(());
-            } else {
-                is_escaped = self.push_character(b, max_bytes, fault)?;
-            }
+            };
+            is_escaped = begins_escape;
         }
         Err(TextFault::Unclosed(self.text.len()))
     }

@@ -10,13 +10,18 @@ pub(super) fn put_number(alloc: Global, out: &mut String, n: u128) -> Result<(),
     pushed
 }
 
+/// Prints the number at an index, with a comma before each but the first.
+fn put_number_at(alloc: Global, out: &mut String, i: usize, n: u8) -> Result<(), AllocError> {
+    if i > 0 {
+        out.push(',')?;
+    }
+    put_number(alloc, out, u128::from(n))
+}
+
 /// Prints numbers with commas between them.
 pub(super) fn put_numbers(alloc: Global, out: &mut String, bytes: &[u8]) -> Result<(), AllocError> {
     for (i, n) in bytes.iter().enumerate() {
-        if i > 0 {
-            out.push(',')?;
-        }
-        put_number(alloc, out, u128::from(*n))?;
+        put_number_at(alloc, out, i, *n)?;
     }
     Ok(())
 }
@@ -31,23 +36,34 @@ fn needs_no_quotes(text: &[u8]) -> bool {
     matches!(text.first(), Some(b'a'..=b'z'))
 }
 
+/// Prints a character, with a backslash before it if it is a quote or a backslash.
+fn put_character(out: &mut String, b: u8) -> Result<(), AllocError> {
+    if b == b'\'' || b == b'\\' {
+        out.push('\\')?;
+    }
+    out.push(b as char)
+}
+
 /// Prints characters, with a backslash before each quote and backslash.
 fn put_characters(out: &mut String, text: &[u8]) -> Result<(), AllocError> {
     for b in text {
-        if *b == b'\'' || *b == b'\\' {
-            out.push('\\')?;
-        }
-        out.push(*b as char)?;
+        put_character(out, *b)?;
     }
     Ok(())
+}
+
+/// Prints characters in quotes.
+fn put_quoted(out: &mut String, text: &[u8]) -> Result<(), AllocError> {
+    out.push('\'')?;
+    put_characters(out, text)?;
+    out.push('\'')
 }
 
 /// Prints an atom, in quotes if it needs them.
 pub(super) fn put_atom(out: &mut String, text: &[u8]) -> Result<(), AllocError> {
     if needs_no_quotes(text) {
-        return put_characters(out, text);
+        put_characters(out, text)
+    } else {
+        put_quoted(out, text)
     }
-    out.push('\'')?;
-    put_characters(out, text)?;
-    out.push('\'')
 }

@@ -26,10 +26,30 @@ impl Reader<'_> {
         }
     }
 
+    /// Prints a text.
+    fn put_text(&mut self, text: &str) -> Result<(), TextFault> {
+        Ok(self.out.push_str(text)?)
+    }
+
+    /// Prints a number.
+    fn put_number(&mut self, n: u128) -> Result<(), TextFault> {
+        Ok(put_number(self.alloc, &mut self.out, n)?)
+    }
+
+    /// Prints the bytes in `quoted` as numbers with commas between them.
+    fn put_quoted_numbers(&mut self) -> Result<(), TextFault> {
+        Ok(put_numbers(self.alloc, &mut self.out, self.quoted.as_slice())?)
+    }
+
+    /// Prints the characters in `quoted` as an atom.
+    fn put_quoted_atom(&mut self) -> Result<(), TextFault> {
+        Ok(put_atom(&mut self.out, self.quoted.as_slice())?)
+    }
+
     /// Reads digits, up to `limit`, of a number that begins at the offset `start`, and prints the number.
     fn read_number(&mut self, start: usize, limit: u128) -> Result<(), TextFault> {
         let n = self.read_digits(start, limit)?;
-        Ok(put_number(self.alloc, &mut self.out, n)?)
+        self.put_number(n)
     }
 
     /// Reads a minus and digits, and prints the number. The minus of 0 is not printed.
@@ -37,16 +57,14 @@ impl Reader<'_> {
         let start = self.at;
         self.at = self.at.saturating_add(1);
         let n = self.read_digits(start, MAX_INTEGER + 1)?;
-        if n != 0 {
-            self.out.push('-')?;
-        }
-        Ok(put_number(self.alloc, &mut self.out, n)?)
+        self.put_text(if n == 0 { "" } else { "-" })?;
+        self.put_number(n)
     }
 
     /// Reads an atom in quotes, and prints it.
     fn read_quoted_atom(&mut self) -> Result<(), TextFault> {
         self.read_quoted(b'\'', MAX_CHARACTERS, TextFault::AtomTooLong(self.at))?;
-        Ok(put_atom(&mut self.out, self.quoted.as_slice())?)
+        self.put_quoted_atom()
     }
 
     /// Reads a string, and prints it as a list of bytes. At the greatest depth only the empty string is a term.
@@ -58,18 +76,18 @@ impl Reader<'_> {
         };
         let fault = TextFault::TooDeep(self.at.saturating_add(1));
         self.read_quoted(b'"', max_bytes, fault)?;
-        self.out.push('[')?;
-        put_numbers(self.alloc, &mut self.out, self.quoted.as_slice())?;
-        Ok(self.out.push(']')?)
+        self.put_text("[")?;
+        self.put_quoted_numbers()?;
+        self.put_text("]")
     }
 
     /// Reads and prints a number of 32 bits between two texts.
     fn read_number_between(&mut self, before: &str, after: &str) -> Result<(), TextFault> {
         self.pass_bytes(before.as_bytes())?;
-        self.out.push_str(before)?;
+        self.put_text(before)?;
         self.read_number(self.at, MAX_U32)?;
         self.pass_bytes(after.as_bytes())?;
-        Ok(self.out.push_str(after)?)
+        self.put_text(after)
     }
 
     /// Reads and prints the identifier of a table.
@@ -85,17 +103,30 @@ impl Reader<'_> {
         }
     }
 
+    /// Passes the next byte and the blanks after it if the byte is a comma. Returns whether it is.
+    fn passes_comma(&mut self) -> Result<bool, TextFault> {
+        let is_comma = self.next_byte()? == b',';
+        if is_comma {
+            self.at = self.at.saturating_add(1);
+            self.skip_blanks();
+        }
+        Ok(is_comma)
+    }
+
+    /// Reads a byte into `quoted`. Returns whether a comma follows.
+    fn read_byte_of_binary(&mut self) -> Result<bool, TextFault> {
+        let n = self.read_digits(self.at, MAX_BYTE)?;
+        self.quoted.push(n.min(MAX_BYTE) as u8)?;
+        self.skip_blanks();
+        self.passes_comma()
+    }
+
     /// Reads bytes with commas between them into `quoted`.
     fn read_bytes(&mut self) -> Result<(), TextFault> {
         for _ in 0..self.text.len() {
-            let n = self.read_digits(self.at, MAX_BYTE)?;
-            self.quoted.push(n.min(MAX_BYTE) as u8)?;
-            self.skip_blanks();
-            if self.next_byte()? != b',' {
+            if !self.read_byte_of_binary()? {
                 return Ok(());
             }
-            self.at = self.at.saturating_add(1);
-            self.skip_blanks();
         }
         Ok(())
     }
@@ -117,9 +148,9 @@ impl Reader<'_> {
         self.read_binary_parts()?;
         self.skip_blanks();
         self.pass_bytes(b">>")?;
-        self.out.push_str("<<")?;
-        put_numbers(self.alloc, &mut self.out, self.quoted.as_slice())?;
-        Ok(self.out.push_str(">>")?)
+        self.put_text("<<")?;
+        self.put_quoted_numbers()?;
+        self.put_text(">>")
     }
 
     /// Reads an atom without quotes, and prints it.

@@ -44,7 +44,7 @@ fn first_not_inserted(alloc: Global, node: &mut Node<Fnv>) -> Result<Option<u32>
 }
 
 /// Calls for each number, with their replies. A pending step runs after each number.
-const GROWN: [(&str, &str); 5] = [
+static GROWN: [(&str, &str); 5] = [
     ("lookup(t,N)", "[{N,x}]"),
     ("insert(t,{N,y})", "true"),
     ("lookup(t,N)", "[{N,x},{N,y}]"),

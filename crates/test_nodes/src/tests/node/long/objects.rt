@@ -1,7 +1,7 @@
 use super::*;
 
 /// Calls with their replies. Each is made for each number before the next one.
-const OBJECTS: [(&str, &str); 6] = [
+static OBJECTS: [(&str, &str); 6] = [
     ("insert(t,{N,x})", "true"),
     ("lookup(t,N)", "[{N,x}]"),
     ("insert_new(t,{N,y})", "false"),

@@ -21,7 +21,7 @@ pub const ONE_KEY: [Row; 4] = [
 ];
 
 /// The same table with two keys.
-pub const TWO_KEYS: [Row; 4] = [
+pub static TWO_KEYS: [Row; 4] = [
     (Enrol(Pid(0)), "<0.0.0>"),
     (Enrol(Pid(1)), "<0.1.0>"),
     (Ask(Pid(0), "new(t,[named_table,public])"), "t"),
@@ -85,7 +85,7 @@ pub const WALKER_DELETES_TABLE: [Event; 3] = [
 ];
 
 /// Others delete all objects.
-pub const DELETES_ALL_OBJECTS: [Event; 1] = [Ask(Pid(1), "delete_all_objects(t)")];
+pub static DELETES_ALL_OBJECTS: [Event; 1] = [Ask(Pid(1), "delete_all_objects(t)")];
 
 /// The private table t of process 1.
 pub const PRIVATE_TABLE_OF_ANOTHER: [Row; 3] = [

@@ -14,120 +14,109 @@ pub struct WalkTrial<'a> {
     pub plan: Plan,
 }
 
-/// How many keys the others saw.
-#[derive(Clone, Copy, PartialEq, Eq)]
-pub struct KeysSeen(pub usize);
-
-/// The keys of a walk as a list, or its fault; and how many keys the others saw.
-pub type Outcome = (Result<Term, WalkFault>, KeysSeen);
-
-/// Runs the steps before a walk, and walks if each has the reply of its row. Any other reply is a fault of the test.
-fn walk<H: KeyHash + Copy + Drop>(
-    alloc: Global,
-    node: &mut Node<H>,
-    trial: WalkTrial,
-) -> Result<Outcome, AllocError> {
-    if first_wrong_row_in(alloc, node, trial.rows)?.is_some() {
-        return Err(AllocError);
-    }
-    let table = term(alloc, "t")?;
-    let outcome = walk_over(alloc, node, trial, &table);
-    drop(table);
-    Ok(outcome)
+/// How a walk ends.
+#[derive(Clone, Copy)]
+pub enum WalkEnd<'a> {
+    /// With these keys, in any order.
+    Keys(&'a str),
+    /// With keys, of which the others saw this many.
+    KeysSeen(usize),
+    /// With this fault.
+    Fault(&'a WalkFault),
+    /// With this fault, after the others saw this many keys.
+    FaultAfter(&'a WalkFault, usize),
 }
 
-/// Walks over a table while others follow the plan of the trial.
-fn walk_over<H: KeyHash + Copy + Drop>(
+/// Returns whether the keys of a walk, of which the others saw a number, are its end.
+fn is_end_with_keys(
     alloc: Global,
-    node: &mut Node<H>,
-    trial: WalkTrial,
-    table: &Term,
-) -> Outcome {
-    let mut others = PlanFollower::new(alloc, trial.plan);
-    let walked = walk_among(node, trial.walker, table, trial.limit, &mut others);
-    let seen = KeysSeen(others.seen().len());
-    drop(others);
-    (keys_or_fault(walked), seen)
-}
-
-/// Returns the keys of a walk as a list, or its fault.
-fn keys_or_fault(walked: Result<Walk, WalkFault>) -> Result<Term, WalkFault> {
-    match walked {
-        Ok(Walk { keys }) => Ok(Term::List(keys)),
-        Err(fault) => Err(fault),
-    }
-}
-
-/// Walks in a node, and returns whether the walk ends with these keys, in any order.
-fn walk_finds_keys_in<H: KeyHash + Copy + Drop>(
-    alloc: Global,
-    node: &mut Node<H>,
-    trial: WalkTrial,
-    wanted: &str,
+    keys: &Term,
+    seen: usize,
+    end: WalkEnd,
 ) -> Result<bool, AllocError> {
-    let (walked, _) = walk(alloc, node, trial)?;
+    match end {
+        WalkEnd::Keys(wanted) => has_items(alloc, keys, wanted),
+        WalkEnd::KeysSeen(wanted) => Ok(seen == wanted),
+        _ => Ok(false),
+    }
+}
+
+/// Returns whether the fault of a walk, of whose keys the others saw a number, is its end.
+fn is_end_with_fault(fault: &WalkFault, seen: usize, end: WalkEnd) -> bool {
+    match end {
+        WalkEnd::Fault(wanted) => fault == wanted,
+        WalkEnd::FaultAfter(wanted, count) => fault == wanted && seen == count,
+        _ => false,
+    }
+}
+
+/// Returns whether a walk, of whose keys the others saw a number, ended so.
+fn has_ended(
+    alloc: Global,
+    walked: Result<Walk, WalkFault>,
+    seen: usize,
+    end: WalkEnd,
+) -> Result<bool, AllocError> {
     match walked {
-        Ok(keys) => {
-            let same = has_items(alloc, &keys, wanted);
+        Ok(Walk { keys }) => {
+            let keys = Term::List(keys);
+            let same = is_end_with_keys(alloc, &keys, seen, end);
             drop(keys);
             same
         }
         Err(fault) => {
+            let same = is_end_with_fault(&fault, seen, end);
             drop(fault);
-            Ok(false)
+            Ok(same)
         }
     }
 }
 
-/// Walks in a new node with this hasher, and returns whether the walk ends with these keys, in any order.
-pub fn walk_finds_keys<H: KeyHash + Copy + Drop>(
-    alloc: Global,
-    hasher: H,
-    trial: WalkTrial,
-    wanted: &str,
-) -> Result<bool, AllocError> {
-    let mut node = Node::new(alloc, Limits::usual(), hasher);
-    let found = walk_finds_keys_in(alloc, &mut node, trial, wanted);
-    drop(node);
-    found
-}
-
-/// Whether a step after the walk has the reply of its row.
-#[derive(Clone, Copy, PartialEq, Eq)]
-pub struct NextStepHasReply(pub bool);
-
-/// How a walk ends: its fault if it has one, how many keys the others saw, and whether the step after it has its reply.
-pub type WalkEnd = (Option<WalkFault>, KeysSeen, NextStepHasReply);
-
-/// Walks in a node and then runs the step of a row. Returns how the walk ended, and whether the step has its reply.
-fn walk_and_step_in<H: KeyHash + Copy + Drop>(
+/// Walks over a table while others follow the plan of the trial, and returns whether the walk ends so.
+fn walk_ends_over<H: KeyHash + Copy + Drop>(
     alloc: Global,
     node: &mut Node<H>,
     trial: WalkTrial,
-    next_row: Row,
-) -> Result<WalkEnd, AllocError> {
-    let (walked, seen) = walk(alloc, node, trial)?;
-    let fault = walked.err();
-    let (event, wanted) = next_row;
-    match event_has_reply(alloc, node, event, wanted) {
-        Ok(has_reply) => Ok((fault, seen, NextStepHasReply(has_reply))),
-        Err(error) => {
-            drop(fault);
-            Err(error)
-        }
-    }
+    table: &Term,
+    end: WalkEnd,
+) -> Result<bool, AllocError> {
+    let mut others = PlanFollower::new(alloc, trial.plan);
+    let walked = walk_among(node, trial.walker, table, trial.limit, &mut others);
+    let seen = others.seen().len();
+    drop(others);
+    has_ended(alloc, walked, seen, end)
 }
 
-/// Walks in a new node with this hasher and then runs the step of a row. Returns how the walk ended, and whether the
-/// step has its reply.
-pub fn walk_and_step<H: KeyHash + Copy + Drop>(
+/// Runs the steps before a walk, walks, and runs the step of a row. Returns whether the walk ends so, and the step has
+/// its reply. Any other reply before the walk is a fault of the test.
+fn walk_ends_in<H: KeyHash + Copy + Drop>(
+    alloc: Global,
+    node: &mut Node<H>,
+    trial: WalkTrial,
+    end: WalkEnd,
+    next_row: Row,
+) -> Result<bool, AllocError> {
+    if first_wrong_row_in(alloc, node, trial.rows)?.is_some() {
+        return Err(AllocError);
+    }
+    let table = term(alloc, "t")?;
+    let ended = walk_ends_over(alloc, node, trial, &table, end);
+    drop(table);
+    let (event, wanted) = next_row;
+    Ok(ended? && event_has_reply(alloc, node, event, wanted)?)
+}
+
+/// Walks in a new node with this hasher and then runs the step of a row. Returns whether the walk ends so, and the step
+/// has its reply.
+pub fn walk_ends<H: KeyHash + Copy + Drop>(
     alloc: Global,
     hasher: H,
     trial: WalkTrial,
+    end: WalkEnd,
     next_row: Row,
-) -> Result<WalkEnd, AllocError> {
+) -> Result<bool, AllocError> {
     let mut node = Node::new(alloc, Limits::usual(), hasher);
-    let end = walk_and_step_in(alloc, &mut node, trial, next_row);
+    let ended = walk_ends_in(alloc, &mut node, trial, end, next_row);
     drop(node);
-    end
+    ended
 }

@@ -6,8 +6,21 @@ use super::Row;
 /// In place of the reason of a step that is not refused.
 const NO_REASON: &str = "";
 
+/// The reason of an argument that cannot be stored.
+const NOT_AN_OBJECT: &str =
+    "argument 2: not a tuple that has the key position, or the key is '$end_of_table'";
+
+/// The reason of a position that the object does not have.
+const PAST_THE_END: &str = "argument 3: position is past the end of the object";
+
+/// The reason of an update that is malformed, or would change the key.
+const MALFORMED_UPDATE: &str = "argument 3: malformed update, or it would change the key";
+
+/// The reason of an option that is unknown or malformed.
+const MALFORMED_OPTION: &str = "argument 2: unknown or malformed option";
+
 /// Steps that name no living process, no call or no table of the process.
-pub const STEPS: [Row; 22] = [
+pub static STEPS: [Row; 22] = [
     (Enrol(Pid(6)), NO_REASON),
     (Enrol(Pid(7)), NO_REASON),
     (Enrol(Pid(8)), NO_REASON),
@@ -54,44 +67,26 @@ pub const STEPS: [Row; 22] = [
 ];
 
 /// Calls with something else than an object, a key, a position, a pattern or a specification.
-pub const OBJECTS: [Row; 21] = [
+pub static OBJECTS: [Row; 21] = [
     (Enrol(Pid(7)), NO_REASON),
     (Ask(Pid(7), "new(t,[named_table])"), NO_REASON),
     (Ask(Pid(7), "new(all,[named_table,bag,public])"), NO_REASON),
     (Ask(Pid(7), "insert(t,{a,x})"), NO_REASON),
     (Ask(Pid(7), "insert(all,[{a,1,x},{a,2}])"), NO_REASON),
-    (
-        Ask(Pid(7), "insert(t,a)"),
-        "argument 2: not a tuple that has the key position, or the key is '$end_of_table'",
-    ),
-    (
-        Ask(Pid(7), "insert(t,{})"),
-        "argument 2: not a tuple that has the key position, or the key is '$end_of_table'",
-    ),
-    (
-        Ask(Pid(7), "insert_new(t,[{b},c])"),
-        "argument 2: not a tuple that has the key position, or the key is '$end_of_table'",
-    ),
-    (
-        Ask(Pid(7), "delete_object(t,{})"),
-        "argument 2: not a tuple that has the key position, or the key is '$end_of_table'",
-    ),
+    (Ask(Pid(7), "insert(t,a)"), NOT_AN_OBJECT),
+    (Ask(Pid(7), "insert(t,{})"), NOT_AN_OBJECT),
+    (Ask(Pid(7), "insert_new(t,[{b},c])"), NOT_AN_OBJECT),
+    (Ask(Pid(7), "delete_object(t,{})"), NOT_AN_OBJECT),
     (
         Ask(Pid(7), "lookup_element(t,zz,2)"),
         "argument 2: no such key",
     ),
-    (
-        Ask(Pid(7), "lookup_element(t,a,5)"),
-        "argument 3: position is past the end of the object",
-    ),
+    (Ask(Pid(7), "lookup_element(t,a,5)"), PAST_THE_END),
     (
         Ask(Pid(7), "lookup_element(t,a,18446744073709551617)"),
-        "argument 3: position is past the end of the object",
+        PAST_THE_END,
     ),
-    (
-        Ask(Pid(7), "lookup_element(all,a,3)"),
-        "argument 3: position is past the end of the object",
-    ),
+    (Ask(Pid(7), "lookup_element(all,a,3)"), PAST_THE_END),
     (
         Ask(Pid(7), "lookup_element(t,zz,0)"),
         "argument 3: position must be at least 1",
@@ -121,7 +116,7 @@ pub const OBJECTS: [Row; 21] = [
 ];
 
 /// Updates of counters and elements.
-pub const UPDATES: [Row; 21] = [
+pub static UPDATES: [Row; 21] = [
     (Enrol(Pid(7)), NO_REASON),
     (Ask(Pid(7), "new(t,[named_table])"), NO_REASON),
     (Ask(Pid(7), "new(all,[named_table,bag,public])"), NO_REASON),
@@ -145,13 +140,10 @@ pub const UPDATES: [Row; 21] = [
         Ask(Pid(7), "update_counter(t,n,[{2,1},{3,1}])"),
         "argument 3: the element is missing or not an integer",
     ),
-    (
-        Ask(Pid(7), "update_counter(t,zz,{1,1})"),
-        "argument 3: malformed update, or it would change the key",
-    ),
+    (Ask(Pid(7), "update_counter(t,zz,{1,1})"), MALFORMED_UPDATE),
     (
         Ask(Pid(7), "update_counter(t,zz,[{2,1},{2,x}])"),
-        "argument 3: malformed update, or it would change the key",
+        MALFORMED_UPDATE,
     ),
     (
         Ask(Pid(7), "update_counter(all,a,1)"),
@@ -165,17 +157,11 @@ pub const UPDATES: [Row; 21] = [
         Ask(Pid(7), "update_counter(t,zz,1,{x,y})"),
         "argument 3: the element is missing or not an integer",
     ),
-    (
-        Ask(Pid(7), "update_element(t,zz,{1,1})"),
-        "argument 3: malformed update, or it would change the key",
-    ),
-    (
-        Ask(Pid(7), "update_element(t,a,{3,1})"),
-        "argument 3: position is past the end of the object",
-    ),
+    (Ask(Pid(7), "update_element(t,zz,{1,1})"), MALFORMED_UPDATE),
+    (Ask(Pid(7), "update_element(t,a,{3,1})"), PAST_THE_END),
     (
         Ask(Pid(7), "update_element(t,a,{18446744073709551617,1})"),
-        "argument 3: position is past the end of the object",
+        PAST_THE_END,
     ),
     (
         Ask(Pid(7), "update_element(all,a,{2,1})"),
@@ -188,7 +174,7 @@ pub const UPDATES: [Row; 21] = [
 ];
 
 /// Calls that make tables, report on them, fix them or give them away.
-pub const TABLES: [Row; 22] = [
+pub static TABLES: [Row; 22] = [
     (Enrol(Pid(6)), NO_REASON),
     (Enrol(Pid(7)), NO_REASON),
     (Enrol(Pid(8)), NO_REASON),
@@ -205,10 +191,7 @@ pub const TABLES: [Row; 22] = [
         Ask(Pid(7), "give_away(t,<0.6.0>,g)"),
         "argument 2: no such process (or it has exited)",
     ),
-    (
-        Ask(Pid(7), "setopts(t,[{heir,none},x])"),
-        "argument 2: unknown or malformed option",
-    ),
+    (Ask(Pid(7), "setopts(t,[{heir,none},x])"), MALFORMED_OPTION),
     (Ask(Pid(7), "info(5,foo)"), "argument 2: unknown info item"),
     (
         Ask(Pid(7), "info(5,size)"),
@@ -230,18 +213,9 @@ pub const TABLES: [Row; 22] = [
         Ask(Pid(7), "new(t,[named_table])"),
         "argument 1: table name already in use",
     ),
-    (
-        Ask(Pid(7), "new(t,[named_table,seet])"),
-        "argument 2: unknown or malformed option",
-    ),
-    (
-        Ask(Pid(7), "new(u,[{keypos,0}])"),
-        "argument 2: unknown or malformed option",
-    ),
-    (
-        Ask(Pid(7), "new(u,[{heir,x,y}])"),
-        "argument 2: unknown or malformed option",
-    ),
+    (Ask(Pid(7), "new(t,[named_table,seet])"), MALFORMED_OPTION),
+    (Ask(Pid(7), "new(u,[{keypos,0}])"), MALFORMED_OPTION),
+    (Ask(Pid(7), "new(u,[{heir,x,y}])"), MALFORMED_OPTION),
     (
         Ask(Pid(7), "new(5,seet)"),
         "argument 1: table name must be an atom",
@@ -250,7 +224,7 @@ pub const TABLES: [Row; 22] = [
 ];
 
 /// Steps that pass a limit, of one process, one table and one object.
-pub const LIMITED: [Row; 8] = [
+pub static LIMITED: [Row; 8] = [
     (Enrol(Pid(7)), NO_REASON),
     (Enrol(Pid(8)), "process limit reached"),
     (Enrol(Pid(7)), "process number already used"),

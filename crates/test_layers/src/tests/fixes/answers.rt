@@ -1,9 +1,10 @@
 // Calls of a table, and their answers as numbers, so that answers of all types are compared in one way.
 use crate::tests::fixes::{Key, Object, Pid, build_object, delete};
 use bucket_table::{Growth, Readying, Rows};
-use ets_term::{Integer, Term};
+use ets_term::{Integer, Items, Term};
 use fixed_walk::{FixFault, Walked};
 use std::alloc::Global;
+use std::slice;
 use table_ops::Refusal;
 
 /// A call of a table.
@@ -63,6 +64,14 @@ fn refusal_code(refused: &Refusal) -> Integer {
     }
 }
 
+/// Returns 1 for a call that succeeded, or the number of its refusal.
+fn done_code(done: Result<(), Refusal>) -> Integer {
+    match done {
+        Ok(()) => 1,
+        Err(refused) => refusal_code(&refused),
+    }
+}
+
 /// Builds an object, again if memory runs out.
 fn build_object_with_retry(alloc: Global, object: Object) -> Option<Term> {
     match build_object(alloc, object.0, object.1) {
@@ -73,17 +82,13 @@ fn build_object_with_retry(alloc: Global, object: Object) -> Option<Term> {
 
 /// Inserts an object. Returns 1, or the number of the refusal. An object that could not be built counts as another
 /// refusal: this is a fault of the test, which must not pass as the table's out of memory.
-fn try_insert<R: Rows>(table: &mut Walked<R>, object: Option<Term>) -> Integer {
+pub(super) fn try_insert<R: Rows>(table: &mut Walked<R>, object: Option<Term>) -> Integer {
     let Some(object) = object else {
         return OTHER_REFUSAL;
     };
-    let objects = [object];
-    let inserted = table.insert(&objects);
-    drop(objects);
-    match inserted {
-        Ok(()) => 1,
-        Err(refused) => refusal_code(&refused),
-    }
+    let inserted = table.insert(slice::from_ref(&object));
+    drop(object);
+    done_code(inserted)
 }
 
 /// Inserts an object if its key is new. Returns 1 if it did, 0 if the key is not new, or the number of the refusal. An
@@ -92,9 +97,8 @@ fn try_insert_new<R: Rows>(table: &mut Walked<R>, object: Option<Term>) -> Integ
     let Some(object) = object else {
         return OTHER_REFUSAL;
     };
-    let objects = [object];
-    let inserted = table.insert_new(&objects);
-    drop(objects);
+    let inserted = table.insert_new(slice::from_ref(&object));
+    drop(object);
     match inserted {
         Ok(done) => Integer::from(done),
         Err(refused) => refusal_code(&refused),
@@ -103,31 +107,31 @@ fn try_insert_new<R: Rows>(table: &mut Walked<R>, object: Option<Term>) -> Integ
 
 /// Deletes an object. Returns 1, or the number of the refusal. An object that could not be built counts as another
 /// refusal.
-fn try_delete_object<R: Rows>(table: &mut Walked<R>, object: Option<Term>) -> Integer {
+pub(super) fn try_delete_object<R: Rows>(table: &mut Walked<R>, object: Option<Term>) -> Integer {
     let Some(object) = object else {
         return OTHER_REFUSAL;
     };
     let deleted = table.delete_object(&object);
     drop(object);
-    match deleted {
-        Ok(()) => 1,
-        Err(refused) => refusal_code(&refused),
-    }
+    done_code(deleted)
 }
 
 /// Returns the second element of the object of a key, or the number of the refusal.
-fn second_element<R: Rows>(table: &Walked<R>, key: Integer) -> Integer {
+pub(super) fn second_element<R: Rows>(table: &Walked<R>, key: Integer) -> Integer {
     let key = Term::Int(key);
     let found = table.lookup_element(&key, 2);
     drop(key);
     match found {
-        Ok(element) => {
-            let value = number_of(&element);
-            drop(element);
-            value
-        }
+        Ok(element) => number_of_dropped(element),
         Err(refused) => refusal_code(&refused),
     }
+}
+
+/// Returns an integer, or 0 for any other term, and drops the term.
+fn number_of_dropped(term: Term) -> Integer {
+    let number = number_of(&term);
+    drop(term);
+    number
 }
 
 /// Returns an integer, or 0 for any other term.
@@ -144,23 +148,22 @@ fn try_take<R: Rows>(table: &mut Walked<R>, key: Integer) -> Integer {
     let taken = table.take(&key);
     drop(key);
     match taken {
-        Ok(objects) => {
-            let count = objects.len() as Integer;
-            drop(objects);
-            count
-        }
+        Ok(objects) => count_and_drop(objects),
         Err(_) => OUT_OF_MEMORY,
     }
 }
 
+/// Returns how many objects there are, and drops them.
+fn count_and_drop(objects: Items<Term>) -> Integer {
+    let count = objects.len() as Integer;
+    drop(objects);
+    count
+}
+
 /// Returns how many objects a table lists, or `OUT_OF_MEMORY`.
-fn count_objects<R: Rows>(table: &Walked<R>) -> Integer {
+pub(super) fn count_objects<R: Rows>(table: &Walked<R>) -> Integer {
     match table.objects() {
-        Ok(objects) => {
-            let count = objects.len() as Integer;
-            drop(objects);
-            count
-        }
+        Ok(objects) => count_and_drop(objects),
         Err(_) => OUT_OF_MEMORY,
     }
 }
@@ -189,6 +192,16 @@ fn try_ready<R: Rows>(table: &mut Walked<R>) -> Integer {
         Ok(readying) => Integer::from(readying == Readying::Ready),
         Err(_) => OUT_OF_MEMORY,
     }
+}
+
+/// Returns whether a call has this answer.
+pub(super) fn is_answered<R: Rows>(
+    alloc: Global,
+    table: &mut Walked<R>,
+    step: Step,
+    wanted: Expected,
+) -> bool {
+    answer_code(alloc, table, step) == wanted.code()
 }
 
 /// Makes a call. Returns a number for its answer: 1 and 0 for true and false, a count, a value or a refusal.

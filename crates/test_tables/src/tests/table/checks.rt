@@ -1,0 +1,77 @@
+// Checks of new tables. All of them share the functions that create and drop tables.
+use super::answers::Answer;
+use super::bad_objects::refuses_bad_terms;
+use super::lists::{Row, inserts, inserts_new};
+use super::long::{answers_as_it_grows, answers_as_plain_table};
+use super::objects::end_is_no_key;
+use super::refused::{counter_never_falls, steps_answer_with_retry};
+use super::searches::{searches_are_right, tests_each_of_three};
+use super::{Empty, Step, plain_table, split_table, steps_answer};
+use bucket_table::Rows;
+use ets_term::{Fnv, KeyHash, Term};
+use std::alloc::Global;
+use table_ops::Table;
+
+/// What a new table must do.
+#[derive(Clone, Copy)]
+pub enum Check<'a> {
+    /// Gives these answers.
+    Answer(&'a [(Step, Answer)]),
+    /// Gives these answers, and again if memory runs out.
+    AnswerWithRetry(&'a [(Step, Answer)]),
+    AnswerAsPlainTable,
+    AnswerAsItGrows,
+    /// Inserts a list as the row says.
+    Insert(&'a [Term], Row),
+    /// Inserts a list of new objects as the row says.
+    InsertNew(&'a [Term], Row),
+    RefuseBadTerms,
+    RefuseEndOfTable,
+    SearchByKeys,
+    TestEachOfThree,
+    CountUpwards,
+}
+
+/// Returns whether a table passes a check. `None` means out of memory.
+fn passes<R: Rows>(alloc: Global, table: &mut Table<R>, check: Check) -> Option<bool> {
+    match check {
+        Check::Answer(steps) => Some(steps_answer(alloc, table, steps)),
+        Check::AnswerWithRetry(steps) => Some(steps_answer_with_retry(alloc, table, steps)),
+        Check::AnswerAsPlainTable => Some(answers_as_plain_table(alloc, table)),
+        Check::AnswerAsItGrows => Some(answers_as_it_grows(alloc, table)),
+        Check::Insert(list, row) => Some(inserts(table, list, row)),
+        Check::InsertNew(list, row) => Some(inserts_new(table, list, row)),
+        Check::RefuseBadTerms => refuses_bad_terms(alloc, table),
+        Check::RefuseEndOfTable => end_is_no_key(alloc, table),
+        Check::SearchByKeys => searches_are_right(alloc, table),
+        Check::TestEachOfThree => tests_each_of_three(alloc, table),
+        Check::CountUpwards => Some(counter_never_falls(alloc, table)),
+    }
+}
+
+/// Returns whether a table over plain rows passes a check. `None` means out of memory.
+pub fn plain_table_passes(alloc: Global, empty: Empty, check: Check) -> Option<bool> {
+    let mut table = plain_table(alloc, empty);
+    let passed = passes(alloc, &mut table, check);
+    drop(table);
+    passed
+}
+
+/// Returns whether a table over split rows with this hash passes a check. `None` means out of memory.
+pub fn split_table_passes<H: KeyHash + Copy + Drop>(
+    alloc: Global,
+    hash: H,
+    empty: Empty,
+    check: Check,
+) -> Option<bool> {
+    let mut table = split_table(alloc, hash, empty)?;
+    let passed = passes(alloc, &mut table, check);
+    drop(table);
+    passed
+}
+
+/// Returns whether tables over plain rows and over split rows with the usual hash pass a check.
+pub fn both_tables_pass(alloc: Global, empty: Empty, check: Check) -> bool {
+    plain_table_passes(alloc, empty, check) == Some(true)
+        && split_table_passes(alloc, Fnv, empty, check) == Some(true)
+}

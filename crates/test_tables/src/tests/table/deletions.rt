@@ -1,0 +1,106 @@
+// How many objects a deletion by patterns or match specifications tests: those of the bound key, else all. The table has
+// the objects `{Key,0}` for the keys 1 to 1,000.
+use super::Key;
+use super::searches::{Found, MISSING, Tested, both_find, select_by_keys};
+use super::terms::{pattern_of_key, spec_of_keys};
+use bucket_table::Rows;
+use ets_term::Integer;
+use std::alloc::Global;
+use table_ops::{Looks, Table};
+
+/// How many objects a call deletes.
+#[derive(Clone, Copy, PartialEq, Eq)]
+struct Deleted(usize);
+
+/// How many slots the table then has.
+#[derive(Clone, Copy, PartialEq, Eq)]
+struct Slots(usize);
+
+/// How many objects the table then has.
+#[derive(Clone, Copy, PartialEq, Eq)]
+struct Objects(usize);
+
+/// Deletes by a clause for each key. Returns how many objects it deletes, leaves and tests.
+fn delete_by_keys<R: Rows>(
+    alloc: Global,
+    table: &mut Table<R>,
+    keys: &[Integer],
+) -> Option<(Deleted, Objects, Tested)> {
+    let spec = spec_of_keys(alloc, keys)?;
+    let mut looks = Looks::new();
+    let deleted = table.select_delete_counted(&spec, false, &mut looks);
+    drop(spec);
+    Some((
+        Deleted(deleted.ok()?),
+        Objects(table.size()),
+        Tested(looks.count()),
+    ))
+}
+
+/// Deletes by the pattern of a key. Returns how many slots and objects it leaves, and how many objects it tests.
+fn delete_by_pattern<R: Rows>(
+    alloc: Global,
+    table: &mut Table<R>,
+    key: Key,
+) -> Option<(Slots, Objects, Tested)> {
+    let pattern = pattern_of_key(alloc, key.0)?;
+    let mut looks = Looks::new();
+    let done = table.match_delete_counted(&pattern, true, &mut looks);
+    drop(pattern);
+    done.ok()?;
+    Some((
+        Slots(table.slots()),
+        Objects(table.size()),
+        Tested(looks.count()),
+    ))
+}
+
+/// What clauses of keys delete, how many objects remain, and how many are tested: those of one key, or all.
+const DELETIONS: [(&[Integer], Deleted, Objects, Tested); 3] = [
+    (&[MISSING], Deleted(0), Objects(1_000), Tested(0)),
+    (&[7], Deleted(1), Objects(999), Tested(1)),
+    (&[7, 8], Deleted(1), Objects(998), Tested(999)),
+];
+
+/// Returns whether deletions by the clauses of keys delete, leave and test as many objects as they must.
+fn deletions_by_keys_are_right<R: Rows>(
+    alloc: Global,
+    table: &mut Table<R>,
+    wanted: &[(&[Integer], Deleted, Objects, Tested)],
+) -> bool {
+    for (keys, deleted, objects, tested) in wanted {
+        if delete_by_keys(alloc, table, keys) != Some((*deleted, *objects, *tested)) {
+            return false;
+        }
+    }
+    true
+}
+
+/// Keys whose patterns delete, and how many objects they test. Each time 998 slots and 997 objects remain.
+const PATTERN_DELETIONS: [(Key, Tested); 3] = [
+    (Key(9), Tested(1)),
+    (Key(9), Tested(0)),
+    (Key(MISSING), Tested(0)),
+];
+
+/// Returns whether deletions by the patterns of keys leave and test as many objects as they must.
+fn deletions_by_patterns_are_right<R: Rows>(
+    alloc: Global,
+    table: &mut Table<R>,
+    wanted: &[(Key, Tested)],
+) -> bool {
+    for (key, tested) in wanted {
+        let left = Some((Slots(998), Objects(997), *tested));
+        if delete_by_pattern(alloc, table, *key) != left {
+            return false;
+        }
+    }
+    true
+}
+
+/// Returns whether deletions by one bound key test its objects, and deletions by different keys all objects.
+pub fn deletions_are_right<R: Rows>(alloc: Global, table: &mut Table<R>) -> bool {
+    deletions_by_keys_are_right(alloc, table, &DELETIONS)
+        && deletions_by_patterns_are_right(alloc, table, &PATTERN_DELETIONS)
+        && select_by_keys(alloc, table, &[10, 11]) == both_find(Found(2), Tested(1_994))
+}
