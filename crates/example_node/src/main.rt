@@ -25,25 +25,44 @@ fn price_of_tea(alloc: Global) -> Result<Reply, AllocError> {
 
 /// Enrols the process, makes three calls in it, and returns the reply to the last one.
 fn store_and_look_up(alloc: Global, node: &mut Node<Fnv>) -> Result<Reply, AllocError> {
-    let _pid = node.step(&Step::Enrol(PID))?;
-    let options = Term::List(Items::from_vec(vec![in alloc; word(alloc, "named_table")?]?));
-    let table = vec![in alloc; word(alloc, "prices")?, options]?;
-    call(node, atom(alloc, "new")?, table)?;
-    let object = Term::Tuple(Items::from_vec(vec![in alloc; word(alloc, "tea")?, Term::Int(3)]?));
-    let insertion = vec![in alloc; word(alloc, "prices")?, object]?;
-    call(node, atom(alloc, "insert")?, insertion)?;
-    let element = vec![in alloc; word(alloc, "prices")?, word(alloc, "tea")?, Term::Int(2)]?;
-    call(node, atom(alloc, "lookup_element")?, element)
+    node.step(&Step::Enrol(PID))?;
+    ask(node, new(alloc)?)?;
+    ask(node, insert(alloc)?)?;
+    ask(node, lookup_element(alloc)?)
 }
 
 /// Makes a call in the process, and then runs at most two pending growth steps.
-fn call(node: &mut Node<Fnv>, name: Atom, args: Vec<Term>) -> Result<Reply, AllocError> {
-    let reply = node.step(&Step::Ask(PID, Call::new(name, args)))?;
+fn ask(node: &mut Node<Fnv>, call: Call) -> Result<Reply, AllocError> {
+    let reply = node.step(&Step::Ask(PID, call))?;
     for _ in 0..2 {
         // A step that runs out of memory stays pending.
         let _ = node.run_pending();
     }
     Ok(reply)
+}
+
+/// Returns the call `new(prices,[named_table])`.
+fn new(alloc: Global) -> Result<Call, AllocError> {
+    let options = vec![in alloc; word(alloc, "named_table")?]?;
+    call_with(alloc, "new", Term::List(Items::from_vec(options)))
+}
+
+/// Returns the call `insert(prices,{tea,3})`.
+fn insert(alloc: Global) -> Result<Call, AllocError> {
+    let object = vec![in alloc; word(alloc, "tea")?, Term::Int(3)]?;
+    call_with(alloc, "insert", Term::Tuple(Items::from_vec(object)))
+}
+
+/// Returns the call `lookup_element(prices,tea,2)`.
+fn lookup_element(alloc: Global) -> Result<Call, AllocError> {
+    let args = vec![in alloc; word(alloc, "prices")?, word(alloc, "tea")?, Term::Int(2)]?;
+    Ok(Call::new(atom(alloc, "lookup_element")?, args))
+}
+
+/// Returns the call of this name whose arguments are the table and another one.
+fn call_with(alloc: Global, name: &str, argument: Term) -> Result<Call, AllocError> {
+    let args = vec![in alloc; word(alloc, "prices")?, argument]?;
+    Ok(Call::new(atom(alloc, name)?, args))
 }
 
 /// Returns the term that is the atom with this text.

@@ -21,14 +21,25 @@ fn main(rt: HostRuntime) -> io::Result<ExitCode> {
     Ok(ExitCode::SUCCESS)
 }
 
-/// Returns the count of milk, read after the table doubled its buckets, and the number of buckets.
+/// Creates a table, and returns the count of milk, read after the table doubled its buckets, and the number of buckets.
 fn count_of_milk(alloc: Global) -> Result<(Option<Integer>, u32), Refusal> {
     let rows = SplitRows::new(alloc, Fnv)?;
     let mut table = Table::new(alloc, rows, Kind::Set, 1, OBJECTS);
+    let counted = store_and_count(alloc, &mut table);
+    drop(table);
+    counted
+}
+
+/// Inserts the stock, doubles the buckets, and returns the count of milk with the number of buckets.
+fn store_and_count(
+    alloc: Global,
+    table: &mut Table<SplitRows<Fnv>>,
+) -> Result<(Option<Integer>, u32), Refusal> {
     table.insert(stock(alloc)?.as_slice())?;
     let _growth = table.grow()?;
     let milk = atom(alloc, "milk")?;
     let found = count_in(table.lookup(&milk));
+    drop(milk);
     Ok((found, table.buckets()))
 }
 

@@ -7,17 +7,31 @@ use std::sync::Wait;
 use std::sync::ledger::Ledger;
 use term_text::read_term;
 
+/// Makes a call. Returns `None` if it runs out of memory.
+pub(crate) fn ask<L: Ledger, H: KeyHash + Copy + Drop, R: Wait>(
+    rt: &R,
+    shared: &Shared<L, H>,
+    client: &mut Client<L>,
+    call: Call,
+) -> Option<()> {
+    let is_answered = client.ask(rt, shared, &call).is_ok();
+    drop(call);
+    is_answered.then_some(())
+}
+
 /// Makes a call, and returns the integer of its reply, if the reply is one.
 pub(crate) fn ask_integer<L: Ledger, H: KeyHash + Copy + Drop, R: Wait>(
     rt: &R,
     shared: &Shared<L, H>,
     client: &mut Client<L>,
-    call: &Call,
+    call: Call,
 ) -> Option<Integer> {
-    match client.ask(rt, shared, call).ok()? {
-        Reply::Value(Term::Int(number)) => Some(*number),
+    let number = match client.ask(rt, shared, &call) {
+        Ok(Reply::Value(Term::Int(number))) => Some(*number),
         _ => None,
-    }
+    };
+    drop(call);
+    number
 }
 
 /// Returns the call that inserts an object with this key.

@@ -1,8 +1,9 @@
 //! The tables, the clients and their jobs.
 ghost use Rattle.std.specs.Prelude.{◌<◌};
 
-use crate::calls::{call, insertion};
+use crate::calls::{ask, call, insertion};
 use ets_term::{Fnv, Integer};
+use node_core::Call;
 use node_shared::{Client, Job, Pids, Shared};
 use std::alloc::Global;
 use std::sync::Wait;
@@ -52,14 +53,12 @@ fn create_tables<L: Ledger, R: Wait>(
     shared: &Shared<L, Fnv>,
     client: &mut Client<L>,
 ) -> Option<()> {
-    let calls = [
-        ("new", "[counts,[named_table,public]]"),
-        ("new", "[notes,[named_table,public,bag]]"),
-        ("insert", "[counts,{total,0}]"),
-    ];
-    for (name, args) in calls {
-        client.ask(rt, shared, &call(alloc, name, args)?).ok()?;
-    }
+    let counts = call(alloc, "new", "[counts,[named_table,public]]")?;
+    ask(rt, shared, client, counts)?;
+    let notes = call(alloc, "new", "[notes,[named_table,public,bag]]")?;
+    ask(rt, shared, client, notes)?;
+    let total = call(alloc, "insert", "[counts,{total,0}]")?;
+    ask(rt, shared, client, total)?;
     fill_bag(rt, alloc, shared, client)
 }
 
@@ -71,8 +70,7 @@ fn fill_bag<L: Ledger, R: Wait>(
     client: &mut Client<L>,
 ) -> Option<()> {
     for key in 0..TIMES {
-        let insertion = insertion(alloc, Integer::from(key))?;
-        client.ask(rt, shared, &insertion).ok()?;
+        ask(rt, shared, client, insertion(alloc, Integer::from(key))?)?;
     }
     Some(())
 }
@@ -95,10 +93,17 @@ fn with_jobs<L: Ledger>(
 fn jobs(alloc: Global, first: Integer) -> Option<Vec<Job>> {
     let mut jobs = Vec::new(alloc);
     for number in 0..TIMES {
-        let count = call(alloc, "update_counter", "[counts,total,1]")?;
-        jobs.push(Job::Ask(count)).ok()?;
-        let insertion = insertion(alloc, first.wrapping_add(Integer::from(number)))?;
-        jobs.push(Job::Ask(insertion)).ok()?;
+        let key = first.wrapping_add(Integer::from(number));
+        push_call(
+            &mut jobs,
+            call(alloc, "update_counter", "[counts,total,1]")?,
+        )?;
+        push_call(&mut jobs, insertion(alloc, key)?)?;
     }
     Some(jobs)
+}
+
+/// Adds a job that makes this call.
+fn push_call(jobs: &mut Vec<Job>, call: Call) -> Option<()> {
+    jobs.push(Job::Ask(call)).ok()
 }

@@ -108,8 +108,8 @@ fn read<L: Ledger, R: Wait>(
     client: &mut Client<L>,
 ) -> Option<(Integer, Integer)> {
     let total = call(alloc, "lookup_element", "[counts,total,2]")?;
+    let counter = ask_integer(rt, shared, client, total)?;
     let size = call(alloc, "info", "[notes,size]")?;
-    let counter = ask_integer(rt, shared, client, &total)?;
-    let objects = ask_integer(rt, shared, client, &size)?;
+    let objects = ask_integer(rt, shared, client, size)?;
     Some((counter, objects))
 }

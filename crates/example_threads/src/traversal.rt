@@ -1,7 +1,8 @@
 //! A traversal of the bag, which is fixed meanwhile.
-use crate::calls::{ask_integer, call, next_call};
+use crate::calls::{ask, ask_integer, call, next_call};
 use crate::setup::TIMES;
 use ets_term::{Integer, KeyHash};
+use node_core::Call;
 use node_shared::{Client, Shared};
 use std::alloc::Global;
 use std::sync::Wait;
@@ -30,8 +31,7 @@ fn fix_bag<L: Ledger, H: KeyHash + Copy + Drop, R: Wait>(
     client: &mut Client<L>,
 ) -> Option<()> {
     let fix = call(alloc, "safe_fixtable", "[notes,true]")?;
-    client.ask(rt, shared, &fix).ok()?;
-    Some(())
+    ask(rt, shared, client, fix)
 }
 
 /// Visits the keys of the bag in turn, and returns how many of them are below `TIMES`.
@@ -42,13 +42,21 @@ fn count_old_keys<L: Ledger, H: KeyHash + Copy + Drop, R: Wait>(
     client: &mut Client<L>,
 ) -> Option<usize> {
     let mut count = 0usize;
-    let mut next = call(alloc, "first", "[notes]")?;
+    let mut last = None;
     for _ in 0..MOST_KEYS {
-        let Some(key) = ask_integer(rt, shared, client, &next) else {
+        let Some(key) = ask_integer(rt, shared, client, visit(alloc, last)?) else {
             break;
         };
         count = count.wrapping_add(usize::from(key < Integer::from(TIMES)));
-        next = next_call(alloc, key)?;
+        last = Some(key);
     }
     Some(count)
+}
+
+/// Returns the call for the key after this one, or for the first key.
+fn visit(alloc: Global, last: Option<Integer>) -> Option<Call> {
+    match last {
+        None => call(alloc, "first", "[notes]"),
+        Some(key) => next_call(alloc, key),
+    }
 }
