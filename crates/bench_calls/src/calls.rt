@@ -1,4 +1,4 @@
-//! The calls that are timed, which are built before the clock runs, and whether their replies are right.
+//! Builds the calls that are timed, before the clock runs, and checks their replies.
 use ets_term::{Atom, Integer, Items, Term};
 use node_core::{Call, Reply};
 use std::alloc::{AllocError, Global};
@@ -6,7 +6,7 @@ use std::alloc::{AllocError, Global};
 /// The identifier of the only table.
 const TABLE: u32 = 0;
 
-/// The value that an update writes: an arbitrary one, other than those that the objects have before.
+/// The value that an update writes: an arbitrary one that no object has before.
 const NEW_VALUE: Integer = 7;
 
 /// Builds the call that makes a table to which every process may write.
@@ -46,7 +46,7 @@ pub(crate) fn write_with_default(alloc: Global, k: u64) -> Result<Call, AllocErr
     build_call(alloc, "update_element", args)
 }
 
-/// Builds the element value `{2,NEW_VALUE}`: the second element is the value of an object.
+/// Builds the argument `{2,NEW_VALUE}` of `update_element`: the second element of an object is its value.
 fn new_value(alloc: Global) -> Result<Term, AllocError> {
     Ok(Term::Tuple(Items::from_vec(vec![in alloc; Term::Int(2), Term::Int(NEW_VALUE)]?)))
 }
@@ -56,7 +56,7 @@ pub(crate) fn build_first(alloc: Global) -> Result<Call, AllocError> {
     build_call(alloc, "first", vec![in alloc; Term::Tid(TABLE)]?)
 }
 
-/// Builds a call whose arguments are the table and a key.
+/// Builds a call of this name whose arguments are the table and a key.
 pub(crate) fn call_of_key(alloc: Global, name: &str, k: u64) -> Result<Call, AllocError> {
     build_call(alloc, name, vec![in alloc; Term::Tid(TABLE), key_term(k)]?)
 }
@@ -69,7 +69,7 @@ pub(crate) fn integer_of_reply(reply: &Reply) -> Option<u64> {
     }
 }
 
-/// Returns whether a reply is a key with its objects.
+/// Returns whether a reply is a tuple of a key and its objects, as `next_lookup` replies.
 pub(crate) fn is_key_with_objects(reply: &Reply) -> bool {
     match reply {
         Reply::Value(Term::Tuple(elements)) => elements.len() == 2,
@@ -77,7 +77,7 @@ pub(crate) fn is_key_with_objects(reply: &Reply) -> bool {
     }
 }
 
-/// Returns whether the reply of a lookup has an object.
+/// Returns whether the reply to a lookup has exactly one object.
 pub(crate) fn has_object(reply: &Reply) -> bool {
     match reply {
         Reply::Value(Term::List(objects)) => objects.len() == 1,

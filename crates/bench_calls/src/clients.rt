@@ -1,4 +1,4 @@
-//! Clients of one node, each in a thread of its own.
+//! Clients of one `Shared`, a node under a lock. Each client is in a thread of its own.
 ghost use Rattle.std.specs.Prelude.{◌≡◌, ◌+◌, ◌<◌, All, vec_len};
 
 use crate::calls::{has_object, insert, new_table};
@@ -26,8 +26,8 @@ impl Gate for NoGate {
     fn after(&self, _client: usize, _call: usize) {}
 }
 
-/// Times a number of clients, each in a thread, that make a number of calls each at once. Running out of memory, and
-/// more than 4,096 clients, are errors.
+/// Times clients in threads that make `calls` calls each, all at the same time. Running out of memory, and more than
+/// 4,096 clients, are errors.
 pub(crate) fn time_clients<R: Alloc<A = Global> + Clock + Threads + Wait + Sync>(
     rt: &R,
     clients: u32,
@@ -38,7 +38,8 @@ pub(crate) fn time_clients<R: Alloc<A = Global> + Clock + Threads + Wait + Sync>
     time_shared::<Brand, R>(rt, Blank::new(u64::from(clients) + 1), clients, calls)
 }
 
-/// Times the clients on a new shared node. Its ledger has one part more than there are clients.
+/// Times the clients on a new shared node. A ledger, which counts the entries of each client, has one part more than
+/// there are clients. The blank is the unused ledger.
 fn time_shared<L: Ledger + Send + Sync, R: Alloc<A = Global> + Clock + Threads + Wait + Sync>(
     rt: &R,
     blank: Blank,
@@ -58,7 +59,8 @@ fn time_shared<L: Ledger + Send + Sync, R: Alloc<A = Global> + Clock + Threads +
     time_work(rt, &shared, clients, calls)
 }
 
-/// Times the jobs of the clients. They are built before the clock runs, and what the clients found is counted after it.
+/// Times the jobs of the clients. The jobs are built before the clock runs, and the found objects are counted after it
+/// stops.
 fn time_work<L: Ledger + Send + Sync, R: Alloc<A = Global> + Clock + Threads + Wait + Sync>(
     rt: &R,
     shared: &Shared<L, Fnv>,
@@ -76,7 +78,7 @@ fn time_work<L: Ledger + Send + Sync, R: Alloc<A = Global> + Clock + Threads + W
     Ok(Outcome { nanoseconds, found })
 }
 
-/// Returns the clients, with jobs for each, over a table that has all keys.
+/// Returns the clients, each with its jobs, and fills the table with all keys.
 fn build_work<L: Ledger, R: Wait>(
     rt: &R,
     alloc: Global,
@@ -157,7 +159,7 @@ fn fill<L: Ledger, R: Wait>(
     Ok(())
 }
 
-/// Builds a client's jobs, in an order of its own.
+/// Builds the jobs of the client with this pid: a mixture of calls, in an order of the client's own.
 fn build_jobs(alloc: Global, calls: u32, pid: u32) -> Result<Vec<Job>, AllocError> {
     let mut jobs = Vec::new(alloc);
     for call in mixture(alloc, calls, u64::from(pid) + 1)? {

@@ -1,18 +1,19 @@
-//! Times whole calls of a node, of one caller and of clients in threads, and prints lines `WHO OPERATION FIGURE`.
+//! Times whole calls of a node, made by one caller or by clients in threads. Prints lines `WHO OPERATION FIGURE`.
 //!
-//! Usage: `bench_calls times|into|run|walks|alone|clients|server|reads|lists|check COUNT CALLS`.
+//! Usage: `bench_calls times|into|run|walks|alone|clients|server|reads|lists|check COUNT CALLS`. `run` below says what
+//! each part does.
 #![tactic(auto)]
 
-mod calls;
-mod clients;
-mod mixture;
-mod node;
-mod order;
-mod phases;
-mod plans;
-mod report;
-mod servers;
-mod walks;
+mod calls; // the calls that are timed
+mod clients; // clients of a `Shared`, in threads
+mod mixture; // nine lookups to one insertion
+mod node; // a node with one process and one table
+mod order; // shuffled orders of keys
+mod phases; // insertions, lookups and so on, one step for each key
+mod plans; // what the callers of a server do
+mod report; // times and counts, printed
+mod servers; // callers of a `Server`, in threads
+mod walks; // traversals of a whole table
 
 use phases::Way;
 use plans::Load;
@@ -23,11 +24,11 @@ use std::sync::Wait;
 use std::thread::Threads;
 use std::{env, io};
 
-/// The number of objects, calls or threads if the command line has none.
+/// The number of objects, calls or threads if the command line names none.
 const COUNT: u32 = 1_000;
 
-/// Runs one part of the measuring: `clients`, `server`, `reads` and `lists` with a number of threads, each with a
-/// number of calls; the others with a number of objects or calls.
+/// Runs one part of the benchmark. For `clients`, `server`, `reads` and `lists`, `count` is the number of threads, each
+/// of which makes `calls` calls. For `alone`, `count` is the number of calls, and for the others the number of objects.
 fn run<R: Print + Alloc<A = Global> + Clock + Threads + Wait + Sync>(
     rt: &R,
     part: &str,
@@ -48,7 +49,7 @@ fn run<R: Print + Alloc<A = Global> + Clock + Threads + Wait + Sync>(
     }
 }
 
-/// Runs the part that the command line names, or `check`.
+/// Runs the part that the command line names, or `check` if it names none.
 fn main(rt: HostRuntime) -> io::Result<()> {
     let mut words = env::args(&rt)?;
     let _program = words.next();
@@ -64,7 +65,7 @@ fn main(rt: HostRuntime) -> io::Result<()> {
     )
 }
 
-/// Returns the number of a word, or `COUNT` if there is none.
+/// Returns the number that a word spells, or `COUNT` if there is no word or it is not a number.
 fn number_or_default(word: Option<&str>) -> u32 {
     match word {
         Some(word) => word.parse().unwrap_or(COUNT),

@@ -1,4 +1,4 @@
-//! A mixture of calls on a table that has all keys: nine lookups, then an insertion, and so on.
+//! A mixture of calls on a table that has all keys: nine lookups, then an insertion, again and again.
 use crate::calls::{call_of_key, insert};
 use crate::order::shuffle;
 use node_core::Call;
@@ -11,7 +11,7 @@ pub(crate) const KEYS: u64 = 10_000;
 /// The number of growth steps that may run after an insertion.
 pub(crate) const GROWTH_STEPS: u32 = 2;
 
-/// Builds a number of calls, in the order of this seed.
+/// Builds the mixture: `calls` calls on keys in the order of this seed.
 pub(crate) fn mixture(alloc: Global, calls: u32, seed: u64) -> Result<Vec<Call>, AllocError> {
     let mut mixture = Vec::new(alloc);
     for (at, k) in shuffle(alloc, u64::from(calls), seed)?.iter().enumerate() {
@@ -27,7 +27,7 @@ pub(crate) fn mixture(alloc: Global, calls: u32, seed: u64) -> Result<Vec<Call>,
     Ok(mixture)
 }
 
-/// How long the calls of all callers took, and what they found.
+/// How long the calls of all callers took, and how many objects they found.
 #[derive(Clone, Copy)]
 pub(crate) struct Outcome {
     /// How long all calls took.
@@ -37,7 +37,7 @@ pub(crate) struct Outcome {
 }
 
 impl Outcome {
-    /// Prints the nanoseconds per call of callers that each made a mixture of this many calls.
+    /// Prints the nanoseconds per call of callers, each of which made a mixture of `calls` calls.
     pub(crate) fn print(
         self,
         rt: &impl Print,
@@ -49,7 +49,7 @@ impl Outcome {
         self.print_mixture(rt, who, callers, calls, calls - calls / 10)
     }
 
-    /// Prints the nanoseconds per call of callers that made only lookups.
+    /// Prints the nanoseconds per call of callers, each of which made `calls` lookups.
     pub(crate) fn print_lookups(
         self,
         rt: &impl Print,
@@ -60,8 +60,8 @@ impl Outcome {
         self.print_mixture(rt, who, callers, calls, calls)
     }
 
-    /// Prints the nanoseconds per call, after a line of warning if not each of the `lookups` of each caller found an
-    /// object.
+    /// Prints the nanoseconds per call. Prints a warning first unless all lookups found an object: `lookups` of each
+    /// caller.
     fn print_mixture(
         self,
         rt: &impl Print,

@@ -1,4 +1,4 @@
-//! A node whose only process has one table.
+//! A node with one process, which has one table.
 use crate::calls::{has_object, insert, new_table};
 use crate::mixture::{KEYS, mixture};
 use ets_term::Fnv;
@@ -8,7 +8,7 @@ use std::alloc::{AllocError, Global};
 /// The process that makes the calls.
 const PID: u32 = 0;
 
-/// Builds a node whose only process has made the table.
+/// Builds a node, and makes the table in its only process.
 pub(crate) fn node_with_table(alloc: Global) -> Result<Node<Fnv>, AllocError> {
     let limits = Limits {
         processes: 1,
@@ -34,12 +34,12 @@ fn run_step(node: &mut Node<Fnv>, step: Step) -> Result<(), AllocError> {
     }
 }
 
-/// Returns the step in which the process makes this call.
+/// Returns the step that makes this call in the process.
 pub(crate) fn ask_step(call: Call) -> Step {
     Step::Ask(PID, call)
 }
 
-/// Runs at most two pending growth steps, which is `GROWTH_STEPS`.
+/// Runs at most two pending growth steps: as many as `GROWTH_STEPS` says.
 pub(crate) fn grow(node: &mut Node<Fnv>) -> Result<(), AllocError> {
     node.run_pending()?;
     node.run_pending()?;
@@ -56,7 +56,7 @@ pub(crate) fn insert_and_grow(
     grow(node)
 }
 
-/// Inserts an object of each of the `KEYS`.
+/// Inserts an object under each key below `KEYS`.
 pub(crate) fn fill(alloc: Global, node: &mut Node<Fnv>) -> Result<(), AllocError> {
     for k in 0..KEYS {
         insert_and_grow(alloc, node, k)?;
@@ -64,7 +64,7 @@ pub(crate) fn fill(alloc: Global, node: &mut Node<Fnv>) -> Result<(), AllocError
     Ok(())
 }
 
-/// Builds the steps of a mixture of calls.
+/// Builds the steps that make a mixture of calls.
 pub(crate) fn mixture_steps(alloc: Global, calls: u32) -> Result<Vec<Step>, AllocError> {
     let mut steps = Vec::new(alloc);
     for call in mixture(alloc, calls, 1)? {

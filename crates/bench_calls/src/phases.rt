@@ -1,4 +1,4 @@
-//! The phases of the life of a table: one step for each key, in an order of the phase's own.
+//! The phases of the benchmark: one step for each key, in an order of the phase's own. A table goes through all phases.
 use crate::calls::{call_of_key, count_up, has_object, insert, is_atom, write, write_with_default};
 use crate::node::{ask_step, grow};
 use crate::order::shuffle;
@@ -6,9 +6,10 @@ use ets_term::{Fnv, Term};
 use node_core::{Call, Node, Reply, Step};
 use std::alloc::{AllocError, Global};
 
-/// A phase of the life of a table: one step for each key.
+/// A phase of the benchmark. All its calls are of one kind.
 #[derive(Clone, Copy)]
 pub enum Phase {
+    /// Insertions of new keys.
     Insert,
     /// Lookups of keys in the table.
     Hit,
@@ -20,6 +21,7 @@ pub enum Phase {
     Write,
     /// Updates of an element with a default object.
     WriteWithDefault,
+    /// Deletions of keys in the table.
     Delete,
 }
 
@@ -34,22 +36,22 @@ pub const PHASES: [Phase; 7] = [
     Phase::Delete,
 ];
 
-/// The number of steps in a list of `Node::run`.
+/// The number of steps in each list that `Node::run` gets.
 const LIST_LEN: usize = 64;
 
-/// How a step is made: with a reply of its own, over the reply before, or in a list of steps by `Node::run`.
+/// The method of a node that runs the steps.
 #[derive(Clone, Copy)]
 pub enum Way {
-    /// `Node::step`.
+    /// `Node::step`: each step has a new reply.
     Step,
-    /// `Node::step_into`.
+    /// `Node::step_into`: each step writes its reply over the previous reply.
     StepInto,
-    /// `Node::run`.
+    /// `Node::run`: runs a list of steps.
     Run,
 }
 
 impl Way {
-    /// Returns the first word of the lines with its figures.
+    /// Returns the first word of the lines that report the times.
     pub(crate) fn name(self) -> &'static str {
         match self {
             Way::Step => "calls",
@@ -73,7 +75,7 @@ impl Phase {
         }
     }
 
-    /// Builds the steps of the phase on a number of keys.
+    /// Builds the steps of the phase, one for each of `count` keys.
     pub(crate) fn steps(self, alloc: Global, count: u32) -> Result<Vec<Step>, AllocError> {
         let mut steps = Vec::new(alloc);
         for k in shuffle(alloc, u64::from(count), self.seed())? {
@@ -82,7 +84,7 @@ impl Phase {
         Ok(steps)
     }
 
-    /// Runs the steps, each insertion with up to two growth steps. Returns the number of right replies.
+    /// Runs the steps. Each insertion is followed by at most two growth steps. Returns the number of right replies.
     pub(crate) fn run(
         self,
         way: Way,
@@ -97,7 +99,7 @@ impl Phase {
         }
     }
 
-    /// Runs the steps one by one, each with a reply of its own. Returns the number of right replies.
+    /// Runs the steps one by one, each with a new reply. Returns the number of right replies.
     fn run_steps(self, node: &mut Node<Fnv>, steps: &[Step]) -> Result<u64, AllocError> {
         let mut right_count: u64 = 0;
         for step in steps {
@@ -115,7 +117,7 @@ impl Phase {
         Ok(self.is_right(&reply))
     }
 
-    /// Runs the steps one by one, each with its reply in place of the one before. Returns the number of right replies.
+    /// Runs the steps one by one. Each writes its reply over the previous reply. Returns the number of right replies.
     fn run_steps_into(
         self,
         node: &mut Node<Fnv>,
@@ -172,7 +174,7 @@ impl Phase {
         }
     }
 
-    /// Builds the call of a key. The keys of a miss are not among those of the other phases.
+    /// Builds the call of a key. `Miss` takes keys that are not in the table: those from `count` on.
     fn call(self, alloc: Global, k: u64, count: u32) -> Result<Call, AllocError> {
         match self {
             Phase::Insert => insert(alloc, k),
@@ -185,7 +187,7 @@ impl Phase {
         }
     }
 
-    /// Returns whether a reply is what the phase expects.
+    /// Returns whether a reply is right for a call of this phase.
     fn is_right(self, reply: &Reply) -> bool {
         match self {
             Phase::Insert | Phase::Write | Phase::WriteWithDefault | Phase::Delete => is_atom(
@@ -193,7 +195,7 @@ impl Phase {
             ),
             Phase::Hit => has_object(reply),
             Phase::Miss => is_atom(reply, "false"),
-            // The value was 1, and the call added 1.
+            // The value was 1, and the call has added 1.
             Phase::Counter => matches!(reply, Reply::Value(Term::Int(2))),
         }
     }

@@ -1,4 +1,4 @@
-//! What the callers of a server do: lookups one by one or in lists, or nine lookups to an insertion.
+//! What the callers of a server do: lookups one by one, lookups in lists, or a mixture of lookups and insertions.
 use crate::calls::call_of_key;
 use crate::mixture::{KEYS, mixture};
 use crate::order::shuffle;
@@ -22,12 +22,12 @@ pub(crate) enum Load {
     Reads,
     /// Lookups in lists of `LIST_LEN`.
     Lists,
-    /// Nine lookups, then an insertion, and so on.
+    /// Nine lookups, then an insertion, again and again.
     Mixture,
 }
 
 impl Load {
-    /// Returns how many calls a caller makes each time it has the lock.
+    /// Returns how many calls a caller makes each time it takes the lock.
     pub(crate) fn calls_per_lock(self) -> usize {
         match self {
             Load::Lists => LIST_LEN,
@@ -44,7 +44,7 @@ impl Load {
     }
 }
 
-/// Builds a number of lookups, in the order of `LOOKUP_SEED`.
+/// Builds `calls` lookups, in the order of `LOOKUP_SEED`.
 fn build_lookups(alloc: Global, calls: u32) -> Result<Vec<Call>, AllocError> {
     let mut lookups = Vec::new(alloc);
     for k in shuffle(alloc, u64::from(calls), LOOKUP_SEED)? {
@@ -63,7 +63,7 @@ pub(crate) struct Plan {
 }
 
 impl Plan {
-    /// Returns the first word of the line with its figure.
+    /// Returns the first word of the line that reports the time.
     pub(crate) fn name(self) -> &'static str {
         match (self.locking, self.load) {
             (Locking::Single, Load::Reads) => "server-reads",

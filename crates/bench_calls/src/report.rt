@@ -1,3 +1,4 @@
+//! Runs the parts of the benchmark, and prints their times and counts.
 ghost use Rattle.std.specs.Prelude.{◌<◌};
 
 use crate::clients::time_clients;
@@ -17,18 +18,18 @@ use std::sync::Wait;
 use std::thread::Threads;
 use std::time::{Duration, Instant};
 
-/// About the least number of steps of a phase that are timed. A small table is built again until there are as many.
+/// About the least number of steps of a phase that are timed. A small table is built repeatedly for that many steps.
 const MIN_TIMED_STEPS: u32 = 300_000;
 
-/// The number of clients, and of callers of a server, whose results are checked.
+/// The number of clients, and of callers of a server, in the part `check`.
 const CLIENTS: u32 = 3;
 
-/// Returns how often a table with a number of objects is built.
+/// Returns how many tables with this number of objects are built.
 fn repeat_count(count: u32) -> u32 {
     (MIN_TIMED_STEPS / count.max(1)).max(1)
 }
 
-/// A phase, and its least time so far, which is the time that counts.
+/// A phase, and the least time of a run so far, which the report prints.
 #[derive(Drop)]
 struct PhaseTime {
     phase: Phase,
@@ -36,7 +37,8 @@ struct PhaseTime {
 }
 
 impl PhaseTime {
-    /// Runs the phase once more, and keeps the time if it is the least. Its steps are built before the clock runs.
+    /// Runs the phase once more, and stores its time if that is the least so far. The steps are built before the clock
+    /// runs.
     fn run_once(
         &mut self,
         rt: &(impl Print + Alloc<A = Global> + Clock),
@@ -55,7 +57,7 @@ impl PhaseTime {
     }
 }
 
-/// Returns all phases, none of them timed yet.
+/// Returns all phases, before the first run.
 fn all_phases(alloc: Global) -> Result<Vec<PhaseTime>, AllocError> {
     let mut times = Vec::new(alloc);
     for phase in PHASES {
@@ -68,7 +70,7 @@ fn all_phases(alloc: Global) -> Result<Vec<PhaseTime>, AllocError> {
     Ok(times)
 }
 
-/// Times all phases of a new table.
+/// Times all phases on a new table.
 fn time_new_table(
     rt: &(impl Print + Alloc<A = Global> + Clock),
     way: Way,
@@ -79,7 +81,7 @@ fn time_new_table(
     time_phases(rt, way, &mut node, phases, count)
 }
 
-/// Times all phases of a table.
+/// Times all phases on the table of the node.
 fn time_phases(
     rt: &(impl Print + Alloc<A = Global> + Clock),
     way: Way,
@@ -93,7 +95,7 @@ fn time_phases(
     Ok(())
 }
 
-/// Prints the nanoseconds per step for each phase of a table with a number of objects.
+/// Prints the nanoseconds per step of each phase, on tables with `count` objects.
 pub(crate) fn print_times(
     rt: &(impl Print + Alloc<A = Global> + Clock),
     way: Way,
@@ -116,7 +118,7 @@ pub(crate) fn print_times(
     Ok(())
 }
 
-/// Prints the nanoseconds per step of a mixture of steps of one caller.
+/// Prints the nanoseconds per step of a mixture that one process makes alone, without threads.
 pub(crate) fn print_alone(
     rt: &(impl Print + Alloc<A = Global> + Clock),
     calls: u32,
@@ -125,7 +127,7 @@ pub(crate) fn print_alone(
     print_mixture(rt, &mut node, calls)
 }
 
-/// Prints the nanoseconds per step of a mixture, on a table that it fills first.
+/// Fills the table of the node, and prints the nanoseconds per step of a mixture on it.
 fn print_mixture(
     rt: &(impl Print + Alloc<A = Global> + Clock),
     node: &mut Node<Fnv>,
@@ -139,7 +141,7 @@ fn print_mixture(
     Outcome { nanoseconds, found }.print(rt, "alone", 1, calls)
 }
 
-/// Prints the nanoseconds per call of a number of clients that make a number of calls each in parallel.
+/// Prints the nanoseconds per call of clients that make `calls` calls each, in parallel.
 pub(crate) fn print_clients<R: Print + Alloc<A = Global> + Clock + Threads + Wait + Sync>(
     rt: &R,
     clients: u32,
@@ -150,8 +152,8 @@ pub(crate) fn print_clients<R: Print + Alloc<A = Global> + Clock + Threads + Wai
     time_clients(rt, clients, calls)?.print(rt, "shared", clients, calls)
 }
 
-/// Prints the nanoseconds per call of a number of callers of a server that make a number of calls each in parallel:
-/// with one lock, and then with a sharded one.
+/// Prints the nanoseconds per call of callers of a server that make `calls` calls each, in parallel: first on a server
+/// with a single lock, then with a sharded lock.
 pub(crate) fn print_servers<R: Print + Alloc<A = Global> + Clock + Threads + Wait + Sync>(
     rt: &R,
     load: Load,
@@ -216,7 +218,7 @@ pub(crate) fn print_counts<R: Print + Alloc<A = Global> + Clock + Threads + Wait
     Ok(())
 }
 
-/// Prints how many steps of each phase of a new table have right replies.
+/// Prints how many steps of each phase have right replies, on a new table.
 fn print_phase_counts(
     rt: &(impl Print + Alloc<A = Global>),
     way: Way,
@@ -226,7 +228,7 @@ fn print_phase_counts(
     print_table_counts(rt, way, &mut node, count)
 }
 
-/// Prints how many steps of each phase of a table have right replies.
+/// Prints how many steps of each phase have right replies, on the table of the node.
 fn print_table_counts(
     rt: &(impl Print + Alloc<A = Global>),
     way: Way,

@@ -1,4 +1,4 @@
-//! Callers of one server, each in a thread of its own, timed over all their calls.
+//! Times the callers of one `Server`, a node under a lock. Each caller is in a thread of its own.
 ghost use Rattle.std.specs.Prelude.{◌≡◌, ◌<◌, All, vec_len};
 ghost use Rattle.std.specs.Thread.{IsSync};
 
@@ -17,7 +17,7 @@ use std::thread::Threads;
 use std::time::Instant;
 use std::{io, thread};
 
-/// Times a number of callers of a new server.
+/// Times `callers` callers of a new server.
 pub(crate) fn time_server<R: Alloc<A = Global> + Clock + Threads + Wait + Sync>(
     rt: &R,
     plan: Plan,
@@ -33,7 +33,7 @@ pub(crate) fn time_server<R: Alloc<A = Global> + Clock + Threads + Wait + Sync>(
     time_server_within::<Brand, R>(rt, history, limits, plan)
 }
 
-/// Times the callers of a server with these limits, one for each process.
+/// Times the callers of a new server with these limits. There is a caller for each process that the limits allow.
 fn time_server_within<
     B: HistoryId + Send + Sync,
     R: Alloc<A = Global> + Clock + Threads + Wait + Sync,
@@ -47,7 +47,7 @@ fn time_server_within<
     time_calls(rt, &server, plan, callers)
 }
 
-/// Times the calls, which are built before the clock runs.
+/// Times the calls of all callers. The calls are built before the clock runs.
 fn time_calls<B: HistoryId + Send + Sync, R: Alloc<A = Global> + Clock + Threads + Wait + Sync>(
     rt: &R,
     server: &Server<B, Fnv>,
@@ -63,8 +63,8 @@ fn time_calls<B: HistoryId + Send + Sync, R: Alloc<A = Global> + Clock + Threads
     Ok(Outcome { nanoseconds, found })
 }
 
-/// Returns the callers with their calls, and how many they make each time they have the lock, over a table that has all
-/// keys.
+/// Fills the table with all keys. Returns each caller with its calls, and how many of them it makes each time it takes
+/// the lock.
 fn build_work<B: HistoryId, R: Wait>(
     rt: &R,
     alloc: Global,
@@ -145,7 +145,8 @@ fn fill<B: HistoryId, R: Wait>(
     Ok(())
 }
 
-/// Makes the calls of each caller in a thread. Returns how many lookups found an object. Out of memory counts as none.
+/// Makes the calls of each caller in a thread: splits the callers into halves until one is left. Returns how many
+/// lookups found an object. A caller that runs out of memory counts as 0.
 fn call_all<
     B: HistoryId + Send + Sync,
     H: KeyHash + Copy + Drop + Send + Sync,
@@ -179,8 +180,8 @@ fn call_all<
     front_found.wrapping_add(back_found)
 }
 
-/// Makes the calls of one caller: in lists if it makes more than one call each time it has the lock, else one by one.
-/// Returns how many lookups found an object, or 0 after a fault, so that the report says that the calls went wrong.
+/// Makes the calls of one caller: in lists if it makes more than one call each time it takes the lock, else one by one.
+/// Returns how many lookups found an object. After a fault it returns 0, so that the report prints a warning.
 fn call_each<B: HistoryId, H: KeyHash + Copy + Drop, R: Wait>(
     rt: &R,
     server: &Server<B, H>,
@@ -199,7 +200,8 @@ fn call_each<B: HistoryId, H: KeyHash + Copy + Drop, R: Wait>(
     found.unwrap_or(0)
 }
 
-/// Makes calls one by one, each by `read_into` if it only reads. Returns how many lookups found an object.
+/// Makes calls one by one: by `read_into` if the call only reads, else by `ask`. Returns how many lookups found an
+/// object.
 fn call_in_turn<B: HistoryId, H: KeyHash + Copy + Drop, R: Wait>(
     rt: &R,
     alloc: Global,

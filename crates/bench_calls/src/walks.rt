@@ -1,4 +1,5 @@
-//! Walks over a whole table: by `next` and then `lookup`, or by `next_lookup`, which is both in one call.
+//! Traversals of a whole table, here called walks: by `next` and then `lookup`, or by `next_lookup`, which does both in
+//! one call.
 use crate::calls::{build_first, call_of_key, has_object, integer_of_reply, is_key_with_objects};
 use crate::node::{ask_step, insert_and_grow, node_with_table};
 use crate::order::shuffle;
@@ -10,15 +11,16 @@ use std::io;
 use std::rt::Clock;
 use std::time::Instant;
 
-/// How often each walk is timed. The least time counts.
+/// How often each walk is timed. The least time is printed.
 const TURNS: u32 = 3;
 
-/// Two walks over one table, as steps that are built before the clock runs. Each begins after the first key.
+/// The steps of two walks over one table, built before the clock runs. Each walk begins after the first key, so it
+/// finds one object less than the table has.
 #[derive(Drop)]
 struct Walks {
-    /// A `next` and a `lookup` for each key.
+    /// A `next` and a `lookup` for each key but the first.
     apart: Vec<Step>,
-    /// A `next_lookup` for each key.
+    /// A `next_lookup` for each key but the first.
     together: Vec<Step>,
 }
 
@@ -41,7 +43,7 @@ impl Walks {
     }
 }
 
-/// Returns all keys in the order of `first` and `next`.
+/// Returns the keys in the order of `first` and `next`: at most `count`, the number of all keys.
 fn keys_in_order(alloc: Global, node: &mut Node<Fnv>, count: u32) -> Result<Vec<u64>, AllocError> {
     let mut keys = Vec::new(alloc);
     let mut next = run_for_key(node, ask_step(build_first(alloc)?))?;
@@ -55,13 +57,14 @@ fn keys_in_order(alloc: Global, node: &mut Node<Fnv>, count: u32) -> Result<Vec<
     Ok(keys)
 }
 
-/// Runs a step, and returns the key that it found.
+/// Runs a step, and returns the key that is its reply, or `None` if the reply is not an integer: at the end of the
+/// table.
 fn run_for_key(node: &mut Node<Fnv>, step: Step) -> Result<Option<u64>, AllocError> {
     let reply = node.step(&step)?;
     Ok(integer_of_reply(&reply))
 }
 
-/// Inserts a number of objects in a shuffled order.
+/// Inserts `count` objects in a shuffled order.
 fn fill(alloc: Global, node: &mut Node<Fnv>, count: u32) -> Result<(), AllocError> {
     for k in shuffle(alloc, u64::from(count), 1)? {
         insert_and_grow(alloc, node, k)?;
@@ -84,7 +87,7 @@ fn finds_object(node: &mut Node<Fnv>, step: &Step) -> Result<bool, AllocError> {
     Ok(has_object(&reply) || is_key_with_objects(&reply))
 }
 
-/// Prints the nanoseconds per object of either walk over a table of a number of objects.
+/// Prints the nanoseconds per object of each walk, over a new table with `count` objects.
 pub(crate) fn print_times(
     rt: &(impl Print + Alloc<A = Global> + Clock),
     count: u32,
@@ -93,7 +96,7 @@ pub(crate) fn print_times(
     print_walk_times(rt, &mut node, count)
 }
 
-/// Prints the nanoseconds per object of either walk over a table that it fills first.
+/// Fills the table of the node, and prints the nanoseconds per object of each walk over it.
 fn print_walk_times(
     rt: &(impl Print + Alloc<A = Global> + Clock),
     node: &mut Node<Fnv>,
@@ -110,7 +113,8 @@ fn print_walk_times(
     println!(rt; "calls next_lookup {}", together / u64::from(count.max(1)))
 }
 
-/// Returns the nanoseconds that these steps take.
+/// Returns the nanoseconds that the steps of a walk take. Prints a warning if they do not find all objects but the
+/// first.
 fn time_steps(
     rt: &(impl Print + Alloc<A = Global> + Clock),
     node: &mut Node<Fnv>,
@@ -126,13 +130,13 @@ fn time_steps(
     Ok(spent)
 }
 
-/// Prints how many objects either walk finds after the first.
+/// Prints how many objects each walk finds, over a new table with `count` objects.
 pub(crate) fn print_counts(rt: &(impl Print + Alloc<A = Global>), count: u32) -> io::Result<()> {
     let mut node = node_with_table(rt.alloc())?;
     print_walk_counts(rt, &mut node, count)
 }
 
-/// Prints how many objects either walk finds, over a table that it fills first.
+/// Fills the table of the node, and prints how many objects each walk over it finds.
 fn print_walk_counts(
     rt: &(impl Print + Alloc<A = Global>),
     node: &mut Node<Fnv>,

@@ -1,3 +1,4 @@
+//! Inserts items into a list with buckets, and searches for them.
 ghost use Rattle.std.specs.Prelude.{◌≡◌, ◌≤◌, ◌<◌, ◌^◌, IfOk};
 ghost use Rattle.split_key.specs.Keys.{IsPowerOfTwo};
 ghost use Rattle.node_list.specs.ListState.{HasRoom};
@@ -18,9 +19,9 @@ const INSERT_SEED: u64 = 1;
 /// The seed of the order in which items are searched for.
 const FIND_SEED: u64 = 2;
 
-/// Inserts the items `{K,1}`, for each K below `items` in shuffled order, into a list of `buckets` buckets. If `finds`
-/// is not 0, it then searches for each item in another order, and returns how many it found. It returns 0 if `buckets`
-/// is not a power of two, if a number is above 2^31, and if memory runs out.
+/// Inserts the objects `{K,1}`, for each K below `items` in shuffled order, into a list of `buckets` buckets. If
+/// `finds` is 0, it then returns 0. Otherwise it searches for each key in another order, and returns how many it found.
+/// It also returns 0 if `buckets` is not a power of two, if `items` or `buckets` is above 2^31, or if memory runs out.
 #[unsafe(no_mangle)]
 pub extern "C" fn bench_layers_list(alloc: Global, items: u64, buckets: u64, finds: u64) -> u64
     ensures { finds ≡ 0 → result ≡ 0 }
@@ -40,7 +41,7 @@ pub extern "C" fn bench_layers_list(alloc: Global, items: u64, buckets: u64, fin
     count_found(&lists, items)
 }
 
-/// Builds a list of `buckets` buckets with the items in it.
+/// Builds a list of `buckets` buckets, and inserts the items.
 fn build_lists(alloc: Global, items: u64, buckets: u64) -> Result<Lists, AllocError>
     requires some { 0 < buckets }
     requires power { IsPowerOfTwo buckets }
@@ -48,13 +49,14 @@ fn build_lists(alloc: Global, items: u64, buckets: u64) -> Result<Lists, AllocEr
     requires few_buckets { buckets ≤ 2 ^ 31 }
     ensures { IfOk result (λ l. IsReady l) }
 {
-    let mut lists = build_dummies(alloc, items, buckets)?;
+    let mut lists = build_empty_lists(alloc, items, buckets)?;
     insert(alloc, &mut lists, items)?;
     Ok(lists)
 }
 
-/// Builds a list of `buckets` buckets, which has only their dummies, with capacity for the items.
-fn build_dummies(alloc: Global, items: u64, buckets: u64) -> Result<Lists, AllocError>
+/// Builds a list without items: only the dummy, the sentinel node, of each of the `buckets` buckets. The list has
+/// capacity for the items.
+fn build_empty_lists(alloc: Global, items: u64, buckets: u64) -> Result<Lists, AllocError>
     requires some { 0 < buckets }
     requires power { IsPowerOfTwo buckets }
     requires few_items { items ≤ 2 ^ 31 }
@@ -69,7 +71,7 @@ fn build_dummies(alloc: Global, items: u64, buckets: u64) -> Result<Lists, Alloc
     Ok(lists)
 }
 
-/// Inserts the items in shuffled order.
+/// Inserts an item for each number below `items`, in shuffled order.
 fn insert(alloc: Global, lists: &mut Lists, items: u64) -> Result<(), AllocError>
     requires ready { IsReady lists.old }
     requires few_items { items ≤ 2 ^ 31 }
@@ -88,7 +90,7 @@ fn insert(alloc: Global, lists: &mut Lists, items: u64) -> Result<(), AllocError
     Ok(())
 }
 
-/// Searches for each item. Returns how many it found.
+/// Searches for the item of each number below `items`, in another shuffled order. Returns how many it found.
 fn count_found(lists: &Lists, items: u64) -> u64
     requires ready { IsReady lists.now }
     requires few_items { items ≤ 2 ^ 31 }

@@ -1,3 +1,4 @@
+//! A list that is divided into buckets, and the start of each bucket in it.
 ghost use Rattle.std.specs.Prelude.{◌≡◌, ◌+◌, ◌≤◌, ◌<◌, ◌^◌, length, vec_len, vec_capacity, IfOk, OnOk};
 ghost use Rattle.split_key.specs.Keys.{key_of_item};
 ghost use Rattle.node_list.specs.ListState.{HasRoom};
@@ -9,7 +10,8 @@ use node_list::{At, Chain, NodeList, Steps};
 use split_key::{bucket_of, dummy_key, item_key, laws, parent};
 use std::alloc::{AllocError, Global};
 
-/// A node list and the place of the dummy of each bucket.
+/// A node list, sorted by split key, and the place of the dummy of each bucket: the sentinel node at the start of the
+/// bucket.
 #[derive(Drop)]
 pub struct Lists {
     list: NodeList,
@@ -17,7 +19,8 @@ pub struct Lists {
 }
 
 impl Lists {
-    /// Builds a list of one bucket, with capacity for `nodes` more nodes and `buckets` more buckets.
+    /// Builds a list whose only node is the dummy of bucket 0. It has capacity for `nodes` more nodes and `buckets`
+    /// more buckets.
     pub fn new(alloc: Global, nodes: usize, buckets: usize) -> Result<Lists, AllocError>
         ensures dummies { IfOk result (λ l. HasDummies l.dummies.items l.list.cells) }
         ensures one { IfOk result (λ l. vec_len l.dummies ≡ 1) }
@@ -32,7 +35,8 @@ impl Lists {
         Ok(Lists { list, dummies })
     }
 
-    /// Inserts the dummy of the next bucket. The search for its place begins at the dummy of its parent.
+    /// Inserts the dummy of the next bucket. The search for its place begins at the dummy of its parent bucket, whose
+    /// number is the same without the highest bit.
     pub fn add_dummy(&mut self)
         requires dummies { HasDummies self.old.dummies.items self.old.list.cells }
         requires some { 0 < vec_len self.old.dummies }
@@ -53,7 +57,7 @@ impl Lists {
         self.dummies.push_reserved(at);
     }
 
-    /// Returns where a search or an insertion by this hash begins: at the dummy of its bucket.
+    /// Returns the place of the dummy of this hash's bucket. A search or an insertion begins there.
     fn start(&self, hash: u32) -> At
         requires { IsReady self.now }
         ensures { HasKeyAtMost (key_of_item hash) result self.now.list.cells }
@@ -64,7 +68,7 @@ impl Lists {
         self.dummies[bucket as usize]
     }
 
-    /// Inserts the object `{K,1}` of a number K into its bucket.
+    /// Inserts the item of a number K, with the key K and the object `{K,1}`, into its bucket.
     pub fn add_item(&mut self, alloc: Global, number: Integer) -> Result<(), AllocError>
         requires ready { IsReady self.old }
         requires room { HasRoom self.old.list 1 }
@@ -82,7 +86,7 @@ impl Lists {
         Ok(())
     }
 
-    /// Returns whether an item of this number is in its bucket.
+    /// Returns whether the item of this number is in its bucket.
     pub fn has_item(&self, number: Integer, steps: &mut Steps) -> bool
         requires { IsReady self.now }
     {

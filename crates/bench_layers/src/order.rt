@@ -1,6 +1,8 @@
+//! A shuffled order of numbers.
 ghost use Rattle.std.specs.Prelude.{◌≤◌, ◌<◌, ◌^◌};
 
-/// Returns the length of the order of `count` numbers: the least power of two that is not less.
+/// Returns how many indices an order needs that has each number below `count`: the least power of two that is not less
+/// than `count`. A caller skips the numbers that are not below `count`.
 pub fn order_len(count: u64) -> u64
     requires { count ≤ 2 ^ 63 }
     ensures all { count ≤ result }
@@ -9,9 +11,10 @@ pub fn order_len(count: u64) -> u64
     count.next_power_of_two()
 }
 
-/// Returns the number at index `i` of a shuffled order. Each seed has its own multipliers, so that no order follows
-/// another. If `mask` is one less than a power of two, each number up to it occurs once: a multiplication by an odd
-/// number maps the numbers one to one, and so does an exclusive or with a shift. The multipliers are arbitrary.
+/// Returns the number at index `i` of the order of this seed. Each seed has its own multipliers, so that items are not
+/// searched for in the order of their insertion. If `mask` is one less than a power of two, each number up to `mask`
+/// occurs once among the indices up to it. Each line maps these numbers one to one: a multiplication by an odd number
+/// does, and so does an exclusive or of a number with its shift. The multipliers are arbitrary.
 pub fn number_at(i: u64, seed: u64, mask: u64) -> u64 {
     let odd = seed.wrapping_mul(0xD6E8_FEB8_6659_FD92) | 1;
     let a = i.wrapping_mul(odd) & mask;

@@ -1,3 +1,4 @@
+//! Reads a term from its text, and prints it.
 use std::alloc::Global;
 use term_text::{print_term, read_term};
 

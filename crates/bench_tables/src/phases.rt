@@ -1,10 +1,12 @@
+//! The phases of the benchmark: one call for each key, in an order of the phase's own.
+use crate::bench_table::BenchTable;
 use crate::order::shuffle;
-use crate::store::Store;
 use std::alloc::{AllocError, Global};
 
-/// A phase of the benchmark: one call for each key, in an order of its own.
+/// A phase of the benchmark. All its calls are of one kind.
 #[derive(Clone, Copy)]
 pub enum Phase {
+    /// Insertions of new keys.
     Insert,
     /// Lookups of keys in the table.
     Hit,
@@ -12,6 +14,7 @@ pub enum Phase {
     Miss,
     /// Additions of one to the value of a key.
     Counter,
+    /// Deletions of keys in the table.
     Delete,
 }
 
@@ -47,7 +50,7 @@ impl Phase {
         }
     }
 
-    /// Returns the keys in this phase's order. Those of a miss are not in the table.
+    /// Returns the keys in this phase's order. The keys of `Miss` are not in the table.
     pub(crate) fn keys(self, alloc: Global, count: u64) -> Result<Vec<u64>, AllocError> {
         match self {
             Phase::Miss => absent_keys(alloc, count, self.seed()),
@@ -56,23 +59,23 @@ impl Phase {
     }
 
     /// Runs the phase. Returns how many of its calls did what they should.
-    pub(crate) fn run<S: Store>(
+    pub(crate) fn run<T: BenchTable>(
         self,
         alloc: Global,
-        store: &mut S,
+        table: &mut T,
         keys: &[u64],
     ) -> Result<u64, AllocError> {
         match self {
-            Phase::Insert => insert_all(alloc, store, keys),
-            Phase::Hit => Ok(hit_all(store, keys)),
-            Phase::Miss => Ok(miss_all(store, keys)),
-            Phase::Counter => count_up_all(alloc, store, keys),
-            Phase::Delete => Ok(delete_all(store, keys)),
+            Phase::Insert => insert_all(alloc, table, keys),
+            Phase::Hit => Ok(hit_all(table, keys)),
+            Phase::Miss => Ok(miss_all(table, keys)),
+            Phase::Counter => count_up_all(alloc, table, keys),
+            Phase::Delete => Ok(delete_all(table, keys)),
         }
     }
 }
 
-/// Returns `count` keys that are not in the table, in the order of this seed.
+/// Returns `count` keys that are not in the table, in the order of this seed. The keys of the table are below `count`.
 fn absent_keys(alloc: Global, count: u64, seed: u64) -> Result<Vec<u64>, AllocError> {
     let mut keys = shuffle(alloc, count, seed)?;
     for key in &mut keys {
@@ -81,47 +84,55 @@ fn absent_keys(alloc: Global, count: u64, seed: u64) -> Result<Vec<u64>, AllocEr
     Ok(keys)
 }
 
-/// Inserts an object of each key. Returns how many calls did so.
-fn insert_all<S: Store>(alloc: Global, store: &mut S, keys: &[u64]) -> Result<u64, AllocError> {
+/// Inserts an object under each key. Returns how many calls did so.
+fn insert_all<T: BenchTable>(
+    alloc: Global,
+    table: &mut T,
+    keys: &[u64],
+) -> Result<u64, AllocError> {
     let mut inserted: u64 = 0;
     for key in keys {
-        inserted = inserted.wrapping_add(u64::from(store.insert(alloc, *key)?));
+        inserted = inserted.wrapping_add(u64::from(table.insert(alloc, *key)?));
     }
     Ok(inserted)
 }
 
-/// Reads the object of each key. Returns how many were there.
-fn hit_all<S: Store>(store: &mut S, keys: &[u64]) -> u64 {
+/// Looks up the object of each key. Returns how many were found.
+fn hit_all<T: BenchTable>(table: &mut T, keys: &[u64]) -> u64 {
     let mut found: u64 = 0;
     for key in keys {
-        found = found.wrapping_add(u64::from(store.has_object(*key)));
+        found = found.wrapping_add(u64::from(table.has_object(*key)));
     }
     found
 }
 
-/// Searches for each key, none of which is in the table. Returns how many were not there.
-fn miss_all<S: Store>(store: &mut S, keys: &[u64]) -> u64 {
+/// Searches for each key, none of which is in the table. Returns how many were missing.
+fn miss_all<T: BenchTable>(table: &mut T, keys: &[u64]) -> u64 {
     let mut missed: u64 = 0;
     for key in keys {
-        missed = missed.wrapping_add(u64::from(store.lacks_key(*key)));
+        missed = missed.wrapping_add(u64::from(table.lacks_key(*key)));
     }
     missed
 }
 
 /// Adds one to the value of each key. Returns how many calls did so.
-fn count_up_all<S: Store>(alloc: Global, store: &mut S, keys: &[u64]) -> Result<u64, AllocError> {
+fn count_up_all<T: BenchTable>(
+    alloc: Global,
+    table: &mut T,
+    keys: &[u64],
+) -> Result<u64, AllocError> {
     let mut counted: u64 = 0;
     for key in keys {
-        counted = counted.wrapping_add(u64::from(store.count_up(alloc, *key)?));
+        counted = counted.wrapping_add(u64::from(table.count_up(alloc, *key)?));
     }
     Ok(counted)
 }
 
-/// Deletes the object of each key. Returns how many were there.
-fn delete_all<S: Store>(store: &mut S, keys: &[u64]) -> u64 {
+/// Deletes the object of each key. Returns how many calls did so.
+fn delete_all<T: BenchTable>(table: &mut T, keys: &[u64]) -> u64 {
     let mut deleted: u64 = 0;
     for key in keys {
-        deleted = deleted.wrapping_add(u64::from(store.delete(*key)));
+        deleted = deleted.wrapping_add(u64::from(table.delete(*key)));
     }
     deleted
 }

@@ -1,11 +1,11 @@
-//! The rows alone, as a table uses them.
-use crate::store::{Store, build_object, has_value, is_full, key_of};
+//! The rows alone: the slots of a table, each a key with its objects.
+use crate::bench_table::{BenchTable, build_object, has_value, is_full, key_of};
 use bucket_table::{Rows, SlotEntry, SplitRows};
 use ets_term::{Fnv, Items, Term};
 use node_list::Chain;
 use std::alloc::{AllocError, Global};
 
-impl Store for SplitRows<Fnv> {
+impl BenchTable for SplitRows<Fnv> {
     fn empty(alloc: Global) -> Result<SplitRows<Fnv>, AllocError> {
         SplitRows::new(alloc, Fnv)
     }

@@ -1,27 +1,27 @@
-//! A whole table: the calls of ets, without a node's names and access.
-use crate::store::{Store, build_object, has_value, is_full, key_of};
+//! A whole table: the calls of ets, without the table names and the protection that a node adds.
+use crate::bench_table::{BenchTable, build_object, has_value, is_full, key_of};
 use bucket_table::SplitRows;
 use counters::{Op, Ops};
 use ets_term::Fnv;
 use std::alloc::{AllocError, Global};
 use table_ops::{Kind, Refusal, Table};
 
-/// The operation that adds one to the second element.
-const ONE_MORE: Ops = Ops::One(Op {
+/// The counter operation that adds 1 to the second element.
+const ADD_ONE: Ops = Ops::One(Op {
     position: 2,
     increment: 1,
     threshold: None,
 });
 
-/// Returns the error of out of memory, or false for any other refusal.
-fn memory_or_false(refusal: Refusal) -> Result<bool, AllocError> {
+/// Returns an error if the refusal is out of memory, or false for any other refusal.
+fn out_of_memory_or_false(refusal: Refusal) -> Result<bool, AllocError> {
     match refusal {
         Refusal::Memory => Err(AllocError),
         _ => Ok(false),
     }
 }
 
-impl Store for Table<SplitRows<Fnv>> {
+impl BenchTable for Table<SplitRows<Fnv>> {
     fn empty(alloc: Global) -> Result<Table<SplitRows<Fnv>>, AllocError> {
         let rows = SplitRows::new(alloc, Fnv)?;
         Ok(Table::new(alloc, rows, Kind::Set, 1, u32::MAX))
@@ -34,7 +34,7 @@ impl Store for Table<SplitRows<Fnv>> {
     fn insert(&mut self, alloc: Global, k: u64) -> Result<bool, AllocError> {
         let objects = [build_object(alloc, k)?];
         if let Err(refusal) = Table::insert(self, &objects) {
-            return memory_or_false(refusal);
+            return out_of_memory_or_false(refusal);
         }
         if grow_if_pending(self)? {
             grow_if_pending(self)?;
@@ -51,9 +51,9 @@ impl Store for Table<SplitRows<Fnv>> {
     }
 
     fn count_up(&mut self, _alloc: Global, k: u64) -> Result<bool, AllocError> {
-        match self.update_counter(&key_of(k), &ONE_MORE, None) {
+        match self.update_counter(&key_of(k), &ADD_ONE, None) {
             Ok(_) => Ok(true),
-            Err(refusal) => memory_or_false(refusal),
+            Err(refusal) => out_of_memory_or_false(refusal),
         }
     }
 

@@ -11,7 +11,8 @@ use table_ops::{Kind, Refusal, Table};
 /// The most objects that the table may have.
 const OBJECTS: u32 = 1_000;
 
-/// Prints the count of milk and the number of buckets, or to the standard error that there is none.
+/// Prints the count of milk and the number of buckets. Fails with a message on standard error if there is no milk, or
+/// memory runs out.
 fn main(rt: HostRuntime) -> io::Result<ExitCode> {
     let Ok((Some(count), buckets)) = count_of_milk(rt.alloc()) else {
         eprintln!(rt; "no milk, or out of memory")?;
@@ -21,7 +22,8 @@ fn main(rt: HostRuntime) -> io::Result<ExitCode> {
     Ok(ExitCode::SUCCESS)
 }
 
-/// Creates a table, and returns the count of milk, read after the table doubled its buckets, and the number of buckets.
+/// Creates a table, stores the counts in it, and doubles its buckets. Returns the count of milk and the number of
+/// buckets.
 fn count_of_milk(alloc: Global) -> Result<(Option<Integer>, u32), Refusal> {
     let rows = SplitRows::new(alloc, Fnv)?;
     let mut table = Table::new(alloc, rows, Kind::Set, 1, OBJECTS);
@@ -30,7 +32,7 @@ fn count_of_milk(alloc: Global) -> Result<(Option<Integer>, u32), Refusal> {
     counted
 }
 
-/// Inserts the stock, doubles the buckets, and returns the count of milk with the number of buckets.
+/// Inserts the counts, and doubles the buckets. Returns the count of milk and the number of buckets.
 fn store_and_count(
     alloc: Global,
     table: &mut Table<SplitRows<Fnv>>,
@@ -43,7 +45,7 @@ fn store_and_count(
     Ok((found, table.buckets()))
 }
 
-/// Returns the objects that go into the table.
+/// Returns the two objects that go into the table: a count of tea, and a count of milk.
 fn stock(alloc: Global) -> Result<Vec<Term>, AllocError> {
     Ok(vec![in alloc; count(alloc, "tea", 3)?, count(alloc, "milk", 1)?]?)
 }

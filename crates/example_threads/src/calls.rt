@@ -19,7 +19,7 @@ pub(crate) fn ask<L: Ledger, H: KeyHash + Copy + Drop, R: Wait>(
     is_answered.then_some(())
 }
 
-/// Makes a call, and returns the integer of its reply, if the reply is one.
+/// Makes a call. Returns its reply if that is an integer.
 pub(crate) fn ask_integer<L: Ledger, H: KeyHash + Copy + Drop, R: Wait>(
     rt: &R,
     shared: &Shared<L, H>,
@@ -34,19 +34,19 @@ pub(crate) fn ask_integer<L: Ledger, H: KeyHash + Copy + Drop, R: Wait>(
     number
 }
 
-/// Returns the call that inserts an object with this key.
+/// Returns the call that inserts an object with this key into the bag.
 pub(crate) fn insertion(alloc: Global, key: Integer) -> Option<Call> {
     let args = format!(in alloc; "[notes,{{{key},note}}]").ok()?;
     call(alloc, "insert", args.as_str())
 }
 
-/// Returns the call for the next key.
+/// Returns the call of `next`: its reply is the key after this one.
 pub(crate) fn next_call(alloc: Global, key: Integer) -> Option<Call> {
     let args = format!(in alloc; "[notes,{key}]").ok()?;
     call(alloc, "next", args.as_str())
 }
 
-/// Returns a call by the text of its name and of the list of its arguments.
+/// Returns the call that the text of a name and the text of a list of arguments spell.
 pub(crate) fn call(alloc: Global, name: &str, args: &str) -> Option<Call> {
     let name = Atom::new(alloc, name).ok()?;
     match read_term(alloc, args).ok()? {

@@ -4,10 +4,10 @@
 
 ghost use Rattle.std.specs.Prelude.{◌≡◌};
 
-mod calls;
-mod setup;
-mod side_by_side;
-mod traversal;
+mod calls; // builds and makes calls
+mod setup; // the tables, and the jobs of the clients
+mod side_by_side; // the threads
+mod traversal; // the traversal of the bag
 
 use ets_term::Fnv;
 use node_core::Limits;

@@ -12,7 +12,7 @@ use std::sync::ledger::Ledger;
 /// The number of clients. The traverser creates the tables and traverses the bag; the other four count and insert.
 pub(crate) const CLIENTS: usize = 5;
 
-/// How often each client counts, and how often it inserts. The bag starts with the keys below this number.
+/// How often each client adds to the counter, and how often it inserts. The bag starts with the keys below this number.
 pub(crate) const TIMES: u32 = 100;
 
 /// Returns the traverser, which has created the tables, and the four other clients with their jobs.
@@ -89,7 +89,8 @@ fn with_jobs<L: Ledger>(
     Some(work)
 }
 
-/// Returns jobs that, in turn, count, and insert an object with the next key from `first` on.
+/// Returns pairs of jobs: the first adds 1 to the counter, the second inserts an object with the next key from `first`
+/// on.
 fn jobs(alloc: Global, first: Integer) -> Option<Vec<Job>> {
     let mut jobs = Vec::new(alloc);
     for number in 0..TIMES {

@@ -29,7 +29,7 @@ pub(crate) struct Totals {
     pub(crate) counter: Integer,
     /// The number of objects in the bag at the end.
     pub(crate) objects: Integer,
-    /// The number of keys that the traversal visited, of those that were in the bag before.
+    /// How many of the keys that were in the bag before the traversal it has visited.
     pub(crate) old_keys: usize,
 }
 
@@ -78,7 +78,7 @@ fn run_side_by_side<
     (traversal, workers)
 }
 
-/// Returns the clients that worked, then the client that traversed, and its count.
+/// Returns all clients, the traverser last, and the number of old keys that it visited.
 fn all_clients<L: Ledger>(
     alloc: Global,
     traversal: Option<(Client<L>, usize)>,

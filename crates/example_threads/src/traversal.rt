@@ -8,10 +8,10 @@ use std::alloc::Global;
 use std::sync::Wait;
 use std::sync::ledger::Ledger;
 
-/// More than the keys of the bag: a bound for the loop.
+/// More keys than the bag has: a bound of the loop.
 const MOST_KEYS: u32 = 1_000;
 
-/// Traverses the bag. Returns the client, and the number of keys that were in the bag before.
+/// Fixes the bag and traverses it. Returns the client, and how many of the keys from before it visited.
 pub(crate) fn traverse<L: Ledger, H: KeyHash + Copy + Drop, R: Wait>(
     rt: &R,
     alloc: Global,
@@ -53,7 +53,7 @@ fn count_old_keys<L: Ledger, H: KeyHash + Copy + Drop, R: Wait>(
     Some(count)
 }
 
-/// Returns the call for the key after this one, or for the first key.
+/// Returns the call whose reply is the key after the last visited one, or the first key if no key was visited.
 fn visit(alloc: Global, last: Option<Integer>) -> Option<Call> {
     match last {
         None => call(alloc, "first", "[notes]"),

@@ -1,5 +1,5 @@
-//! Reads lines on its standard input, each a term in the External Term Format in hexadecimal digits, and writes each term
-//! again in this way, or the fault. Each term is written into a writer too, which must get the same bytes.
+//! Reads lines on its standard input. Each is a term in the External Term Format, as hexadecimal digits. Writes each
+//! term again in this form, or the fault. Each term is also sent to a writer, which must get the same bytes.
 //! `.ci/external` compares the lines with Erlang's.
 #![tactic(auto)]
 
@@ -10,7 +10,7 @@ use external_term::{ExternalFault, read_external, write_external, write_external
 use std::alloc::{AllocError, Global};
 use std::io::{self, Read, Write};
 
-/// Answers all lines of the standard input on the standard output.
+/// Reads the standard input to its end, and writes an answer to each line on the standard output.
 fn main(rt: HostRuntime) -> io::Result<()> {
     let alloc = rt.alloc();
     let mut input = Vec::new(alloc);
@@ -20,7 +20,7 @@ fn main(rt: HostRuntime) -> io::Result<()> {
     io::writer(&rt).write_all(output.as_slice())
 }
 
-/// Appends a line for each whole line.
+/// Appends an answer for each line of the input that ends with a newline.
 fn reply_to_lines(alloc: Global, input: &[u8], output: &mut Vec<u8>) -> Result<(), AllocError> {
     let mut rest = input;
     for _ in 0..input.len() {
@@ -40,7 +40,8 @@ fn reply_to_line(alloc: Global, line: &[u8], output: &mut Vec<u8>) -> Result<(),
     reply_to(alloc, bytes.as_slice(), output)
 }
 
-/// Appends the term that the bytes begin with, or the fault, as in `UnknownTag(1)`.
+/// Appends the answer to the bytes of a term: the term, written again, or the fault, such as `UnknownTag(1)`. Bytes
+/// after the term are ignored.
 fn reply_to(alloc: Global, bytes: &[u8], output: &mut Vec<u8>) -> Result<(), AllocError> {
     match read_external(alloc, bytes) {
         Ok((term, _size)) => {
@@ -53,7 +54,8 @@ fn reply_to(alloc: Global, bytes: &[u8], output: &mut Vec<u8>) -> Result<(), All
     }
 }
 
-/// Appends the bytes of a term, or `Differ` if a writer gets other bytes.
+/// Writes a term into a buffer and sends it to a writer. Appends its bytes in digits, or `Differ` if the writer gets
+/// others.
 fn append_term(alloc: Global, term: &Term, output: &mut Vec<u8>) -> Result<(), AllocError> {
     let mut written = Vec::new(alloc);
     let mut sent = Vec::new(alloc);
@@ -79,7 +81,7 @@ fn append_fault(
     output.extend_from_slice(text.as_bytes())
 }
 
-/// Returns the bytes of a line, two digits each.
+/// Returns the bytes that a line of hexadecimal digits spells, two digits each. A single last digit is ignored.
 fn bytes_of(alloc: Global, line: &[u8]) -> Result<Vec<u8>, AllocError> {
     let mut bytes = Vec::new(alloc);
     for pair in line.chunks(2) {

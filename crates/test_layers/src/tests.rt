@@ -1,14 +1,25 @@
+//! Tests of the layers below a table, from terms up to fixed tables.
+
+// A term that is too deep for recursion.
 mod depths;
+// Fixes, tombstones and traversals of one table.
 mod fixes;
+// The hasher FNV-1a.
 mod hashes;
+// The seeded hash of terms, `Keyed`.
 mod keyed;
+// Split keys and buckets.
 mod keys;
+// Node lists and chains.
 mod lists;
+// Terms: atoms, depths and order.
 mod terms;
+// The text of terms: reading and printing.
 mod text;
+// Updates of counters and elements.
 mod updates;
 
-/// Returns the value if what was done to it succeeded, else drops it.
+/// Returns the value if the operation on it succeeded, else drops the value and returns the error.
 fn keep_if_ok<T: Drop, E>(done: Result<(), E>, value: T) -> Result<T, E> {
     match done {
         Ok(()) => Ok(value),
@@ -19,9 +30,9 @@ fn keep_if_ok<T: Drop, E>(done: Result<(), E>, value: T) -> Result<T, E> {
     }
 }
 
-/// Returns the value if what was put into it succeeded, else drops it.
-fn keep_if_some<T: Drop>(put: Option<()>, value: T) -> Option<T> {
-    match put {
+/// Returns the value if the operation on it succeeded (`Some`), else drops the value.
+fn keep_if_some<T: Drop>(done: Option<()>, value: T) -> Option<T> {
+    match done {
         Some(()) => Some(value),
         None => {
             drop(value);

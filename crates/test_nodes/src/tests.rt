@@ -1,8 +1,11 @@
+// Tests of `node_core::Node`: steps and their replies.
 mod node;
+// Reads the terms that the tests write as texts.
 mod text;
+// Tests of `ownership::World`: processes, tables, owners and heirs.
 mod world;
 
-/// A process.
+/// The number of a process.
 #[derive(Clone, Copy, PartialEq, Eq)]
 pub struct Pid(u32);
 
@@ -10,11 +13,11 @@ pub struct Pid(u32);
 #[derive(Clone, Copy, PartialEq, Eq)]
 pub struct Tid(u32);
 
-/// A bucket of a table.
+/// The number of a bucket of a table.
 #[derive(Clone, Copy, PartialEq, Eq)]
 pub struct Bucket(u32);
 
-/// Returns the value if the change of it succeeded; otherwise drops the value and returns the error.
+/// Returns the value if the change of it succeeded; otherwise drops the value and returns the error of the change.
 fn keep_if_ok<T: Drop, E>(changed: Result<(), E>, value: T) -> Result<T, E> {
     match changed {
         Ok(()) => Ok(value),

@@ -1,4 +1,4 @@
-//! Tests of scripts: long ones, each fault of a line, and devices that fail, are slow or take a part.
+//! Tests of scripts: long scripts, each syntax fault of a line, and devices that are slow or fail.
 //!
 //! They have a crate of their own because a crate with tests is proved twice, with them and without.
 #![tactic(auto)]

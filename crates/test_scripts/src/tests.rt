@@ -1,14 +1,14 @@
-//! Scripts and their answers, as docs/script.md has them.
-mod command_line;
-mod devices;
-mod due;
-mod faults;
-mod limits;
-mod long;
-mod program;
-mod rows;
-mod syntax;
-mod threads;
+//! Runs scripts, and compares what they print with the answers that docs/script.md says they have.
+mod calls; // scripts of calls
+mod command_line; // options
+mod devices; // helpers: readers and writers that are slow or fail
+mod faults; // reads and writes that fail
+mod limits; // limits of processes, tables and objects
+mod long; // long lines and long scripts
+mod pending; // growth steps that are pending after a script
+mod program; // the exit status and the errors
+mod syntax; // lines that are not commands, and ends of lines
+mod threads; // a thread for each process
 
 use devices::{Devices, FlushLog, Source, Target};
 use ets_script::{NodeSettings, ScriptFault, Streams, run_within};
@@ -19,7 +19,7 @@ use std::alloc::Global;
 /// How a script ends.
 #[derive(Clone, Copy, PartialEq, Eq)]
 enum End {
-    /// The end of its input was read and all answers were written.
+    /// The end of the input was read, and all answers were written.
     Whole,
     /// A read failed.
     Read,
@@ -27,20 +27,22 @@ enum End {
     Write,
     /// Memory ran out.
     Memory,
-    /// Its journal could not be closed.
+    /// The journal of a script in threads does not fit the records of its clients.
     Unclosed,
 }
 
 /// How a script is run.
 #[derive(Clone, Copy)]
 struct Run {
+    /// How the reader and the writer behave.
     devices: Devices,
+    /// The limits of processes, tables and objects.
     limits: Limits,
-    /// The most reads that may be made.
+    /// The greatest number of reads. A script that needs more ends with a read fault.
     max_reads: u32,
 }
 
-/// Returns a run with good devices and the usual limits.
+/// Returns a run with good devices, the usual limits, and more reads than any script here needs.
 fn usual_run() -> Run {
     Run {
         devices: devices::GOOD_DEVICES,
@@ -67,15 +69,15 @@ fn end_by_fault(fault: &ScriptFault) -> End {
     }
 }
 
-/// Runs a script with a hash that spreads keys and with one hash for all keys. Returns whether it ends so each time,
-/// and these answers went out.
+/// Runs a script twice: with a hash that spreads keys, and with one hash for all keys. Returns whether both runs have
+/// this end and wrote exactly these answers.
 fn ends_with_answers(alloc: Global, run: &Run, script: &[u8], answers: &[u8], end: End) -> bool {
     ends_with_answers_by_hash(alloc, run, Fnv, script, answers, end)
         && ends_with_answers_by_hash(alloc, run, AllSame, script, answers, end)
 }
 
-/// Runs a script with this hash, and returns whether it ends so and these answers went out. Answers must be flushed
-/// before each read, but not before a write fault.
+/// Runs a script with this hasher. Returns whether it has this end and wrote exactly these answers. All answers must be
+/// flushed before each read and at the end, unless a write fails.
 fn ends_with_answers_by_hash<H: KeyHash + Copy + Drop>(
     alloc: Global,
     run: &Run,
@@ -110,7 +112,8 @@ fn ends_with_answers_by_hash<H: KeyHash + Copy + Drop>(
         && (end == End::Write || log.is_all_flushed(answers.len()))
 }
 
-/// Returns how many of the scripts, from the first on, have these answers and run to their end.
+/// Runs rows of a script and its answers. Returns the index of the first script that has other answers or does not run
+/// to its end, or the number of rows if all are right.
 fn count_answered_scripts(alloc: Global, run: &Run, rows: &[(&[u8], &[u8])]) -> usize {
     for (count, (script, answers)) in rows.iter().enumerate() {
         if !ends_with_answers(alloc, run, *script, *answers, End::Whole) {

@@ -1,5 +1,9 @@
-// Tests of a node that threads share, and of a server. A `Blank` is an unused ledger, and `L` is its name in types. A
-// ledger has a part for each process and one more: for two processes a test passes `Blank::new(3)`.
+// Tests of a `Shared` and of a `Server`: nodes that threads share. A `Shared` has clients, a journal of all steps, and
+// a ledger, which counts the entries of each client. A `Blank` is an unused ledger, and `L` is its name in types. A
+// ledger has a part for each process and one more: for two processes a test passes `Blank::new(3)`. A `Server` has
+// callers, and no journal; in types, `B` names its history and limits. A test passes `Brand` for `L` or `B`. To join a
+// client or a caller means to enrol its process in the node. `rt` is the runtime: its type has `Wait` to wait for
+// locks, and `Threads` to start threads.
 ghost use Rattle.std.specs.Prelude.{◌≡◌, ◌<◌};
 
 use ets_term::{Fnv, KeyHash};
@@ -11,21 +15,21 @@ use std::alloc::Global;
 use std::sync::Wait;
 use std::sync::ledger::Ledger;
 
-mod calls;
-mod drawing;
-mod ending;
-mod enduring;
-mod entering;
-mod joining;
-mod keeper;
-mod keeping;
-mod meeting;
-mod numbering;
-mod reading;
-mod serving;
-mod stressing;
+mod calls; // helpers that build and make calls
+mod drawing; // two threads draw process numbers
+mod ending; // calls after the end of their process
+mod enduring; // many calls of eight clients
+mod entering; // steps and their entries in the journal
+mod joining; // which processes are enrolled
+mod keeper; // helper: a thread that runs pending growth steps
+mod keeping; // `keep`, which runs pending growth steps
+mod meeting; // two clients run at the same time
+mod numbering; // the numbers that a `Gate` gets
+mod reading; // reads of a server
+mod serving; // calls of a server
+mod stressing; // many calls of a server
 
-/// Returns limits with this number of processes, and all else as usual.
+/// Returns the usual limits, but with this number of processes.
 fn limits(processes: u32) -> Limits
     ensures { result.processes ≡ processes }
 {
@@ -35,7 +39,7 @@ fn limits(processes: u32) -> Limits
     }
 }
 
-/// Draws the numbers from 0 on, as many as `count`.
+/// Draws the process numbers below `count`, by a seat for each: the right to draw one number.
 fn draw(alloc: Global, count: usize) -> Option<Vec<Drawn>>
     requires { 0 < count }
 {
@@ -47,7 +51,7 @@ fn draw(alloc: Global, count: usize) -> Option<Vec<Drawn>>
     Some(numbers)
 }
 
-/// Joins `count` clients, by the numbers from 0 on.
+/// Joins the clients of the processes below `count`.
 fn join_clients<L: Ledger, H: KeyHash + Copy + Drop, R: Wait>(
     rt: &R,
     alloc: Global,
@@ -63,7 +67,7 @@ fn join_clients<L: Ledger, H: KeyHash + Copy + Drop, R: Wait>(
     Some(clients)
 }
 
-/// Joins `count` callers, by the numbers from 0 on.
+/// Joins the callers of the processes below `count`.
 fn join_callers<B: HistoryId, R: Wait>(
     rt: &R,
     alloc: Global,
@@ -79,7 +83,7 @@ fn join_callers<B: HistoryId, R: Wait>(
     Some(callers)
 }
 
-/// The jobs of each client of a test.
+/// What each client of a test does.
 trait Plan {
     /// Returns the jobs of the client of this process.
     fn jobs(&self, alloc: Global, pid: u32) -> Option<Vec<Job>>;
@@ -103,7 +107,7 @@ fn join_with_jobs<L: Ledger, H: KeyHash + Copy + Drop, P: Plan, R: Wait>(
     Some(work)
 }
 
-/// Returns the clients of the workers, if they did all their jobs.
+/// Returns the clients of finished workers, or `None` if one of them has jobs left.
 fn clients_of_workers<L: Ledger>(alloc: Global, workers: Vec<Worked<L>>) -> Option<Vec<Client<L>>> {
     let mut clients = Vec::with_capacity(alloc, workers.len()).ok()?;
     for worker in workers {
@@ -112,7 +116,7 @@ fn clients_of_workers<L: Ledger>(alloc: Global, workers: Vec<Worked<L>>) -> Opti
     Some(clients)
 }
 
-/// Returns the client of a worker, if no job is left.
+/// Returns the client of a finished worker, or `None` if it has jobs left.
 fn client_of_worker<L: Ledger>(worker: Worked<L>) -> Option<Client<L>> {
     if worker.left > 0 {
         return None;
@@ -120,7 +124,7 @@ fn client_of_worker<L: Ledger>(worker: Worked<L>) -> Option<Client<L>> {
     Some(worker.client)
 }
 
-/// Closes the sharing, if there are clients, and returns the transcript.
+/// Closes a `Shared` with its clients, if there are any. Returns the transcript, which has the journal.
 fn close_all<L: Ledger, H: KeyHash + Copy + Drop>(
     shared: Shared<L, H>,
     clients: Option<Vec<Client<L>>>,
@@ -131,7 +135,7 @@ fn close_all<L: Ledger, H: KeyHash + Copy + Drop>(
     }
 }
 
-/// Closes the sharing, and returns how many entries of the process the transcript has.
+/// Closes a `Shared` with its clients. Returns how many entries of this process the transcript has.
 fn count_entries<L: Ledger, H: KeyHash + Copy + Drop>(
     shared: Shared<L, H>,
     clients: Option<Vec<Client<L>>>,

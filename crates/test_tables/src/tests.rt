@@ -1,2 +1,3 @@
+// `rows` tests plain rows and split rows alone. `table` tests tables over them.
 mod rows;
 mod table;

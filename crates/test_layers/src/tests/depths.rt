@@ -1,12 +1,12 @@
-//! A term so deep that no call may recurse through it. A test must take it apart, because its drop recurses too.
+//! A term that is too deep for a recursive call. The test takes it apart level by level, because its drop recurses too.
 use super::keep_if_some;
 use ets_term::{Items, Term};
 use std::alloc::Global;
 
-/// The depth of the term.
+/// The depth of the term: so great that a recursion through all levels would overflow the call stack.
 const LEVELS: usize = 200_000;
 
-/// Builds the list of one term.
+/// Builds the list whose only item is this term.
 fn list_of(alloc: Global, term: Term) -> Option<Term> {
     let mut outer = Items::new(alloc);
     Some(Term::List(keep_if_some(outer.push(term).ok(), outer)?))
@@ -21,7 +21,8 @@ pub fn nested_list(alloc: Global, levels: usize) -> Option<Term> {
     Some(term)
 }
 
-/// Returns the last item of a list, if it has one. The outer None means that the term is not a list.
+/// Returns the last item of a list, if the list has one, and drops the rest. The outer None means that the term is not
+/// a list.
 fn last_of(term: Term) -> Option<Option<Term>> {
     match term {
         Term::List(items) => {
@@ -37,7 +38,7 @@ fn last_of(term: Term) -> Option<Option<Term>> {
     }
 }
 
-/// Takes nested lists apart, the outermost first, and counts them, up to `LEVELS`.
+/// Takes nested lists apart, the outermost first, so that no drop recurses. Returns their number, but at most `LEVELS`.
 fn count_levels(term: Term) -> usize {
     let mut rest = Some(term);
     for levels in 0..LEVELS {
@@ -53,11 +54,12 @@ fn count_levels(term: Term) -> usize {
     LEVELS
 }
 
-/// Returns whether a list of depth `LEVELS` is too deep. None means out of memory.
+/// Returns whether `is_too_deep` holds for nested lists of depth `LEVELS`, which are then taken apart. None means out
+/// of memory.
 fn deep_list_is_too_deep(alloc: Global) -> Option<bool> {
     let term = nested_list(alloc, LEVELS)?;
-    let deep = term.is_too_deep();
-    Some(count_levels(term) == LEVELS && deep)
+    let is_too_deep = term.is_too_deep();
+    Some(count_levels(term) == LEVELS && is_too_deep)
 }
 
 /// Checks that `is_too_deep` does not recurse through all levels, which would overflow the call stack.

@@ -1,5 +1,5 @@
-// Expected answers from the rules of `ets`. A test is a list of calls with their answers, over both forms of rows.
-// `None` means out of memory.
+// Fixes, tombstones and traversals of a `Walked`, a table with fixes. Most tests run over plain rows and over split
+// rows. Expected answers are from the rules of `ets`. `None` means out of memory, unless a comment says otherwise.
 use self::answers::{Expected, Step, try_insert};
 use super::keep_if_some;
 use bucket_table::{PlainRows, Rows, SplitRows};
@@ -9,27 +9,33 @@ use std::alloc::Global;
 use std::process::Abort;
 use table_ops::{Kind, Table};
 
+// Calls as data, and their answers as numbers.
 mod answers;
+// Each call on many keys.
 mod calls;
+// Calls that take no memory.
 mod free;
+// Calls that run out of memory.
 mod refused;
+// Deleted keys of a fixed table.
 mod tombstones;
+// Traversals among changes by other processes.
 mod walks;
 
 /// The most objects that a table may have: more than any test inserts.
 const MAX_OBJECTS: u32 = 1_000_000;
 
-/// The number of buckets at which `grow` no longer doubles them.
+/// The number of buckets from which on `grow` no longer doubles them: about the number of keys of the largest tests.
 const MAX_BUCKETS: u32 = 4096;
 
-/// Builds a table over plain rows: all slots in one bucket, in the order of insertion.
+/// Builds a table over plain rows, with keypos 1: all slots are in one bucket, in the order of insertion.
 fn plain_table(alloc: Global, kind: Kind) -> Walked<PlainRows> {
     let table = Table::new(alloc, PlainRows::new(alloc), kind, 1, MAX_OBJECTS);
     Walked::new(alloc, table)
 }
 
-/// Builds a table with one hash for all keys. Its slots are in the order of insertion, until the place of a removed
-/// slot is used again.
+/// Builds a table over split rows, with keypos 1 and one hash for all keys. Its slots are in the order of insertion,
+/// until the place of a removed slot is used again.
 fn one_bucket_table(alloc: Global, kind: Kind) -> Option<Walked<SplitRows<AllSame>>> {
     let table = Table::new(
         alloc,
@@ -41,7 +47,7 @@ fn one_bucket_table(alloc: Global, kind: Kind) -> Option<Walked<SplitRows<AllSam
     Some(Walked::new(alloc, table))
 }
 
-/// Builds a table over split rows, with keys hashed by FNV-1a.
+/// Builds a table over split rows, with keypos 1 and keys hashed by FNV-1a.
 fn split_table(alloc: Global, kind: Kind) -> Option<Walked<SplitRows<Fnv>>> {
     let table = Table::new(
         alloc,
@@ -97,7 +103,7 @@ fn count_of<R: Rows>(table: &Walked<R>, key: Integer) -> usize {
     count
 }
 
-/// Returns the key after this one in a traversal.
+/// Returns the key after this one in a traversal, or None at the end of the table.
 fn key_after<R: Rows>(table: &Walked<R>, key: Integer) -> Result<Option<&Term>, Badarg> {
     let key = Term::Int(key);
     let found = table.next(&key);
@@ -105,7 +111,7 @@ fn key_after<R: Rows>(table: &Walked<R>, key: Integer) -> Result<Option<&Term>, 
     found
 }
 
-/// Returns whether a traversal came to this key, or to the end.
+/// Returns whether a traversal found the wanted key. A wanted key of None is the end of the table.
 fn is_key(found: Option<&Term>, wanted: Option<Integer>) -> bool {
     match (found, wanted) {
         (Some(Term::Int(key)), Some(number)) => *key == number,
@@ -114,7 +120,8 @@ fn is_key(found: Option<&Term>, wanted: Option<Integer>) -> bool {
     }
 }
 
-/// Makes the first unready bucket ready, or doubles the buckets if all are ready. Returns whether memory sufficed.
+/// Makes the first unready bucket ready. If all are ready, doubles the buckets unless there are `MAX_BUCKETS`. Returns
+/// whether memory sufficed.
 fn grow<R: Rows>(table: &mut Walked<R>) -> bool {
     match table.first_unready() {
         Some(bucket) => table.ready(bucket).is_ok(),
@@ -122,65 +129,67 @@ fn grow<R: Rows>(table: &mut Walked<R>) -> bool {
     }
 }
 
-/// What a new table is tried with.
+/// What a test checks on a new table.
 #[derive(Clone, Copy)]
-enum Trial {
+enum Check {
     /// Each call on many keys, while the buckets double.
     AllCalls,
-    /// Traversals and releases, which take no memory.
-    NoMemory,
-    /// Calls that may be refused memory, with their answers. The second calls are on the table that the first leave.
+    /// A traversal and releases, which take no memory.
+    TakesNoMemory,
+    /// Calls that may be refused memory, with their answers. The second list is of calls on the table that the first
+    /// list leaves.
     Refusals(&'static [(Step, Expected)], &'static [(Step, Expected)]),
-    /// Calls that leave tombstones, and what they answer and leave.
+    /// Calls on a table with tombstones, and what they answer and leave.
     Tombstones(&'static [tombstones::Row]),
-    /// A traversal that chooses from this many keys while other processes insert, delete and grow the table.
+    /// A traversal while other processes insert and delete these keys and grow the table. The table must then have more
+    /// buckets than this number.
     Traversal(Keys, BucketsAbove),
 }
 
-/// How many keys a traversal chooses from. Half of them have objects at the start.
+/// The number of keys of a traversal: the numbers below it. The lower half of them has objects at the start.
 #[derive(Clone, Copy)]
 struct Keys(u32);
 
-/// A number of buckets that a table exceeds after a traversal.
+/// A number of buckets: after a traversal the table must have more.
 #[derive(Clone, Copy)]
 struct BucketsAbove(u32);
 
-/// Returns whether this table, which is new, passes a trial. None means out of memory, or a call that fails.
-fn table_passes<R: Rows>(alloc: Global, table: &mut Walked<R>, trial: Trial) -> Option<bool> {
-    match trial {
-        Trial::AllCalls => Some(calls::all_calls_succeed(alloc, table)),
-        Trial::NoMemory => Some(free::takes_no_memory(alloc, table)),
-        Trial::Refusals(first, second) => Some(
+/// Returns whether a new table passes a check. None means out of memory, or a traversal that fails.
+fn table_passes<R: Rows>(alloc: Global, table: &mut Walked<R>, check: Check) -> Option<bool> {
+    match check {
+        Check::AllCalls => Some(calls::all_calls_succeed(alloc, table)),
+        Check::TakesNoMemory => Some(free::takes_no_memory(alloc, table)),
+        Check::Refusals(first, second) => Some(
             refused::are_answered_with_retry(alloc, table, first)
                 && refused::are_answered_with_retry(alloc, table, second),
         ),
-        Trial::Tombstones(rows) => Some(tombstones::all_rows_hold(alloc, table, rows)),
-        Trial::Traversal(keys, buckets) => {
+        Check::Tombstones(rows) => Some(tombstones::all_rows_hold(alloc, table, rows)),
+        Check::Traversal(keys, buckets) => {
             let is_exact = walks::traverses_exactly(alloc, table, keys.0)?;
             Some(is_exact && table.buckets() > buckets.0)
         }
     }
 }
 
-/// Returns whether a new table passes a trial, and drops it.
-fn passes<R: Rows>(alloc: Global, table: Walked<R>, trial: Trial) -> Option<bool> {
+/// Returns whether a new table passes a check, and drops it.
+fn table_passes_then_drop<R: Rows>(alloc: Global, table: Walked<R>, check: Check) -> Option<bool> {
     let mut table = table;
-    let passed = table_passes(alloc, &mut table, trial);
+    let passed = table_passes(alloc, &mut table, check);
     drop(table);
     passed
 }
 
-/// Returns whether a table over plain rows passes a trial.
-fn plain_rows_pass(alloc: Global, kind: Kind, trial: Trial) -> Option<bool> {
-    passes(alloc, plain_table(alloc, kind), trial)
+/// Returns whether a table over plain rows passes a check.
+fn plain_rows_pass(alloc: Global, kind: Kind, check: Check) -> Option<bool> {
+    table_passes_then_drop(alloc, plain_table(alloc, kind), check)
 }
 
-/// Returns whether a table over split rows, with keys hashed by FNV-1a, passes a trial.
-fn split_rows_pass(alloc: Global, kind: Kind, trial: Trial) -> Option<bool> {
-    passes(alloc, split_table(alloc, kind)?, trial)
+/// Returns whether a table over split rows, with keys hashed by FNV-1a, passes a check.
+fn split_rows_pass(alloc: Global, kind: Kind, check: Check) -> Option<bool> {
+    table_passes_then_drop(alloc, split_table(alloc, kind)?, check)
 }
 
-/// Returns whether a table over split rows, with one hash for all keys, passes a trial.
-fn one_bucket_passes(alloc: Global, kind: Kind, trial: Trial) -> Option<bool> {
-    passes(alloc, one_bucket_table(alloc, kind)?, trial)
+/// Returns whether a table over split rows, with one hash for all keys, passes a check.
+fn one_bucket_passes(alloc: Global, kind: Kind, check: Check) -> Option<bool> {
+    table_passes_then_drop(alloc, one_bucket_table(alloc, kind)?, check)
 }

@@ -1,16 +1,16 @@
-//! The seeded hash, compared with values that another program computed from its definition.
+//! The seeded hash, `Keyed`, compared with values that another program computed from its definition.
 use super::keep_if_some;
 use ets_term::{Atom, Items, KeyHash, Keyed, Term};
 use std::alloc::Global;
 use std::process::Abort;
 
-/// Pushes the elements `a` and -2^64-1, whose two words differ.
+/// Pushes the elements `a` and -2^64-1. The two 64-bit words of this integer differ.
 fn push_pair(alloc: Global, pair: &mut Items<Term>) -> Option<()> {
     pair.push(Term::Atom(Atom::new(alloc, "a").ok()?)).ok()?;
     pair.push(Term::Int(-18446744073709551617)).ok()
 }
 
-/// Builds the elements of `push_pair`.
+/// Builds `Items` with the elements of `push_pair`, for a tuple or a list.
 fn build_pair(alloc: Global) -> Option<Items<Term>> {
     let mut pair = Items::new(alloc);
     keep_if_some(push_pair(alloc, &mut pair), pair)
@@ -21,7 +21,7 @@ fn build_binary(alloc: Global) -> Option<Term> {
     Some(Term::Binary(Items::from_vec([0, 255].to_vec(alloc).ok()?)))
 }
 
-/// Pushes a term of each kind: `a`, -2^64-1, a pid, an identifier, a tuple, a list and a binary.
+/// Pushes a term of each kind: `a`, -2^64-1, a pid, an identifier of a table, a tuple, a list and a binary.
 fn push_terms(alloc: Global, terms: &mut Items<Term>) -> Option<()> {
     push_pair(alloc, terms)?;
     terms.push(Term::Pid(7)).ok()?;
@@ -31,28 +31,28 @@ fn push_terms(alloc: Global, terms: &mut Items<Term>) -> Option<()> {
     terms.push(build_binary(alloc)?).ok()
 }
 
-/// Returns whether the terms have these hashes, in order.
-fn are_hashed(hash: Keyed, terms: &[Term], wanted: &[u32]) -> bool {
-    for (term, number) in terms.iter().zip(wanted) {
-        if hash.hash32(term) != *number {
+/// Returns whether the terms have the wanted hashes, in order.
+fn have_hashes(hasher: Keyed, terms: &[Term], wanted: &[u32]) -> bool {
+    for (term, wanted_hash) in terms.iter().zip(wanted) {
+        if hasher.hash32(term) != *wanted_hash {
             return false;
         }
     }
     terms.len() == wanted.len()
 }
 
-/// Returns whether the terms of `push_terms` have these hashes by a seed.
-fn are_hashed_by_seed(alloc: Global, seed: u64, wanted: &[u32]) -> Option<bool> {
+/// Returns whether the terms of `push_terms` have the wanted hashes by a seed.
+fn have_hashes_by_seed(alloc: Global, seed: u64, wanted: &[u32]) -> Option<bool> {
     let mut terms = Items::new(alloc);
     let pushed = push_terms(alloc, &mut terms);
-    let hashed = are_hashed(Keyed(seed), terms.as_slice(), wanted);
+    let hashed = have_hashes(Keyed(seed), terms.as_slice(), wanted);
     drop(terms);
     pushed?;
     Some(hashed)
 }
 
-/// The hashes of these terms by the least seed: of `a`, -2^64-1, the pid, the identifier, the tuple, the list and the
-/// binary.
+/// The hashes of the terms of `push_terms` by the least seed: of `a`, -2^64-1, the pid, the identifier, the tuple, the
+/// list and the binary.
 const HASHES_BY_LEAST: [u32; 7] = [
     3020293046, 4059663398, 1234998835, 1461041013, 751183608, 4116343985, 1269847963,
 ];
@@ -64,7 +64,7 @@ const HASHES_BY_GREATEST: [u32; 7] = [
 
 /// Checks the hashes of a term of each kind by the least and by the greatest seed.
 #[test]
-fn hashes_by_two_seeds(rt: HostRuntime) {
-    assert!(rt; are_hashed_by_seed(rt.alloc(), 0, &HASHES_BY_LEAST) == Some(true));
-    assert!(rt; are_hashed_by_seed(rt.alloc(), u64::MAX, &HASHES_BY_GREATEST) == Some(true));
+fn terms_have_known_hashes_by_two_seeds(rt: HostRuntime) {
+    assert!(rt; have_hashes_by_seed(rt.alloc(), 0, &HASHES_BY_LEAST) == Some(true));
+    assert!(rt; have_hashes_by_seed(rt.alloc(), u64::MAX, &HASHES_BY_GREATEST) == Some(true));
 }

@@ -1,4 +1,5 @@
-//! Split keys and buckets, compared with expected values.
+//! Split keys and buckets, compared with expected values. The split key of an item is its reversed hash with a last bit
+//! 1. The split key of a dummy is its reversed bucket number with a last bit 0. A split key has 33 bits.
 use split_key::{bucket_of, dummy_key, item_key, parent, rev32};
 use std::process::Abort;
 
@@ -25,11 +26,11 @@ fn dummies_are_at_eighths(buckets: &[u32]) -> bool {
 
 /// Checks the split keys of the dummies of 8 buckets.
 #[test]
-fn eight_buckets_in_order(rt: HostRuntime) {
+fn dummies_of_eight_buckets_are_at_eighths(rt: HostRuntime) {
     assert!(rt; dummies_are_at_eighths(&EIGHT_IN_ORDER));
 }
 
-/// A bucket, and the split key of its dummy.
+/// Each row is a bucket, and the split key of its dummy.
 const DUMMIES: [(u32, u64); 4] = [
     (0, 0),
     (1, 4_294_967_296),
@@ -38,7 +39,7 @@ const DUMMIES: [(u32, u64); 4] = [
 ];
 
 /// Returns whether the dummy of each bucket has the split key of its row.
-fn are_dummy_keys(rows: &[(u32, u64)]) -> bool {
+fn dummies_have_keys(rows: &[(u32, u64)]) -> bool {
     for (bucket, key) in rows {
         if dummy_key(*bucket) != *key {
             return false;
@@ -49,11 +50,11 @@ fn are_dummy_keys(rows: &[(u32, u64)]) -> bool {
 
 /// Checks the split keys of dummies, which are even.
 #[test]
-fn keys_of_dummies(rt: HostRuntime) {
-    assert!(rt; are_dummy_keys(&DUMMIES));
+fn dummies_have_their_split_keys(rt: HostRuntime) {
+    assert!(rt; dummies_have_keys(&DUMMIES));
 }
 
-/// A hash, and the split key of an item of this hash.
+/// Each row is a hash, and the split key of an item of this hash.
 const ITEMS: [(u32, u64); 4] = [
     (0, 1),
     (1, 4_294_967_297),
@@ -62,7 +63,7 @@ const ITEMS: [(u32, u64); 4] = [
 ];
 
 /// Returns whether an item of each hash has the split key of its row.
-fn are_item_keys(rows: &[(u32, u64)]) -> bool {
+fn items_have_keys(rows: &[(u32, u64)]) -> bool {
     for (hash, key) in rows {
         if item_key(*hash) != *key {
             return false;
@@ -71,18 +72,18 @@ fn are_item_keys(rows: &[(u32, u64)]) -> bool {
     true
 }
 
-/// Checks the split keys of items, which are odd, and the reversal of the bits of a hash.
+/// Checks the split keys of items, which are odd, and `rev32`, which reverses the bits of a hash.
 #[test]
-fn keys_of_items(rt: HostRuntime) {
-    assert!(rt; are_item_keys(&ITEMS));
+fn items_have_their_split_keys(rt: HostRuntime) {
+    assert!(rt; items_have_keys(&ITEMS));
     assert!(rt; rev32(1) == 2_147_483_648 && rev32(2_147_483_648) == 1);
 }
 
-/// A bucket, and its parent.
+/// Each row is a bucket, and its parent.
 const PARENTS: [(u32, u32); 5] = [(1, 0), (3, 1), (6, 2), (12, 4), (u32::MAX, 2_147_483_647)];
 
 /// Returns whether each bucket has the parent of its row.
-fn are_parents(rows: &[(u32, u32)]) -> bool {
+fn buckets_have_parents(rows: &[(u32, u32)]) -> bool {
     for (bucket, wanted) in rows {
         if *bucket == 0 || parent(*bucket) != *wanted {
             return false;
@@ -93,8 +94,8 @@ fn are_parents(rows: &[(u32, u32)]) -> bool {
 
 /// Checks the parents of buckets: a bucket without its highest bit.
 #[test]
-fn parents_of_buckets(rt: HostRuntime) {
-    assert!(rt; are_parents(&PARENTS));
+fn buckets_have_their_parents(rt: HostRuntime) {
+    assert!(rt; buckets_have_parents(&PARENTS));
 }
 
 /// Returns whether a hash is in bucket `of_two` of two buckets, and in bucket `of_four` of four.
@@ -105,6 +106,6 @@ fn is_in_buckets(hash: u32, of_two: u32, of_four: u32) -> bool {
 
 /// Checks in which buckets the hash of the atom `a` is.
 #[test]
-fn buckets_of_a_hash(rt: HostRuntime) {
+fn a_hash_is_in_its_buckets(rt: HostRuntime) {
     assert!(rt; is_in_buckets(HASH_OF_A, 1, 3));
 }

@@ -1,4 +1,4 @@
-//! Expected values from the rules of terms, with each public call of a term once.
+//! Terms: expected values from the rules of terms. The tests make each public call of a term at least once.
 use super::keep_if_some;
 use ets_term::{AllSame, Atom, Fnv, Items, KeyHash, Position, Term};
 use std::alloc::Global;
@@ -6,8 +6,11 @@ use std::hash::{DefaultHasher, Hash, Hasher};
 use std::mem::size_of;
 use std::process::Abort;
 
+// The limits of atoms.
 mod atoms;
+// Depths and copies.
 mod depths;
+// The order of terms.
 mod order;
 
 /// Builds the atom of a text.
@@ -31,7 +34,7 @@ fn push_letter_atoms(alloc: Global, items: &mut Items<Term>, letters: &str) -> O
     Some(())
 }
 
-/// Builds an atom for each letter.
+/// Builds `Items` with one atom for each letter.
 fn letter_atoms(alloc: Global, letters: &str) -> Option<Items<Term>> {
     let mut items = Items::new(alloc);
     keep_if_some(push_letter_atoms(alloc, &mut items, letters), items)
@@ -52,7 +55,7 @@ fn binary(alloc: Global, bytes: &[u8]) -> Option<Term> {
     Some(Term::Binary(Items::from_vec(bytes.to_vec(alloc).ok()?)))
 }
 
-/// Returns whether `is_atom` holds for a term and a text, and drops the term.
+/// Returns what `is_atom` returns for a term and a text, and drops the term.
 fn is_atom_then_drop(built: Option<Term>, text: &str) -> Option<bool> {
     let term = built?;
     let is_atom = term.is_atom(text);
@@ -60,7 +63,7 @@ fn is_atom_then_drop(built: Option<Term>, text: &str) -> Option<bool> {
     Some(is_atom)
 }
 
-/// Returns whether `is_atom` holds for the atom of a text, and for no other atom and no tuple.
+/// Returns whether `is_atom` holds for the atom of a text, but not for another text, and not for a tuple.
 fn only_atoms_are_atoms_of_their_text(alloc: Global) -> Option<bool> {
     Some(
         is_atom_then_drop(atom(alloc, "ab"), "ab")?
@@ -69,9 +72,9 @@ fn only_atoms_are_atoms_of_their_text(alloc: Global) -> Option<bool> {
     )
 }
 
-/// Checks `is_atom`.
+/// Checks `is_atom` of atoms and of a tuple.
 #[test]
-fn an_atom_has_one_text(rt: HostRuntime) {
+fn is_atom_holds_for_one_text(rt: HostRuntime) {
     assert!(rt; only_atoms_are_atoms_of_their_text(rt.alloc()) == Some(true));
 }
 
@@ -101,7 +104,7 @@ fn pair_has_two_elements(alloc: Global) -> Option<bool> {
     Some(has_two)
 }
 
-/// Returns whether a list of atoms has no element.
+/// Returns whether `element` finds nothing in a list, because only tuples have elements.
 fn list_has_no_elements(alloc: Global) -> Option<bool> {
     let list = letter_list(alloc, "ab")?;
     let has_none = list.element(1).is_none();
@@ -141,9 +144,9 @@ fn hash_of_an_atom(alloc: Global, text: &str) -> Option<u64> {
     Some(hash)
 }
 
-/// Checks that the hash of an atom is that of its encoding.
+/// Checks that `Hash` gives an atom the hash of its encoding.
 #[test]
-fn hashes_take_the_encoding(rt: HostRuntime) {
+fn an_atom_is_hashed_by_its_encoding(rt: HostRuntime) {
     assert!(rt; hash_of_an_atom(rt.alloc(), "a") == Some(hash_of_bytes(&ENCODED_A)));
 }
 
@@ -155,20 +158,22 @@ fn hashes_by_two_hashers(built: Option<Term>) -> Option<(u32, u32)> {
     Some(hashes)
 }
 
-/// Returns whether `Fnv` hashes equal tuples alike, and a list of the same items otherwise.
+/// Returns whether `AllSame` hashes a tuple to 0, and `Fnv` hashes equal tuples alike but a list of the same items
+/// differently.
 fn tuple_and_list_have_two_hashes(alloc: Global) -> Option<bool> {
-    let (all_same, pair) = hashes_by_two_hashers(letter_tuple(alloc, "ab"))?;
-    let (_, again) = hashes_by_two_hashers(letter_tuple(alloc, "ab"))?;
-    let (_, other) = hashes_by_two_hashers(letter_list(alloc, "ab"))?;
-    Some(all_same == 0 && pair == again && pair != other)
+    let (all_same, tuple) = hashes_by_two_hashers(letter_tuple(alloc, "ab"))?;
+    let (_, equal_tuple) = hashes_by_two_hashers(letter_tuple(alloc, "ab"))?;
+    let (_, list) = hashes_by_two_hashers(letter_list(alloc, "ab"))?;
+    Some(all_same == 0 && tuple == equal_tuple && tuple != list)
 }
 
+/// Checks the hashes of a tuple and of a list with the same items, by two hashers.
 #[test]
-fn hashes_tell_tuples_from_lists(rt: HostRuntime) {
+fn a_tuple_and_a_list_have_two_hashes(rt: HostRuntime) {
     assert!(rt; tuple_and_list_have_two_hashes(rt.alloc()) == Some(true));
 }
 
-/// Returns whether an empty list takes three numbers and gives back the last.
+/// Pushes 1, 2 and 3 to empty `Items` and pops the last. Returns whether 3 is popped, and 1 and 2 remain.
 fn pushes_and_pops(items: &mut Items<u8>) -> Option<bool> {
     let was_empty = items.is_empty();
     items.push(1).ok()?;
@@ -178,7 +183,7 @@ fn pushes_and_pops(items: &mut Items<u8>) -> Option<bool> {
     Some(was_empty && popped && items.get(1) == Some(&2) && items.as_slice() == [1, 2].as_slice())
 }
 
-/// Returns whether numbers are pushed to `Items` and popped, and are in the `Vec` made of it.
+/// Returns whether numbers are pushed to `Items` and popped, and `into_vec` then has the others.
 fn items_push_and_pop(alloc: Global) -> Option<bool> {
     let mut items = Items::new(alloc);
     let grown = pushes_and_pops(&mut items);
@@ -188,9 +193,9 @@ fn items_push_and_pop(alloc: Global) -> Option<bool> {
     Some(grown? && same)
 }
 
-/// Checks `Items` of bytes.
+/// Checks that `Items`, here of bytes, push and pop at their end.
 #[test]
-fn items_are_a_list(rt: HostRuntime) {
+fn pushed_items_are_popped(rt: HostRuntime) {
     assert!(rt; items_push_and_pop(rt.alloc()) == Some(true));
 }
 

@@ -1,9 +1,16 @@
-//! Texts, and the terms or syntax errors that the rules of the text give them, row by row.
+//! Texts of terms: rows of texts, and the terms or syntax errors that are read from them by the rules of the text.
+
+// The reader, compared with a plain reader.
 mod against_reference;
+// Long and deep texts.
 mod long;
+// Texts at a limit and past it.
 pub(crate) mod past_limits;
+// The plain reader.
 mod reference;
+// Reading and printing that run out of memory.
 pub(crate) mod refused;
+// Writers that fail.
 mod writer;
 
 use Reading::{Fails, Reads};
@@ -13,7 +20,7 @@ use std::process::Abort;
 use term_text::TextFault::{self, OutOfRange, Unclosed, Unexpected};
 use term_text::{print_term, read_term_bytes};
 
-/// Returns the printed term, a blank, and how many bytes of a text the term took.
+/// Returns the printed term, a blank, and `taken`: how many bytes of its text the term took.
 fn print_with_length(alloc: Global, term: &Term, taken: usize) -> Result<String, AllocError> {
     let mut text = String::new(alloc);
     let result = match print_term(alloc, term, &mut text) {
@@ -24,7 +31,8 @@ fn print_with_length(alloc: Global, term: &Term, taken: usize) -> Result<String,
     result
 }
 
-/// Reads a text. Returns the printed term and how many bytes of the text it took, or the syntax error.
+/// Reads a text. Returns the result as a text: the printed term, a blank and how many bytes the term took, or the
+/// syntax error.
 fn result_of(alloc: Global, text: &[u8]) -> Result<String, AllocError> {
     match read_term_bytes(alloc, text) {
         Ok((term, taken)) => {
@@ -48,12 +56,12 @@ fn has_result(alloc: Global, text: &[u8], wanted: &str) -> Result<bool, AllocErr
 #[derive(Clone, Copy, PartialEq, Eq)]
 pub(crate) struct Bytes(usize);
 
-/// What is read from a text.
+/// The wanted result of reading a text.
 #[derive(Clone, Copy)]
 pub(crate) enum Reading<'a> {
-    /// A term that is printed as this text.
+    /// A term that is printed as this text, and takes this many bytes of the text that is read.
     Reads(&'a str, Bytes),
-    /// A syntax error with its offset.
+    /// A syntax error. Its number is the offset.
     Fails(TextFault),
 }
 
@@ -81,7 +89,8 @@ fn first_mismatch(
     Ok(None)
 }
 
-/// Texts that begin with a digit, a minus, a letter or a single quote, and blank texts.
+/// Each row is a text and its wanted result: the printed term and the bytes that it takes, or the syntax error with its
+/// offset. The texts begin with a digit, a minus, a letter or a single quote, or are blank.
 const NUMBERS_AND_ATOMS: [(&str, Reading); 26] = [
     ("007 ", Reads("7", Bytes(3))),
     ("-0", Reads("0", Bytes(2))),
@@ -137,11 +146,12 @@ const NUMBERS_AND_ATOMS: [(&str, Reading); 26] = [
 
 /// Checks what is read from texts of integers and atoms.
 #[test]
-fn numbers_and_atoms(rt: HostRuntime) {
+fn numbers_and_atoms_are_read(rt: HostRuntime) {
     assert_eq!(rt; first_mismatch(rt.alloc(), &NUMBERS_AND_ATOMS), Ok(None));
 }
 
-/// Texts that begin with a bracket or a double quote.
+/// Each row is a text and its wanted result: the printed term and the bytes that it takes, or the syntax error with its
+/// offset. The texts begin with a bracket or a double quote.
 const BRACKETS_AND_STRINGS: [(&str, Reading); 11] = [
     (" {}x", Reads("{}", Bytes(3))),
     ("[a,]", Fails(Unexpected(3))),
@@ -161,11 +171,12 @@ const BRACKETS_AND_STRINGS: [(&str, Reading); 11] = [
 
 /// Checks what is read from texts of tuples, lists and strings.
 #[test]
-fn brackets_and_strings(rt: HostRuntime) {
+fn brackets_and_strings_are_read(rt: HostRuntime) {
     assert_eq!(rt; first_mismatch(rt.alloc(), &BRACKETS_AND_STRINGS), Ok(None));
 }
 
-/// Texts that begin with `<` or `#`.
+/// Each row is a text and its wanted result: the printed term and the bytes that it takes, or the syntax error with its
+/// offset. The texts begin with `<` or `#`.
 const BINARIES_PIDS_AND_IDENTIFIERS: [(&str, Reading); 20] = [
     ("<<256>>", Fails(OutOfRange(2))),
     ("<< 1, 2 >>", Reads("<<1,2>>", Bytes(10))),
@@ -191,7 +202,7 @@ const BINARIES_PIDS_AND_IDENTIFIERS: [(&str, Reading); 20] = [
 
 /// Checks what is read from texts of binaries, pids and identifiers of tables.
 #[test]
-fn binaries_pids_and_identifiers(rt: HostRuntime) {
+fn binaries_pids_and_identifiers_are_read(rt: HostRuntime) {
     assert_eq!(rt;
         first_mismatch(rt.alloc(), &BINARIES_PIDS_AND_IDENTIFIERS),
         Ok(None)

@@ -1,12 +1,12 @@
-// Compares random patterns and match specifications with a plain reading of the rules.
+// Compares random patterns and match specifications with a plain reading of the rules: the functions of `plain`.
 use super::*;
 use crate::tests::plain;
 use crate::tests::random::Random;
 
-/// How many random objects a test makes.
+/// The number of random objects in each test.
 const OBJECTS: u32 = 5_000;
 
-/// More patterns than this must match their objects.
+/// More patterns than this must match their objects, so that enough bindings are compared.
 const MIN_MATCHES: u32 = 2_500;
 
 /// More match specifications than this must compile.
@@ -18,7 +18,7 @@ const MAX_COMPILED: u32 = 4_000;
 /// More match specifications than this must give a result.
 const MIN_RESULTS: u32 = 500;
 
-/// How the answers compare with the plain reading.
+/// Counts of answers: of each kind, and of those that differ from the plain reading.
 #[derive(Drop)]
 struct Tally {
     /// How many patterns matched.
@@ -31,7 +31,7 @@ struct Tally {
     mismatches: u32,
 }
 
-/// Returns the bindings of a pattern, or None if it does not match. The outer None means that it does not compile.
+/// Returns the bindings of a pattern, or `None` if it does not match. The outer `None` means that it does not compile.
 fn bindings(alloc: Global, pattern: &Term, object: &Term) -> Option<Option<Term>> {
     let pattern = Pattern::compile(alloc, pattern).ok()?;
     match pattern.bindings(alloc, object).ok()? {
@@ -41,7 +41,7 @@ fn bindings(alloc: Global, pattern: &Term, object: &Term) -> Option<Option<Term>
 }
 
 impl Tally {
-    /// Counts an answer, which is either the same as the plain reading or a mismatch.
+    /// Counts a mismatch, unless an answer is the same as that of the plain reading.
     fn count_agreement(&mut self, same: bool) {
         if !same {
             self.mismatches = self.mismatches.saturating_add(1);
@@ -51,6 +51,7 @@ impl Tally {
     /// Compares the bindings of a pattern with the plain reading.
     fn compare_pattern(&mut self, alloc: Global, pattern: &Term, object: &Term) {
         let found = bindings(alloc, pattern, object);
+        // Adds 1 if the pattern matches.
         self.matches = self
             .matches
             .saturating_add(matches!(found, Some(Some(_))) as u32);
@@ -60,13 +61,15 @@ impl Tally {
     /// Compares the result of a match specification with the plain reading.
     fn compare_result(&mut self, alloc: Global, compiled: &Spec, spec: &Term, object: &Term) {
         let result = compiled.result(alloc, object).ok();
+        // Adds 1 if there is a result.
         self.results = self
             .results
             .saturating_add(matches!(result, Some(Some(_))) as u32);
         self.count_agreement(result == Some(plain::result(alloc, spec, object)));
     }
 
-    /// Compares with the plain reading whether a match specification compiles, and if so its result.
+    /// Checks that a match specification compiles exactly if the plain reading accepts it. If it compiles, compares its
+    /// result with the plain reading.
     fn compare_spec(&mut self, alloc: Global, spec: &Term, object: &Term) {
         let is_spec = plain::is_spec(alloc, spec);
         match Spec::compile(alloc, spec) {
@@ -79,7 +82,7 @@ impl Tally {
         }
     }
 
-    /// Compares the bindings of a random pattern of an object with the plain reading.
+    /// Compares the bindings of a random pattern, made from an object, with the plain reading.
     fn compare_random_pattern(
         &mut self,
         alloc: Global,
@@ -90,24 +93,29 @@ impl Tally {
         Some(())
     }
 
-    /// Adds a random object with a pattern and a match specification of its own.
-    fn add_object(&mut self, alloc: Global, random: &mut Random) -> Option<()> {
+    /// Makes a random object, and from it a pattern and a match specification. Compares both with the plain reading.
+    fn compare_random_object(&mut self, alloc: Global, random: &mut Random) -> Option<()> {
         let object = random.object(alloc)?;
         self.compare_random_pattern(alloc, random, &object)?;
         self.compare_spec(alloc, &random.spec(alloc, &object)?, &object);
         Some(())
     }
 
-    /// Adds this number of random objects.
-    fn add_objects(&mut self, alloc: Global, random: &mut Random, objects: u32) -> Option<()> {
+    /// Calls `compare_random_object` this number of times.
+    fn compare_random_objects(
+        &mut self,
+        alloc: Global,
+        random: &mut Random,
+        objects: u32,
+    ) -> Option<()> {
         for _ in 0..objects {
-            self.add_object(alloc, random)?;
+            self.compare_random_object(alloc, random)?;
         }
         Some(())
     }
 
-    /// Returns whether no answer differs, and enough patterns and match specifications match, compile, are refused and
-    /// give results.
+    /// Returns whether no answer differs, enough patterns match, and enough match specifications compile, are refused
+    /// and give results.
     fn agrees_with_enough(&self) -> bool {
         self.mismatches == 0
             && self.matches > MIN_MATCHES
@@ -118,7 +126,7 @@ impl Tally {
 }
 
 /// Returns whether `OBJECTS` random objects, each with a pattern and a match specification, give no mismatch, and
-/// enough of them match and give results.
+/// enough of them match and give results. Each of the four tests has its own seed.
 fn random_terms_agree(alloc: Global, seed: u64) -> bool {
     let mut tally = Tally {
         matches: 0,
@@ -126,26 +134,26 @@ fn random_terms_agree(alloc: Global, seed: u64) -> bool {
         results: 0,
         mismatches: 0,
     };
-    let done = tally.add_objects(alloc, &mut Random::new(seed), OBJECTS);
+    let done = tally.compare_random_objects(alloc, &mut Random::new(seed), OBJECTS);
     done == Some(()) && tally.agrees_with_enough()
 }
 
 #[test]
-fn first_quarter_agrees_with_a_plain_reading(rt: HostRuntime) {
+fn first_quarter_of_random_terms_agrees_with_a_plain_reading(rt: HostRuntime) {
     assert!(rt; random_terms_agree(rt.alloc(), 11));
 }
 
 #[test]
-fn second_quarter_agrees_with_a_plain_reading(rt: HostRuntime) {
+fn second_quarter_of_random_terms_agrees_with_a_plain_reading(rt: HostRuntime) {
     assert!(rt; random_terms_agree(rt.alloc(), 12));
 }
 
 #[test]
-fn third_quarter_agrees_with_a_plain_reading(rt: HostRuntime) {
+fn third_quarter_of_random_terms_agrees_with_a_plain_reading(rt: HostRuntime) {
     assert!(rt; random_terms_agree(rt.alloc(), 13));
 }
 
 #[test]
-fn fourth_quarter_agrees_with_a_plain_reading(rt: HostRuntime) {
+fn fourth_quarter_of_random_terms_agrees_with_a_plain_reading(rt: HostRuntime) {
     assert!(rt; random_terms_agree(rt.alloc(), 14));
 }

@@ -1,4 +1,4 @@
-// Terms that the tests are built of. None means out of memory.
+// Builds the terms of the tests. `None` means out of memory.
 use ets_term::{Atom, Items, Term};
 use std::alloc::Global;
 

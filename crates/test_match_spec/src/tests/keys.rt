@@ -1,14 +1,14 @@
-// The keys that patterns and match specifications bind.
+// The bound key of patterns and match specifications: the key that every matching object has.
 use super::*;
 use ets_term::Position;
 use term_text::read_term;
 
-/// Returns the term of a text.
+/// Reads the term of a text. `read_term` also returns the offset of its end, which is not used.
 fn term_of(alloc: Global, text: &str) -> Option<Term> {
     Some(read_term(alloc, text).ok()?.0)
 }
 
-/// Returns whether a key is that of a text, or both are missing.
+/// Returns whether a key is the term of a text, or both are missing.
 fn is_key(alloc: Global, found: Option<&Term>, wanted: Option<&'static str>) -> Option<bool> {
     match (found, wanted) {
         (Some(key), Some(text)) => Some(*key == term_of(alloc, text)?),
@@ -20,10 +20,11 @@ fn is_key(alloc: Global, found: Option<&Term>, wanted: Option<&'static str>) -> 
 #[derive(Clone, Copy)]
 struct Keypos(Position);
 
-/// A pattern, the position of the key, and the key that it binds.
+/// Columns: a pattern, the position of the key, and the key that the pattern binds.
 type PatternRow = (&'static str, Keypos, Option<&'static str>);
 
-/// Patterns that bind a key, and patterns that match objects of several keys.
+/// Patterns that bind a key, and patterns that match objects of several keys. The position 2^64 + 1 must not be taken
+/// for 1, which is what 64 bits hold of it.
 const PATTERNS: [PatternRow; 11] = [
     ("{7,'_'}", Keypos(1), Some("7")),
     ("{7,'_'}", Keypos(2), None),
@@ -60,10 +61,10 @@ fn a_pattern_binds_its_key(rt: HostRuntime) {
     assert!(rt; patterns_bind(rt.alloc(), &PATTERNS));
 }
 
-/// A match specification, and the key at position 1 that it binds.
+/// Columns: a match specification, and the key at position 1 that it binds.
 type SpecRow = (&'static str, Option<&'static str>);
 
-/// Match specifications whose clauses bind one key, and others.
+/// Match specifications whose clauses all bind the same key, and others.
 const SPECS: [SpecRow; 6] = [
     ("[{{7,'_'},[],[1]}]", Some("7")),
     ("[{{7,'_'},[],[1]},{{7,a,b},[],[2]}]", Some("7")),
@@ -91,6 +92,6 @@ fn specs_bind(alloc: Global, rows: &[SpecRow]) -> bool {
 }
 
 #[test]
-fn keys_are_bound_by_all_clauses(rt: HostRuntime) {
+fn a_match_specification_binds_a_key_if_all_clauses_bind_it(rt: HostRuntime) {
     assert!(rt; specs_bind(rt.alloc(), &SPECS));
 }

@@ -1,8 +1,12 @@
-// A plain reading of the rules over terms. It shares no code with the crate: it has no paths and compiles nothing.
+// A plain reading of the rules: a second implementation of patterns and match specifications, which the tests compare
+// with `match_spec`. It shares no code with that crate. It reads terms as they are: it has no paths and compiles
+// nothing.
 use crate::tests::forms::{atom, copy};
 use ets_term::{Integer, Items, Term};
 use std::alloc::Global;
 
+// `checks` decides which terms are match specifications. `matching` matches patterns. `clauses` gives the result of a
+// match specification, by the values of expressions in `values`, `functions` and `operations`.
 mod checks;
 mod clauses;
 mod functions;

@@ -1,5 +1,5 @@
-// Random objects, patterns and match specifications. They are built from pools of terms, which grow by tuples and lists
-// of the terms in them.
+// Random objects, patterns and match specifications. They are built from pools of terms. A pool grows by tuples and
+// lists of the terms in it.
 use super::*;
 use crate::tests::forms::{atom, copy, triple};
 
@@ -23,13 +23,13 @@ impl Random {
         Random { state: seed }
     }
 
-    /// Draws a number below `n`, by the high bits of the next state.
+    /// Draws a number below `n`, from the high bits of the next state.
     fn random_below(&mut self, n: u64) -> u64 {
         self.state = self.state.wrapping_mul(FACTOR).wrapping_add(INCREMENT);
         (self.state >> 33).checked_rem(n).unwrap_or(0)
     }
 
-    /// Returns a copy of one of the terms.
+    /// Returns a copy of one of the terms, drawn at random.
     fn random_copy(&mut self, alloc: Global, terms: &[Term]) -> Option<Term> {
         let at = self.random_below(terms.len() as u64) as usize;
         copy(alloc, terms.get(at)?)
@@ -57,8 +57,9 @@ impl Random {
         Some(())
     }
 
-    /// Draws an atom, an integer, a pid, an identifier or a binary.
-    fn random_plain_term(&mut self, alloc: Global) -> Option<Term> {
+    /// Draws a term that is not a tuple or a list: an atom, an integer, a pid, a table identifier or a binary.
+    /// The largest integer is 2^64 + 1, which 64 bits do not hold.
+    fn random_leaf(&mut self, alloc: Global) -> Option<Term> {
         match self.random_below(10) {
             0 => atom(alloc, "true"),
             1 => atom(alloc, "false"),
@@ -83,10 +84,10 @@ impl Random {
         }
     }
 
-    /// Pushes four plain terms, and two tuples or lists of the terms in the pool.
+    /// Pushes four leaves, and two tuples or lists of the terms in the pool.
     fn push_terms(&mut self, alloc: Global, pool: &mut Vec<Term>) -> Option<()> {
         for _ in 0..4 {
-            pool.push(self.random_plain_term(alloc)?).ok()?;
+            pool.push(self.random_leaf(alloc)?).ok()?;
         }
         for _ in 0..2 {
             let term = self.random_tuple_or_list(alloc, pool.as_slice())?;
@@ -95,27 +96,28 @@ impl Random {
         Some(())
     }
 
-    /// Builds a tuple of up to three elements, some of them tuples and lists.
+    /// Builds a tuple of up to three elements. An element can be a tuple or a list.
     pub(crate) fn object(&mut self, alloc: Global) -> Option<Term> {
         let mut pool = Vec::new(alloc);
         self.push_terms(alloc, &mut pool)?;
         Some(Term::Tuple(self.random_copies(alloc, pool.as_slice(), 3)?))
     }
 
-    /// Returns a variable, a plain term, or mostly a copy of a term. `$01` is not a variable.
+    /// Draws a part of a pattern from a term: `_`, a variable, a leaf, the atom `$01`, which is not a variable, or a
+    /// copy of the term.
     fn variable_or_copy(&mut self, alloc: Global, term: &Term) -> Option<Term> {
         match self.random_below(8) {
             0 => atom(alloc, "_"),
             1 => atom(alloc, "$0"),
             2 => atom(alloc, "$1"),
             3 => atom(alloc, "$2"),
-            4 => self.random_plain_term(alloc),
+            4 => self.random_leaf(alloc),
             5 => atom(alloc, "$01"),
             _ => copy(alloc, term),
         }
     }
 
-    /// Builds a part of a pattern: half of the tuples and lists have variables inside.
+    /// Builds a part of a pattern from a part of an object. Half of the tuples and lists get variables inside.
     fn pattern_part(&mut self, alloc: Global, term: &Term) -> Option<Term> {
         match term {
             Term::Tuple(inner) if self.random_below(2) == 0 => {
@@ -137,7 +139,7 @@ impl Random {
         Some(parts)
     }
 
-    /// Builds the items of an inner tuple or list of a pattern.
+    /// Builds the items of an inner tuple or list of a pattern from those of an object.
     fn variables_or_copies(&mut self, alloc: Global, terms: &[Term]) -> Option<Items<Term>> {
         let mut parts = Items::new(alloc);
         for term in terms {
@@ -146,7 +148,8 @@ impl Random {
         Some(parts)
     }
 
-    /// Builds a pattern: the object with variables and other terms in place of some of its parts.
+    /// Builds a pattern: the object with variables and other terms in place of some of its parts, or in one of ten
+    /// cases `_`.
     pub(crate) fn pattern(&mut self, alloc: Global, object: &Term) -> Option<Term> {
         match object {
             Term::Tuple(items) if self.random_below(10) > 0 => {

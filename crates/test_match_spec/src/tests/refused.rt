@@ -1,9 +1,9 @@
-// Out of memory. `.ci/refusals` runs these tests with each allocation refused in turn. What is compiled or evaluated
-// again must give the result of ample memory.
+// Out of memory. `.ci/refusals` runs these tests with each allocation refused in turn. A compilation or evaluation that
+// runs out of memory is repeated, and must then give the result of ample memory.
 use super::*;
 use term_text::{TextFault, read_term};
 
-/// Reads the term of a text, again if memory runs out.
+/// Reads the term of a text. Repeats it if memory runs out.
 fn term_with_retry(alloc: Global, text: &str) -> Option<Term> {
     let read = match read_term(alloc, text) {
         Err(TextFault::Memory) => read_term(alloc, text),
@@ -15,7 +15,7 @@ fn term_with_retry(alloc: Global, text: &str) -> Option<Term> {
     }
 }
 
-/// Compiles a pattern, again if memory runs out.
+/// Compiles a pattern. Repeats it if memory runs out.
 fn pattern_with_retry(alloc: Global, term: &Term) -> Option<Pattern> {
     match Pattern::compile(alloc, term) {
         Ok(pattern) => Some(pattern),
@@ -23,7 +23,7 @@ fn pattern_with_retry(alloc: Global, term: &Term) -> Option<Pattern> {
     }
 }
 
-/// Compiles a match specification, again if memory runs out.
+/// Compiles a match specification. Repeats it if memory runs out.
 fn spec_with_retry(alloc: Global, term: &Term) -> Option<Spec> {
     match Spec::compile(alloc, term) {
         Ok(spec) => Some(spec),
@@ -31,7 +31,8 @@ fn spec_with_retry(alloc: Global, term: &Term) -> Option<Spec> {
     }
 }
 
-/// Returns the bindings by which an object matches, as a list, or the atom `none`. Matches again if memory runs out.
+/// Returns the list of the bindings by which an object matches, or the atom `none`. Repeats the match if memory runs
+/// out.
 fn bindings_with_retry(alloc: Global, pattern: &Pattern, object: &Term) -> Option<Term> {
     let bindings = match pattern.bindings(alloc, object) {
         Ok(bindings) => bindings,
@@ -43,7 +44,8 @@ fn bindings_with_retry(alloc: Global, pattern: &Pattern, object: &Term) -> Optio
     }
 }
 
-/// Returns the result of a match specification on an object, or the atom `none`. Evaluates again if memory runs out.
+/// Returns the result of a match specification on an object, or the atom `none`. Repeats the evaluation if memory runs
+/// out.
 fn result_with_retry(alloc: Global, spec: &Spec, object: &Term) -> Option<Term> {
     let result = match spec.result(alloc, object) {
         Ok(result) => result,
@@ -55,7 +57,7 @@ fn result_with_retry(alloc: Global, spec: &Spec, object: &Term) -> Option<Term> 
     }
 }
 
-/// Returns whether the result on an object is `true`. Evaluates again if memory runs out.
+/// Returns whether the result on an object is `true`. Repeats the evaluation if memory runs out.
 fn is_true_with_retry(alloc: Global, spec: &Spec, object: &Term) -> Option<bool> {
     match spec.is_true(alloc, object) {
         Ok(is_true) => Some(is_true),
@@ -76,14 +78,15 @@ fn has_result(alloc: Global, spec: &Term, object: &Term, wanted: &Term) -> Optio
     Some(is_true && result_with_retry(alloc, &spec, object)? == *wanted)
 }
 
-/// The form of a row: `[Pattern,Object,Values]` or `[Specification,Object,Result]`.
+/// The form of a row of text: `[Pattern,Object,Values]` or `[Specification,Object,Result]`.
 #[derive(Clone, Copy)]
 enum Form {
     Pattern,
     Spec,
 }
 
-/// Returns whether a row has its bindings or its result. None means a wrong row or out of memory.
+/// Returns whether the pattern or match specification of a row gives what the row says. `None` means that the row does
+/// not have its form, or out of memory.
 fn row_holds(alloc: Global, form: Form, row: &[Term]) -> Option<bool> {
     match (form, row) {
         (Form::Pattern, [pattern, object, wanted]) => has_bindings(alloc, pattern, object, wanted),
@@ -110,7 +113,8 @@ fn first_mismatch(alloc: Global, rows: &[(Form, &'static str)]) -> Option<&'stat
     None
 }
 
-/// Patterns and match specifications, each with an object and what it must give.
+/// Columns: the form of the row, and its text: a pattern or match specification, an object, and what the first must
+/// give on the object. `none` means no match or no result.
 const ROWS: [(Form, &str); 10] = [
     (
         Form::Pattern,
@@ -152,6 +156,6 @@ const ROWS: [(Form, &str); 10] = [
 ];
 
 #[test]
-fn what_was_refused_is_compiled_and_tried_again(rt: HostRuntime) {
+fn refused_compilations_and_evaluations_succeed_when_repeated(rt: HostRuntime) {
     assert_eq!(rt; first_mismatch(rt.alloc(), &ROWS), None);
 }

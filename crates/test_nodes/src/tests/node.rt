@@ -1,27 +1,40 @@
 // Tests what no script of tests/scripts can say. A test is a table of rows: a step, and the reply that the rules of
-// docs/calls.md want, written by hand. A test reports the index of a wrong row.
+// docs/calls.md want, written by hand and called `wanted`. A test reports the index of the first wrong row.
 use crate::tests::text::{is_spelled, term, terms};
 use crate::tests::{Bucket, Pid, Tid, keep_if_ok};
 use ets_term::{AllSame, Atom, Fnv, Items, KeyHash, Term};
 use node_core::{Call, Limits, Node, Reply, Step};
 use std::alloc::{AllocError, Global};
 
+// The greatest depth of arguments and objects.
 mod depths;
+// The pending growth step after each step.
 mod growth;
+// Thousands of objects, tables, processes and steps.
 mod long;
+// `Node::step_own`, which consumes its step.
 mod owned;
+// Enrolment and exit of processes, and their limit.
 mod processes;
+// `Node::read` and `Node::read_into`.
 mod reads;
+// Steps that run out of memory and run again.
 mod refused;
+// Names, identifiers and the limit of tables.
 mod tables;
+// `Node::run` and `Node::run_through`.
 mod through;
+// `node_core::walk_among`: a traversal with steps of others between its calls.
 mod walk_among;
+// `node_reasons::why`: the reason of each refusal.
 mod why;
 
-/// A step, whose call is a text.
+/// A step to run. Its call is a text, so that tables of rows can be constants.
 #[derive(Clone, Copy)]
 enum Event<'a> {
+    /// The process starts.
     Enrol(Pid),
+    /// The process exits.
     End(Pid),
     /// The process makes this call, such as `lookup(t,a)`.
     Ask(Pid, &'a str),
@@ -31,10 +44,11 @@ enum Event<'a> {
     Ready(Tid, Bucket),
 }
 
-/// A step, and its reply: a term, a list after `any order: `, or a refusal such as `** badarg`.
+/// A step, and its wanted reply: a term, a list after `any order: `, or a refusal such as `** badarg`.
 type Row = (Event<'static>, &'static str);
 
-/// Builds the step of a call that a process makes, as in `lookup(t,a)`.
+/// Builds the step of a call that a process makes, such as `lookup(t,a)`. A text that is not a call is a fault of the
+/// test, reported as out of memory.
 fn ask(alloc: Global, pid: Pid, call: &str) -> Result<Step, AllocError> {
     let Some((name, rest)) = call.split_once('(') else {
         return Err(AllocError);
@@ -74,13 +88,13 @@ fn items_of(term: Term) -> Result<Items<Term>, AllocError> {
     }
 }
 
-/// Returns the items of a list in the order of terms.
+/// Returns the items of a list, sorted in Erlang's order of terms.
 fn sort_items(term: Term) -> Result<Vec<Term>, AllocError> {
     let mut items = items_of(term)?.into_vec();
     keep_if_ok(items.sort(), items)
 }
 
-/// Returns whether a list has these items, in any order.
+/// Returns whether a list has the items of the list that a text spells, in any order.
 fn has_items(alloc: Global, value: &Term, wanted: &str) -> Result<bool, AllocError> {
     let items = sort_items(value.try_clone(alloc)?)?;
     let same = are_spelled(alloc, items.as_slice(), wanted);
@@ -88,7 +102,7 @@ fn has_items(alloc: Global, value: &Term, wanted: &str) -> Result<bool, AllocErr
     same
 }
 
-/// Returns whether a text spells a list of these sorted items, in any order.
+/// Returns whether a text spells a list that has these items after it is sorted.
 fn are_spelled(alloc: Global, items: &[Term], text: &str) -> Result<bool, AllocError> {
     let expected = sort_items(term(alloc, text)?)?;
     let same = items == expected.as_slice();
@@ -96,7 +110,7 @@ fn are_spelled(alloc: Global, items: &[Term], text: &str) -> Result<bool, AllocE
     Ok(same)
 }
 
-/// Returns whether the text is that of the reply: a term, a list after `any order: `, or a refusal.
+/// Returns whether a reply is the wanted one: a term, a list after `any order: `, or a refusal.
 fn reply_has_text(alloc: Global, reply: &Reply, wanted: &str) -> Result<bool, AllocError> {
     match reply {
         Reply::Value(value) => match wanted.strip_prefix("any order: ") {
@@ -109,7 +123,7 @@ fn reply_has_text(alloc: Global, reply: &Reply, wanted: &str) -> Result<bool, Al
     }
 }
 
-/// Runs the step of an event, and returns whether it has this reply.
+/// Runs the step of an event, and returns whether it has the wanted reply.
 fn event_has_reply<H: KeyHash + Copy + Drop>(
     alloc: Global,
     node: &mut Node<H>,
@@ -122,7 +136,7 @@ fn event_has_reply<H: KeyHash + Copy + Drop>(
     answered
 }
 
-/// Runs a step, and returns whether it has this reply.
+/// Runs a step, and returns whether it has the wanted reply.
 fn step_has_reply<H: KeyHash + Copy + Drop>(
     alloc: Global,
     node: &mut Node<H>,
@@ -135,7 +149,7 @@ fn step_has_reply<H: KeyHash + Copy + Drop>(
     same
 }
 
-/// Runs the rows in a node, and returns the index of the first one with another reply.
+/// Runs the rows in a node, and returns the index of the first row with another reply than wanted.
 fn first_wrong_row_in<H: KeyHash + Copy + Drop>(
     alloc: Global,
     node: &mut Node<H>,
@@ -149,7 +163,8 @@ fn first_wrong_row_in<H: KeyHash + Copy + Drop>(
     Ok(None)
 }
 
-/// Runs the rows in a new node with this hasher, and returns the index of the first one with another reply.
+/// Runs the rows in a new node with these limits and this hasher. Returns the index of the first row with another
+/// reply.
 fn first_wrong_row_by_hasher<H: KeyHash + Copy + Drop>(
     alloc: Global,
     limits: Limits,
@@ -162,7 +177,7 @@ fn first_wrong_row_by_hasher<H: KeyHash + Copy + Drop>(
     index
 }
 
-/// Runs the rows in two new nodes: one hasher spreads keys, the other gives all keys one hash. Returns the index of the
+/// Runs the rows in two new nodes. `Fnv` spreads the keys; `AllSame` gives all keys one hash. Returns the index of the
 /// first row with another reply.
 fn first_wrong_row_within_limits(
     alloc: Global,
@@ -175,7 +190,7 @@ fn first_wrong_row_within_limits(
     }
 }
 
-/// Runs the rows in new nodes with the usual limits, and returns the index of the first one with another reply.
+/// Runs the rows in two new nodes with the usual limits, and returns the index of the first row with another reply.
 fn first_wrong_row(alloc: Global, rows: &[Row]) -> Result<Option<usize>, AllocError> {
     first_wrong_row_within_limits(alloc, Limits::usual(), rows)
 }

@@ -1,16 +1,20 @@
-// Terms as Erlang writes them: `{a,-1}`, `['$1',[]]`, `#Tid<7>`, `<0.7.0>`; and `deep(7)` for a list in lists, seven deep.
-// A text that is no term is a fault of its test, which then fails as if memory ran out.
+// Reads texts as terms, as Erlang writes them: `{a,-1}`, `['$1',[]]`, `#Tid<7>`, `<0.7.0>`. The text `deep(7)` is the
+// empty list within six lists, seven levels deep. A text that is not a term is a fault of its test, reported as out of
+// memory.
 use crate::tests::keep_if_ok;
 use ets_term::{Atom, Integer, Items, Term};
 use std::alloc::{AllocError, Global};
 use std::mem;
 
-/// The text read so far: the terms before each open bracket, those after the last one, and the word in progress.
+/// What is read of a text so far.
 #[derive(Drop)]
 struct Reader {
     alloc: Global,
+    /// For each open bracket, the terms before it that are in the same tuple or list.
     open: Vec<Items<Term>>,
+    /// The terms after the last open bracket.
     terms: Items<Term>,
+    /// The letters of the word in progress.
     word: String,
 }
 
@@ -23,10 +27,11 @@ impl Reader {
         self.end_word()
     }
 
-    /// Reads a letter: a bracket, a separator or a part of a word.
+    /// Reads a letter: a bracket, a separator, or a part of a word, such as an atom or an integer.
     fn read_letter(&mut self, letter: char) -> Result<(), AllocError> {
         match letter {
             '{' | '[' => self.open_bracket(),
+            // `true` makes a tuple, `false` a list.
             '}' => self.close_bracket(true),
             ']' => self.close_bracket(false),
             ',' | ' ' => self.end_word(),
@@ -37,6 +42,7 @@ impl Reader {
     /// Sets the terms read so far aside until the bracket is closed.
     fn open_bracket(&mut self) -> Result<(), AllocError> {
         self.end_word()?;
+        // So that `push_reserved` cannot run out of memory.
         self.open.reserve(1)?;
         let before = mem::replace(&mut self.terms, Items::new(self.alloc));
         self.open.push_reserved(before);
@@ -47,6 +53,7 @@ impl Reader {
     fn close_bracket(&mut self, is_tuple: bool) -> Result<(), AllocError> {
         self.end_word()?;
         let Some(before) = self.open.pop() else {
+            // No bracket is open.
             return Err(AllocError);
         };
         let terms = mem::replace(&mut self.terms, before);
@@ -69,7 +76,7 @@ impl Reader {
     }
 }
 
-/// Returns the terms that a text spells.
+/// Returns the terms that a text spells, between commas or spaces.
 pub fn terms(alloc: Global, text: &str) -> Result<Vec<Term>, AllocError> {
     let mut reader = Reader {
         alloc,
@@ -86,7 +93,7 @@ pub fn terms(alloc: Global, text: &str) -> Result<Vec<Term>, AllocError> {
     }
 }
 
-/// Returns the one term that a text spells.
+/// Returns the term that a text spells: the last one, if there are several.
 pub fn term(alloc: Global, text: &str) -> Result<Term, AllocError> {
     let mut terms = terms(alloc, text)?;
     let last = terms.pop();
@@ -130,17 +137,17 @@ fn atom(alloc: Global, word: &str) -> Result<Term, AllocError> {
     }
 }
 
-/// Returns the text between two texts.
+/// Returns what is left of a word without this start and this end, or `None` if it lacks one of them.
 fn text_between<'a>(word: &'a str, start: &str, end: &str) -> Option<&'a str> {
     word.strip_prefix(start)?.strip_suffix(end)
 }
 
-/// Returns the number between two texts.
+/// Returns the number that is left of a word without this start and this end, if it is one.
 fn number_between(word: &str, start: &str, end: &str) -> Option<u32> {
     text_between(word, start, end)?.parse::<u32>().ok()
 }
 
-/// Returns the empty list in lists within lists, a term of this depth.
+/// Returns the empty list within lists, a term of this depth.
 fn nested_list(alloc: Global, depth: u32) -> Result<Term, AllocError> {
     let mut term = Term::List(Items::new(alloc));
     for _ in 1..depth {

@@ -1,4 +1,5 @@
-// Each test is a table of rows: a call, and the answer that the rules want. A test reports the index of a wrong row.
+// A `World` is the processes and tables of a node, without its calls. Each test is a table of rows: a call of a method
+// of `World`, and the answer that the rules want, called `wanted`. A test reports the index of the first wrong row.
 use crate::tests::text::is_spelled;
 use crate::tests::{Pid, Tid};
 use bucket_table::PlainRows;
@@ -11,18 +12,27 @@ use single_calls::{
 };
 use std::alloc::{AllocError, Global};
 
+// Exits of processes: heirs, deleted tables and released fixes.
 mod ends;
+// Hundreds of processes and tables.
 mod many;
+// Everything that the methods of a world show, to see whether it changed.
 mod observations;
+// The options of `new`, and what `info` then replies.
 mod options;
+// Owners, heirs, rights and names.
 mod owners;
+// Calls that run out of memory and are made again.
 mod refused;
+// Makes a call whose arguments are texts.
 mod single_calls;
 
-/// A call of a world.
+/// A call of a method of `World`.
 #[derive(Clone, Copy)]
 enum Call<'a> {
+    /// The process enrols.
     Enrol(Pid),
+    /// The process exits.
     End(Pid),
     /// The process makes a table of this name with these options.
     New(Pid, &'a str, &'a str),
@@ -32,27 +42,28 @@ enum Call<'a> {
     Give(Pid, Tid, Pid, &'a str),
     /// The process sets these options of the table.
     Set(Pid, Tid, &'a str),
+    /// The process takes the messages out of its mailbox.
     Receive(Pid),
-    /// An item of the table, or `undefined`.
+    /// Asks for an `info` item of the table; `undefined` if the table does not exist.
     Info(Tid, &'a str),
-    /// The identifier of the table that a term names, or `none`.
+    /// Asks for the identifier of the table that a term names; `none` if there is no such table.
     Resolve(&'a str),
-    /// What the process may do with the table: `read`, `write` or `own`.
+    /// Asks what the process may do with the table: a list of `read`, `write` and `own`.
     Rights(Pid, Tid),
     /// The process fixes the table.
     Fix(Pid, Tid),
 }
 
-/// A call, and its answer: a term, `DONE`, or a refusal such as `** badarg`.
+/// A call, and its wanted answer: a term, `DONE`, or a refusal such as `** badarg`.
 type Row = (Call<'static>, &'static str);
 
-/// The answer of a call without a result.
+/// The answer of a call without a result: the empty tuple.
 const DONE: &str = "{}";
 
-/// A world of tables over plain rows.
+/// A world of tables over plain rows, which are in one bucket.
 type Tables = World<PlainRows>;
 
-/// Returns the answer of a call that only reads.
+/// Returns the answer of a call that only reads, and the empty tuple for any other call.
 fn query(alloc: Global, world: &Tables, call: Call) -> Result<Term, WorldFault> {
     match call {
         Call::Info(id, item) => info_or_undefined(alloc, world, id.0, item),
@@ -62,7 +73,7 @@ fn query(alloc: Global, world: &Tables, call: Call) -> Result<Term, WorldFault> 
     }
 }
 
-/// Makes a call that has no result.
+/// Makes a call that has no result, and does nothing for any other call.
 fn run_call(alloc: Global, world: &mut Tables, call: Call) -> Result<(), WorldFault> {
     match call {
         Call::Enrol(pid) => world.enrol(pid.0),
@@ -100,7 +111,7 @@ fn refusal(fault: &WorldFault) -> &'static str {
     }
 }
 
-/// Makes a call, and returns whether it has this answer.
+/// Makes a call, and returns whether it has the wanted answer.
 fn call_has_answer(
     alloc: Global,
     world: &mut Tables,
@@ -121,12 +132,13 @@ fn call_has_answer(
 /// How often a call is made.
 #[derive(Clone, Copy)]
 enum Tries {
+    /// Out of memory is an error of the test.
     Once,
-    /// Again if memory runs out.
-    AgainIfRefused,
+    /// A second time if memory runs out.
+    RetryIfOutOfMemory,
 }
 
-/// Makes the call of a row, and returns whether it has its answer.
+/// Makes the call of a row, and returns whether it has its wanted answer.
 fn row_has_answer(
     alloc: Global,
     world: &mut Tables,
@@ -136,11 +148,11 @@ fn row_has_answer(
     let (call, wanted) = row;
     match tries {
         Tries::Once => call_has_answer(alloc, world, call, wanted),
-        Tries::AgainIfRefused => call_has_answer_with_retry(alloc, world, call, wanted),
+        Tries::RetryIfOutOfMemory => call_has_answer_with_retry(alloc, world, call, wanted),
     }
 }
 
-/// Makes the calls of the rows in a world, and returns the index of the first one with another answer.
+/// Makes the calls of the rows in a world, and returns the index of the first row with another answer than wanted.
 fn first_wrong_row_in(
     alloc: Global,
     world: &mut Tables,
@@ -155,8 +167,8 @@ fn first_wrong_row_in(
     Ok(None)
 }
 
-/// Makes the calls of the rows in a new world for three processes and four tables, and returns the index of the first
-/// one with another answer.
+/// Makes the calls of the rows in a new world for at most three processes and four tables. Returns the index of the
+/// first row with another answer. `Tries` says whether a call is repeated.
 fn first_wrong_row(alloc: Global, tries: Tries, rows: &[Row]) -> Result<Option<usize>, AllocError> {
     let mut world = World::new(alloc, 3, 4);
     let index = first_wrong_row_in(alloc, &mut world, tries, rows);
@@ -164,8 +176,8 @@ fn first_wrong_row(alloc: Global, tries: Tries, rows: &[Row]) -> Result<Option<u
     index
 }
 
-/// Makes the calls of each scenario in a world of its own. Returns the index of the first scenario with a wrong row, and
-/// the index of that row.
+/// Makes the calls of each scenario in a world of its own. Returns the index of the first scenario with a wrong row,
+/// and the index of that row.
 fn first_wrong_scenario(
     alloc: Global,
     scenarios: &[&'static [Row]],

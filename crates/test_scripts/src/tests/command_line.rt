@@ -1,4 +1,5 @@
-//! What the program's command line asks for, and the kinds of its refusals.
+//! Command lines of the program. `settings` parses `--threads`, `--hash` and `--max-objects`. `request` also parses the
+//! other options, such as the limits of processes and tables.
 use clap::error::ErrorKind;
 use ets_script::{request, settings};
 use node_core::Limits;
@@ -11,7 +12,7 @@ enum Threads {
     On,
 }
 
-/// The hash of keys.
+/// The hasher of keys.
 #[derive(Clone, Copy, PartialEq, Eq)]
 enum Hash {
     Fnv,
@@ -19,10 +20,10 @@ enum Hash {
     Same,
 }
 
-/// The greatest number of objects if no option says another.
+/// The greatest number of objects in a table if no option sets it.
 const USUAL_OBJECTS: u32 = 1_000_000;
 
-/// What `settings` parses: the threads, the hash, and the greatest number of objects.
+/// What `settings` parses: the threads, the hasher, and the greatest number of objects in a table.
 type Parsed = (Threads, Hash, u32);
 
 /// Returns what `settings` parses from these words, or the kind of the refusal.
@@ -41,7 +42,7 @@ fn parse_words(alloc: Global, words: &[&str]) -> Result<Parsed, ErrorKind> {
     }
 }
 
-/// Parses words that `settings` accepts.
+/// Parses words that `settings` accepts. A row is the words of a command line, and the settings that are parsed.
 #[test]
 fn words_have_their_settings(rt: HostRuntime) {
     let alloc = rt.alloc();
@@ -99,7 +100,7 @@ fn words_have_their_settings(rt: HostRuntime) {
     }
 }
 
-/// Parses words that `settings` refuses.
+/// Parses words that `settings` refuses. A row is the words of a command line, and the kind of the refusal.
 #[test]
 fn wrong_words_are_refused(rt: HostRuntime) {
     let alloc = rt.alloc();
@@ -158,16 +159,16 @@ type ParsedLimits = (Processes, Tables, Objects);
 /// Returns the limits that `request` parses from these words, or the kind of the refusal.
 fn parse_limits(alloc: Global, words: &[&str]) -> Result<ParsedLimits, ErrorKind> {
     match request(alloc, words) {
-        Ok(asked) => Ok((
-            Processes(asked.processes),
-            Tables(asked.tables),
-            Objects(asked.settings.objects),
+        Ok(parsed) => Ok((
+            Processes(parsed.processes),
+            Tables(parsed.tables),
+            Objects(parsed.settings.objects),
         )),
         Err(error) => Err(error.kind()),
     }
 }
 
-/// Parses words that `request` accepts.
+/// Parses words that `request` accepts. A row is the words of a command line, and the limits that they set.
 #[test]
 fn words_have_their_limits(rt: HostRuntime) {
     let alloc = rt.alloc();
@@ -221,7 +222,8 @@ fn words_have_their_limits(rt: HostRuntime) {
     }
 }
 
-/// Parses words that `request` refuses.
+/// Parses words that `request` refuses. A row is the words of a command line, and the kind of the refusal. At the end,
+/// `settings` refuses an option that only `request` has.
 #[test]
 fn wrong_limits_are_refused(rt: HostRuntime) {
     let alloc = rt.alloc();

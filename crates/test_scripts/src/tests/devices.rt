@@ -1,4 +1,4 @@
-//! Readers and writers that are slow, that take a part, or that fail.
+//! Readers and writers for scripts. They may read or write only a few bytes at a time, or fail.
 use std::alloc::Global;
 use std::cell::Cell;
 use std::io::{self, Error, ErrorKind, Read, Write};
@@ -6,9 +6,9 @@ use std::io::{self, Error, ErrorKind, Read, Write};
 /// How the reader and the writer of a script behave.
 #[derive(Clone, Copy)]
 pub struct Devices {
-    /// The most bytes that one read gives.
+    /// The greatest number of bytes that one read returns.
     pub max_read_bytes: usize,
-    /// The most bytes that one write takes.
+    /// The greatest number of bytes that one write takes.
     pub max_write_bytes: usize,
     /// The number of reads before one fails.
     pub reads_before_fault: u32,
@@ -18,7 +18,7 @@ pub struct Devices {
     pub fails_to_flush: bool,
 }
 
-/// Devices that give and take all, and never fail.
+/// Devices that read and write any number of bytes at a time, and never fail.
 pub const GOOD_DEVICES: Devices = Devices {
     max_read_bytes: usize::MAX,
     max_write_bytes: usize::MAX,
@@ -27,16 +27,16 @@ pub const GOOD_DEVICES: Devices = Devices {
     fails_to_flush: false,
 };
 
-/// What a writer wrote and flushed, as the reader finds it at each read.
+/// How much a writer has written and flushed, which the reader checks at each read.
 #[derive(Drop)]
 pub struct FlushLog {
     /// How many bytes were written.
     written: Cell<usize>,
-    /// How many of them had been written at the last flush.
+    /// How many of them were flushed.
     flushed: Cell<usize>,
     /// How many had been flushed when a read failed.
     flushed_at_fault: Cell<Option<usize>>,
-    /// Whether a read came while something written was not flushed.
+    /// Whether some read began before all written bytes were flushed.
     is_read_unflushed: Cell<bool>,
 }
 
@@ -51,7 +51,8 @@ impl FlushLog {
         }
     }
 
-    /// Returns whether `count` bytes were written and all of them flushed, also before each read.
+    /// Returns whether `count` bytes were written and flushed, and each read began after a flush of all bytes written
+    /// so far. If a read failed, all `count` bytes must have been flushed before it.
     pub fn is_all_flushed(&self, count: usize) -> bool {
         self.written.get() == count
             && self.flushed.get() == count
@@ -63,16 +64,18 @@ impl FlushLog {
 /// A reader of a script.
 #[derive(Drop)]
 pub struct Source<'a> {
-    /// The part of the script that is not read yet.
+    /// The rest of the script, which is not read yet.
     pub left: &'a [u8],
-    /// The most bytes that one read gives.
+    /// The greatest number of bytes that one read returns.
     pub max_read_bytes: usize,
     /// The number of reads that still succeed before one fails.
     pub reads_before_fault: u32,
+    /// The log that the writer of the same script keeps.
     pub log: &'a FlushLog,
 }
 
 impl Read for Source<'_> {
+    // Reads the next bytes of the script, or fails. Logs whether all written bytes were flushed before.
     fn read(&mut self, buf: &mut [u8]) -> io::Result<usize> {
         let log = self.log;
         if log.flushed.get() != log.written.get() {
@@ -95,15 +98,18 @@ impl Read for Source<'_> {
 pub struct Target<'a> {
     /// All bytes that were written.
     pub taken: Vec<u8>,
-    /// The most bytes that one write takes.
+    /// The greatest number of bytes that one write takes.
     pub max_write_bytes: usize,
     /// The number of writes that still succeed before one fails.
     pub writes_before_fault: u32,
+    /// Whether each flush fails.
     pub fails_to_flush: bool,
+    /// What is written and flushed, for the reader of the same script.
     pub log: &'a FlushLog,
 }
 
 impl Write for Target<'_> {
+    // Takes at most `max_write_bytes` bytes and logs how many were written in all, or fails.
     fn write(&mut self, buf: &[u8]) -> io::Result<usize> {
         if self.writes_before_fault == 0 {
             return Err(Error::from(ErrorKind::Other));
@@ -119,6 +125,7 @@ impl Write for Target<'_> {
         }
     }
 
+    // Logs that all bytes written so far are flushed, or fails.
     fn flush(&mut self) -> io::Result<()> {
         if self.fails_to_flush {
             return Err(Error::from(ErrorKind::Other));

@@ -1,4 +1,4 @@
-//! What has gone out when a reader or a writer is slow, or fails.
+//! Which answers are written if the reader or the writer of a script is slow or fails.
 use super::devices::{Devices, GOOD_DEVICES};
 use super::{End, Run, ends_with_answers, ends_with_answers_by_hash, usual_run};
 use ets_term::Fnv;
@@ -8,7 +8,7 @@ use std::test::Fail;
 /// A script of four lines of `LINE_BYTES` bytes each.
 const SCRIPT: &[u8] = b"spawn p\nspawn q\nspawn r\nspawn s\n";
 
-/// Its answers, of `LINE_BYTES` bytes each too.
+/// The answers of `SCRIPT`, of `LINE_BYTES` bytes each too.
 const ANSWERS: &[u8] = b"<0.0.0>\n<0.1.0>\n<0.2.0>\n<0.3.0>\n";
 
 /// The length of a line of the scripts, and of an answer to `spawn`, with its LF.
@@ -25,9 +25,9 @@ fn with_devices(devices: Devices) -> Run {
     }
 }
 
-/// Returns whether the whole script is answered, however few bytes a read gives and a write takes.
+/// Returns whether the whole script is answered if a read returns and a write takes at most a few bytes.
 fn all_slow_devices_answer(alloc: Global) -> bool {
-    // A byte, a part of a line, a whole line, and more than three lines.
+    // A byte, a part of a line, a whole line, and three lines with a part of the fourth.
     for max_read_bytes in [1, 3, LINE_BYTES, 31] {
         for max_write_bytes in [1, 3, LINE_BYTES, 31] {
             let run = with_devices(Devices {
@@ -49,9 +49,10 @@ fn scripts_are_answered_over_slow_devices(rt: HostRuntime) {
     assert!(rt; all_slow_devices_answer(rt.alloc()));
 }
 
-/// Returns whether the lines that came whole before a failing read are answered, and nothing else, when a read gives at
-/// most `max_read_bytes` bytes.
+/// Returns whether exactly the lines that were read whole before a failing read are answered. A read returns at most
+/// `max_read_bytes` bytes.
 fn whole_lines_are_answered(alloc: Global, max_read_bytes: usize) -> bool {
+    // Ten reads of at most three bytes do not reach the end of the script.
     for reads_before_fault in 0..=10 {
         let lines = max_read_bytes.saturating_mul(reads_before_fault as usize) / LINE_BYTES;
         let run = with_devices(Devices {
@@ -74,8 +75,8 @@ fn lines_before_a_failing_read_are_answered(rt: HostRuntime) {
     assert!(rt; whole_lines_are_answered(rt.alloc(), 3));
 }
 
-/// Returns whether a prefix of the answers went out before a failing write, when a write takes at most `max_write_bytes`
-/// bytes and each read gives one line.
+/// Lets each of the first four writes fail. Returns whether exactly the bytes before the failing write are written, a
+/// prefix of the answers. A write takes at most `max_write_bytes` bytes, and each read returns one line.
 fn prefix_of_answers_is_written(alloc: Global, max_write_bytes: usize) -> bool {
     for writes_before_fault in 0..4 {
         let run = with_devices(Devices {
@@ -100,7 +101,7 @@ fn a_prefix_is_written_before_a_failing_write(rt: HostRuntime) {
     assert!(rt; prefix_of_answers_is_written(rt.alloc(), 1));
 }
 
-/// Ends with a write fault if the writer takes no byte, and if it fails to flush.
+/// Ends with a write fault if a write takes no byte, and if a flush fails.
 #[test]
 fn a_stuck_writer_ends_the_script(rt: HostRuntime) {
     let stuck = with_devices(Devices {
@@ -115,7 +116,7 @@ fn a_stuck_writer_ends_the_script(rt: HostRuntime) {
     assert!(rt; ends_with_answers(rt.alloc(), &unflushed, SCRIPT, b"", End::Write));
 }
 
-/// Returns whether a script that may make `max_reads` reads, of a line each, has this end.
+/// Returns whether `SCRIPT` is answered and has this end if there are at most `max_reads` reads, each of a line.
 fn ends_within(alloc: Global, max_reads: u32, end: End) -> bool {
     let devices = Devices {
         max_read_bytes: LINE_BYTES,
@@ -128,7 +129,7 @@ fn ends_within(alloc: Global, max_reads: u32, end: End) -> bool {
     ends_with_answers(alloc, &run, SCRIPT, ANSWERS, end)
 }
 
-/// Reads four lines, one a read; a fifth read must find the end of the input.
+/// Reads four lines, one in each read. A fifth read must find the end of the input.
 #[test]
 fn the_last_read_must_find_the_end(rt: HostRuntime) {
     assert!(rt; ends_within(rt.alloc(), 4, End::Read));
@@ -147,7 +148,8 @@ fn repeat_lines(alloc: Global, line: &[u8]) -> Result<Vec<u8>, AllocError> {
     Ok(text)
 }
 
-/// Returns devices that give a line a read. For the end `Write` a write fails after `lines` of them, otherwise a read.
+/// Returns devices that read one line at a time. For the end `Write`, the write after `lines` writes fails. For another
+/// end the read after `lines` reads fails.
 fn failing_devices(end: End, lines: u32) -> Devices {
     let slow = Devices {
         max_read_bytes: LINE_BYTES,
@@ -165,8 +167,8 @@ fn failing_devices(end: End, lines: u32) -> Devices {
     }
 }
 
-/// Lets the device fail after each number of lines. Returns the first number of lines whose answers are not what went
-/// out.
+/// Lets the reader or the writer fail after each number of lines. Returns the first number of lines for which the
+/// written bytes are not exactly the answers to these lines.
 fn first_wrong_prefix(alloc: Global, script: &[u8], answers: &[u8], end: End) -> Option<u32> {
     for lines in 0..LINES {
         let written = REFUSAL_BYTES.saturating_mul(lines as usize);
@@ -179,10 +181,11 @@ fn first_wrong_prefix(alloc: Global, script: &[u8], answers: &[u8], end: End) ->
     None
 }
 
-/// Lets each read of a long script fail in turn, and each write.
+/// Lets each read of a long script fail in a run of its own, and each write.
 #[test]
 fn answers_before_any_fault_are_written(rt: HostRuntime) -> Result<(), Fail> {
     let alloc = rt.alloc();
+    // `p` is not spawned. The argument only pads the line to `LINE_BYTES`.
     let script = repeat_lines(alloc, b"p a(10)\n")?;
     let answers = repeat_lines(alloc, b"** noproc\n")?;
     let (script, answers) = (script.as_slice(), answers.as_slice());

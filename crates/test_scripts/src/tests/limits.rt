@@ -1,8 +1,8 @@
-//! Limits, and that the script goes on after a refusal.
+//! Calls past a limit are refused, and the script continues.
 use super::{Run, count_answered_scripts, usual_run};
 use node_core::Limits;
 
-/// Returns a run with good devices and these limits.
+/// Returns a run with good devices and these limits of processes, tables and objects.
 fn with_limits(processes: u32, tables: u32, objects: u32) -> Run {
     let limits = Limits {
         processes,
@@ -15,7 +15,7 @@ fn with_limits(processes: u32, tables: u32, objects: u32) -> Run {
     }
 }
 
-/// Answers a script that may make no table.
+/// Answers a script whose limits are one process and no table.
 #[test]
 fn a_limit_of_no_tables_refuses_the_first(rt: HostRuntime) {
     let rows: [(&[u8], &[u8]); 1] = [(
@@ -28,7 +28,7 @@ fn a_limit_of_no_tables_refuses_the_first(rt: HostRuntime) {
     );
 }
 
-/// Answers a script whose table may have three objects.
+/// Answers a script whose limit is three objects in a table.
 #[test]
 fn a_limit_of_three_objects_refuses_the_fourth(rt: HostRuntime) {
     let rows: [(&[u8], &[u8]); 1] = [(
@@ -41,7 +41,7 @@ fn a_limit_of_three_objects_refuses_the_fourth(rt: HostRuntime) {
     );
 }
 
-/// Answers a script that may have one process.
+/// Answers a script whose limit is one process.
 #[test]
 fn a_limit_of_one_process_refuses_the_second(rt: HostRuntime) {
     let rows: [(&[u8], &[u8]); 1] = [(

@@ -1,4 +1,4 @@
-//! Long scripts with known answers.
+//! Long lines, long binaries and long scripts, with their answers.
 use super::devices::{Devices, GOOD_DEVICES};
 use super::{End, Run, ends_with_answers, ends_with_answers_by_hash, usual_run};
 use ets_term::Fnv;
@@ -6,7 +6,7 @@ use node_core::Limits;
 use std::alloc::{AllocError, Global};
 use std::test::Fail;
 
-/// Runs a script of `letters` letters and then `end`, and returns whether it has these answers.
+/// Runs a script of `letters` letters followed by the text `end`. Returns whether it has these answers.
 fn long_line_is_answered(
     alloc: Global,
     run: &Run,
@@ -25,14 +25,16 @@ const LONGEST: usize = 65_536;
 /// The length of the shortest line that is too long.
 const PAST_LONGEST: usize = 65_537;
 
-/// The answers if the long line is read, and the line after it.
+/// The answers if the long line is read, which is not a command, and then the line after it.
 const SYNTAX_FAULT: &[u8] = b"** syntax 0\n<0.0.0>\n";
 
-/// The answers if the long line is not read, but the line after it is.
+/// The answers if the long line is refused unread, and then the line after it is read.
 const LINE_TOO_LONG: &[u8] = b"** line too long\n<0.0.0>\n";
 
-/// Returns whether a line of `LONGEST` bytes is read, and a longer one is not. A CR before the LF counts.
+/// Returns whether a line of `LONGEST` bytes is read, and a longer one is not. A CR before the LF is a byte of the
+/// line. A row is the number of letters of the first line, the text after them, and the answers.
 fn long_lines_are_answered(alloc: Global, run: &Run) -> Result<bool, AllocError> {
+    // 65,535 letters and a CR are as long as the longest line.
     let rows: [(usize, &[u8], &[u8]); 8] = [
         (LONGEST, b"\nspawn p\n", SYNTAX_FAULT),
         (PAST_LONGEST, b"\nspawn p\n", LINE_TOO_LONG),
@@ -73,8 +75,8 @@ fn long_lines_in_parts_are_answered_or_refused(rt: HostRuntime) -> Result<(), Fa
     Ok(())
 }
 
-/// Returns whether a line is answered before the next read, where the first read gave it and a number of letters of a
-/// further line.
+/// Returns whether the first line is answered if the first read returns it and this number of letters of a second line,
+/// and the next read fails.
 fn line_is_answered_before_next_read(alloc: Global, letters: usize) -> Result<bool, AllocError> {
     let script = with_repeats(alloc, b"spawn p\n", b"a", letters, b"")?;
     let devices = Devices {
@@ -90,11 +92,12 @@ fn line_is_answered_before_next_read(alloc: Global, letters: usize) -> Result<bo
 
 #[test]
 fn answers_go_out_within_a_long_line(rt: HostRuntime) -> Result<(), Fail> {
+    // More letters than the longest line has.
     assert!(rt; line_is_answered_before_next_read(rt.alloc(), 70_000)?);
     Ok(())
 }
 
-/// Returns a text, then a number of times another, and then an end.
+/// Returns the text `front`, then `count` times the text `repeated`, and then the text `end`.
 fn with_repeats(
     alloc: Global,
     front: &[u8],
@@ -110,7 +113,7 @@ fn with_repeats(
     Ok(text)
 }
 
-/// Returns whether a binary of a number of bytes is stored and found.
+/// Stores a binary of one letter `a` and then `bytes` letters `b`. Returns whether a lookup finds it.
 fn long_binary_is_found(alloc: Global, bytes: usize) -> Result<bool, AllocError> {
     let script = with_repeats(
         alloc,
@@ -138,11 +141,12 @@ fn long_binary_is_found(alloc: Global, bytes: usize) -> Result<bool, AllocError>
 /// Stores a long binary that is spelled in quotes.
 #[test]
 fn long_texts_in_quotes_are_stored(rt: HostRuntime) -> Result<(), Fail> {
+    // The line is shorter than `LONGEST`.
     assert!(rt; long_binary_is_found(rt.alloc(), 60_000)?);
     Ok(())
 }
 
-/// Returns whether a script of a number of lines is answered when each read gives one byte.
+/// Returns whether a script with `lines` lines after its first line is answered if each read returns one byte.
 fn script_is_read_by_bytes(alloc: Global, lines: usize) -> Result<bool, AllocError> {
     let script = with_repeats(alloc, b"spawn p\n", b"spawn p\n", lines, b"")?;
     let answers = with_repeats(alloc, b"<0.0.0>\n", b"** badarg\n", lines, b"")?;
@@ -170,7 +174,7 @@ fn a_script_read_byte_by_byte_is_answered(rt: HostRuntime) -> Result<(), Fail> {
     Ok(())
 }
 
-/// Appends the line that spawns the process of a number to the script, and its pid to the answers.
+/// Appends a line that spawns a process to the script, and the pid with this number to the answers.
 fn add_spawn(
     alloc: Global,
     number: u32,
@@ -209,7 +213,7 @@ fn processes_are_spawned(alloc: Global, count: u32) -> Result<bool, AllocError> 
     ))
 }
 
-/// Spawns as many processes as the program allows, and more than 2^16.
+/// Spawns as many processes as the usual limit allows, and then more than 2^16 with a greater limit.
 #[test]
 fn as_many_processes_are_spawned_as_the_limit(rt: HostRuntime) -> Result<(), Fail> {
     assert!(rt; processes_are_spawned(rt.alloc(), Limits::usual().processes)?);

@@ -1,4 +1,4 @@
-//! The program's status, and its line of errors.
+//! The exit status of the program, and what it prints on standard error.
 use super::devices::{Devices, FlushLog, GOOD_DEVICES, Source, Target};
 use ets_script::options::Settings;
 use ets_script::{ScriptFault, Streams, answer_alone};
@@ -8,13 +8,16 @@ use std::test::Fail;
 
 /// The settings of a command line without options.
 const NO_OPTIONS: Settings = Settings {
+    // Processes do not run in threads of their own.
     threads: false,
+    // Keys do not all have the same hash.
     same: false,
+    // The greatest number of objects in a table.
     objects: 1_000_000,
 };
 
-/// Runs the program on one line with these devices. Returns its status, and whether it printed these words as its
-/// errors.
+/// Runs the program on one line with these devices. Returns its exit status, and whether it printed these words on
+/// standard error.
 fn status_of_one_line(alloc: Global, devices: &Devices, words: &[u8]) -> io::Result<(u8, bool)> {
     let log = FlushLog::new();
     let mut streams = Streams {
@@ -37,7 +40,7 @@ fn status_of_one_line(alloc: Global, devices: &Devices, words: &[u8]) -> io::Res
     Ok((status, errors.as_slice() == words))
 }
 
-/// Returns whether a fault is reported in these words.
+/// Returns whether a fault is printed in these words.
 fn fault_has_words(alloc: Global, fault: &ScriptFault, words: &str) -> Result<bool, AllocError> {
     Ok(format!(in alloc; "{fault}")?.as_str() == words)
 }
@@ -54,7 +57,7 @@ fn faults_are_printed_in_their_words(rt: HostRuntime) -> Result<(), Fail> {
     Ok(())
 }
 
-/// Runs a line with good devices, with a failing read and with a failing write.
+/// Runs a line with good devices, with a failing read, and with a failing write. Only good devices have the status 0.
 #[test]
 fn the_status_is_1_after_a_device_fault(rt: HostRuntime) -> Result<(), Fail> {
     let alloc = rt.alloc();

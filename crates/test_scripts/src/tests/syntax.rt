@@ -1,7 +1,8 @@
-//! Lines that are no command, and how lines end.
+//! Lines that are not commands, and the ends of lines.
 use super::{count_answered_scripts, usual_run};
 
-/// Answers each wrong line with the place of its first fault.
+/// Answers each wrong line with `** syntax N`, where N is the number of bytes before its first fault. A row is a script
+/// and its answers.
 #[test]
 fn wrong_lines_are_answered_with_their_first_fault(rt: HostRuntime) {
     let rows: [(&[u8], &[u8]); 10] = [
@@ -37,7 +38,8 @@ fn wrong_lines_are_answered_with_their_first_fault(rt: HostRuntime) {
     );
 }
 
-/// Answers lines with blanks, with CR, LF or both at their end, and comments.
+/// Answers lines with blanks and comments. A line ends in LF, in CR and LF, or at the end of the script. A CR
+/// elsewhere, outside comments, is a syntax fault. A row is a script and its answers.
 #[test]
 fn lines_end_with_cr_lf_or_both(rt: HostRuntime) {
     let rows: [(&[u8], &[u8]); 5] = [

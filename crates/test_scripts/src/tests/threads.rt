@@ -1,4 +1,4 @@
-//! Scripts whose processes run in threads of their own.
+//! Scripts whose processes run in threads of their own. All answers are printed at the end of the input.
 use super::devices::{Devices, FlushLog, GOOD_DEVICES, Source, Target};
 use super::{End, end_by_fault};
 use ets_script::{NodeSettings, Streams, run_threads};
@@ -8,17 +8,21 @@ use std::alloc::Global;
 use std::sync::Wait;
 use std::thread::Threads;
 
-/// A script with its devices and its greatest number of processes, what it prints, and how it ends.
+/// A script, how it is run, what it must print, and how it must end.
 #[derive(Clone, Copy)]
 struct Row<'a> {
+    /// How the reader and the writer behave.
     devices: Devices,
+    /// The limit of processes.
     processes: u32,
     script: &'a [u8],
+    /// What the script prints.
     output: &'a [u8],
+    /// How the script ends.
     end: End,
 }
 
-/// Returns a row with good devices whose script runs to its end.
+/// Returns a row with good devices and a script that runs to its end.
 fn whole_row<'a>(processes: u32, script: &'a [u8], output: &'a [u8]) -> Row<'a> {
     Row {
         devices: GOOD_DEVICES,
@@ -29,7 +33,7 @@ fn whole_row<'a>(processes: u32, script: &'a [u8], output: &'a [u8]) -> Row<'a> 
     }
 }
 
-/// Runs the script of a row with each process in a thread, and returns whether it prints and ends as the row says.
+/// Runs the script of a row with each process in a thread. Returns whether it prints and ends as the row says.
 fn row_holds<T: Threads + Wait + Sync>(rt: &T, alloc: Global, row: &Row<'_>) -> bool {
     let log = FlushLog::new();
     let mut streams = Streams {
@@ -85,7 +89,7 @@ fn processes_past_the_limit_are_refused(rt: HostRuntime) {
 #[test]
 fn nothing_is_printed_before_the_end_of_the_input(rt: HostRuntime) {
     let devices = Devices {
-        // One line.
+        // Each read returns a line, `spawn p` with its LF, and the second read fails.
         max_read_bytes: 8,
         reads_before_fault: 1,
         ..GOOD_DEVICES
@@ -101,6 +105,7 @@ fn nothing_is_printed_before_the_end_of_the_input(rt: HostRuntime) {
 #[test]
 fn a_failing_writer_ends_the_script(rt: HostRuntime) {
     let devices = Devices {
+        // Six bytes are written before the third write fails.
         max_write_bytes: 3,
         writes_before_fault: 2,
         ..GOOD_DEVICES

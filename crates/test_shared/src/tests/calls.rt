@@ -1,4 +1,5 @@
-// Calls of clients and callers, and whether their replies are right.
+// Helpers that build calls from text, make them, and check the replies. A call is a pair of texts: its name, and the
+// list of its arguments.
 use ets_term::{Atom, KeyHash, Term};
 use node_core::{Call, Reply};
 use node_shared::{Caller, Client, HistoryId, Job, Server, Shared};
@@ -7,99 +8,99 @@ use std::sync::Wait;
 use std::sync::ledger::Ledger;
 use term_text::read_term;
 
-/// The arguments that make a table, and those that insert nine objects, after which four growth steps are pending.
+/// The arguments of `new`, and those of `insert` for nine objects, after which four growth steps are pending.
 pub(super) const TABLE: [&str; 2] = [
     "[t,[named_table]]",
     "[t,[{1},{2},{3},{4},{5},{6},{7},{8},{9}]]",
 ];
 
-/// The same for a second table.
+/// The same arguments for a second table.
 pub(super) const OTHER_TABLE: [&str; 2] = [
     "[u,[named_table]]",
     "[u,[{1},{2},{3},{4},{5},{6},{7},{8},{9}]]",
 ];
 
-/// Returns the call of a name and the text of a list of arguments.
-pub(super) fn call(alloc: Global, asked: (&str, &str)) -> Option<Call> {
-    let name = Atom::new(alloc, asked.0).ok()?;
-    let (term, _) = read_term(alloc, asked.1).ok()?;
+/// Returns the call that a name and the text of its arguments spell.
+pub(super) fn build_call(alloc: Global, text: (&str, &str)) -> Option<Call> {
+    let name = Atom::new(alloc, text.0).ok()?;
+    let (term, _) = read_term(alloc, text.1).ok()?;
     match term {
         Term::List(arguments) => Some(Call::new(name, arguments.into_vec())),
         _ => None,
     }
 }
 
-/// Returns the call of a name and formatted arguments.
-pub(super) fn call_with(alloc: Global, asked: (&str, Result<String, AllocError>)) -> Option<Call> {
-    let arguments = asked.1.ok()?;
-    call(alloc, (asked.0, arguments.as_str()))
+/// Returns the call of a name with formatted arguments: the result of `format!`.
+pub(super) fn call_with(alloc: Global, text: (&str, Result<String, AllocError>)) -> Option<Call> {
+    let arguments = text.1.ok()?;
+    build_call(alloc, (text.0, arguments.as_str()))
 }
 
-/// Returns these calls.
-pub(super) fn calls(alloc: Global, asked: &[(&str, &str)]) -> Option<Vec<Call>> {
+/// Returns the call of each of these texts.
+pub(super) fn build_calls(alloc: Global, texts: &[(&str, &str)]) -> Option<Vec<Call>> {
     let mut calls = Vec::new(alloc);
-    for row in asked {
-        calls.push(call(alloc, *row)?).ok()?;
+    for text in texts {
+        calls.push(build_call(alloc, *text)?).ok()?;
     }
     Some(calls)
 }
 
-/// Returns the jobs that ask these calls.
-pub(super) fn asks(alloc: Global, asked: &[(&str, &str)]) -> Option<Vec<Job>> {
+/// Returns a job for each of these texts: to make its call.
+pub(super) fn build_jobs(alloc: Global, texts: &[(&str, &str)]) -> Option<Vec<Job>> {
     let mut jobs = Vec::new(alloc);
-    for row in asked {
-        jobs.push(Job::Ask(call(alloc, *row)?)).ok()?;
+    for text in texts {
+        jobs.push(Job::Ask(build_call(alloc, *text)?)).ok()?;
     }
     Some(jobs)
 }
 
-/// Makes a call of a client, and returns whether its reply is a value.
-pub(super) fn has_asked<L: Ledger, H: KeyHash + Copy + Drop, R: Wait>(
+/// Makes a call of a client, and returns whether the reply is a value, not a refusal.
+pub(super) fn client_gets_value<L: Ledger, H: KeyHash + Copy + Drop, R: Wait>(
     rt: &R,
     alloc: Global,
     shared: &Shared<L, H>,
     client: &mut Client<L>,
-    asked: (&str, &str),
+    text: (&str, &str),
 ) -> Option<bool> {
-    let request = call(alloc, asked)?;
+    let request = build_call(alloc, text)?;
     Some(client.ask(rt, shared, &request).ok()?.is_value())
 }
 
-/// Makes a call of a caller, and returns whether its reply is a value.
-pub(super) fn is_done<B: HistoryId, H: KeyHash + Copy + Drop, R: Wait>(
+/// Makes a call of a caller, and returns whether the reply is a value, not a refusal.
+pub(super) fn caller_gets_value<B: HistoryId, H: KeyHash + Copy + Drop, R: Wait>(
     rt: &R,
     alloc: Global,
     server: &Server<B, H>,
     caller: &mut Caller<B>,
-    asked: (&str, &str),
+    text: (&str, &str),
 ) -> Option<bool> {
-    let request = call(alloc, asked)?;
+    let request = build_call(alloc, text)?;
     Some(caller.ask(rt, server, request).ok()?.is_value())
 }
 
-/// Makes a call of a caller with formatted arguments, and returns whether its reply is a value.
-pub(super) fn is_done_with<B: HistoryId, H: KeyHash + Copy + Drop, R: Wait>(
+/// Makes a call of a caller with formatted arguments, and returns whether the reply is a value, not a refusal.
+pub(super) fn caller_gets_value_for<B: HistoryId, H: KeyHash + Copy + Drop, R: Wait>(
     rt: &R,
     alloc: Global,
     server: &Server<B, H>,
     caller: &mut Caller<B>,
-    asked: (&str, Result<String, AllocError>),
+    text: (&str, Result<String, AllocError>),
 ) -> Option<bool> {
-    let request = call_with(alloc, asked)?;
+    let request = call_with(alloc, text)?;
     Some(caller.ask(rt, server, request).ok()?.is_value())
 }
 
-/// Makes a read with formatted arguments, and returns whether it lists `count` objects.
-pub(super) fn read_lists<B: HistoryId, H: KeyHash + Copy + Drop, R: Wait>(
+/// Makes a call with formatted arguments by `Caller::read`. Returns whether its reply is a list of `count` elements.
+pub(super) fn read_gives_list<B: HistoryId, H: KeyHash + Copy + Drop, R: Wait>(
     rt: &R,
     alloc: Global,
     server: &Server<B, H>,
     caller: &Caller<B>,
-    asked: (&str, Result<String, AllocError>),
+    text: (&str, Result<String, AllocError>),
     count: usize,
 ) -> Option<bool> {
-    let asked = call_with(alloc, asked)?;
-    let reply = caller.read(rt, server, &asked).ok()??;
+    let request = call_with(alloc, text)?;
+    let reply = caller.read(rt, server, &request).ok()??;
     Some(is_list(&reply, count))
 }
 

@@ -1,8 +1,10 @@
-// Two threads, each of which draws its number, joins and asks.
+// Two threads, each of which makes a visit: it draws a process number, joins a client by it, and makes a call. In
+// contracts, the table is not one of objects: it is the kit's table of shared words, here the word with the next
+// number.
 ghost use Rattle.std.specs.Prelude.{◌≡◌, IfSome};
 ghost use Rattle.std.specs.Thread.{IsSync};
 
-use super::calls::call;
+use super::calls::build_call;
 use super::{count_entries, limits};
 use ets_term::{Fnv, KeyHash};
 use node_core::Call;
@@ -14,7 +16,8 @@ use std::sync::ledger::{Blank, Ledger};
 use std::thread;
 use std::thread::Threads;
 
-/// Opens two numbers, and returns a seat for each.
+/// Opens two process numbers, and returns a seat for each: the right to draw one number. Both seats are of the table of
+/// these numbers.
 fn two_seats(alloc: Global) -> Option<(Pids, Seat, Seat)>
     ensures one { IfSome result (λ opened. opened.1.seat.table_id ≡ opened.0.table.shared.table_id) }
     ensures other { IfSome result (λ opened. opened.2.seat.table_id ≡ opened.0.table.shared.table_id) }
@@ -25,7 +28,7 @@ fn two_seats(alloc: Global) -> Option<(Pids, Seat, Seat)>
     Some((pids, one, other))
 }
 
-/// Joins by the number of a seat and makes a call. Returns the client.
+/// Draws the number of a seat, joins a client by it, and makes a call. Returns the client.
 fn visit<L: Ledger, H: KeyHash + Copy + Drop, R: Wait>(
     rt: &R,
     shared: &Shared<L, H>,
@@ -40,7 +43,8 @@ fn visit<L: Ledger, H: KeyHash + Copy + Drop, R: Wait>(
     Some(client)
 }
 
-/// Joins by the numbers of two seats, each in a thread of its own, and makes a call by each. Returns both clients.
+/// Draws, joins and makes a call for each of two seats, in a thread for each. Returns both clients. The closures
+/// require that threads may share the runtime (`IsSync`).
 fn visits<
     L: Ledger + Send + Sync,
     H: KeyHash + Copy + Drop + Send + Sync,
@@ -68,19 +72,19 @@ fn visits<
     (one_client, other_client)
 }
 
-/// Returns two clients that joined in threads of their own.
+/// Returns two clients, each of which has drawn its number, joined and made a call in a thread of its own.
 fn visitors<L: Ledger + Send + Sync, R: Threads + Wait + Sync>(
     rt: &R,
     alloc: Global,
     shared: &Shared<L, Fnv>,
 ) -> Option<Vec<Client<L>>> {
-    let request = call(alloc, ("receive", "[]"))?;
+    let request = build_call(alloc, ("receive", "[]"))?;
     let (pids, one, other) = two_seats(alloc)?;
     let (one, other) = visits(rt, shared, &pids, one, other, &request);
     both_clients(alloc, one, other)
 }
 
-/// Returns both clients, if there are two, with the numbers 0 and 1.
+/// Returns both clients, or `None` if one is missing or their numbers are not 0 and 1.
 fn both_clients<L: Ledger>(
     alloc: Global,
     one: Option<Client<L>>,
@@ -103,7 +107,8 @@ fn are_numbered<L: Ledger>(clients: &[Client<L>]) -> bool {
     }
 }
 
-/// Lets two clients join and call at once. Returns how many entries process 0 has: its enrolment and its call.
+/// Lets two threads join clients of a new node and make a call. Returns how many entries process 0 has: its enrolment
+/// and its call. `blank` is the ledger that `L` names; it has a part for each of the two processes and one more.
 fn entries_after_two_visits<L: Ledger + Send + Sync, R: Threads + Wait + Sync>(
     rt: &R,
     alloc: Global,
@@ -119,7 +124,7 @@ fn entries_after_two_visits<L: Ledger + Send + Sync, R: Threads + Wait + Sync>(
 }
 
 #[test]
-fn two_threads_draw_join_and_ask(rt: HostRuntime) {
+fn two_threads_draw_join_and_call(rt: HostRuntime) {
     assert_eq!(rt;
         entries_after_two_visits::<Brand, _>(&rt, rt.alloc(), Blank::new(3)),
         Some(2)

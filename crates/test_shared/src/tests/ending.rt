@@ -1,8 +1,8 @@
-// Calls after the end of their process, with a hash that is the same for all keys, while another thread runs pending
-// steps.
+// Calls after the end of their process are refused, also while another thread runs pending growth steps. All keys have
+// the same hash.
 ghost use Rattle.std.specs.Prelude.{◌≡◌};
 
-use super::calls::asks;
+use super::calls::build_jobs;
 use super::keeper::run_while_keeping;
 use super::{Plan, close_all, join_with_jobs, limits};
 use ets_term::AllSame;
@@ -15,47 +15,47 @@ use std::sync::ledger::{Blank, Ledger};
 use std::test::Fail;
 use std::thread::Threads;
 
-/// The arguments that insert ten objects.
+/// The arguments of `insert` for ten objects.
 const INSERT_TEN: &str = "[t,[{0},{1},{2},{3},{4},{5},{6},{7},{8},{9}]]";
 
-/// Three calls.
+/// Three calls, each a name and the text of its arguments.
 const CALLS: [(&str, &str); 3] = [
     ("new", "[t,[named_table]]"),
     ("insert", INSERT_TEN),
     ("lookup", "[t,7]"),
 ];
 
-/// Each client makes the calls, ends its process, and makes the calls again.
+/// Each client makes the calls, ends its process, and makes the same calls again.
 #[derive(Drop)]
-struct EndAndCallOn;
+struct CallAfterEnd;
 
-impl Plan for EndAndCallOn {
+impl Plan for CallAfterEnd {
     fn jobs(&self, alloc: Global, _pid: u32) -> Option<Vec<Job>> {
-        let mut jobs = asks(alloc, &CALLS)?;
-        let mut others = asks(alloc, &CALLS)?;
+        let mut jobs = build_jobs(alloc, &CALLS)?;
+        let mut others = build_jobs(alloc, &CALLS)?; // those after the end
         jobs.push(Job::End).ok()?;
         jobs.append(&mut others).ok()?;
         Some(jobs)
     }
 }
 
-/// Returns two clients after their jobs.
+/// Runs the jobs of two clients, and returns the clients.
 fn run_two<L: Ledger + Send + Sync, R: Threads + Wait + Sync>(
     rt: &R,
     alloc: Global,
     shared: &Shared<L, AllSame>,
 ) -> Option<Vec<Client<L>>> {
-    let work = join_with_jobs(rt, alloc, shared, 2, &EndAndCallOn)?;
+    let work = join_with_jobs(rt, alloc, shared, 2, &CallAfterEnd)?;
     run_while_keeping(rt, alloc, shared, work)
 }
 
-/// The entries of a process: its enrolment, three calls, its end, and three calls.
+/// The number of entries of a process: its enrolment, three calls, its end, and the three calls again.
 const ENTRIES: usize = 8;
 
-/// The index of the end among the entries.
+/// The index, from 0, of the entry of the end.
 const END: usize = 4;
 
-/// Returns whether these are an enrolment, calls and an end, and all later calls have the reply `NoProcess`.
+/// Returns whether the entries after the end, and no others, have the reply `NoProcess`.
 fn is_refused_after_end(entries: &[&Entry]) -> bool {
     let is_refused = |entry: &Entry| matches!(entry.reply, Reply::NoProcess);
     entries.len() == ENTRIES
@@ -65,13 +65,14 @@ fn is_refused_after_end(entries: &[&Entry]) -> bool {
             .all(|(index, entry)| is_refused(entry) == (index > END))
 }
 
-/// Returns whether a process is enrolled, makes its calls and ends, and all its later calls are refused.
-fn process_is_refused(transcript: &Transcript, pid: u32) -> Option<bool> {
+/// Returns whether the calls of a process are refused after its end, and not before.
+fn calls_are_refused(transcript: &Transcript, pid: u32) -> Option<bool> {
     let entries = transcript.of(pid).ok()?;
     Some(is_refused_after_end(entries.as_slice()))
 }
 
-/// Runs two clients that end and call on. Returns whether all calls after the end are refused.
+/// Runs two clients of a new node. Returns whether the calls of both are refused after the end, and not before. `blank`
+/// is the ledger that `L` names; it has a part for each of the two processes and one more.
 fn both_are_refused_after_end<L: Ledger + Send + Sync, R: Threads + Wait + Sync>(
     rt: &R,
     alloc: Global,
@@ -84,11 +85,11 @@ fn both_are_refused_after_end<L: Ledger + Send + Sync, R: Threads + Wait + Sync>
     let shared = Shared::<L, AllSame>::new(alloc, blank, limits(2), AllSame);
     let clients = run_two(rt, alloc, &shared);
     let transcript = close_all(shared, clients)?;
-    Some(process_is_refused(&transcript, 0)? && process_is_refused(&transcript, 1)?)
+    Some(calls_are_refused(&transcript, 0)? && calls_are_refused(&transcript, 1)?)
 }
 
 #[test]
-fn a_process_that_has_ended_is_answered_so(rt: HostRuntime) -> Result<(), Fail> {
+fn calls_after_the_end_of_their_process_are_refused(rt: HostRuntime) -> Result<(), Fail> {
     let refused = both_are_refused_after_end::<Brand, _>(&rt, rt.alloc(), Blank::new(3));
     assert!(rt; refused.ok_or("a transcript")?);
     Ok(())

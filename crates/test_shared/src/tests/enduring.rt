@@ -1,4 +1,5 @@
-// Eight clients with twenty thousand jobs each, on tables that grow, with ends and heirs among them.
+// Eight clients with twenty thousand jobs each, on tables that grow. Some processes end and leave their tables to
+// heirs. At the end the journal must have the steps of all clients.
 ghost use Rattle.std.specs.Prelude.{◌≡◌};
 
 use super::calls::call_with;
@@ -19,23 +20,26 @@ const CLIENTS: usize = 8;
 /// The number of jobs of each client.
 const JOBS: u32 = 20_000;
 
-/// In place of this job, clients of even numbers end.
+/// Clients with even numbers end their process in place of this job.
 const END: u32 = 15_000;
 
-/// The enrolments and jobs of all clients. A transcript has growth steps too, and so more entries.
+/// The number of enrolments and jobs of all clients: 8 and 8 times 20,000. A transcript has more entries, since it has
+/// growth steps too.
 const CLIENT_STEPS: usize = 160_008;
 
-/// Returns a job of a client. First it makes its table, with its neighbour as the heir. Then it writes to both tables,
-/// reads the neighbour's, and takes its messages, in turn.
+/// Returns the job of this number of a client. Job 0 makes the client's table, with its neighbour as the heir: the
+/// clients 0 and 1 are neighbours, 2 and 3, and so on. The later jobs, in turn, write to the neighbour's table, read
+/// it, take the client's messages, and write to its own table.
 fn job(alloc: Global, pid: u32, number: u32) -> Option<Job> {
     if number == END && pid % 2 == 0 {
         return Some(Job::End);
     }
+    // `pid ^ 1` is the neighbour.
     let arguments = arguments_of_call(alloc, pid, pid ^ 1, number);
     Some(Job::Ask(call_with(alloc, (name_of_call(number), arguments))?))
 }
 
-/// Returns the name of the call of a job.
+/// Returns the name of the call that the job of this number makes.
 fn name_of_call(number: u32) -> &'static str {
     match number % 4 {
         _ if number == 0 => "new",
@@ -45,7 +49,8 @@ fn name_of_call(number: u32) -> &'static str {
     }
 }
 
-/// Returns the arguments of the call of a job, on the table of the client or of its neighbour.
+/// Returns the arguments of the call that the job of this number makes. `own` and `neighbour` are the numbers of the
+/// client and its neighbour; the table of process N is `tN`.
 fn arguments_of_call(
     alloc: Global,
     own: u32,
@@ -63,11 +68,11 @@ fn arguments_of_call(
     }
 }
 
-/// Each client does all its jobs.
+/// Each client has the jobs with the numbers below `JOBS`.
 #[derive(Drop)]
-struct Endure;
+struct ManyJobs;
 
-impl Plan for Endure {
+impl Plan for ManyJobs {
     fn jobs(&self, alloc: Global, pid: u32) -> Option<Vec<Job>> {
         let mut jobs = Vec::with_capacity(alloc, JOBS as usize).ok()?;
         for number in 0..JOBS {
@@ -77,17 +82,18 @@ impl Plan for Endure {
     }
 }
 
-/// Runs eight clients until all jobs are done, and returns them.
+/// Runs the jobs of eight clients, and returns the clients.
 fn run_eight<L: Ledger + Send + Sync, R: Threads + Wait + Sync>(
     rt: &R,
     alloc: Global,
     shared: &Shared<L, Fnv>,
 ) -> Option<Vec<Client<L>>> {
-    let work = join_with_jobs(rt, alloc, shared, CLIENTS, &Endure)?;
+    let work = join_with_jobs(rt, alloc, shared, CLIENTS, &ManyJobs)?;
     run_while_keeping(rt, alloc, shared, work)
 }
 
-/// Runs eight clients until all jobs are done. Returns how many entries the transcript has.
+/// Runs the jobs of eight clients of a new node. Returns how many entries the transcript has. `blank` is the ledger
+/// that `L` names; it has a part for each of the eight processes and one more.
 fn entries_of_round<L: Ledger + Send + Sync, R: Threads + Wait + Sync>(
     rt: &R,
     alloc: Global,
@@ -102,7 +108,7 @@ fn entries_of_round<L: Ledger + Send + Sync, R: Threads + Wait + Sync>(
     Some(close_all(shared, clients)?.entries.len())
 }
 
-/// Runs two rounds, and returns whether the transcript of each has all steps of the clients, and growth steps.
+/// Runs two rounds. Returns whether the transcript of each has more than `CLIENT_STEPS` entries.
 fn two_rounds_are_complete<R: Threads + Wait + Sync>(rt: &R, alloc: Global) -> Option<bool> {
     for _ in 0..2 {
         let entries = entries_of_round::<Brand, R>(rt, alloc, Blank::new(9))?;
@@ -113,39 +119,39 @@ fn two_rounds_are_complete<R: Threads + Wait + Sync>(rt: &R, alloc: Global) -> O
     Some(true)
 }
 
-// Ten rounds, in five tests, since a test may take one minute.
+// Ten rounds, in five tests, since a test may take at most one minute.
 
 /// Runs the first two of ten rounds.
 #[test]
-fn rounds_one_and_two(rt: HostRuntime) -> Result<(), Fail> {
+fn rounds_one_and_two_are_complete(rt: HostRuntime) -> Result<(), Fail> {
     assert!(rt; two_rounds_are_complete(&rt, rt.alloc()).ok_or("a round")?);
     Ok(())
 }
 
 /// Runs two more rounds.
 #[test]
-fn rounds_three_and_four(rt: HostRuntime) -> Result<(), Fail> {
+fn rounds_three_and_four_are_complete(rt: HostRuntime) -> Result<(), Fail> {
     assert!(rt; two_rounds_are_complete(&rt, rt.alloc()).ok_or("a round")?);
     Ok(())
 }
 
 /// Runs two more rounds.
 #[test]
-fn rounds_five_and_six(rt: HostRuntime) -> Result<(), Fail> {
+fn rounds_five_and_six_are_complete(rt: HostRuntime) -> Result<(), Fail> {
     assert!(rt; two_rounds_are_complete(&rt, rt.alloc()).ok_or("a round")?);
     Ok(())
 }
 
 /// Runs two more rounds.
 #[test]
-fn rounds_seven_and_eight(rt: HostRuntime) -> Result<(), Fail> {
+fn rounds_seven_and_eight_are_complete(rt: HostRuntime) -> Result<(), Fail> {
     assert!(rt; two_rounds_are_complete(&rt, rt.alloc()).ok_or("a round")?);
     Ok(())
 }
 
 /// Runs the last two rounds.
 #[test]
-fn rounds_nine_and_ten(rt: HostRuntime) -> Result<(), Fail> {
+fn rounds_nine_and_ten_are_complete(rt: HostRuntime) -> Result<(), Fail> {
     assert!(rt; two_rounds_are_complete(&rt, rt.alloc()).ok_or("a round")?);
     Ok(())
 }

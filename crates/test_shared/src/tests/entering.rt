@@ -1,7 +1,8 @@
-// Steps of a process, and pending growth steps, are run and entered in the journal.
+// The steps of a process, and pending growth steps, are run and get an entry in the journal. A `Book` is what is under
+// the lock of a `Shared`: the node, the journal and the ledger. A `Share` is the part of one client in the ledger.
 ghost use Rattle.std.specs.Prelude.{◌≡◌};
 
-use super::calls::call;
+use super::calls::build_call;
 use super::limits;
 use ets_term::Fnv;
 use node_core::Step;
@@ -11,31 +12,32 @@ use std::marker::Brand;
 use std::sync::ledger::{Blank, Ledger};
 use std::test::Fail;
 
-/// The arguments that insert nine objects, for which a table doubles its buckets.
+/// The arguments of `insert` for nine objects, after which the table doubles its buckets.
 const INSERT_NINE: &str = "[t,[{1},{2},{3},{4},{5},{6},{7},{8},{9}]]";
 
-/// Makes a call of the share's process.
+/// Makes a call of process 0, to which the share belongs.
 fn ask<L: Ledger>(
     alloc: Global,
     book: &mut Book<L, Fnv>,
     share: &mut Share<L>,
-    asked: (&str, &str),
+    text: (&str, &str),
 ) -> Option<()>
     requires { share.old.pid ≡ 0 }
     ensures { share.new.pid ≡ share.old.pid }
 {
-    let step = Step::Ask(0, call(alloc, asked)?);
+    let step = Step::Ask(0, build_call(alloc, text)?);
     let _reply = book.step(share, &step).ok()?;
     Some(())
 }
 
-/// Returns whether four steps are pending, and the journal has seven entries after they are run.
+/// Runs pending steps, one by each call of `tend`. Returns whether there are four, and the journal then has seven
+/// entries: an enrolment, two calls and four growth steps.
 fn four_pending_steps_run<L: Ledger>(book: &mut Book<L, Fnv>) -> Result<bool, AllocError> {
     let ran = book.tend()? && book.tend()? && book.tend()? && book.tend()?;
     Ok(ran && !book.tend()? && book.journal().len() == 7)
 }
 
-/// Inserts nine objects into a new table, and returns whether it grows in four pending steps, all entered.
+/// Inserts nine objects into a new table. Returns whether it grows in four steps, and all steps are in the journal.
 fn table_grows_in_four_steps<L: Ledger>(alloc: Global, book: &mut Book<L, Fnv>) -> Option<bool> {
     let (mut share, _reply) = book.join(0).ok()?;
     ask(alloc, book, &mut share, ("new", "[t,[named_table]]"))?;
@@ -43,7 +45,8 @@ fn table_grows_in_four_steps<L: Ledger>(alloc: Global, book: &mut Book<L, Fnv>) 
     four_pending_steps_run(book).ok()
 }
 
-/// Creates a book, and returns whether it enters all steps of a process and all growth steps.
+/// Creates a book. Returns whether its journal has all steps of a process and all growth steps. `blank` is the ledger
+/// that `L` names; it has a part for the one process and one more.
 fn new_book_enters_steps<L: Ledger>(alloc: Global, blank: Blank) -> Option<bool>
     requires name { blank.name ≡ L.name }
     requires parts { blank.parts ≡ L.parts }
@@ -56,7 +59,7 @@ fn new_book_enters_steps<L: Ledger>(alloc: Global, blank: Blank) -> Option<bool>
 }
 
 #[test]
-fn steps_and_due_steps_are_entered(rt: HostRuntime) -> Result<(), Fail> {
+fn steps_and_pending_steps_are_in_the_journal(rt: HostRuntime) -> Result<(), Fail> {
     assert!(rt; new_book_enters_steps::<Brand>(rt.alloc(), Blank::new(2)).ok_or("a book")?);
     Ok(())
 }

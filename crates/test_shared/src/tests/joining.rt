@@ -1,5 +1,5 @@
-// Numbers are opened, a process is enrolled once and up to the limit, and a client that is missing at the end is
-// reported.
+// At most 4,096 process numbers are opened. A process is enrolled once, and only up to the limit. A client that is
+// missing at the end is reported.
 ghost use Rattle.std.specs.Prelude.{◌≡◌};
 
 use super::{draw, join_clients, limits};
@@ -11,24 +11,25 @@ use std::marker::Brand;
 use std::sync::Wait;
 use std::sync::ledger::{Blank, Ledger};
 
-/// The greatest number of numbers that can be opened.
-const MOST: usize = 4_096;
+/// The greatest number of process numbers that can be opened.
+const MAX_NUMBERS: usize = 4_096;
 
-/// One number more.
+/// One more than `MAX_NUMBERS`.
 const TOO_MANY: usize = 4_097;
 
-/// Returns whether as many numbers as possible are opened.
-fn opens_the_most(alloc: Global) -> bool {
-    Pids::open(alloc, MOST).is_ok()
+/// Returns whether `MAX_NUMBERS` process numbers can be opened.
+fn opens_max_numbers(alloc: Global) -> bool {
+    Pids::open(alloc, MAX_NUMBERS).is_ok()
 }
 
 #[test]
-fn no_more_numbers_than_the_most(rt: HostRuntime) {
-    assert!(rt; opens_the_most(rt.alloc()));
+fn at_most_max_numbers_are_opened(rt: HostRuntime) {
+    assert!(rt; opens_max_numbers(rt.alloc()));
     assert!(rt; matches!(Pids::open(rt.alloc(), TOO_MANY), Err(PidsFault::TooMany)));
 }
 
-/// Returns whether a number joins a new book once, and is refused the second time.
+/// Returns whether process 0 joins a new book (the node with its journal) once, and is refused the second time. `blank`
+/// is the ledger that `L` names; it has a part for each of two processes and one more.
 fn second_join_is_refused<L: Ledger>(alloc: Global, blank: Blank) -> bool
     requires name { blank.name ≡ L.name }
     requires parts { blank.parts ≡ L.parts }
@@ -43,7 +44,8 @@ fn a_number_joins_once(rt: HostRuntime) {
     assert!(rt; second_join_is_refused::<Brand>(rt.alloc(), Blank::new(3)));
 }
 
-/// Joins two clients, and returns the number that comes back if the second one is refused by the limit.
+/// Joins a client, and then a second client that is past the limit of one. Returns the process number of the second
+/// client, which the refusal gives back.
 fn refused_number<L: Ledger, R: Wait>(
     rt: &R,
     alloc: Global,
@@ -58,7 +60,8 @@ fn refused_number<L: Ledger, R: Wait>(
     }
 }
 
-/// Returns the number that a new node with one process refuses.
+/// Returns the process number that a new node refuses if its limit is one process. `blank` is the ledger that `L`
+/// names; it has a part for one process and one more.
 fn number_past_limit_of_one<L: Ledger, R: Wait>(rt: &R, alloc: Global, blank: Blank) -> Option<u32>
     requires name { blank.name ≡ L.name }
     requires parts { blank.parts ≡ L.parts }
@@ -79,7 +82,7 @@ fn a_process_past_the_limit_is_refused(rt: HostRuntime) {
     );
 }
 
-/// Joins two clients, and returns the second one alone.
+/// Joins two clients, drops the first, and returns the second client alone.
 fn second_client<L: Ledger, R: Wait>(
     rt: &R,
     alloc: Global,
@@ -92,7 +95,8 @@ fn second_client<L: Ledger, R: Wait>(
     Some(clients)
 }
 
-/// Closes a sharing of two clients with the second one alone, and returns the fault.
+/// Closes a `Shared` that has two clients, but without the first client. Returns the fault. `blank` is the ledger that
+/// `L` names; it has a part for each of the two processes and one more.
 fn fault_without_the_first<L: Ledger, R: Wait>(
     rt: &R,
     alloc: Global,

@@ -1,4 +1,4 @@
-// Clients that work while another thread runs pending steps.
+// Clients that do their jobs while another thread, the keeper, runs pending growth steps.
 ghost use Rattle.std.specs.Thread.{IsSync};
 
 use super::clients_of_workers;
@@ -21,16 +21,18 @@ impl Gate for OpenGate {
     fn after(&self, _client: usize, _call: usize) {}
 }
 
-/// More turns than there are pending steps at once.
+/// A number of turns that is greater than the number of pending steps at any time.
 const MANY_TURNS: u32 = 1_000_000;
 
-/// Runs pending steps until the others are through, and once more then.
+/// Runs pending steps until `are_through` says that the clients have done their jobs, and once more after that. `R:
+/// Wait` allows a loop without a bound, as `forever` is.
 fn keep_until<L: Ledger, H: KeyHash + Copy + Drop, R: Wait>(
     rt: &R,
     shared: &Shared<L, H>,
     are_through: &AtomicBool,
 ) {
     for _ in rt.forever() {
+        // Read before `keep` runs, so that `keep` runs once more after the jobs.
         let is_last = are_through.load(Ordering::SeqCst);
         let _kept = keep(rt, shared, MANY_TURNS);
         if is_last {
@@ -40,7 +42,7 @@ fn keep_until<L: Ledger, H: KeyHash + Copy + Drop, R: Wait>(
     }
 }
 
-/// Runs all jobs of the clients while another thread runs pending steps, and also those that are pending at the end.
+/// Runs all jobs of the clients while another thread runs pending steps, also those that are pending at the end.
 /// Returns the clients.
 pub(super) fn run_while_keeping<
     L: Ledger + Send + Sync,
@@ -57,8 +59,8 @@ pub(super) fn run_while_keeping<
     clients_of_workers(alloc, workers)
 }
 
-/// Runs the jobs in one thread, and in another one pending steps until the jobs are done. Returns the results of the
-/// clients.
+/// Runs the pending steps in one thread, and the jobs of the clients in others. Sets `are_through` after the jobs.
+/// Returns what the clients have done. The closures require that threads may share the runtime (`IsSync`).
 fn run_side_by_side<
     L: Ledger + Send + Sync,
     H: KeyHash + Copy + Drop + Send + Sync,

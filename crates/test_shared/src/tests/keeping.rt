@@ -1,7 +1,8 @@
-// Pending growth steps are run in turns.
+// `keep` runs as many pending growth steps as there are, but at most one in each turn. Nine objects in a new table make
+// four steps pending: to ready bucket 1, to double the buckets, and to ready buckets 2 and 3.
 ghost use Rattle.std.specs.Prelude.{◌≡◌};
 
-use super::calls::{OTHER_TABLE, TABLE, has_asked};
+use super::calls::{OTHER_TABLE, TABLE, client_gets_value};
 use super::{join_clients, limits};
 use ets_term::Fnv;
 use node_shared::{Client, Shared, keep};
@@ -11,17 +12,18 @@ use std::sync::Wait;
 use std::sync::ledger::{Blank, Ledger};
 use std::test::Fail;
 
-/// How many pending steps were run, in calls of `keep`.
+/// How many pending steps each of four calls of `keep` ran, in this order.
 #[derive(PartialEq, Drop)]
 struct StepsRun {
     in_three_turns: u32,
     in_nine_turns: u32,
     in_nine_more_turns: u32,
-    /// In nine turns after another table was filled.
+    /// In nine turns, after another table was filled.
     of_other_table: u32,
 }
 
-/// Makes a table of a client, and inserts nine objects.
+/// Makes a table of a client, and inserts nine objects. `table` has the arguments of both calls. Their replies are not
+/// checked, since the growth steps that are pending afterwards show that both succeeded.
 fn fill_table<L: Ledger, R: Wait>(
     rt: &R,
     alloc: Global,
@@ -30,12 +32,12 @@ fn fill_table<L: Ledger, R: Wait>(
     table: [&str; 2],
 ) -> Option<()> {
     let [new, objects] = table;
-    has_asked(rt, alloc, shared, client, ("new", new))?;
-    has_asked(rt, alloc, shared, client, ("insert", objects))?;
+    client_gets_value(rt, alloc, shared, client, ("new", new))?;
+    client_gets_value(rt, alloc, shared, client, ("insert", objects))?;
     Some(())
 }
 
-/// Fills two tables, and returns how many pending steps are run in some turns after each.
+/// Joins a client and lets it fill two tables. Returns how many pending steps `keep` runs after each.
 fn run_pending_in_turns<L: Ledger, R: Wait>(
     rt: &R,
     alloc: Global,
@@ -45,7 +47,7 @@ fn run_pending_in_turns<L: Ledger, R: Wait>(
     fill_and_run(rt, alloc, shared, clients.first_mut()?)
 }
 
-/// Lets a client fill two tables, and returns how many pending steps are run in some turns after each.
+/// Lets a client fill two tables. Returns how many pending steps `keep` runs after each.
 fn fill_and_run<L: Ledger, R: Wait>(
     rt: &R,
     alloc: Global,
@@ -66,7 +68,8 @@ fn fill_and_run<L: Ledger, R: Wait>(
     })
 }
 
-/// Returns how many pending steps of a new node are run in turns.
+/// Lets a client of a new node fill two tables. Returns how many pending steps `keep` runs after each. `blank` is the
+/// ledger that `L` names; it has a part for the one process and one more.
 fn pending_steps_run<L: Ledger, R: Wait>(rt: &R, alloc: Global, blank: Blank) -> Option<StepsRun>
     requires name { blank.name ≡ L.name }
     requires parts { blank.parts ≡ L.parts }
@@ -80,7 +83,7 @@ fn pending_steps_run<L: Ledger, R: Wait>(rt: &R, alloc: Global, blank: Blank) ->
 }
 
 #[test]
-fn due_steps_are_done_in_turns(rt: HostRuntime) -> Result<(), Fail> {
+fn keep_runs_a_pending_step_in_each_turn(rt: HostRuntime) -> Result<(), Fail> {
     let wanted = StepsRun {
         in_three_turns: 3,
         in_nine_turns: 1,

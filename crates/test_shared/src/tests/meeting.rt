@@ -1,8 +1,9 @@
-// Two clients run at once. The first call of each waits until the other client is at its first call. A later call waits
-// until the other client has a reply.
+// Two clients run at the same time, which a `Gate` checks: its methods are called before and after each call. The first
+// call of each client waits until the other client is at its first call. A later call waits until the other client has
+// a reply.
 ghost use Rattle.std.specs.Prelude.{◌≡◌};
 
-use super::calls::{asks, has_asked};
+use super::calls::{build_jobs, client_gets_value};
 use super::{Plan, clients_of_workers, count_entries, join_with_jobs, limits};
 use ets_term::Fnv;
 use node_core::Reply;
@@ -26,11 +27,12 @@ struct Meeting {
     reader_has_arrived: AtomicBool,
     writer_has_arrived: AtomicBool,
     writer_has_its_reply: AtomicBool,
+    /// A client waited in vain.
     failed: AtomicBool,
 }
 
 impl Meeting {
-    /// Returns a gate at which no client has arrived.
+    /// Returns a gate at which no client has arrived yet.
     fn new() -> Meeting {
         Meeting {
             reader_has_arrived: AtomicBool::new(false),
@@ -40,7 +42,7 @@ impl Meeting {
         }
     }
 
-    /// Waits for a flag, and fails after it has polled the flag `MAX_POLLS` times.
+    /// Waits until a flag is set. Sets `failed` after `MAX_POLLS` polls.
     fn wait_for(&self, flag: &AtomicBool) {
         for _ in 0..MAX_POLLS {
             if flag.load(Ordering::SeqCst) {
@@ -55,14 +57,17 @@ impl Meeting {
 impl Gate for Meeting {
     fn before(&self, client: usize, call: usize) {
         match (client, call) {
+            // The first call of the reader, which is client 0.
             (0, 0) => {
                 self.reader_has_arrived.store(true, Ordering::SeqCst);
                 self.wait_for(&self.writer_has_arrived);
             }
+            // The first call of the writer, which is client 1.
             (1, 0) => {
                 self.writer_has_arrived.store(true, Ordering::SeqCst);
                 self.wait_for(&self.reader_has_arrived);
             }
+            // The second call of the reader.
             (0, 1) => self.wait_for(&self.writer_has_its_reply),
             _ => {}
         }
@@ -75,21 +80,21 @@ impl Gate for Meeting {
     }
 }
 
-/// The reader, which has made the table, reads what the writer inserts.
+/// The reader looks up what the writer inserts meanwhile. Both first look up b, only to wait for each other.
 #[derive(Drop)]
 struct ReadAndWrite;
 
 impl Plan for ReadAndWrite {
     fn jobs(&self, alloc: Global, pid: u32) -> Option<Vec<Job>> {
         if pid == 0 {
-            asks(alloc, &[("lookup", "[t,b]"), ("lookup", "[t,a]")])
+            build_jobs(alloc, &[("lookup", "[t,b]"), ("lookup", "[t,a]")])
         } else {
-            asks(alloc, &[("lookup", "[t,b]"), ("insert", "[t,{a,1}]")])
+            build_jobs(alloc, &[("lookup", "[t,b]"), ("insert", "[t,{a,1}]")])
         }
     }
 }
 
-/// Returns a reader and a writer with their jobs, and the reader has made the table.
+/// Returns a reader and a writer with their jobs. The reader has already made the table.
 fn reader_and_writer<L: Ledger, R: Wait>(
     rt: &R,
     alloc: Global,
@@ -97,7 +102,7 @@ fn reader_and_writer<L: Ledger, R: Wait>(
 ) -> Option<Vec<(Client<L>, Vec<Job>)>> {
     let mut work = join_with_jobs(rt, alloc, shared, 2, &ReadAndWrite)?;
     let (reader, _jobs) = work.first_mut()?;
-    has_asked(
+    client_gets_value(
         rt,
         alloc,
         shared,
@@ -114,8 +119,8 @@ fn last_reply_is<L: Ledger>(alloc: Global, client: &Client<L>, wanted: &str) -> 
     Some(matches!(&entry.reply, Reply::Value(term) if *term == wanted))
 }
 
-/// Runs both clients, and returns them if neither waited in vain. The reader must have found what the writer inserted
-/// meanwhile.
+/// Runs both clients. Returns them if neither waited in vain and the reader found what the writer inserted meanwhile,
+/// else `None`.
 fn run_meeting<L: Ledger + Send + Sync, R: Threads + Wait + Sync>(
     rt: &R,
     alloc: Global,
@@ -133,8 +138,8 @@ fn run_meeting<L: Ledger + Send + Sync, R: Threads + Wait + Sync>(
     }
 }
 
-/// Lets two clients meet in a new node, whose ledger has one part more than there are clients. Returns how many entries
-/// the reader has: its enrolment and three calls.
+/// Runs a reader and a writer at the same time in a new node. Returns how many entries the reader has: its enrolment
+/// and three calls. `blank` is the ledger that `L` names; it has a part for each of the two processes and one more.
 fn entries_after_meeting<L: Ledger + Send + Sync, R: Threads + Wait + Sync>(
     rt: &R,
     alloc: Global,

@@ -1,8 +1,8 @@
-// Four clients run at once. The methods of `Gate` are called before and after each job, with the numbers of client and
-// job.
+// Four clients run at the same time. The methods `before` and `after` of a `Gate` are called before and after each job,
+// with the number of the client and of the job.
 ghost use Rattle.std.specs.Prelude.{◌≡◌};
 
-use super::calls::call;
+use super::calls::build_call;
 use super::{Plan, clients_of_workers, count_entries, join_with_jobs, limits};
 use ets_term::Fnv;
 use node_shared::{Client, Gate, Job, Shared, run_clients};
@@ -14,8 +14,8 @@ use std::sync::ledger::{Blank, Ledger};
 use std::test::Fail;
 use std::thread::Threads;
 
-/// A gate with a number for each client. Its digits are the calls of `Gate`, in order: 1 and 2 for `before` and `after`
-/// job 0, 3 and 4 for job 1, and so on.
+/// A gate that logs its calls, in one decimal number for each of four clients, and one for all other clients. Each call
+/// adds a digit: 1 and 2 are `before` and `after` job 0, 3 and 4 are those of job 1, and so on.
 #[derive(Drop)]
 struct Log {
     zero: AtomicU64,
@@ -26,7 +26,7 @@ struct Log {
 }
 
 impl Log {
-    /// Returns a gate that was not called yet.
+    /// Returns a gate without calls so far.
     fn new() -> Log {
         Log {
             zero: AtomicU64::new(0),
@@ -37,7 +37,7 @@ impl Log {
         }
     }
 
-    /// Appends a digit to the number of a client.
+    /// Appends a digit to a client's number.
     fn add_digit(&self, client: usize, digit: usize) {
         match client {
             0 => push_digit(&self.zero, digit),
@@ -48,7 +48,7 @@ impl Log {
         }
     }
 
-    /// Returns the numbers of the clients 0 to 3, and of all others.
+    /// Returns the logged numbers of the clients 0 to 3, and of all other clients.
     fn digits(&self) -> [u64; 5] {
         [
             self.zero.load(Ordering::SeqCst),
@@ -60,8 +60,9 @@ impl Log {
     }
 }
 
-/// Appends a digit to a number.
+/// Appends a decimal digit to a number.
 fn push_digit(number: &AtomicU64, digit: usize) {
+    // One client alone changes the number, so that nothing is lost between load and store.
     let digits = number.load(Ordering::SeqCst).wrapping_mul(10);
     number.store(digits.wrapping_add(digit as u64), Ordering::SeqCst);
 }
@@ -76,33 +77,35 @@ impl Gate for Log {
     }
 }
 
-/// The client of process 0 has one job, which asks `receive`, that of process 1 has two, and so on.
+/// The client of process n has n + 1 jobs, each of which calls `receive`.
 #[derive(Drop)]
-struct ReceiveMore;
+struct ReceiveCalls;
 
-impl Plan for ReceiveMore {
+impl Plan for ReceiveCalls {
     fn jobs(&self, alloc: Global, pid: u32) -> Option<Vec<Job>> {
         let mut jobs = Vec::new(alloc);
         for _ in 0..=pid {
-            jobs.push(Job::Ask(call(alloc, ("receive", "[]"))?)).ok()?;
+            jobs.push(Job::Ask(build_call(alloc, ("receive", "[]"))?))
+                .ok()?;
         }
         Some(jobs)
     }
 }
 
-/// Runs four clients, and logs each call of `Gate`.
+/// Runs the jobs of four clients, and logs each call of `Gate`. Returns the clients.
 fn run_with_log<L: Ledger + Send + Sync, R: Threads + Wait + Sync>(
     rt: &R,
     alloc: Global,
     shared: &Shared<L, Fnv>,
     log: &Log,
 ) -> Option<Vec<Client<L>>> {
-    let work = join_with_jobs(rt, alloc, shared, 4, &ReceiveMore)?;
+    let work = join_with_jobs(rt, alloc, shared, 4, &ReceiveCalls)?;
     let workers = run_clients(rt, alloc, shared, work, log).ok()?;
     clients_of_workers(alloc, workers)
 }
 
-/// Runs four clients in a new node. Returns the calls of `Gate`, and the number of entries of the last client.
+/// Runs four clients of a new node. Returns the logged calls of `Gate`, and the number of entries of process 3. `blank`
+/// is the ledger that `L` names; it has a part for each of the four processes and one more.
 fn log_of_four<L: Ledger + Send + Sync, R: Threads + Wait + Sync>(
     rt: &R,
     alloc: Global,
@@ -123,7 +126,7 @@ fn log_of_four<L: Ledger + Send + Sync, R: Threads + Wait + Sync>(
 fn the_gate_is_called_before_and_after_each_job(rt: HostRuntime) -> Result<(), Fail> {
     let logged = log_of_four::<Brand, _>(&rt, rt.alloc(), Blank::new(5));
     let (calls, entries) = logged.ok_or("a transcript")?;
-    // Client 0 has one job, client 1 has two, and so on. There is no other client.
+    // Client 0 has one job, client 1 has two, and so on. No other client made a call of `Gate`.
     assert_eq!(rt; calls, [12, 1_234, 123_456, 12_345_678, 0]);
     // The enrolment and four jobs.
     assert_eq!(rt; entries, 5);

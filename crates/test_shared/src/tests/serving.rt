@@ -1,8 +1,10 @@
-// A server does the steps of its callers and pending growth steps, and threads may ask it at the same time.
+// A server runs the calls of its callers, and pending growth steps if `keep` is called. Callers in threads may call it
+// at the same time. Nine objects in a new table make four growth steps pending. `B` names the history and the limits of
+// a server. In contracts, the table is the kit's table of shared words, which has the word of the history.
 ghost use Rattle.std.specs.Prelude.{◌≡◌};
 ghost use Rattle.std.specs.Thread.{IsSync};
 
-use super::calls::{OTHER_TABLE, TABLE, call, call_with, calls, is_done};
+use super::calls::{OTHER_TABLE, TABLE, build_call, build_calls, call_with, caller_gets_value};
 use super::{draw, join_callers, limits};
 use ets_term::{Fnv, KeyHash, Term};
 use node_core::{Call, Limits, Reply};
@@ -14,13 +16,14 @@ use std::test::Fail;
 use std::thread;
 use std::thread::Threads;
 
-/// The arguments that make a third table, and those that insert nine objects.
+/// The arguments of `new` for a third table, and those of `insert` for nine objects.
 const THIRD_TABLE: [&str; 2] = [
     "[v,[named_table]]",
     "[v,[{1},{2},{3},{4},{5},{6},{7},{8},{9}]]",
 ];
 
-/// Makes a table of a caller, and inserts nine objects.
+/// Makes a table of a caller, and inserts nine objects. `table` has the arguments of both calls. The replies are not
+/// checked, since the pending growth steps show that both succeeded.
 fn fill_table<B: HistoryId, R: Wait>(
     rt: &R,
     alloc: Global,
@@ -29,12 +32,12 @@ fn fill_table<B: HistoryId, R: Wait>(
     table: [&str; 2],
 ) -> Option<()> {
     let [new, objects] = table;
-    is_done(rt, alloc, server, caller, ("new", new))?;
-    is_done(rt, alloc, server, caller, ("insert", objects))?;
+    caller_gets_value(rt, alloc, server, caller, ("new", new))?;
+    caller_gets_value(rt, alloc, server, caller, ("insert", objects))?;
     Some(())
 }
 
-/// Makes a table and inserts nine objects under one lock, and then runs three growth steps. Returns the number of
+/// Makes a table, inserts nine objects and runs three growth steps under one lock, by `ask_all`. Returns the number of
 /// replies.
 fn fill_table_at_once<B: HistoryId, R: Wait>(
     rt: &R,
@@ -44,12 +47,13 @@ fn fill_table_at_once<B: HistoryId, R: Wait>(
     table: [&str; 2],
 ) -> Option<usize> {
     let [new, objects] = table;
-    let asked = calls(alloc, &[("new", new), ("insert", objects)])?;
-    let replies = caller.ask_all(rt, server, asked, 3).ok()?;
+    let calls = build_calls(alloc, &[("new", new), ("insert", objects)])?;
+    let replies = caller.ask_all(rt, server, calls, 3).ok()?;
     Some(replies.len())
 }
 
-/// Returns whether four steps are pending after nine insertions: three turns leave one of them, and nine turns none.
+/// Fills three tables. Returns whether four growth steps are pending after each, of which `keep` runs one in each of at
+/// most 3 or 9 turns. Of the third table `ask_all` runs three, and `keep` the last one.
 fn pending_steps_run_in_turns<B: HistoryId, R: Wait>(
     rt: &R,
     alloc: Global,
@@ -64,20 +68,20 @@ fn pending_steps_run_in_turns<B: HistoryId, R: Wait>(
     Some(first_table && second_table && is_filled && server.keep(rt, 9) == 1)
 }
 
-/// Ends a process, and returns whether its next call has the reply `NoProcess`.
+/// Ends the process of a caller. Returns whether its next call has the reply `NoProcess`.
 fn is_refused_after_end<B: HistoryId, R: Wait>(
     rt: &R,
     alloc: Global,
     server: &Server<B, Fnv>,
     caller: &mut Caller<B>,
 ) -> Option<bool> {
-    let receive = call(alloc, ("receive", "[]"))?;
+    let receive = build_call(alloc, ("receive", "[]"))?;
     caller.end(rt, server).ok()?;
     let after_end = caller.ask(rt, server, receive).ok()?;
     Some(matches!(after_end, Reply::NoProcess))
 }
 
-/// Returns whether the server refuses to enrol the process of a number, since the limit is reached.
+/// Returns whether the server refuses to enrol the process of a drawn number because the limit is reached.
 fn is_past_the_limit<B: HistoryId, R: Wait>(rt: &R, server: &Server<B, Fnv>, drawn: Drawn) -> bool {
     let joined = server.client(rt, drawn);
     let is_past = matches!(&joined, Err(JoinFault::Refused(Reply::SystemLimit, _)));
@@ -85,8 +89,9 @@ fn is_past_the_limit<B: HistoryId, R: Wait>(rt: &R, server: &Server<B, Fnv>, dra
     is_past
 }
 
-/// Returns whether pending steps are run, and a process that has ended is refused.
-fn caller_is_right<B: HistoryId, R: Wait>(
+/// Returns whether pending steps of the caller's tables are run, and the calls after the end of its process are
+/// refused.
+fn caller_is_served_until_its_end<B: HistoryId, R: Wait>(
     rt: &R,
     alloc: Global,
     server: &Server<B, Fnv>,
@@ -96,8 +101,9 @@ fn caller_is_right<B: HistoryId, R: Wait>(
     Some(is_kept && is_refused_after_end(rt, alloc, server, caller)?)
 }
 
-/// Returns whether pending steps are run, a second process is refused, and a process that has ended is refused.
-fn server_is_right<B: HistoryId, R: Wait>(
+/// Joins a caller. Returns whether a second one is past the limit, pending steps are run, and calls after the end of
+/// the process are refused.
+fn server_serves_one_caller<B: HistoryId, R: Wait>(
     rt: &R,
     alloc: Global,
     server: &Server<B, Fnv>,
@@ -106,12 +112,13 @@ fn server_is_right<B: HistoryId, R: Wait>(
     let second = numbers.pop()?;
     let mut caller = server.client(rt, numbers.pop()?).ok()?;
     let is_refused = is_past_the_limit(rt, server, second);
-    let is_served = caller_is_right(rt, alloc, server, &mut caller)?;
+    let is_served = caller_is_served_until_its_end(rt, alloc, server, &mut caller)?;
     Some(is_refused && is_served)
 }
 
-/// Creates a server with these limits, and returns whether it runs pending steps and refuses what it must.
-fn new_server_is_right<B: HistoryId, R: Wait>(
+/// Creates a server for one process. Returns whether it runs pending steps, and refuses a second process and calls
+/// after the end.
+fn new_server_serves_one_caller<B: HistoryId, R: Wait>(
     rt: &R,
     alloc: Global,
     history: NewHistory,
@@ -121,13 +128,13 @@ fn new_server_is_right<B: HistoryId, R: Wait>(
     requires limits { limits ≡ B.limits }
 {
     let server = Server::<B, Fnv>::new(alloc, Locking::Single, history, limits, Fnv).ok()?;
-    server_is_right(rt, alloc, &server)
+    server_serves_one_caller(rt, alloc, &server)
 }
 
 #[test]
-fn a_server_does_what_is_asked_and_due(rt: HostRuntime) -> Result<(), Fail> {
+fn a_server_runs_calls_and_pending_steps(rt: HostRuntime) -> Result<(), Fail> {
     let history = NewHistory::new(rt.alloc())?;
-    let is_right = new_server_is_right::<Brand, _>(&rt, rt.alloc(), history, limits(1));
+    let is_right = new_server_serves_one_caller::<Brand, _>(&rt, rt.alloc(), history, limits(1));
     assert!(rt; is_right.ok_or("a reply")?);
     Ok(())
 }
@@ -140,7 +147,7 @@ fn two_callers<B: HistoryId, R: Wait>(
 ) -> Option<(Caller<B>, Caller<B>)> {
     let mut callers = join_callers(rt, alloc, server, 2)?;
     let new = ("new", "[t,[named_table,public]]");
-    is_done(rt, alloc, server, callers.first_mut()?, new)?;
+    caller_gets_value(rt, alloc, server, callers.first_mut()?, new)?;
     let other = callers.pop()?;
     Some((callers.pop()?, other))
 }
@@ -148,7 +155,8 @@ fn two_callers<B: HistoryId, R: Wait>(
 /// The number of objects that each of two callers inserts.
 const INSERTIONS: u32 = 50;
 
-/// Returns insertions of the keys from `first` on, and then a call for the number of objects.
+/// Returns a call for each of `INSERTIONS` keys from `first` on, which inserts it, and then a call for the number of
+/// objects.
 fn insertions(alloc: Global, first: u32) -> Option<Vec<Call>> {
     let mut calls = Vec::new(alloc);
     for number in 0..INSERTIONS {
@@ -156,12 +164,12 @@ fn insertions(alloc: Global, first: u32) -> Option<Vec<Call>> {
         let object = format!(in alloc; "[t,{{{key}}}]");
         calls.push(call_with(alloc, ("insert", object))?).ok()?;
     }
-    calls.push(call(alloc, ("info", "[t,size]"))?).ok()?;
+    calls.push(build_call(alloc, ("info", "[t,size]"))?).ok()?;
     Some(calls)
 }
 
-/// Makes calls in order, and returns the integer that is the last reply, or 0 for any other reply.
-fn ask_all<B: HistoryId, H: KeyHash + Copy + Drop, R: Wait>(
+/// Makes calls in order, and releases the lock after each. Returns the last reply if it is an integer, else 0.
+fn ask_one_by_one<B: HistoryId, H: KeyHash + Copy + Drop, R: Wait>(
     rt: &R,
     server: &Server<B, H>,
     mut caller: Caller<B>,
@@ -177,7 +185,8 @@ fn ask_all<B: HistoryId, H: KeyHash + Copy + Drop, R: Wait>(
     last
 }
 
-/// Lets two callers make their calls at once, each in a thread of its own. Returns the greater of their last replies.
+/// Lets two callers make their calls at the same time, each in a thread of its own. Returns the greater of their last
+/// replies. The closures require that threads may share the runtime (`IsSync`).
 fn both_ask<
     B: HistoryId + Send + Sync,
     H: KeyHash + Copy + Drop + Send + Sync,
@@ -194,15 +203,16 @@ fn both_ask<
         rt,
         move || -> u64
             requires { IsSync R.row }
-        { ask_all(rt, server, one, calls) },
+        { ask_one_by_one(rt, server, one, calls) },
         move || -> u64
             requires { IsSync R.row }
-        { ask_all(rt, server, other, others) },
+        { ask_one_by_one(rt, server, other, others) },
     );
     one_caller.max(other_caller)
 }
 
-/// Lets two callers insert at once, and returns how many objects the later one finds at the end.
+/// Lets two callers insert at the same time. Returns how many objects the table has, as the later caller counts them at
+/// the end.
 fn objects_of_both<B: HistoryId + Send + Sync, R: Threads + Wait + Sync>(
     rt: &R,
     alloc: Global,
@@ -214,7 +224,7 @@ fn objects_of_both<B: HistoryId + Send + Sync, R: Threads + Wait + Sync>(
     Some(both_ask(rt, server, (one, calls), (other, others)))
 }
 
-/// Creates a server, lets two callers insert at once, and returns how many objects there are at the end.
+/// Creates a server, and lets two callers insert at the same time. Returns how many objects there are at the end.
 fn objects_of_new_server<B: HistoryId + Send + Sync, R: Threads + Wait + Sync>(
     rt: &R,
     alloc: Global,
@@ -232,6 +242,7 @@ fn objects_of_new_server<B: HistoryId + Send + Sync, R: Threads + Wait + Sync>(
 fn two_callers_insert_at_once(rt: HostRuntime) -> Result<(), Fail> {
     let history = NewHistory::new(rt.alloc())?;
     let objects = objects_of_new_server::<Brand, _>(&rt, rt.alloc(), history, limits(2));
+    // Twice `INSERTIONS`.
     assert_eq!(rt; objects, Some(100));
     Ok(())
 }

@@ -1,15 +1,17 @@
 // Four readers and two writers call one server over a million times, while tables grow, are fixed and traversed, and
-// processes end and leave their tables to heirs. Each of them checks the replies against its own writes.
+// processes end and leave their tables to heirs. Each of them checks the replies against its own writes; it 'is right'
+// if all replies are right. A reader or writer is the last caller of a team. The other callers of a writer's team are
+// its guests: they end, and the writer inherits their tables.
 ghost use Rattle.std.specs.Prelude.{◌≡◌};
 ghost use Rattle.std.specs.Thread.{IsSync};
 
-mod reader;
-mod writer;
+mod reader; // the calls of a reader
+mod writer; // the calls of a writer
 
-use super::calls::is_done_with;
+use super::calls::caller_gets_value_for;
 use super::{join_callers, limits};
-use crate::tests::stressing::reader::read_all;
-use crate::tests::stressing::writer::write_all;
+use crate::tests::stressing::reader::reader_is_right;
+use crate::tests::stressing::writer::writer_is_right;
 use ets_term::{Fnv, KeyHash};
 use node_core::Limits;
 use node_shared::{Caller, HistoryId, Locking, NewHistory, Server};
@@ -20,35 +22,35 @@ use std::test::Fail;
 use std::thread;
 use std::thread::Threads;
 
-/// The number of calls of a reader. A traversal makes more.
+/// The number of operations of a reader. An operation is one call, or a whole traversal.
 const READS: u32 = 200_000;
 
-/// The number of batches of a writer, with ten calls each. An inheritance makes more.
+/// The number of batches of a writer. A batch is ten calls and a read. Before some of them the writer inherits a table.
 const BATCHES: u32 = 10_000;
 
-/// A writer never deletes the keys below this one from its table.
+/// A writer never deletes the keys below this number from its table: the kept keys.
 const KEPT_KEYS: u32 = 1_000;
 
-/// The number of processes that a writer inherits from.
+/// The number of processes that each writer inherits from.
 const GUESTS: u32 = 20;
 
 /// The number of callers: four readers, and two writers with their guests.
 const CALLERS: usize = 46;
 
-/// The numbers of the writers. The callers are taken from the last one on: 21 for each writer's team, whose last one
-/// is the writer.
+/// The process numbers of the writers. Teams take callers from the end of the list: the processes 45 to 25 for the
+/// first writer's team, and 24 to 4 for the second team. The last caller of a team is the writer.
 const WRITERS: [u32; 2] = [25, 4];
 
-/// The number of teams: two with a writer, four with a reader.
+/// The number of teams: two of a writer, and four of a reader.
 const TEAMS: u32 = 6;
 
 /// The team of a writer: how many guests it has, and how many keys its table starts with.
 const WRITER_TEAM: (u32, u32) = (GUESTS, KEPT_KEYS);
 
-/// The same for the team of a reader.
+/// The same for the team of a reader, which is the reader alone.
 const READER_TEAM: (u32, u32) = (0, 0);
 
-/// Takes a team from the callers. Its last one makes the calls, and the others are guests, from whom it inherits.
+/// Takes a team from the end of the callers: the guests, and then the caller that makes the calls.
 fn take_team<B: HistoryId>(
     alloc: Global,
     callers: &mut Vec<Caller<B>>,
@@ -61,7 +63,7 @@ fn take_team<B: HistoryId>(
     Some(team)
 }
 
-/// Makes the table of a caller, and inserts the keys below `keys`.
+/// Makes the table of a caller, whose name has its process number, and inserts the keys below `keys`.
 fn set_up<B: HistoryId, R: Wait>(
     rt: &R,
     alloc: Global,
@@ -71,15 +73,16 @@ fn set_up<B: HistoryId, R: Wait>(
 ) -> Option<()> {
     let table = caller.pid();
     let options = format!(in alloc; "[t{table},[named_table,public]]");
-    is_done_with(rt, alloc, server, caller, ("new", options))?;
+    caller_gets_value_for(rt, alloc, server, caller, ("new", options))?;
     for key in 0..keys {
         let object = format!(in alloc; "[t{table},{{{key},0}}]");
-        is_done_with(rt, alloc, server, caller, ("insert", object))?;
+        caller_gets_value_for(rt, alloc, server, caller, ("insert", object))?;
     }
     Some(())
 }
 
-/// Takes a team from the callers, and makes the table of its last one.
+/// Takes a team from the callers, and makes the table of its last caller. The pair is the number of guests, and of
+/// keys.
 fn form_team<B: HistoryId, R: Wait>(
     rt: &R,
     alloc: Global,
@@ -92,7 +95,7 @@ fn form_team<B: HistoryId, R: Wait>(
     Some(team)
 }
 
-/// Joins all callers, and returns the teams, each with its table.
+/// Joins all callers, and returns the teams. Each has its table.
 fn form_teams<B: HistoryId, R: Wait>(
     rt: &R,
     alloc: Global,
@@ -100,7 +103,7 @@ fn form_teams<B: HistoryId, R: Wait>(
 ) -> Option<Vec<Vec<Caller<B>>>> {
     let mut callers = join_callers(rt, alloc, server, CALLERS)?;
     let mut teams = Vec::new(alloc);
-    for size in [
+    for team in [
         WRITER_TEAM,
         WRITER_TEAM,
         READER_TEAM,
@@ -109,13 +112,14 @@ fn form_teams<B: HistoryId, R: Wait>(
         READER_TEAM,
     ] {
         teams
-            .push(form_team(rt, alloc, server, &mut callers, size)?)
+            .push(form_team(rt, alloc, server, &mut callers, team)?)
             .ok()?;
     }
     Some(teams)
 }
 
-/// Runs each team in a thread of its own, and returns how many had only right replies.
+/// Runs each team in a thread of its own: splits the teams into halves until one is left. Returns how many had only
+/// right replies. The closures require that threads may share the runtime (`IsSync`).
 fn count_right<
     B: HistoryId + Send + Sync,
     H: KeyHash + Copy + Drop + Send + Sync,
@@ -143,7 +147,7 @@ fn count_right<
     front.wrapping_add(back)
 }
 
-/// Makes all calls of a team, and returns whether all replies are right.
+/// Makes all calls of a team: of a reader if it has no guests, else of a writer. Returns whether all replies are right.
 fn team_is_right<B: HistoryId, H: KeyHash + Copy + Drop, R: Wait>(
     rt: &R,
     server: &Server<B, H>,
@@ -152,13 +156,14 @@ fn team_is_right<B: HistoryId, H: KeyHash + Copy + Drop, R: Wait>(
     let alloc = *team.allocator();
     let mut caller = team.pop()?;
     if team.is_empty() {
-        read_all(rt, alloc, server, &mut caller)
+        reader_is_right(rt, alloc, server, &mut caller)
     } else {
-        write_all(rt, alloc, server, &mut caller, &mut team)
+        writer_is_right(rt, alloc, server, &mut caller, &mut team)
     }
 }
 
-/// Creates a server, and returns whether all teams have only right replies.
+/// Creates a server, and lets all teams make their calls. Returns whether all have only right replies. `B` names the
+/// history and the limits. The table in the contract is the kit's table of shared words, which has one word.
 fn new_server_is_right<B: HistoryId + Send + Sync, R: Threads + Wait + Sync>(
     rt: &R,
     alloc: Global,
@@ -173,7 +178,7 @@ fn new_server_is_right<B: HistoryId + Send + Sync, R: Threads + Wait + Sync>(
     teams_are_right(rt, alloc, &server)
 }
 
-/// Forms all teams and lets them make their calls. Returns whether all have only right replies.
+/// Forms all teams, and lets them make their calls. Returns whether all have only right replies.
 fn teams_are_right<B: HistoryId + Send + Sync, R: Threads + Wait + Sync>(
     rt: &R,
     alloc: Global,
@@ -183,7 +188,8 @@ fn teams_are_right<B: HistoryId + Send + Sync, R: Threads + Wait + Sync>(
     Some(count_right(rt, server, teams) == TEAMS)
 }
 
-/// Runs two rounds, one with each lock, and returns whether both have only right replies.
+/// Runs two rounds, one with each kind of lock, for 46 processes: the `CALLERS`. Returns whether both have only right
+/// replies.
 fn two_rounds_are_right<R: Threads + Wait + Sync>(rt: &R, alloc: Global) -> Option<bool> {
     for locking in [Locking::Single, Locking::Sharded] {
         let history = NewHistory::new(alloc).ok()?;
@@ -194,39 +200,39 @@ fn two_rounds_are_right<R: Threads + Wait + Sync>(rt: &R, alloc: Global) -> Opti
     Some(true)
 }
 
-// Ten rounds, in five tests, since a test may take one minute.
+// Ten rounds, in five tests, since a test may take at most one minute.
 
 /// Runs the first two of ten rounds.
 #[test]
-fn stress_one_and_two(rt: HostRuntime) -> Result<(), Fail> {
+fn rounds_one_and_two_have_right_replies(rt: HostRuntime) -> Result<(), Fail> {
     assert!(rt; two_rounds_are_right(&rt, rt.alloc()).ok_or("a round")?);
     Ok(())
 }
 
 /// Runs two more rounds.
 #[test]
-fn stress_three_and_four(rt: HostRuntime) -> Result<(), Fail> {
+fn rounds_three_and_four_have_right_replies(rt: HostRuntime) -> Result<(), Fail> {
     assert!(rt; two_rounds_are_right(&rt, rt.alloc()).ok_or("a round")?);
     Ok(())
 }
 
 /// Runs two more rounds.
 #[test]
-fn stress_five_and_six(rt: HostRuntime) -> Result<(), Fail> {
+fn rounds_five_and_six_have_right_replies(rt: HostRuntime) -> Result<(), Fail> {
     assert!(rt; two_rounds_are_right(&rt, rt.alloc()).ok_or("a round")?);
     Ok(())
 }
 
 /// Runs two more rounds.
 #[test]
-fn stress_seven_and_eight(rt: HostRuntime) -> Result<(), Fail> {
+fn rounds_seven_and_eight_have_right_replies(rt: HostRuntime) -> Result<(), Fail> {
     assert!(rt; two_rounds_are_right(&rt, rt.alloc()).ok_or("a round")?);
     Ok(())
 }
 
 /// Runs the last two rounds.
 #[test]
-fn stress_nine_and_ten(rt: HostRuntime) -> Result<(), Fail> {
+fn rounds_nine_and_ten_have_right_replies(rt: HostRuntime) -> Result<(), Fail> {
     assert!(rt; two_rounds_are_right(&rt, rt.alloc()).ok_or("a round")?);
     Ok(())
 }

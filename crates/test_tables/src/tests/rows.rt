@@ -1,12 +1,17 @@
 ghost use Rattle.std.specs.Prelude.{◌≡◌, ◌<◌, [], IfOk};
 
-// What no contract says: calls succeed at every size, and searches are short in ready buckets.
+// Tests of rows: calls succeed at every size, which no contract promises, and searches in ready buckets visit few
+// nodes.
 use bucket_table::{Growth, PlainRows, Readying, Rows, SlotEntry, SplitRows};
 use ets_term::{AllSame, Fnv, Integer, KeyHash, Term};
 use node_list::{Chain, Steps};
 use std::alloc::{AllocError, Global};
 use std::process::Abort;
 
+// `calls`, `sweeps` and `traversals` compare random calls with a plain list. `several` puts three slots at once, and
+// `sizes` many. `growth` doubles buckets and makes them ready. `searches` and `visits` count the nodes that searches
+// visit. `free` has calls that take no memory, and `refused` calls that run out of it. `checks` creates the rows for
+// most of these, with hashers of `hashes`.
 mod calls;
 mod checks;
 mod free;
@@ -22,7 +27,7 @@ mod visits;
 
 use self::hashes::{Even, Greatest, PidNumber};
 
-/// The first state of the generator; any number would do.
+/// The first state of the generator `Draws`. Any number would do.
 const SEED: u64 = 20_261_122;
 
 /// The multiplier of Knuth's linear congruential generator, MMIX.
@@ -53,7 +58,8 @@ impl Draws {
     }
 }
 
-/// Creates split rows, and again if memory runs out.
+/// Creates split rows. Tries a second time if memory runs out, because `.ci/refusals` refuses one allocation in each
+/// run.
 pub fn new_rows_with_retry<H: KeyHash + Copy + Drop>(
     alloc: Global,
     hash: H,
@@ -66,7 +72,7 @@ pub fn new_rows_with_retry<H: KeyHash + Copy + Drop>(
     }
 }
 
-/// What rows have under a key. `Object` has the integer that is the key's only object.
+/// What rows have under a key: no slot, a tombstone, or a slot whose only object is this integer.
 #[derive(Clone, Copy, PartialEq, Eq)]
 enum KeyState {
     Nothing,
@@ -82,7 +88,7 @@ fn state_of_objects(objects: &[Term]) -> KeyState {
     }
 }
 
-/// Returns the state of a key.
+/// Returns what rows have under a key.
 fn state_at<R: Rows>(rows: &R, key: Integer) -> KeyState {
     let term = Term::Int(key);
     let state = match rows.get(&term) {
@@ -93,8 +99,7 @@ fn state_at<R: Rows>(rows: &R, key: Integer) -> KeyState {
     state
 }
 
-/// Returns the state of a key whose slot had these objects before it was removed or changed. `None` means that it had
-/// no slot.
+/// Returns the state of a key whose slot had these objects before a change. `None` means that the key had no slot.
 fn state_of_removed(objects: Option<Chain>) -> KeyState {
     match objects {
         Some(objects) => {
@@ -106,7 +111,7 @@ fn state_of_removed(objects: Option<Chain>) -> KeyState {
     }
 }
 
-/// Inserts or replaces the object of a key. Returns the state before.
+/// Inserts or replaces the object of a key. Returns the state of the key before.
 fn insert<R: Rows>(
     rows: &mut R,
     alloc: Global,
@@ -127,7 +132,7 @@ fn insert<R: Rows>(
     }
 }
 
-/// Inserts the keys from one number up to another, each with the object 1.
+/// Inserts the keys `first..end`, each with the object 1.
 fn insert_range<R: Rows>(
     rows: &mut R,
     alloc: Global,
@@ -140,7 +145,7 @@ fn insert_range<R: Rows>(
     Ok(())
 }
 
-/// Replaces the objects of a key's slot. Returns the state before.
+/// Replaces the objects of a key's slot, if it has one. Returns the state of the key before.
 fn replace<R: Rows>(rows: &mut R, key: Integer, objects: Chain) -> KeyState {
     let term = Term::Int(key);
     let old_objects = rows.replace(&term, objects);
@@ -148,7 +153,7 @@ fn replace<R: Rows>(rows: &mut R, key: Integer, objects: Chain) -> KeyState {
     state_of_removed(old_objects)
 }
 
-/// Removes the slot of a key. Returns the state before.
+/// Removes the slot of a key, if it has one. Returns the state of the key before.
 fn remove<R: Rows>(rows: &mut R, key: Integer) -> KeyState {
     let term = Term::Int(key);
     let objects = rows.remove(&term);
@@ -156,7 +161,7 @@ fn remove<R: Rows>(rows: &mut R, key: Integer) -> KeyState {
     state_of_removed(objects)
 }
 
-/// Returns whether each key below a number has its own number as its object.
+/// Returns whether each key below `past_keys` has an object equal to the key.
 fn each_has_its_number<R: Rows>(rows: &R, past_keys: u32) -> bool {
     let mut all_right = true;
     for key in 0..past_keys {
@@ -166,28 +171,28 @@ fn each_has_its_number<R: Rows>(rows: &R, past_keys: u32) -> bool {
     all_right
 }
 
-/// Searches for the key of a number. Returns whether it is found, and adds the nodes that the search visits.
+/// Returns whether an integer is a key of the rows. Adds the number of nodes that the search visits to `visited`.
 fn is_found<H: KeyHash + Copy + Drop>(
     rows: &SplitRows<H>,
     number: u32,
-    visits: &mut Steps,
+    visited: &mut Steps,
 ) -> bool {
     let key = Term::Int(Integer::from(number));
-    let found = rows.get_counted(&key, visits).is_some();
+    let found = rows.get_counted(&key, visited).is_some();
     drop(key);
     found
 }
 
-/// The number of buckets from which on `ready_some` doubles them no more, so that the tests are fast.
+/// `grow_sometimes` does not double this many buckets or more, so that the tests are fast.
 const ENOUGH_BUCKETS: u32 = 4096;
 
-/// `ready_some` doubles the buckets once in about this number of calls.
+/// `grow_sometimes` doubles the buckets once in about this number of calls.
 const DOUBLING_PERIOD: u32 = 50;
 
-/// The number of buckets that `ready_some` makes ready is below this one.
+/// The bound of the random number of buckets that `grow_and_ready_some` makes ready.
 const PAST_READIED: u32 = 20;
 
-/// Doubles the buckets now and then.
+/// Doubles the buckets once in about `DOUBLING_PERIOD` calls, if there are fewer than `ENOUGH_BUCKETS`.
 fn grow_sometimes<R: Rows>(rows: &mut R, draws: &mut Draws) -> Result<(), AllocError> {
     if rows.buckets() < ENOUGH_BUCKETS && draws.random_below(DOUBLING_PERIOD) == 0 {
         rows.grow()?;
@@ -196,16 +201,17 @@ fn grow_sometimes<R: Rows>(rows: &mut R, draws: &mut Draws) -> Result<(), AllocE
 }
 
 /// Makes a random bucket ready.
-fn ready_any<R: Rows>(rows: &mut R, draws: &mut Draws) -> Result<Readying, AllocError> {
+fn ready_random_bucket<R: Rows>(rows: &mut R, draws: &mut Draws) -> Result<Readying, AllocError> {
+    // `max`, because `random_below` requires a bound above 0.
     let bucket = draws.random_below(rows.buckets().max(1));
     rows.ready(bucket)
 }
 
-/// Doubles the buckets now and then, and makes some of them ready in any order.
-fn ready_some<R: Rows>(rows: &mut R, draws: &mut Draws) -> Result<(), AllocError> {
+/// Doubles the buckets sometimes, and makes some random ones ready.
+fn grow_and_ready_some<R: Rows>(rows: &mut R, draws: &mut Draws) -> Result<(), AllocError> {
     grow_sometimes(rows, draws)?;
     for _ in 0..draws.random_below(PAST_READIED) {
-        ready_any(rows, draws)?;
+        ready_random_bucket(rows, draws)?;
     }
     Ok(())
 }

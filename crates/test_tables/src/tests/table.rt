@@ -1,5 +1,6 @@
-// Expected answers from the rules of the manual. A scenario is a list of steps, each with its answer. `scenario_holds`
-// runs it on tables over each form of rows.
+// Compares answers of tables with those that follow from the manual of ets. A scenario is a list of steps, each with
+// its answer. `scenario_holds` runs it on tables over plain rows and over split rows. Each answer has a code, an
+// integer, so that answers of all types can be compared.
 use super::rows::new_rows_with_retry;
 use answers::Answer;
 use bucket_table::{PlainRows, Rows, SplitRows};
@@ -9,6 +10,9 @@ use std::alloc::Global;
 use steps::run_step;
 use table_ops::{Kind, Table};
 
+// `calls`, `objects` and `refused` have rows of steps with answers, and `lists` and `bad_objects` lists that are
+// inserted. `long` has long runs. `searches` and `deletions` count the objects that are tested. `steps`,
+// `single_calls`, `updates` and `terms` run the steps. `checks` runs each check on new tables.
 mod answers;
 mod bad_objects;
 mod calls;
@@ -56,7 +60,7 @@ pub struct Start(pub Integer);
 #[derive(Clone, Copy)]
 pub struct Value(pub Integer);
 
-/// What a deletion makes of a slot that has no more objects.
+/// What a deletion does with a slot that loses its last object.
 #[derive(Clone, Copy)]
 pub enum Emptied {
     LeaveTombstone,
@@ -76,50 +80,69 @@ impl Emptied {
 /// A call, mostly on pairs of integers.
 #[derive(Clone, Copy)]
 pub enum Step {
+    /// Inserts an object.
     Insert(Object),
+    /// Inserts a list of two objects.
     InsertTwo(Object, Object),
+    /// Inserts an object of three elements.
     InsertTriple(Triple),
     /// Inserts an integer, which is not an object.
     InsertInteger(Integer),
-    /// Inserts the pair of a key and lists within lists.
+    /// Inserts the pair of a key and of lists within lists, which have this depth.
     InsertDeep(Key, Depth),
+    /// Inserts an object if its key is new.
     InsertNew(Object),
+    /// Inserts the pair of `InsertDeep` if its key is new.
     InsertNewDeep(Key, Depth),
+    /// Reads the objects of a key.
     Lookup(Key),
+    /// Reads the element at this position of each object of a key.
     LookupElement(Key, Pos),
+    /// Deletes the objects of a key, and answers with them.
     Take(Key, Emptied),
+    /// Deletes the objects of a key.
     Delete(Key, Emptied),
+    /// Deletes the objects that equal this one.
     DeleteObject(Object, Emptied),
+    /// Deletes all objects.
     DeleteAll(Emptied),
+    /// Removes the tombstones.
     Purge,
+    /// Increments the counter of a key, which is the element after the key.
     UpdateCounter(Key, Incr),
     /// Updates a counter, which starts with a default object if its key is missing.
     UpdateCounterFrom(Key, Incr, Start),
+    /// Writes a value to the second element of a key's object.
     UpdateElement(Key, Value),
     /// Searches by `match` and by `match_object` for `{Key,'$1'}`.
     Match(Key),
+    /// Deletes the objects that match `{Key,'$1'}`.
     MatchDelete(Key, Emptied),
     /// Searches by `select` and by `select_count` for the objects whose second element is less than an integer.
     SelectBelow(Integer),
+    /// Deletes the objects whose second element is less than an integer.
     SelectDeleteBelow(Integer, Emptied),
+    /// Reads all objects, in any order.
     AllObjects,
+    /// Reads how many objects the table has.
     CountObjects,
+    /// Reads how many slots the table has, tombstones included.
     CountSlots,
     /// Doubles the buckets, and makes the first unready one ready.
     Grow,
 }
 
-/// The number for a step that ran out of memory.
+/// The code of a step that ran out of memory.
 const OUT_OF_MEMORY: Integer = -3;
 
-/// Runs a step. Returns the number for its answer.
-fn answer<R: Rows>(alloc: Global, table: &mut Table<R>, step: Step) -> Integer {
+/// Runs a step. Returns the code of its answer, or `OUT_OF_MEMORY`.
+fn answer_code<R: Rows>(alloc: Global, table: &mut Table<R>, step: Step) -> Integer {
     run_step(alloc, table, step).unwrap_or(OUT_OF_MEMORY)
 }
 
 /// Runs a step, and returns whether it has this answer.
 fn step_answers<R: Rows>(alloc: Global, table: &mut Table<R>, step: Step, wanted: Answer) -> bool {
-    answer(alloc, table, step) == wanted.number()
+    answer_code(alloc, table, step) == wanted.code()
 }
 
 /// Runs steps in order, and returns whether each has its answer.
@@ -142,38 +165,41 @@ pub struct MaxObjects(pub u32);
 
 /// A table without objects: its kind, its keypos and its greatest number of objects.
 #[derive(Clone, Copy)]
-pub struct Empty(pub Kind, pub Keypos, pub MaxObjects);
+pub struct EmptyTable(pub Kind, pub Keypos, pub MaxObjects);
 
 /// Creates a table over plain rows.
-fn plain_table(alloc: Global, empty: Empty) -> Table<PlainRows> {
-    let Empty(kind, keypos, limit) = empty;
+fn plain_table(alloc: Global, empty: EmptyTable) -> Table<PlainRows> {
+    let EmptyTable(kind, keypos, limit) = empty;
+    // `max`, because `Table::new` requires a keypos of at least 1.
     Table::new(alloc, PlainRows::new(alloc), kind, keypos.0.max(1), limit.0)
 }
 
-/// Creates a table over split rows with this hash, and its rows again if memory runs out. `None` means out of memory.
+/// Creates a table over split rows with this hasher. `None` means that memory ran out twice.
 fn split_table<H: KeyHash + Copy + Drop>(
     alloc: Global,
     hash: H,
-    empty: Empty,
+    empty: EmptyTable,
 ) -> Option<Table<SplitRows<H>>> {
-    let Empty(kind, keypos, limit) = empty;
+    let EmptyTable(kind, keypos, limit) = empty;
     let rows = new_rows_with_retry(alloc, hash).ok()?;
+    // `max`, because `Table::new` requires a keypos of at least 1.
     Some(Table::new(alloc, rows, kind, keypos.0.max(1), limit.0))
 }
 
-/// A table by its kind, its keypos and its greatest number of objects, and the steps on it with their answers.
+/// The kind, the keypos and the greatest number of objects of a table, and the steps on it, each with its answer.
 type Scenario = (Kind, Keypos, MaxObjects, &'static [(Step, Answer)]);
 
-/// Returns whether each step has its answer over each form of rows, and if all keys share a hash.
+/// Returns whether each step has its answer over plain rows, over split rows, and over split rows with one hash for all
+/// keys.
 fn scenario_holds(alloc: Global, scenario: Scenario) -> bool {
     let (kind, keypos, limit, steps) = scenario;
-    let empty = Empty(kind, keypos, limit);
+    let empty = EmptyTable(kind, keypos, limit);
     let check = Check::Answer(steps);
     both_tables_pass(alloc, empty, check)
         && split_table_passes(alloc, AllSame, empty, check) == Some(true)
 }
 
-/// Returns the index of the first scenario with a wrong answer over some form of rows.
+/// Returns the index of the first scenario with a wrong answer.
 fn first_mismatch(alloc: Global, scenarios: &[Scenario]) -> Option<usize> {
     for (index, scenario) in scenarios.iter().enumerate() {
         if !scenario_holds(alloc, *scenario) {

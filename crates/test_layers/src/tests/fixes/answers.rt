@@ -1,4 +1,4 @@
-// Calls of a table, and their answers as numbers, so that answers of all types are compared in one way.
+// Steps on a table, and a code for each answer: a number, so that answers of all types are compared in one way.
 use crate::tests::fixes::{Key, Object, Pid, build_object, delete};
 use bucket_table::{Growth, Readying, Rows};
 use ets_term::{Integer, Items, Term};
@@ -7,19 +7,28 @@ use std::alloc::Global;
 use std::slice;
 use table_ops::Refusal;
 
-/// A call of a table.
+/// A step on a table: a call, a doubling, or the readying of a bucket.
 #[derive(Clone, Copy)]
 pub(super) enum Step {
+    /// `insert` of one object.
     Insert(Object),
+    /// `insert_new` of one object.
     InsertNew(Object),
-    /// Looks up the second element of the object of a key.
+    /// `lookup_element` of the second element of the object of a key.
     LookupSecond(Key),
+    /// Deletes all objects of a key, and returns them.
     Take(Key),
+    /// Deletes all objects of a key.
     Delete(Key),
+    /// Deletes one object, if the table has it.
     DeleteObject(Object),
+    /// Lists all objects of the table.
     AllObjects,
+    /// Fixes the table for a process.
     Fix(Pid),
+    /// Gives one fix of a process back.
     Release(Pid),
+    /// Doubles the buckets.
     Grow,
     /// Makes the first unready bucket ready.
     Ready,
@@ -28,18 +37,22 @@ pub(super) enum Step {
 /// The expected answer of a call, or what it leaves.
 #[derive(Clone, Copy)]
 pub(super) enum Expected {
+    /// The call succeeds, and returns true if it returns a boolean.
     Done,
+    /// The call returns false.
     NotDone,
-    /// How many objects are answered.
+    /// The call returns this number of objects.
     Objects(Integer),
+    /// The table is still fixed after a release.
     IsFixed,
+    /// The table is not fixed after a release.
     IsNotFixed,
-    /// A refusal, other than out of memory.
+    /// The call is refused, but not for memory.
     Refused,
 }
 
 impl Expected {
-    /// Returns the number that `answer_code` gives this answer.
+    /// Returns the code that `answer_code` returns for this answer.
     pub(super) fn code(self) -> Integer {
         match self {
             Expected::Done | Expected::IsFixed => 1,
@@ -50,13 +63,13 @@ impl Expected {
     }
 }
 
-/// The number for a call that ran out of memory.
+/// The code for a call that ran out of memory.
 pub(super) const OUT_OF_MEMORY: Integer = -1;
 
-/// The number for a call with another refusal.
+/// The code for a call with another refusal.
 const OTHER_REFUSAL: Integer = -2;
 
-/// Returns the number of a refusal.
+/// Returns the code of a refusal.
 fn refusal_code(refused: &Refusal) -> Integer {
     match refused {
         Refusal::Memory => OUT_OF_MEMORY,
@@ -64,7 +77,7 @@ fn refusal_code(refused: &Refusal) -> Integer {
     }
 }
 
-/// Returns 1 for a call that succeeded, or the number of its refusal.
+/// Returns 1 for a call that succeeded, or the code of its refusal.
 fn done_code(done: Result<(), Refusal>) -> Integer {
     match done {
         Ok(()) => 1,
@@ -72,7 +85,7 @@ fn done_code(done: Result<(), Refusal>) -> Integer {
     }
 }
 
-/// Builds an object, again if memory runs out.
+/// Builds an object. Retries once if memory is refused.
 fn build_object_with_retry(alloc: Global, object: Object) -> Option<Term> {
     match build_object(alloc, object.0, object.1) {
         Some(made) => Some(made),
@@ -80,8 +93,8 @@ fn build_object_with_retry(alloc: Global, object: Object) -> Option<Term> {
     }
 }
 
-/// Inserts an object. Returns 1, or the number of the refusal. An object that could not be built counts as another
-/// refusal: this is a fault of the test, which must not pass as the table's out of memory.
+/// Inserts an object. Returns 1, or the code of the refusal. For an object that could not be built it returns
+/// `OTHER_REFUSAL`, because the table did not run out of memory.
 pub(super) fn try_insert<R: Rows>(table: &mut Walked<R>, object: Option<Term>) -> Integer {
     let Some(object) = object else {
         return OTHER_REFUSAL;
@@ -91,8 +104,8 @@ pub(super) fn try_insert<R: Rows>(table: &mut Walked<R>, object: Option<Term>) -
     done_code(inserted)
 }
 
-/// Inserts an object if its key is new. Returns 1 if it did, 0 if the key is not new, or the number of the refusal. An
-/// object that could not be built counts as another refusal.
+/// Inserts an object if its key is new. Returns 1 if it did, 0 if the key is not new, or the code of the refusal. For
+/// an object that could not be built it returns `OTHER_REFUSAL`.
 fn try_insert_new<R: Rows>(table: &mut Walked<R>, object: Option<Term>) -> Integer {
     let Some(object) = object else {
         return OTHER_REFUSAL;
@@ -105,8 +118,8 @@ fn try_insert_new<R: Rows>(table: &mut Walked<R>, object: Option<Term>) -> Integ
     }
 }
 
-/// Deletes an object. Returns 1, or the number of the refusal. An object that could not be built counts as another
-/// refusal.
+/// Deletes an object. Returns 1, or the code of the refusal. For an object that could not be built it returns
+/// `OTHER_REFUSAL`.
 pub(super) fn try_delete_object<R: Rows>(table: &mut Walked<R>, object: Option<Term>) -> Integer {
     let Some(object) = object else {
         return OTHER_REFUSAL;
@@ -116,26 +129,26 @@ pub(super) fn try_delete_object<R: Rows>(table: &mut Walked<R>, object: Option<T
     done_code(deleted)
 }
 
-/// Returns the second element of the object of a key, or the number of the refusal.
+/// Returns the second element of the object of a key, which is an integer, or the code of the refusal.
 pub(super) fn second_element<R: Rows>(table: &Walked<R>, key: Integer) -> Integer {
     let key = Term::Int(key);
     let found = table.lookup_element(&key, 2);
     drop(key);
     match found {
-        Ok(element) => number_of_dropped(element),
+        Ok(element) => integer_or_zero_then_drop(element),
         Err(refused) => refusal_code(&refused),
     }
 }
 
-/// Returns an integer, or 0 for any other term, and drops the term.
-fn number_of_dropped(term: Term) -> Integer {
-    let number = number_of(&term);
+/// Returns the integer that a term is, or 0 for any other term, and drops the term.
+fn integer_or_zero_then_drop(term: Term) -> Integer {
+    let number = integer_or_zero(&term);
     drop(term);
     number
 }
 
-/// Returns an integer, or 0 for any other term.
-pub(super) fn number_of(term: &Term) -> Integer {
+/// Returns the integer that a term is, or 0 for any other term.
+pub(super) fn integer_or_zero(term: &Term) -> Integer {
     match term {
         Term::Int(number) => *number,
         _ => 0,
@@ -168,7 +181,7 @@ pub(super) fn count_objects<R: Rows>(table: &Walked<R>) -> Integer {
     }
 }
 
-/// Fixes the table for a process. Returns 1, or the number of the refusal.
+/// Fixes the table for a process. Returns 1, or the code of the refusal.
 fn try_fix<R: Rows>(table: &mut Walked<R>, pid: u32) -> Integer {
     match table.fix(pid) {
         Ok(()) => 1,
@@ -185,7 +198,7 @@ fn try_grow<R: Rows>(table: &mut Walked<R>) -> Integer {
     }
 }
 
-/// Makes the first unready bucket ready. Returns 1 if it did, 0 if it did not, or `OUT_OF_MEMORY`.
+/// Makes the first unready bucket ready. Returns 1 if it did, 0 if all were ready, or `OUT_OF_MEMORY`.
 fn try_ready<R: Rows>(table: &mut Walked<R>) -> Integer {
     let bucket = table.first_unready().unwrap_or(0);
     match table.ready(bucket) {
@@ -194,7 +207,7 @@ fn try_ready<R: Rows>(table: &mut Walked<R>) -> Integer {
     }
 }
 
-/// Returns whether a call has this answer.
+/// Makes a step, and returns whether it has the wanted answer.
 pub(super) fn is_answered<R: Rows>(
     alloc: Global,
     table: &mut Walked<R>,
@@ -204,7 +217,8 @@ pub(super) fn is_answered<R: Rows>(
     answer_code(alloc, table, step) == wanted.code()
 }
 
-/// Makes a call. Returns a number for its answer: 1 and 0 for true and false, a count, a value or a refusal.
+/// Makes a step. Returns the code of its answer: 1 for success or true, 0 for false, a count, a value, or the code of a
+/// refusal. After a release it returns whether the table is still fixed.
 pub(super) fn answer_code<R: Rows>(alloc: Global, table: &mut Walked<R>, step: Step) -> Integer {
     match step {
         Step::Insert(object) => try_insert(table, build_object_with_retry(alloc, object)),

@@ -4,10 +4,10 @@ use super::answers::Step::{DeleteObject, InsertNew, Take};
 use super::answers::{count_objects, is_answered, second_element};
 use super::*;
 
-/// How many keys a test inserts.
+/// How many keys the test inserts. `grow` runs once for each key, which is enough to reach `MAX_BUCKETS`.
 const KEYS: u32 = 5_000;
 
-/// How many processes fix a table at once.
+/// How many processes fix a table at the same time.
 const PROCESSES: u32 = 5_000;
 
 /// Returns whether the table has an object of a key.
@@ -18,7 +18,7 @@ fn is_member<R: Rows>(table: &Walked<R>, key: Integer) -> bool {
     is_member
 }
 
-/// Returns whether each call that reads a key finds its one object, whose second element is 2.
+/// Returns whether `lookup_element`, `member` and `lookup` find the one object of a key, whose second element is 2.
 fn reads_object<R: Rows>(table: &Walked<R>, key: Integer) -> bool {
     second_element(table, key) == 2 && is_member(table, key) && count_of(table, key) == 1
 }
@@ -34,7 +34,8 @@ fn deletes_object<R: Rows>(alloc: Global, table: &mut Walked<R>, key: Integer) -
     is_answered(alloc, table, DeleteObject(Object(key, 1)), Done) && !is_member(table, key)
 }
 
-/// Returns whether each call on one key succeeds. At the end the key has the object `{Key,3}`.
+/// Returns whether each call on one new key succeeds: insertions, reads, and both ways to delete the object. At the end
+/// the key has the object `{Key,3}`.
 fn calls_on_key_succeed<R: Rows>(alloc: Global, table: &mut Walked<R>, key: Integer) -> bool {
     inserts_as_new(alloc, table, key)
         && reads_object(table, key)
@@ -44,7 +45,7 @@ fn calls_on_key_succeed<R: Rows>(alloc: Global, table: &mut Walked<R>, key: Inte
         && insert(alloc, table, key, 3)
 }
 
-/// Returns whether the calls on each of a number of keys succeed, while the buckets double.
+/// Returns whether the calls on each key below `keys` succeed. Grows the table after each key.
 fn calls_on_keys_succeed<R: Rows>(alloc: Global, table: &mut Walked<R>, keys: u32) -> bool {
     for key in 0..keys {
         if !calls_on_key_succeed(alloc, table, Integer::from(key)) || !grow(table) {
@@ -54,7 +55,7 @@ fn calls_on_keys_succeed<R: Rows>(alloc: Global, table: &mut Walked<R>, keys: u3
     true
 }
 
-/// Returns whether each of a number of processes can fix the table.
+/// Returns whether each process below `processes` can fix the table.
 fn all_fix<R: Rows>(table: &mut Walked<R>, processes: u32) -> bool {
     for pid in 0..processes {
         if table.fix(pid).is_err() {
@@ -64,7 +65,7 @@ fn all_fix<R: Rows>(table: &mut Walked<R>, processes: u32) -> bool {
     true
 }
 
-/// Returns whether each of a number of processes releases the table, which is fixed until the last has released it.
+/// Releases the table for each process below `processes`. Returns whether it was fixed before each release.
 fn all_release<R: Rows>(table: &mut Walked<R>, processes: u32) -> bool {
     for pid in 0..processes {
         if !table.is_fixed() {
@@ -75,12 +76,12 @@ fn all_release<R: Rows>(table: &mut Walked<R>, processes: u32) -> bool {
     true
 }
 
-/// Returns whether each of a number of processes can fix the table, and then release it.
+/// Returns whether each process below `processes` can fix the table, and the table is fixed until all have released it.
 fn fixes_and_releases<R: Rows>(table: &mut Walked<R>, processes: u32) -> bool {
     all_fix(table, processes) && all_release(table, processes) && !table.is_fixed()
 }
 
-/// Returns whether a table lists this number of objects, and has none after `delete_all`.
+/// Returns whether a table lists `keys` objects, and is empty after `delete_all`.
 fn lists_and_clears<R: Rows>(table: &mut Walked<R>, keys: u32) -> bool {
     let lists_all = count_objects(table) == Integer::from(keys) && table.size() == keys as usize;
     table.delete_all();
@@ -94,8 +95,9 @@ pub(super) fn all_calls_succeed<R: Rows>(alloc: Global, table: &mut Walked<R>) -
         && lists_and_clears(table, KEYS)
 }
 
+/// Checks each call over plain rows and over split rows.
 #[test]
 fn calls_succeed(rt: HostRuntime) {
-    assert!(rt; plain_rows_pass(rt.alloc(), Kind::Set, Trial::AllCalls) == Some(true));
-    assert!(rt; split_rows_pass(rt.alloc(), Kind::Set, Trial::AllCalls) == Some(true));
+    assert!(rt; plain_rows_pass(rt.alloc(), Kind::Set, Check::AllCalls) == Some(true));
+    assert!(rt; split_rows_pass(rt.alloc(), Kind::Set, Check::AllCalls) == Some(true));
 }

@@ -1,8 +1,8 @@
 // Calls that take no memory: `.ci/refusals` refuses each allocation between two marks.
 use super::*;
 
-/// A number of bytes that no machine has, so that each request is refused. To `.ci/refusals` such a request marks the
-/// begin or the end of a part that takes no memory.
+/// A number of bytes that no machine has, so that each request is refused. For `.ci/refusals`, such a request marks the
+/// start or the end of a part that takes no memory.
 const MARK: usize = 1 << 60;
 
 /// Requests `MARK` bytes. Returns whether the request was refused.
@@ -10,16 +10,19 @@ fn request_mark(alloc: Global) -> bool {
     Vec::<u8>::with_capacity(alloc, MARK).is_err()
 }
 
-/// Traverses by `first_lookup` and `next_lookup`. Returns the number of keys and of their objects.
+/// Traverses by `first_lookup` and `next_lookup`, which return a key with its objects. Returns the number of keys and
+/// the number of their objects. There are at most as many keys as slots, which bounds the loop.
 fn count_traversed<R: Rows>(table: &Walked<R>) -> (usize, usize) {
     let mut keys = 0usize;
     let mut objects = 0usize;
-    let mut at = table.first_lookup();
+    let mut found = table.first_lookup();
     for _ in 0..table.slots() {
-        let Some((key, own)) = at else { break };
+        let Some((key, key_objects)) = found else {
+            break
+        };
         keys = keys.wrapping_add(1);
-        objects = objects.wrapping_add(own.len());
-        at = table.next_lookup(key).unwrap_or(None);
+        objects = objects.wrapping_add(key_objects.len());
+        found = table.next_lookup(key).unwrap_or(None);
     }
     (keys, objects)
 }
@@ -30,21 +33,21 @@ fn is_fixed_with_slots<R: Rows>(table: &Walked<R>, slots: usize) -> bool {
 }
 
 /// Returns whether a traversal skips a deleted key, and its tombstone is removed when both processes have released
-/// their fixes.
+/// their fixes. The table is that of `insert_and_fix`.
 fn traverses_and_releases<R: Rows>(table: &mut Walked<R>) -> bool {
-    let whole = count_traversed(table) == (3, 3);
+    let visits_three = count_traversed(table) == (3, 3);
     delete(table, 2);
-    let skipped = count_traversed(table) == (2, 2);
+    let skips_deleted = count_traversed(table) == (2, 2);
     let has_tombstone = is_fixed_with_slots(table, 3);
     table.release_all(0);
     let still_has_tombstone = is_fixed_with_slots(table, 3);
     table.release_all(1);
-    let is_free = !table.is_fixed() && table.slots() == 2;
-    whole && skipped && has_tombstone && still_has_tombstone && is_free
+    let has_no_tombstone = !table.is_fixed() && table.slots() == 2;
+    visits_three && skips_deleted && has_tombstone && still_has_tombstone && has_no_tombstone
 }
 
-/// Inserts the keys 1 to 3, and fixes the table twice for process 0 and once for process 1. Returns
-/// whether all calls succeed.
+/// Inserts the keys 1 to 3. Fixes the table twice for process 0 and once for process 1. Returns whether all calls
+/// succeed.
 fn insert_and_fix<R: Rows>(alloc: Global, table: &mut Walked<R>) -> bool {
     insert(alloc, table, 1, 1)
         && insert(alloc, table, 2, 2)
@@ -54,26 +57,26 @@ fn insert_and_fix<R: Rows>(alloc: Global, table: &mut Walked<R>) -> bool {
         && table.fix(1).is_ok()
 }
 
-/// Returns whether a traversal and the releases succeed between two marks. Before them, an insertion gives objects to a
-/// tombstone again.
+/// Returns whether a traversal and the releases succeed between two marks. Before the marks, key 3 is deleted and
+/// inserted again, so that a tombstone gets an object.
 pub(super) fn takes_no_memory<R: Rows>(alloc: Global, table: &mut Walked<R>) -> bool {
     let filled = insert_and_fix(alloc, table);
     delete(table, 3);
     let refilled = insert(alloc, table, 3, 3);
-    let began = request_mark(alloc);
+    let has_start_mark = request_mark(alloc);
     let done = traverses_and_releases(table);
-    let ended = request_mark(alloc);
-    filled && refilled && began && done && ended
+    let has_end_mark = request_mark(alloc);
+    filled && refilled && has_start_mark && done && has_end_mark
 }
 
 #[test]
 fn traversals_and_releases_take_no_memory(rt: HostRuntime) {
     assert_eq!(rt;
-        plain_rows_pass(rt.alloc(), Kind::Bag, Trial::NoMemory),
+        plain_rows_pass(rt.alloc(), Kind::Bag, Check::TakesNoMemory),
         Some(true)
     );
     assert_eq!(rt;
-        split_rows_pass(rt.alloc(), Kind::Set, Trial::NoMemory),
+        split_rows_pass(rt.alloc(), Kind::Set, Check::TakesNoMemory),
         Some(true)
     );
 }

@@ -1,41 +1,45 @@
-// Out of memory. `.ci/refusals` runs these tests with each allocation refused in turn. A call that ran out of memory
-// must have changed nothing: no key, no order, no fix. Made again, it must have the answer of ample memory.
+// Calls that run out of memory. `.ci/refusals` runs these tests with each allocation refused in turn. A call that ran
+// out of memory must change nothing: no key, no order, no fix. Its retry must have the answer that it has with enough
+// memory.
 use super::answers::Expected::{Done, IsFixed, IsNotFixed, NotDone, Objects, Refused};
 use super::answers::Step::{
     AllObjects, Delete, DeleteObject, Fix, Grow, Insert, InsertNew, LookupSecond, Ready, Release,
     Take,
 };
-use super::answers::{OUT_OF_MEMORY, answer_code, is_answered, number_of};
+use super::answers::{OUT_OF_MEMORY, answer_code, integer_or_zero, is_answered};
 use super::*;
 
-/// The factor of the digest of the keys before: a prime, so that another order gives another digest.
+/// The factor of the digest of the previous keys: a prime, so that another order gives another digest.
 const KEY_FACTOR: Integer = 1_000_003;
 
-/// A number above those of the objects of a key in the tests.
+/// A number greater than the number of objects of any key in these tests, so that `Key * COUNT_LIMIT + Count` is
+/// unique.
 const COUNT_LIMIT: Integer = 16;
 
-/// Adds a key and the number of its objects to a digest.
+/// Returns a digest with a key and the number of its objects added.
 fn mix_key<R: Rows>(table: &Walked<R>, digest: Integer, key: &Term) -> Integer {
-    let own = number_of(key);
+    let number = integer_or_zero(key);
     let objects = table.lookup(key).len() as Integer;
     digest
         .wrapping_mul(KEY_FACTOR)
-        .wrapping_add(own.wrapping_mul(COUNT_LIMIT).wrapping_add(objects))
+        .wrapping_add(number.wrapping_mul(COUNT_LIMIT).wrapping_add(objects))
 }
 
-/// Returns a number for all keys of a traversal, in their order.
+/// Returns a digest of all keys of a traversal, in their order, with their numbers of objects. There are at most as
+/// many keys as slots, which bounds the loop.
 fn traversal_digest<R: Rows>(table: &Walked<R>) -> Integer {
     let mut digest = 1;
-    let mut at = table.first();
+    let mut found = table.first();
     for _ in 0..table.slots() {
-        let Some(key) = at else { break };
+        let Some(key) = found else { break };
         digest = mix_key(table, digest, key);
-        at = table.next(key).unwrap_or(None);
+        found = table.next(key).unwrap_or(None);
     }
     digest
 }
 
-/// Returns what a caller can see of a table: its keys in order, its size, its buckets and whether it is fixed.
+/// Returns what a caller can see of a table: a digest of its keys in order, its number of objects, its number of
+/// buckets, and whether it is fixed.
 fn visible_state<R: Rows>(table: &Walked<R>) -> (Integer, usize, u32, bool) {
     (
         traversal_digest(table),
@@ -45,9 +49,9 @@ fn visible_state<R: Rows>(table: &Walked<R>) -> (Integer, usize, u32, bool) {
     )
 }
 
-/// Returns whether a call has its answer at once, or was refused memory, changed nothing, and has its answer when it is
-/// made again.
-fn runs_with_retry<R: Rows>(
+/// Returns whether a call has the wanted answer. If it is refused memory, it must change nothing, and its retry must
+/// have the wanted answer.
+fn is_answered_with_retry<R: Rows>(
     alloc: Global,
     table: &mut Walked<R>,
     step: Step,
@@ -61,22 +65,23 @@ fn runs_with_retry<R: Rows>(
     visible_state(table) == before && is_answered(alloc, table, step, wanted)
 }
 
-/// Returns whether each call has its answer, at once or again.
+/// Returns whether each call has the wanted answer. Retries a call once if memory is refused.
 pub(super) fn are_answered_with_retry<R: Rows>(
     alloc: Global,
     table: &mut Walked<R>,
     steps: &[(Step, Expected)],
 ) -> bool {
     for (step, wanted) in steps {
-        if !runs_with_retry(alloc, table, *step, *wanted) {
+        if !is_answered_with_retry(alloc, table, *step, *wanted) {
             return false;
         }
     }
     true
 }
 
-/// Calls on a bag, from the first insertion to the last release, with their answers.
-const LIFE: [(Step, Expected); 24] = [
+/// Each row is a call on a bag, and its answer: from the first insertion to calls after the last release. An object has
+/// a key and a value.
+const BAG_CALLS: [(Step, Expected); 24] = [
     (Insert(Object(1, 1)), Done),
     (Insert(Object(1, 2)), Done),
     (Insert(Object(2, 3)), Done),
@@ -103,8 +108,8 @@ const LIFE: [(Step, Expected); 24] = [
     (AllObjects, Objects(5)),
 ];
 
-/// Calls while the buckets of a fixed table double twice, with their answers.
-const GROWTH: [(Step, Expected); 8] = [
+/// Each row is a step on a fixed table with two buckets, and its answer. The buckets double twice.
+const GROWTH_CALLS: [(Step, Expected); 8] = [
     (Fix(Pid(0)), Done),
     (Ready, Done),
     (Grow, Done),
@@ -116,14 +121,14 @@ const GROWTH: [(Step, Expected); 8] = [
 ];
 
 #[test]
-fn a_refused_call_of_plain_rows_is_called_again(rt: HostRuntime) {
+fn a_retried_call_over_plain_rows_has_the_expected_answer(rt: HostRuntime) {
     assert_eq!(rt;
-        plain_rows_pass(rt.alloc(), Kind::Bag, Trial::Refusals(&LIFE, &[])),
+        plain_rows_pass(rt.alloc(), Kind::Bag, Check::Refusals(&BAG_CALLS, &[])),
         Some(true)
     );
 }
 
-/// Builds a table with one hash for all keys, again if memory runs out.
+/// Builds a table with one hash for all keys. Retries once if memory is refused.
 fn one_bucket_table_with_retry(alloc: Global, kind: Kind) -> Option<Walked<SplitRows<AllSame>>> {
     match one_bucket_table(alloc, kind) {
         Some(table) => Some(table),
@@ -131,13 +136,13 @@ fn one_bucket_table_with_retry(alloc: Global, kind: Kind) -> Option<Walked<Split
     }
 }
 
-/// Returns whether the calls have their answers over split rows, whose buckets then double.
-fn calls_hold_on_split_rows(alloc: Global) -> Option<bool> {
+/// Returns whether `BAG_CALLS` and then `GROWTH_CALLS` have their answers on a bag over split rows.
+fn are_answered_over_split_rows(alloc: Global) -> Option<bool> {
     let table = one_bucket_table_with_retry(alloc, Kind::Bag)?;
-    passes(alloc, table, Trial::Refusals(&LIFE, &GROWTH))
+    table_passes_then_drop(alloc, table, Check::Refusals(&BAG_CALLS, &GROWTH_CALLS))
 }
 
 #[test]
-fn a_refused_call_of_split_rows_is_called_again(rt: HostRuntime) {
-    assert_eq!(rt; calls_hold_on_split_rows(rt.alloc()), Some(true));
+fn a_retried_call_over_split_rows_has_the_expected_answer(rt: HostRuntime) {
+    assert_eq!(rt; are_answered_over_split_rows(rt.alloc()), Some(true));
 }

@@ -13,25 +13,32 @@ pub(super) struct Slots(usize);
 #[derive(Clone, Copy)]
 pub(super) struct Objects(usize);
 
-/// A call, or what a call must answer, or what a table must have.
+/// One row of a test: a call, the wanted answer of a call, or what the table must have.
 #[derive(Clone, Copy)]
 pub(super) enum Row {
+    /// Inserts an object.
     Insert(Object),
+    /// Deletes all objects of a key.
     Delete(Key),
+    /// Fixes the table for a process.
     Fix(Pid),
+    /// Gives one fix of the process back.
     Release(Pid),
+    /// Releases all fixes of the process.
     ReleaseAll(Pid),
     /// `first` returns this key.
     FirstIs(Key),
     /// `first` returns `'$end_of_table'`.
     FirstIsEnd,
-    /// `next` of the first key returns the second.
+    /// `next` of the left key returns the right key.
     NextIs(Key, Key),
     /// `next` of the key returns `'$end_of_table'`.
     NextIsEnd(Key),
     /// `next` of the key is badarg.
     NextIsBadarg(Key),
+    /// The table is fixed, and has these numbers of slots and objects.
     IsFixed(Slots, Objects),
+    /// The table is not fixed, and has these numbers of slots and objects.
     IsNotFixed(Slots, Objects),
 }
 
@@ -48,7 +55,7 @@ fn has_sizes<R: Rows>(table: &Walked<R>, slots: Slots, objects: Objects) -> bool
     table.slots() == slots.0 && table.size() == objects.0
 }
 
-/// Makes the call of a row that deletes or releases. Other rows make no change.
+/// Makes the call of a row that deletes or releases. Other rows change nothing.
 fn make_call<R: Rows>(table: &mut Walked<R>, row: Row) {
     match row {
         Row::Delete(key) => delete(table, key.0),
@@ -58,7 +65,7 @@ fn make_call<R: Rows>(table: &mut Walked<R>, row: Row) {
     }
 }
 
-/// Returns whether what a row expects of a table is so. Rows that delete or release expect nothing.
+/// Returns whether a table is as a row expects. Rows that delete or release expect nothing.
 fn expectation_holds<R: Rows>(table: &Walked<R>, row: Row) -> bool {
     match row {
         Row::FirstIs(key) => is_key(table.first(), Some(key.0)),
@@ -72,7 +79,7 @@ fn expectation_holds<R: Rows>(table: &Walked<R>, row: Row) -> bool {
     }
 }
 
-/// Makes the call of a row, if it is one, and returns whether its answer is the expected one.
+/// Makes the call of a row, or checks what the row expects. Returns whether this succeeds.
 fn row_holds<R: Rows>(alloc: Global, table: &mut Walked<R>, row: Row) -> bool {
     match row {
         Row::Insert(object) => insert(alloc, table, object.0, object.1),
@@ -94,13 +101,13 @@ pub(super) fn all_rows_hold<R: Rows>(alloc: Global, table: &mut Walked<R>, rows:
     true
 }
 
-/// Returns whether all rows hold on both forms of a set.
+/// Returns whether all rows hold on a set over plain rows, and on a set over split rows with one bucket.
 fn hold_on_both_tables(alloc: Global, rows: &'static [Row]) -> Option<bool> {
-    let trial = Trial::Tombstones(rows);
-    Some(plain_rows_pass(alloc, Kind::Set, trial)? && one_bucket_passes(alloc, Kind::Set, trial)?)
+    let check = Check::Tombstones(rows);
+    Some(plain_rows_pass(alloc, Kind::Set, check)? && one_bucket_passes(alloc, Kind::Set, check)?)
 }
 
-/// Key 1 is deleted from a fixed table, and inserted again.
+/// Deletes key 1 from a fixed table, and inserts it again.
 const DELETED_KEY_KEEPS_ITS_PLACE: [Row; 11] = [
     Insert(Object(1, 1)),
     Insert(Object(2, 1)),
@@ -121,7 +128,7 @@ fn a_deleted_key_keeps_its_place(rt: HostRuntime) {
     assert!(rt; hold_on_both_tables(rt.alloc(), &DELETED_KEY_KEEPS_ITS_PLACE) == Some(true));
 }
 
-/// Key 2 is deleted while two processes fix the table, one of them twice.
+/// Deletes key 2 while two processes fix the table, and releases the fixes one by one.
 const LAST_RELEASE_REMOVES_TOMBSTONES: [Row; 18] = [
     Insert(Object(1, 1)),
     Insert(Object(2, 1)),
@@ -149,7 +156,7 @@ fn last_release_removes_tombstones(rt: HostRuntime) {
     assert!(rt; hold_on_both_tables(rt.alloc(), &LAST_RELEASE_REMOVES_TOMBSTONES) == Some(true));
 }
 
-/// Three processes release all their fixes. One has none.
+/// Releases all fixes of three processes. Process 9 has no fix.
 const ALL_FIXES_OF_A_PROCESS_END: [Row; 12] = [
     Insert(Object(1, 1)),
     Fix(Pid(7)),
@@ -167,12 +174,12 @@ const ALL_FIXES_OF_A_PROCESS_END: [Row; 12] = [
 
 /// Checks that `release_all` ends all fixes of a process, and no fix of another.
 #[test]
-fn all_fixes_of_a_process_end(rt: HostRuntime) {
+fn release_all_ends_all_fixes_of_a_process(rt: HostRuntime) {
     assert!(rt; hold_on_both_tables(rt.alloc(), &ALL_FIXES_OF_A_PROCESS_END) == Some(true));
 }
 
-/// Calls on a table without fixes: empty, and then with two keys.
-const A_TABLE_THAT_NOBODY_FIXES: [Row; 16] = [
+/// Makes calls on a table without fixes: first empty, then with two keys.
+const TABLE_WITHOUT_FIXES: [Row; 16] = [
     FirstIsEnd,
     NextIsBadarg(Key(1)),
     Release(Pid(7)),
@@ -193,6 +200,6 @@ const A_TABLE_THAT_NOBODY_FIXES: [Row; 16] = [
 
 /// Checks that a table without fixes keeps no tombstone, and a release of it changes nothing.
 #[test]
-fn a_table_that_nobody_fixes(rt: HostRuntime) {
-    assert!(rt; hold_on_both_tables(rt.alloc(), &A_TABLE_THAT_NOBODY_FIXES) == Some(true));
+fn a_table_without_fixes_keeps_no_tombstones(rt: HostRuntime) {
+    assert!(rt; hold_on_both_tables(rt.alloc(), &TABLE_WITHOUT_FIXES) == Some(true));
 }

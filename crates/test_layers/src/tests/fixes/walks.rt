@@ -1,9 +1,13 @@
-// Traversals of a fixed table, while other processes insert and delete, and the buckets double.
+// Traversals of a fixed table, while other processes insert and delete, and the buckets double. A traversal is exact if
+// it visits no key twice, each stable key once, and only keys with objects. A key is stable if it has objects at the
+// start and after each step.
 use self::expectation::Expectation;
 use self::steps::run_other_steps;
 use super::*;
 
+// What a traversal must visit.
 mod expectation;
+// Steps of other processes.
 mod steps;
 
 /// The process that fixes the table first, and releases it last.
@@ -12,13 +16,14 @@ const FIRST_PID: u32 = 7;
 /// Another process that fixes the table, and releases it first.
 const SECOND_PID: u32 = 8;
 
-/// How many keys most traversals choose from.
+/// The keys of most traversals: the numbers below 4,000.
 const KEYS: Keys = Keys(4000);
 
-/// The start of the pseudo-random sequence. Any number does.
+/// The start of the pseudo-random sequence. Any number is allowed.
 const FIRST_SEED: u64 = 20251122;
 
-/// Returns the first key, or the key after this one.
+/// Returns the first key of a traversal if `last` is None, else the key after `last`. `Badarg` also means a key that is
+/// not a number of 32 bits, which no test inserts.
 fn first_or_next<R: Rows>(table: &Walked<R>, last: Option<u32>) -> Result<Option<u32>, Badarg> {
     let found = match last {
         None => table.first(),
@@ -34,8 +39,8 @@ fn first_or_next<R: Rows>(table: &Walked<R>, last: Option<u32>) -> Result<Option
     }
 }
 
-/// Traverses a table, with steps of other processes after each key. Returns the number of keys, or None if a call
-/// fails, a key comes twice, or a key has no objects.
+/// Traverses a table, with steps of other processes after each key. Returns the number of visited keys, or None if a
+/// call fails, or a visited key has no objects or was visited before.
 fn traverse<R: Rows>(
     alloc: Global,
     table: &mut Walked<R>,
@@ -48,16 +53,17 @@ fn traverse<R: Rows>(
         let Some(key) = found else {
             return Some(count);
         };
-        if !expectation.visit(key) {
+        if !expectation.mark_visited(key) {
             return None;
         }
         seed = run_other_steps(alloc, table, expectation, seed)?;
         last = found;
     }
+    // This cannot happen: a traversal of more than all keys visits one of them twice.
     None
 }
 
-/// Returns whether each key has as many objects as it should.
+/// Returns whether each key has as many objects as it should: one for each bit of its values.
 fn has_expected_objects<R: Rows>(table: &Walked<R>, expectation: &Expectation) -> bool {
     for key in 0..expectation.keys {
         if count_of(table, Integer::from(key)) != expectation.values_of(key).count_ones() as usize {
@@ -67,17 +73,17 @@ fn has_expected_objects<R: Rows>(table: &Walked<R>, expectation: &Expectation) -
     true
 }
 
-/// Returns whether there are tombstones until the second process has released its fix, and none after. `present` is the
-/// number of keys with objects.
+/// Releases both fixes. Returns whether the tombstones stay until the last release, and are then removed. `present` is
+/// the number of keys with objects.
 fn removes_tombstones<R: Rows>(table: &mut Walked<R>, present: usize) -> bool {
-    let before = table.slots() > present;
+    let has_tombstones = table.slots() > present;
     table.release(SECOND_PID);
-    let between = table.is_fixed() && table.slots() > present;
+    let keeps_tombstones = table.is_fixed() && table.slots() > present;
     table.release(FIRST_PID);
-    before && between && !table.is_fixed() && table.slots() == present
+    has_tombstones && keeps_tombstones && !table.is_fixed() && table.slots() == present
 }
 
-/// Inserts the keys below a number, each with the value 1. Returns whether all calls succeeded.
+/// Inserts the keys below `keys`, each with the value 1. Returns whether all calls succeeded.
 fn insert_keys<R: Rows>(alloc: Global, table: &mut Walked<R>, keys: u32) -> bool {
     for key in 0..keys {
         if !insert(alloc, table, Integer::from(key), 1) {
@@ -88,15 +94,15 @@ fn insert_keys<R: Rows>(alloc: Global, table: &mut Walked<R>, keys: u32) -> bool
 }
 
 /// Returns whether a traversal of `count` keys visited each stable key. At least a twentieth of the keys must be
-/// stable, and `count` at least half of all.
-fn visits_all(expectation: &Expectation, count: u32) -> bool {
+/// stable, and `count` at least half of all, so that the check is not about few keys only.
+fn visits_stable_keys(expectation: &Expectation, count: u32) -> bool {
     expectation.has_visited_stable()
         && expectation.count_stable() >= expectation.keys as usize / 20
         && count >= expectation.keys / 2
 }
 
-/// Returns whether a traversal of a fixed table is exact, all keys then have their objects, and the tombstones are
-/// removed in time.
+/// Fixes a table for two processes. Returns whether a traversal is exact, all keys then have their objects, and the
+/// last release removes the tombstones.
 fn traverses_fixed_exactly<R: Rows>(
     alloc: Global,
     table: &mut Walked<R>,
@@ -106,13 +112,13 @@ fn traverses_fixed_exactly<R: Rows>(
     let count = traverse(alloc, table, expectation)?;
     Some(
         fixed
-            && visits_all(expectation, count)
+            && visits_stable_keys(expectation, count)
             && has_expected_objects(table, expectation)
             && removes_tombstones(table, expectation.count_present()),
     )
 }
 
-/// Returns whether a traversal of a table that begins with half of the keys is exact.
+/// Inserts half of the keys into a new table. Returns whether a traversal of the table is exact.
 pub(super) fn traverses_exactly<R: Rows>(
     alloc: Global,
     table: &mut Walked<R>,
@@ -125,14 +131,14 @@ pub(super) fn traverses_exactly<R: Rows>(
     Some(filled && is_exact?)
 }
 
-/// A traversal of a table whose buckets need not double.
-const WALK: Trial = Trial::Traversal(KEYS, BucketsAbove(0));
+/// A traversal that passes even if the buckets never double.
+const WALK: Check = Check::Traversal(KEYS, BucketsAbove(0));
 
-/// A traversal while the buckets double to more than 1,000.
-const GROWING_WALK: Trial = Trial::Traversal(KEYS, BucketsAbove(1000));
+/// A traversal during which the buckets double to more than 1,000.
+const GROWING_WALK: Check = Check::Traversal(KEYS, BucketsAbove(1000));
 
-/// A traversal of fewer keys, while the buckets double to more than 50.
-const SHORT_GROWING_WALK: Trial = Trial::Traversal(Keys(800), BucketsAbove(50));
+/// A traversal of fewer keys, during which the buckets double to more than 50.
+const SHORT_GROWING_WALK: Check = Check::Traversal(Keys(800), BucketsAbove(50));
 
 #[test]
 fn traversals_of_plain_rows_are_exact(rt: HostRuntime) {

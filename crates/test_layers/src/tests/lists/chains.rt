@@ -1,11 +1,11 @@
-// Chains: the terms under one key.
+// Chains: the terms of one item of a node list.
 use crate::tests::keep_if_ok;
 use ets_term::{Integer, Term};
 use node_list::Chain;
 use std::alloc::{AllocError, Global};
 use std::process::Abort;
 
-/// Pushes numbers, in this order.
+/// Pushes these numbers to a chain, in this order.
 fn push_numbers(chain: &mut Chain, numbers: &[Integer]) -> Result<(), AllocError> {
     for number in numbers {
         chain.push(Term::Int(*number))?;
@@ -22,7 +22,7 @@ fn chain_of(alloc: Global, numbers: &[Integer]) -> Result<Chain, AllocError> {
 /// Returns whether a term is this number.
 pub fn is_number(term: &Term, number: Integer) -> bool {
     match term {
-        Term::Int(own) => *own == number,
+        Term::Int(value) => *value == number,
         _ => false,
     }
 }
@@ -38,7 +38,7 @@ pub fn are_numbers(terms: &[Term], numbers: &[Integer]) -> bool {
 }
 
 /// Returns the length of a chain, and drops it.
-fn length_of(chain: Chain) -> usize {
+fn length_then_drop(chain: Chain) -> usize {
     let length = chain.len();
     drop(chain);
     length
@@ -46,8 +46,8 @@ fn length_of(chain: Chain) -> usize {
 
 #[test]
 fn a_chain_may_be_empty(rt: HostRuntime) {
-    assert!(rt; length_of(Chain::new(rt.alloc())) == 0);
-    assert!(rt; length_of(Chain::one(rt.alloc(), Term::Int(1))) == 1);
+    assert!(rt; length_then_drop(Chain::new(rt.alloc())) == 0);
+    assert!(rt; length_then_drop(Chain::one(rt.alloc(), Term::Int(1))) == 1);
 }
 
 /// Pushes the numbers below `count`, from 0 on.
@@ -70,13 +70,13 @@ pub fn pops_number(chain: &mut Chain, number: Integer) -> bool {
     }
 }
 
-/// How many terms a chain gets.
+/// How many terms a chain gets: enough for its memory to grow many times.
 const COUNT: u32 = 5_000;
 
 /// The last of the numbers below `COUNT`.
 const LAST: Integer = 4_999;
 
-/// Returns whether terms that are pushed are popped, the last first.
+/// Pushes the numbers below `COUNT`. Returns whether the last two are popped, the last first.
 fn pushes_and_pops(chain: &mut Chain) -> Result<bool, AllocError> {
     push_below(chain, COUNT)?;
     Ok(chain.len() == COUNT as usize && pops_number(chain, LAST) && pops_number(chain, LAST - 1))
@@ -104,13 +104,15 @@ fn remove_number(chain: &mut Chain, number: Integer) -> usize {
     count
 }
 
-/// Returns whether the removal of 4 removes nothing from the chain 1, 2, 1, 3, 1, and the removal of 1 leaves 2 and 3.
+/// Removes 4 and then 1 from the chain 1, 2, 1, 3, 1. Returns whether the first removes nothing, and the second leaves
+/// 2 and 3.
 fn removes_three_ones(chain: &mut Chain) -> bool {
     let removed_none = remove_number(chain, 4) == 0;
     removed_none && remove_number(chain, 1) == 3 && are_numbers(chain.as_slice(), &[2, 3])
 }
 
-/// Replaces the first term of the chain 2, 3 by 7. Returns whether 2 was replaced.
+/// Replaces the first term of the chain 2, 3 by 7. Returns whether 2 was replaced. `replace` requires an index below
+/// the length.
 fn replaces_first(chain: &mut Chain) -> bool {
     if chain.len() != 2 {
         return false;
@@ -121,16 +123,17 @@ fn replaces_first(chain: &mut Chain) -> bool {
     same && are_numbers(chain.as_slice(), &[7, 3])
 }
 
-/// Returns whether a cut at 3 leaves the chain 7, 3 whole, and a cut at 1 leaves 7.
+/// Truncates the chain 7, 3 to three terms and then to one. Returns whether the first changes nothing, and the second
+/// leaves 7.
 fn cuts_off_last(chain: &mut Chain) -> bool {
     chain.truncate(3);
-    let whole = chain.len() == 2;
+    let is_unchanged = chain.len() == 2;
     chain.truncate(1);
-    whole && are_numbers(chain.as_slice(), &[7])
+    is_unchanged && are_numbers(chain.as_slice(), &[7])
 }
 
-/// Returns whether the chain 1, 2, 1, 3, 1 has the right terms after each change.
-fn changes_are_right(alloc: Global) -> Result<bool, AllocError> {
+/// Returns whether the chain 1, 2, 1, 3, 1 has the expected terms after each removal, replacement and cut.
+fn removes_replaces_and_cuts_off(alloc: Global) -> Result<bool, AllocError> {
     let mut chain = chain_of(alloc, &[1, 2, 1, 3, 1])?;
     let done = removes_three_ones(&mut chain)
         && replaces_first(&mut chain)
@@ -141,10 +144,10 @@ fn changes_are_right(alloc: Global) -> Result<bool, AllocError> {
 
 #[test]
 fn terms_are_removed_replaced_and_cut_off(rt: HostRuntime) {
-    assert!(rt; changes_are_right(rt.alloc()) == Ok(true));
+    assert!(rt; removes_replaces_and_cuts_off(rt.alloc()) == Ok(true));
 }
 
-/// Moves the terms of a chain to the end of a list.
+/// Moves the terms of a chain to the end of a vector. `move_into` requires capacity for them.
 fn move_to_end(terms: &mut Vec<Term>, chain: Chain) -> Result<(), AllocError> {
     match terms.reserve(chain.len()) {
         Ok(()) => {
@@ -158,13 +161,13 @@ fn move_to_end(terms: &mut Vec<Term>, chain: Chain) -> Result<(), AllocError> {
     }
 }
 
-/// Pushes 1 to a list, and moves the chain 2, 3 to its end.
+/// Pushes 1 to a vector, and moves the chain 2, 3 to its end.
 fn push_one_and_move(alloc: Global, terms: &mut Vec<Term>) -> Result<(), AllocError> {
     terms.push(Term::Int(1))?;
     move_to_end(terms, chain_of(alloc, &[2, 3])?)
 }
 
-/// Returns whether the terms of a chain follow those of the list into which they are moved.
+/// Returns whether the terms of a chain follow those of the vector into which they are moved.
 fn chain_moves_to_end(alloc: Global) -> Result<bool, AllocError> {
     let mut terms = Vec::new(alloc);
     let moved = push_one_and_move(alloc, &mut terms);
@@ -174,8 +177,8 @@ fn chain_moves_to_end(alloc: Global) -> Result<bool, AllocError> {
     Ok(same)
 }
 
-/// Checks that the terms of a chain can be moved into a list.
+/// Checks `move_into` of a chain.
 #[test]
-fn moves_into_a_list(rt: HostRuntime) {
+fn a_chain_moves_to_the_end_of_a_vec(rt: HostRuntime) {
     assert!(rt; chain_moves_to_end(rt.alloc()) == Ok(true));
 }

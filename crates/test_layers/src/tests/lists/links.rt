@@ -1,9 +1,9 @@
-// Links of nodes: the index of a node, or none, in one word.
+// Links of nodes: the place of the next node, or none, in one word.
 use node_list::Link;
 use std::mem::size_of;
 use std::process::Abort;
 
-/// Checks the size of a link in bytes, and that it keeps the least and the greatest index.
+/// Checks that a link has 8 bytes, and keeps the place 0, the place 2^32 - 1 and no place.
 #[test]
 fn a_link_is_one_word(rt: HostRuntime) {
     assert!(rt; size_of::<Link>() == 8 && Link::none().get() == None);

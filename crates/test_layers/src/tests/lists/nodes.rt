@@ -1,3 +1,5 @@
+// Checks of one node list. Each inserts nodes into a new list, which has the head only, and then reads, searches or
+// changes the list.
 ghost use Rattle.std.specs.Prelude.{◌≡◌, [], ◌∷◌, Some, IfOk};
 ghost use Rattle.std.specs.Borrow.{sem};
 ghost use Rattle.ets_term.specs.declared.term.Term.TheVariants.{Int};
@@ -6,16 +8,19 @@ ghost use Rattle.node_list.specs.Places.{IsFresh, HasItem, IsPlaceOf};
 ghost use Rattle.node_list.specs.Changes.{put_cell};
 
 use self::order::{SPLIT_ORDER, finds_equal_keys, has_many_nodes, has_split_order};
-use self::places::{PLACE_OF_SECOND, PLACES_OF_FIVE, finds_no_unlinked, finds_places};
+use self::places::{PLACE_OF_SECOND, PLACES_OF_FIVE, finds_places, skips_unlinked_items};
 use super::chains::{are_numbers, is_number, pops_number};
 use ets_term::{Integer, Term};
 use node_list::{At, Chain, NodeList, Steps};
 use std::alloc::{AllocError, Global};
 
+// The order of nodes.
 mod order;
+// Items found by their places.
 mod places;
 
-/// Searches from the head for a key and a term. Returns the place, and how many nodes it visits.
+/// Searches from the head for the item with a split key and a term. Returns its place, and how many nodes the search
+/// visits, which `Steps` counts.
 fn search(list: &NodeList, key: u64, term: &Term) -> (Option<At>, u64) {
     let mut steps = Steps::new();
     let head = list.head();
@@ -30,19 +35,20 @@ fn search_for(list: &NodeList, key: u64, term: Term) -> (Option<At>, u64) {
     found
 }
 
-/// Returns how many nodes a search for a missing item of this key visits: those up to the key, and the next one.
+/// Returns how many nodes a search for a missing item visits: those up to its split key, and the next one. No item has
+/// the term `Pid(0)`.
 fn count_visited(list: &NodeList, key: u64) -> u64 {
     search_for(list, key, Term::Pid(0)).1
 }
 
-/// Inserts a dummy with this key. Returns its place.
+/// Inserts a dummy with this split key. Returns its place.
 fn add_dummy(list: &mut NodeList, key: u64) -> Result<At, AllocError> {
     list.reserve(1)?;
     let head = list.head();
     Ok(list.insert_dummy(head, key))
 }
 
-/// Inserts an item with this key. Its term and its only object are `number`. Returns its place.
+/// Inserts an item with this split key. Its term and its only object are `number`. Returns its place.
 fn add_item(list: &mut NodeList, alloc: Global, key: u64, number: Integer) -> Result<At, AllocError>
     ensures cells { IfOk result (λ at. list.new.cells
         ≡ put_cell (new_cell at key (Some (new_item (Int number) (Int number ∷ [])))) list.old.cells) }
@@ -58,8 +64,8 @@ fn add_item(list: &mut NodeList, alloc: Global, key: u64, number: Integer) -> Re
 #[derive(Clone, Copy)]
 struct Visits(u64);
 
-/// Returns the first key for which a search visits another number of nodes.
-fn first_key_mismatch(list: &NodeList, wanted: &[(u64, Visits)]) -> Option<u64> {
+/// Returns the first split key for which a search does not visit the wanted number of nodes.
+fn first_visits_mismatch(list: &NodeList, wanted: &[(u64, Visits)]) -> Option<u64> {
     for (key, nodes) in wanted {
         if count_visited(list, *key) != nodes.0 {
             return Some(*key);
@@ -83,27 +89,27 @@ fn is_item(list: &NodeList, at: At, number: Integer) -> bool
     }
 }
 
-/// Returns whether the head has the key 0 and no item.
+/// Returns whether the head has the split key 0 and no item.
 fn has_head(list: &NodeList) -> bool {
     let head = list.head();
     list.key(head) == 0 && list.item(head).is_none()
 }
 
-/// Returns whether an inserted item is read at its place, with its key.
+/// Inserts an item of split key 5 and number 1. Returns whether it is read at its place, with its split key.
 fn reads_item(list: &mut NodeList, alloc: Global) -> Result<bool, AllocError> {
     let at = add_item(list, alloc, 5, 1)?;
     list.reveal_invariant();
     Ok(list.key(at) == 5 && is_item(list, at, 1) && has_head(list))
 }
 
-/// Returns whether two terms can be pushed to the chain of 1, and one popped.
+/// Pushes 2 and 3 to the chain of 1. Returns whether 3 is popped, and 1 and 2 remain.
 fn pushes_and_pops(chain: &mut Chain) -> Result<bool, AllocError> {
     chain.push(Term::Int(2))?;
     chain.push(Term::Int(3))?;
     Ok(pops_number(chain, 3) && are_numbers(chain.as_slice(), &[1, 2]))
 }
 
-/// Returns whether the chain of an item can be changed.
+/// Inserts an item. Returns whether terms can be pushed to its chain and popped.
 fn changes_chain(list: &mut NodeList, alloc: Global) -> Result<bool, AllocError> {
     let at = add_item(list, alloc, 5, 1)?;
     pushes_and_pops(list.chain_mut(at))
@@ -121,12 +127,13 @@ fn unlinks(list: &mut NodeList, at: At, number: Integer) -> bool
     same
 }
 
-/// Returns whether searches visit the wanted numbers of nodes, and the list has two nodes.
+/// Returns whether searches visit the wanted numbers of nodes, and the list has two nodes: the head and a dummy.
 fn has_two_nodes(list: &NodeList, wanted: &[(u64, Visits)]) -> bool {
-    first_key_mismatch(list, wanted) == None && list.len() == 2
+    first_visits_mismatch(list, wanted) == None && list.len() == 2
 }
 
-/// Returns whether an item is unlinked, and its place is used again.
+/// Inserts a dummy and item 1, and unlinks item 1. Returns whether only the head and the dummy remain, and the next
+/// item gets the same place.
 fn unlinks_item(
     list: &mut NodeList,
     alloc: Global,
@@ -138,29 +145,31 @@ fn unlinks_item(
     Ok(add_item(list, alloc, 9, 1)? == at && unlinked)
 }
 
-/// Inserts two items and unlinks the first, so that only the place 2 has an item.
-fn leaves_second(list: &mut NodeList, alloc: Global) -> Result<bool, AllocError> {
+/// Inserts the items 1 and 2, and unlinks item 1, so that only the place 2 has an item. Returns whether item 1 was
+/// unlinked.
+fn unlinks_first_of_two(list: &mut NodeList, alloc: Global) -> Result<bool, AllocError> {
     let first = add_item(list, alloc, 9, 1)?;
     add_item(list, alloc, 5, 2)?;
     Ok(unlinks(list, first, 1))
 }
 
-/// Inserts a dummy and an item, and unlinks the item.
-fn comes_and_goes(list: &mut NodeList, alloc: Global) -> Result<bool, AllocError> {
+/// Inserts a dummy and item 3, and unlinks the item. Returns whether item 3 was unlinked.
+fn adds_and_unlinks(list: &mut NodeList, alloc: Global) -> Result<bool, AllocError> {
     add_dummy(list, 6)?;
     let last = add_item(list, alloc, 7, 3)?;
     Ok(unlinks(list, last, 3))
 }
 
-/// Returns whether dummies are not items, and a refused `reserve` changes nothing.
-fn has_dummies_alone(list: &mut NodeList) -> Result<bool, AllocError> {
-    let head_alone = list.next_item_at(0) == None;
+/// Returns whether a list of the head and then a dummy has no item at any place, and a refused `reserve` changes
+/// nothing.
+fn holds_only_dummies(list: &mut NodeList) -> Result<bool, AllocError> {
+    let head_is_not_an_item = list.next_item_at(0) == None;
     add_dummy(list, 8)?;
-    let dummies = list.next_item_at(0) == None && list.next_item_at(2) == None;
+    let dummy_is_not_an_item = list.next_item_at(0) == None && list.next_item_at(2) == None;
     let is_refused = list.reserve(usize::MAX).is_err();
     Ok(
-        head_alone
-            && dummies
+        head_is_not_an_item
+            && dummy_is_not_an_item
             && is_refused
             && count_visited(list, 4) == 2
             && count_visited(list, 8) == 2
@@ -168,57 +177,61 @@ fn has_dummies_alone(list: &mut NodeList) -> Result<bool, AllocError> {
     )
 }
 
-/// Returns whether capacity for many nodes can be reserved, without a new node.
-fn reserves_much_room(list: &mut NodeList) -> Result<bool, AllocError> {
+/// Returns whether capacity for more and more nodes can be reserved, and the list then still has only the head.
+fn reserves_much_capacity(list: &mut NodeList) -> Result<bool, AllocError> {
     list.reserve(5_000)?;
     list.reserve(100_000)?;
     Ok(list.len() == 1)
 }
 
-/// Split keys around an unlinked item, and how many nodes a search for each visits.
+/// Each row is a split key below or above that of an unlinked item, and how many nodes a search for it visits.
 const UNLINKED: [(u64, Visits); 2] = [(4, Visits(2)), (8, Visits(2))];
 
-/// What a new list is tried with.
+/// What a test checks on a new list.
 #[derive(Clone, Copy)]
-pub enum Trial {
+pub enum Check {
     /// Dummies and an item that are inserted out of order.
     SplitOrder,
-    /// Two items of one key.
+    /// Two items of one split key.
     EqualKeys,
+    /// An item that is read at its place.
     ReadItem,
     /// Terms that are pushed to the chain of an item, and popped.
     ChangedChain,
+    /// An item that is unlinked, and whose place another item gets.
     UnlinkedItem,
+    /// Items that are found by their places.
     PlacesOfItems,
     /// Places whose items are unlinked.
     PlacesOfUnlinked,
     /// Dummies without items.
-    DummiesAlone,
+    OnlyDummies,
+    /// More than 2,000 nodes, in order.
     ManyNodes,
     /// Capacity for many nodes.
-    MuchRoom,
+    MuchCapacity,
 }
 
-/// Returns whether this list, which is new, passes a trial.
-fn list_passes(list: &mut NodeList, alloc: Global, trial: Trial) -> Result<bool, AllocError> {
-    match trial {
-        Trial::SplitOrder => has_split_order(list, alloc, &SPLIT_ORDER),
-        Trial::EqualKeys => finds_equal_keys(list, alloc),
-        Trial::ReadItem => reads_item(list, alloc),
-        Trial::ChangedChain => changes_chain(list, alloc),
-        Trial::UnlinkedItem => unlinks_item(list, alloc, &UNLINKED),
-        Trial::PlacesOfItems => finds_places(list, alloc, &PLACES_OF_FIVE),
-        Trial::PlacesOfUnlinked => finds_no_unlinked(list, alloc, &PLACE_OF_SECOND),
-        Trial::DummiesAlone => has_dummies_alone(list),
-        Trial::ManyNodes => has_many_nodes(list, alloc),
-        Trial::MuchRoom => reserves_much_room(list),
+/// Returns whether a list of the head alone passes a check.
+fn list_passes(list: &mut NodeList, alloc: Global, check: Check) -> Result<bool, AllocError> {
+    match check {
+        Check::SplitOrder => has_split_order(list, alloc, &SPLIT_ORDER),
+        Check::EqualKeys => finds_equal_keys(list, alloc),
+        Check::ReadItem => reads_item(list, alloc),
+        Check::ChangedChain => changes_chain(list, alloc),
+        Check::UnlinkedItem => unlinks_item(list, alloc, &UNLINKED),
+        Check::PlacesOfItems => finds_places(list, alloc, &PLACES_OF_FIVE),
+        Check::PlacesOfUnlinked => skips_unlinked_items(list, alloc, &PLACE_OF_SECOND),
+        Check::OnlyDummies => holds_only_dummies(list),
+        Check::ManyNodes => has_many_nodes(list, alloc),
+        Check::MuchCapacity => reserves_much_capacity(list),
     }
 }
 
-/// Returns whether a new list passes a trial.
-pub fn new_list_passes(alloc: Global, trial: Trial) -> Result<bool, AllocError> {
+/// Builds a list, and returns whether it passes a check.
+pub fn new_list_passes(alloc: Global, check: Check) -> Result<bool, AllocError> {
     let mut list = NodeList::new(alloc)?;
-    let passed = list_passes(&mut list, alloc, trial);
+    let passed = list_passes(&mut list, alloc, check);
     drop(list);
     passed
 }

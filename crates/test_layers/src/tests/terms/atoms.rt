@@ -1,4 +1,4 @@
-//! The limits of atoms: how many characters, and which.
+//! The limits of atoms: how many characters an atom may have, and which.
 use crate::tests::text::past_limits::repeat_text;
 use ets_term::{Atom, AtomFault};
 use std::alloc::Global;
@@ -12,7 +12,7 @@ fn copy_has_text(alloc: Global, atom: &Atom, text: &str) -> Option<bool> {
     Some(same)
 }
 
-/// Returns whether an atom and its copy have its text.
+/// Returns whether the atom of a text and a copy of the atom have this text.
 fn atom_and_copy_keep_text(alloc: Global, text: &str) -> Option<bool> {
     let atom = Atom::new(alloc, text).ok()?;
     let atom_keeps_text = atom.text() == text;
@@ -21,7 +21,7 @@ fn atom_and_copy_keep_text(alloc: Global, text: &str) -> Option<bool> {
     Some(copy_keeps_text? && atom_keeps_text)
 }
 
-/// Returns whether an atom of this number of characters and its copy have its text.
+/// Returns whether an atom with `count` characters and its copy have the text that the atom was built from.
 fn keeps_text_of_length(alloc: Global, count: usize) -> Option<bool> {
     let text = repeat_text(alloc, "a", count).ok()?;
     let same = atom_and_copy_keep_text(alloc, text.as_str());
@@ -29,7 +29,7 @@ fn keeps_text_of_length(alloc: Global, count: usize) -> Option<bool> {
     same
 }
 
-/// Returns whether atoms of each of these numbers of characters keep their text.
+/// Returns whether an atom keeps its text for each of these numbers of characters.
 fn keep_texts_of_lengths(alloc: Global, counts: &[usize]) -> Option<bool> {
     for count in counts {
         if !keeps_text_of_length(alloc, *count)? {
@@ -39,7 +39,7 @@ fn keep_texts_of_lengths(alloc: Global, counts: &[usize]) -> Option<bool> {
     Some(true)
 }
 
-/// Returns whether an atom of this number of characters is refused as too long.
+/// Returns whether an atom with `count` characters is refused as too long.
 fn is_refused_as_too_long(alloc: Global, count: usize) -> Option<bool> {
     let long = repeat_text(alloc, "a", count).ok()?;
     let fault = Atom::new(alloc, long.as_str()).err();

@@ -8,7 +8,8 @@ use std::process::Abort;
 
 /// Returns whether a term has this depth, and equals its copy.
 fn is_of_depth(alloc: Global, term: &Term, depth: usize) -> Option<bool> {
-    // Calls the two laws of terms once, which do nothing when they run.
+    // Calls the two functions of `ets_term` that only state a law, because the tests call each public function of a
+    // term. They have no effect.
     term.fits();
     ets_term::laws::hash_writes_encoding(term);
     let copy = term.try_clone(alloc).ok()?;
@@ -25,7 +26,7 @@ fn has_depth(alloc: Global, made: Option<Term>, depth: usize) -> Option<bool> {
     same
 }
 
-/// Returns whether a tuple and a list of these atoms have this depth.
+/// Returns whether a tuple and a list of an atom for each letter have this depth and equal their copies.
 fn are_of_depth(alloc: Global, letters: &str, depth: usize) -> Option<bool> {
     Some(
         has_depth(alloc, letter_tuple(alloc, letters), depth)?
@@ -33,7 +34,7 @@ fn are_of_depth(alloc: Global, letters: &str, depth: usize) -> Option<bool> {
     )
 }
 
-/// Pushes an integer and a tuple of two atoms.
+/// Pushes an integer, which is the default term, and a tuple of two atoms.
 fn push_uneven_items(alloc: Global, parts: &mut Items<Term>) -> Option<()> {
     parts.push(Term::default()).ok()?;
     parts.push(letter_tuple(alloc, "ab")?).ok()
@@ -45,7 +46,8 @@ fn uneven_list(alloc: Global) -> Option<Term> {
     Some(Term::List(keep_if_some(push_uneven_items(alloc, &mut parts), parts)?))
 }
 
-/// Returns whether the depth of other terms is right: the deepest part decides.
+/// Returns whether an integer, a binary and an uneven list have the depths 1, 1 and 3, and equal their copies. The
+/// deepest part decides.
 fn other_terms_are_of_depth(alloc: Global) -> Option<bool> {
     Some(
         has_depth(alloc, Some(Term::Int(5)), 1)?
@@ -56,21 +58,22 @@ fn other_terms_are_of_depth(alloc: Global) -> Option<bool> {
 
 /// Checks the depths of flat and uneven terms, and their copies.
 #[test]
-fn depths_and_copies(rt: HostRuntime) {
+fn terms_have_their_depths_and_equal_their_copies(rt: HostRuntime) {
     let alloc = rt.alloc();
     assert!(rt; are_of_depth(alloc, "", 1) == Some(true));
     assert!(rt; are_of_depth(alloc, "ab", 2) == Some(true));
     assert!(rt; other_terms_are_of_depth(alloc) == Some(true));
 }
 
-/// Returns whether nested lists have this depth, and `is_too_deep` says whether it is above the limit.
+/// Returns whether nested lists have this depth and equal their copy, and `is_too_deep` holds if the depth is above the
+/// limit, and only then.
 fn nested_list_has_depth(alloc: Global, levels: usize) -> Option<bool> {
     let term = nested_list(alloc, levels)?;
     let limit_agrees = term.is_too_deep() == (levels > MAX_DEPTH);
     Some(has_depth(alloc, Some(term), levels)? && limit_agrees)
 }
 
-/// Returns the first of these depths at which nested lists have another depth.
+/// Returns the first of these depths for which `nested_list_has_depth` does not hold.
 fn first_depth_mismatch(alloc: Global, rows: &[usize]) -> Option<Option<usize>> {
     for levels in rows {
         if !nested_list_has_depth(alloc, *levels)? {
@@ -80,10 +83,10 @@ fn first_depth_mismatch(alloc: Global, rows: &[usize]) -> Option<Option<usize>> 
     Some(None)
 }
 
-/// Depths past powers of two, at the limit of 128, and above it.
+/// Depths of nested lists: most are near powers of two, one is the limit of 128, and two are above it.
 const DEPTHS: [usize; 8] = [4, 9, 17, 33, 65, 128, 129, 2000];
 
-/// Checks nested lists of all `DEPTHS`.
+/// Checks that nested lists of all `DEPTHS` have their depth and equal their copies.
 #[test]
 fn deep_terms_are_copied(rt: HostRuntime) {
     assert!(rt; first_depth_mismatch(rt.alloc(), &DEPTHS) == Some(None));
@@ -103,7 +106,7 @@ fn tuple_of_numbers(alloc: Global, count: u32) -> Option<Term> {
     Some(Term::Tuple(keep_if_some(push_numbers_below(&mut items, count), items)?))
 }
 
-/// Returns whether a tuple of 70,000 integers equals its copy.
+/// Returns whether a tuple of 70,000 integers, more than 2^16, has the depth 2 and equals its copy.
 fn long_tuple_is_copied(alloc: Global) -> Option<bool> {
     has_depth(alloc, tuple_of_numbers(alloc, 70_000), 2)
 }

@@ -7,9 +7,13 @@ use std::process::Abort;
 /// A term that a constant can hold.
 #[derive(Clone, Copy)]
 enum Literal<'a> {
+    /// This integer.
     Int(Integer),
+    /// The atom of this text.
     Atom(&'a str),
+    /// The identifier of a table with this number.
     Tid(u32),
+    /// The pid with this number.
     Pid(u32),
     /// The tuple of the atoms of these letters.
     Tuple(&'a str),
@@ -67,28 +71,28 @@ const ASCENDING_TERMS: [Literal<'static>; 22] = [
     Literal::Binary("2"),
 ];
 
-/// Returns whether two terms compare as their indices do, by `cmp_terms`, `==` and `<`.
-fn compare_as_indices(low: (usize, &Term), high: (usize, &Term)) -> bool {
-    let (i, first) = low;
-    let (j, second) = high;
+/// Returns whether two terms, each with its index, compare as their indices do, by `cmp_terms`, `==` and `<`.
+fn compare_as_indices(left: (usize, &Term), right: (usize, &Term)) -> bool {
+    let (i, first) = left;
+    let (j, second) = right;
     first.cmp_terms(second) == i.cmp(&j)
         && (*first == *second) == (i == j)
         && (*first < *second) == (i < j)
 }
 
-/// Returns whether the term at index `i` compares with each term as their indices do.
-fn compares_with_all_as_indices(terms: &[Term], i: usize, low: &Term) -> bool {
+/// Returns whether the term at index `i`, `left`, compares with each term as their indices do.
+fn compares_with_all_as_indices(terms: &[Term], i: usize, left: &Term) -> bool {
     let mut all_agree = true;
-    for (j, high) in terms.iter().enumerate() {
-        all_agree = compare_as_indices((i, low), (j, high)) && all_agree;
+    for (j, right) in terms.iter().enumerate() {
+        all_agree = compare_as_indices((i, left), (j, right)) && all_agree;
     }
     all_agree
 }
 
-/// Returns the index of the first term that does not compare with some term as their indices do.
+/// Returns the index of the first term that compares with a term differently from their indices.
 fn first_order_mismatch(terms: &[Term]) -> Option<usize> {
-    for (i, low) in terms.iter().enumerate() {
-        if !compares_with_all_as_indices(terms, i, low) {
+    for (i, left) in terms.iter().enumerate() {
+        if !compares_with_all_as_indices(terms, i, left) {
             return Some(i);
         }
     }

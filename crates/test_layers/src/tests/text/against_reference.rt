@@ -1,11 +1,11 @@
-//! The results of the reader, compared with those of the reference, on each prefix of good texts and on texts with one
-//! byte changed.
+//! The reader of `term_text`, compared with the plain reader of `reference`, on each prefix of good texts and on texts
+//! with one byte changed.
 use super::has_result;
 use super::reference::read_by_rules;
 use std::alloc::{AllocError, Global};
 use std::process::Abort;
 
-/// Returns the result of a text by the rules.
+/// Returns the result of a text by the plain reader, as `result_of` spells it.
 fn reference_result(alloc: Global, text: &[u8]) -> Result<String, AllocError> {
     match read_by_rules(alloc, text) {
         Ok((printed, taken)) => {
@@ -17,7 +17,7 @@ fn reference_result(alloc: Global, text: &[u8]) -> Result<String, AllocError> {
     }
 }
 
-/// Returns whether the reader has the result of the reference.
+/// Returns whether the reader and the plain reader have the same result for a text.
 fn agrees_with_reference(alloc: Global, text: &[u8]) -> Result<bool, AllocError> {
     let wanted = reference_result(alloc, text)?;
     let agrees = has_result(alloc, text, wanted.as_str());
@@ -25,7 +25,7 @@ fn agrees_with_reference(alloc: Global, text: &[u8]) -> Result<bool, AllocError>
     agrees
 }
 
-/// Texts whose prefixes are read. The whole text is that of a term.
+/// Texts of terms. The test reads each prefix of each text.
 const GOOD: [&str; 30] = [
     "0",
     " -170141183460469231731687303715884105728",
@@ -59,7 +59,7 @@ const GOOD: [&str; 30] = [
     "[{k,1},{'K',\"v\"}]",
 ];
 
-/// Texts of terms, of which one byte is changed.
+/// Texts of terms. The test changes each byte of each text to each other byte.
 const CHANGED: [&str; 10] = [
     "-17",
     "ab",
@@ -73,9 +73,10 @@ const CHANGED: [&str; 10] = [
     "#Tid<3>",
 ];
 
-/// Returns whether each prefix of a text is read by the rules.
+/// Returns whether both readers have the same result for each prefix of a text.
 fn prefixes_agree(alloc: Global, text: &[u8]) -> Result<bool, AllocError> {
     for length in 0..=text.len() {
+        // `get` succeeds, because `length` is at most the length of the text.
         if !agrees_with_reference(alloc, text.get(..length).unwrap_or(text))? {
             return Ok(false);
         }
@@ -83,7 +84,7 @@ fn prefixes_agree(alloc: Global, text: &[u8]) -> Result<bool, AllocError> {
     Ok(true)
 }
 
-/// Returns the first text with a prefix that is not read by the rules.
+/// Returns the first text with a prefix for which the readers differ.
 fn first_prefix_mismatch(
     alloc: Global,
     texts: &[&'static str],
@@ -103,12 +104,12 @@ fn prefixes_of_good_texts_are_read_by_the_rules(rt: HostRuntime) {
 
 /// Changes the byte at an offset.
 fn set_byte(text: &mut [u8], at: usize, byte: u8) {
-    if let Some(place) = text.get_mut(at) {
-        *place = byte;
+    if let Some(old) = text.get_mut(at) {
+        *old = byte;
     }
 }
 
-/// Returns whether the text is read by the rules with each of the 256 bytes at this offset.
+/// Returns whether both readers have the same result with each of the 256 bytes at this offset, and restores the text.
 fn changed_bytes_at_agree(alloc: Global, text: &mut [u8], at: usize) -> Result<bool, AllocError> {
     let original = text.get(at).copied().unwrap_or(0);
     let mut all_agree = true;
@@ -120,7 +121,7 @@ fn changed_bytes_at_agree(alloc: Global, text: &mut [u8], at: usize) -> Result<b
     Ok(all_agree)
 }
 
-/// Returns whether the text is read by the rules with each byte at each offset.
+/// Returns whether both readers have the same result with each byte at each offset.
 fn changed_bytes_agree(alloc: Global, text: &mut [u8]) -> Result<bool, AllocError> {
     let mut all_agree = true;
     for at in 0..text.len() {
@@ -129,7 +130,7 @@ fn changed_bytes_agree(alloc: Global, text: &mut [u8]) -> Result<bool, AllocErro
     Ok(all_agree)
 }
 
-/// Returns whether a text is read by the rules with each one of its bytes changed.
+/// Copies a text, and returns whether both readers have the same result with any one byte changed.
 fn changed_copies_agree(alloc: Global, text: &[u8]) -> Result<bool, AllocError> {
     let mut bytes = text.to_vec(alloc)?;
     let agrees = changed_bytes_agree(alloc, bytes.as_mut_slice());
@@ -137,7 +138,7 @@ fn changed_copies_agree(alloc: Global, text: &[u8]) -> Result<bool, AllocError> 
     agrees
 }
 
-/// Returns the first text that is not read by the rules when one byte is changed.
+/// Returns the first text for which the readers differ when one byte is changed.
 fn first_change_mismatch(
     alloc: Global,
     texts: &[&'static str],

@@ -1,14 +1,14 @@
-//! Long and deep texts whose terms are known.
+//! Long and deep texts, built from parts, with the texts that their terms are printed as.
 use super::past_limits::{repeat_text, text_with_repeated_part};
 use super::writer::is_written_as;
 use ets_term::{MAX_DEPTH, Term};
 use std::alloc::{AllocError, Global};
 use term_text::{TextFault, print_term, read_term};
 
-/// One more than each power of two up to 1,024, and 70,000.
+/// How often a part is repeated: one more than each power of two up to 1,024, and 70,000, which is more than 2^16.
 const COUNTS: [usize; 12] = [2, 3, 5, 9, 17, 33, 65, 129, 257, 513, 1_025, 70_000];
 
-/// Returns whether a term is printed and written as this text.
+/// Returns whether `print_term` and `write_term` of a term give this text.
 fn is_printed(alloc: Global, term: &Term, printed: &str) -> Result<bool, AllocError> {
     let mut out = String::new(alloc);
     let done = print_term(alloc, term, &mut out);
@@ -18,7 +18,7 @@ fn is_printed(alloc: Global, term: &Term, printed: &str) -> Result<bool, AllocEr
     Ok(same && is_written_as(alloc, term, printed))
 }
 
-/// Returns whether a text is the whole text of a term, and `printed` is how the term is printed and written.
+/// Returns whether the whole text is read as a term, and the term is printed and written as `printed`.
 fn is_read_whole(alloc: Global, text: &str, printed: &str) -> Result<bool, AllocError> {
     match read_term(alloc, text) {
         Ok((term, taken)) => {
@@ -30,10 +30,12 @@ fn is_read_whole(alloc: Global, text: &str, printed: &str) -> Result<bool, Alloc
     }
 }
 
-/// A start, a repeated part and an end of a text, and those of the printed term.
+/// A start, a repeated part and an end: of a text, and of the text that its term is printed as.
 #[derive(Clone, Copy)]
 struct Repeated {
+    /// The parts of a text to be read.
     text: [&'static str; 3],
+    /// The parts of the text that its term is printed as.
     printed: [&'static str; 3],
 }
 
@@ -55,7 +57,7 @@ const TUPLE: Repeated = Repeated {
     printed: ["{'A b'", ",'A b'", "}"],
 };
 
-/// Builds the text of three parts, with the second repeated.
+/// Builds the text of three parts, with the second part repeated `count` times.
 fn repeated_text(
     alloc: Global,
     parts: [&'static str; 3],
@@ -65,7 +67,7 @@ fn repeated_text(
     text_with_repeated_part(alloc, front, part, count, end)
 }
 
-/// Returns whether the text of these parts is that of a term that is printed as `printed`.
+/// Returns whether the text of these parts, the second `count` times, is read as a term that is printed as `printed`.
 fn repeated_is_printed_as(
     alloc: Global,
     parts: [&'static str; 3],
@@ -78,16 +80,17 @@ fn repeated_is_printed_as(
     whole
 }
 
-/// Returns whether a text with a repeated part is read and printed, and what is printed is read and printed the same.
+/// Returns whether a text with a repeated part is read and printed as its row says, and the printed text is read and
+/// printed unchanged.
 fn repeated_is_read(alloc: Global, row: Repeated, count: usize) -> Result<bool, AllocError> {
     let printed = repeated_text(alloc, row.printed, count)?;
-    let text = repeated_is_printed_as(alloc, row.text, count, printed.as_str());
-    let again = is_read_whole(alloc, printed.as_str(), printed.as_str());
+    let text_is_read = repeated_is_printed_as(alloc, row.text, count, printed.as_str());
+    let printed_is_read = is_read_whole(alloc, printed.as_str(), printed.as_str());
     drop(printed);
-    Ok(text? && again?)
+    Ok(text_is_read? && printed_is_read?)
 }
 
-/// Returns whether the texts of a row are read and printed at each of these lengths.
+/// Returns whether the texts of a row are read and printed for each number of repetitions.
 fn is_read_at_each_count(
     alloc: Global,
     row: Repeated,
@@ -122,7 +125,7 @@ fn nested_brackets(
     text
 }
 
-/// Returns whether brackets of this depth are read, and printed as they were.
+/// Returns whether nested brackets of this depth are read, and printed unchanged.
 fn brackets_are_read(
     alloc: Global,
     open: &str,

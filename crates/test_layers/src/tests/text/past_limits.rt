@@ -1,4 +1,4 @@
-//! Texts past the greatest depth of a term, and past the greatest length of an atom.
+//! Texts at and past the greatest depth of a term, and the greatest length of an atom.
 use super::Reading::{self, Fails, Reads};
 use super::{Bytes, has_reading};
 use crate::tests::keep_if_ok;
@@ -23,10 +23,11 @@ struct Repeat<'a>(&'a str, usize);
 #[derive(Clone, Copy)]
 struct End<'a>(&'a str);
 
-/// The parts of a text, and what is read from it.
+/// The parts of a text, and the wanted result of reading it.
 type LongRow<'a> = (Start<'a>, Repeat<'a>, End<'a>, Reading<'a>);
 
-/// Texts at a limit and past it. Where two faults are possible, the row says which is found first, and at which offset.
+/// Texts at a limit or past it, with their syntax errors and the offsets of these. Where two errors are possible, the
+/// row says which is found first.
 const LONG: [LongRow<'static>; 9] = [
     (
         Start(""),
@@ -84,7 +85,7 @@ const LONG: [LongRow<'static>; 9] = [
     ),
 ];
 
-/// Pushes a part of a text this often.
+/// Pushes a part of a text `count` times.
 fn push_repeated(text: &mut String, part: &str, count: usize) -> Result<(), AllocError> {
     for _ in 0..count {
         text.push_str(part)?;
@@ -125,7 +126,7 @@ pub fn repeat_text(alloc: Global, part: &str, count: usize) -> Result<String, Al
     text_with_repeated_part(alloc, "", part, count, "")
 }
 
-/// Returns whether the text of a row is read as the row says.
+/// Builds the text of a row, and returns whether it is read as the row says.
 fn long_text_has_reading(alloc: Global, row: LongRow) -> Result<bool, AllocError> {
     let (start, part, end, wanted) = row;
     let text = text_with_repeated_part(alloc, start.0, part.0, part.1, end.0)?;
@@ -144,7 +145,7 @@ fn first_long_mismatch(alloc: Global, rows: &[LongRow]) -> Result<Option<usize>,
     Ok(None)
 }
 
-/// Checks the faults of texts past a limit.
+/// Checks the syntax errors of texts past a limit.
 #[test]
 fn texts_past_a_limit_have_their_faults(rt: HostRuntime) {
     assert_eq!(rt; first_long_mismatch(rt.alloc(), &LONG), Ok(None));
@@ -173,7 +174,7 @@ fn deepest_text(alloc: Global) -> Result<String, AllocError> {
     text
 }
 
-/// Returns the depth of the term of a text, and how many bytes it takes.
+/// Returns the depth of the term of a text, and how many bytes of the text it takes.
 fn depth_and_bytes_of(alloc: Global, text: &[u8]) -> Option<(usize, Bytes)> {
     let (term, taken) = read_term_bytes(alloc, text).ok()?;
     let depth = term.depth();

@@ -1,9 +1,14 @@
-//! A slow plain reader, written from the rules of the text alone: one loop, with a stack of the open brackets.
+//! A slow reader of terms, written from the grammar alone, with which the tests compare `term_text`: one loop, with a
+//! stack of the open brackets. It reads the first term of a text, and prints the term as it reads. To *pass* a byte
+//! means to move past it.
 use std::alloc::Global;
 use term_text::TextFault;
 
+// Blanks, names, digits and quoted characters.
 mod pieces;
+// Printing of parts of terms.
 mod printer;
+// Terms other than tuples and lists in brackets.
 mod singles;
 
 /// The greatest depth of a term.
@@ -12,15 +17,16 @@ const MAX_LEVELS: usize = 128;
 /// The greatest number of characters of an atom.
 const MAX_CHARACTERS: usize = 255;
 
-/// A reader with the state after the bytes that it has read.
+/// A reader, and its state after the bytes that it has read.
 #[derive(Drop)]
 struct Reader<'t> {
+    /// What allocates `out`, `quoted` and `closing`.
     alloc: Global,
     /// The text that it reads.
     text: &'t [u8],
     /// The offset of the next byte.
     at: usize,
-    /// The printed term.
+    /// The part of the term that is printed so far.
     out: String,
     /// The characters between the last quotes.
     quoted: Vec<u8>,
@@ -47,7 +53,7 @@ impl<'t> Reader<'t> {
         }
     }
 
-    /// Prints a byte of the text and passes it. The other parameters are the new state.
+    /// Prints a byte of the text and passes it. The other parameters are the new state of the fields of these names.
     fn print_byte(
         &mut self,
         byte: u8,
@@ -69,6 +75,7 @@ impl<'t> Reader<'t> {
     /// Passes a closing bracket.
     fn close_bracket(&mut self, byte: u8) -> Result<(), TextFault> {
         self.closing.pop();
+        // A term ends here, so none must follow, and no bracket was just opened.
         self.print_byte(byte, false, false)
     }
 
@@ -77,16 +84,18 @@ impl<'t> Reader<'t> {
         if byte != b',' {
             return Err(TextFault::Unexpected(self.at));
         }
+        // A term must follow the comma, and no bracket was just opened.
         self.print_byte(byte, true, false)
     }
 
     /// Passes an opening bracket.
     fn open_bracket(&mut self, byte: u8) -> Result<(), TextFault> {
         self.closing.push(if byte == b'{' { b'}' } else { b']' })?;
+        // A term must follow, unless the bracket that was just opened is closed.
         self.print_byte(byte, true, true)
     }
 
-    /// Reads a whole term other than a tuple and a list, or an opening bracket.
+    /// Reads what a term begins with: an opening bracket, or a whole term other than a tuple or a list in brackets.
     fn begin_term(&mut self, byte: u8) -> Result<(), TextFault> {
         if self.closing.len() >= MAX_LEVELS {
             return Err(TextFault::TooDeep(self.at));
@@ -128,7 +137,7 @@ impl<'t> Reader<'t> {
     }
 }
 
-/// Reads the first term of a text by the rules. Returns its printed text, and how many bytes it has.
+/// Reads the first term of a text by the rules. Returns the printed term, and how many bytes of the text it took.
 pub fn read_by_rules(alloc: Global, text: &[u8]) -> Result<(String, usize), TextFault> {
     let mut reader = Reader::new(alloc, text);
     match reader.read_term() {

@@ -1,9 +1,9 @@
-// Out of memory. `.ci/refusals` runs these tests with each allocation refused in turn. What is read or printed again
-// must give the result of ample memory. Printing that is refused memory must leave the text as it was.
+// Reading and printing that run out of memory. `.ci/refusals` runs these tests with each allocation refused in turn. A
+// retry must have the result of enough memory. Printing that is refused memory must leave the output as it was.
 use super::*;
 use term_text::{TextFault, read_term};
 
-/// Reads a text, again if memory runs out.
+/// Reads a text. Retries once if memory is refused.
 pub(crate) fn read_with_retry(alloc: Global, text: &str) -> Result<(Term, usize), TextFault> {
     let read = read_term(alloc, text);
     if !matches!(&read, Err(TextFault::Memory)) {
@@ -13,7 +13,7 @@ pub(crate) fn read_with_retry(alloc: Global, text: &str) -> Result<(Term, usize)
     read_term(alloc, text)
 }
 
-/// Reads the term of a text, again if memory runs out. None means a syntax error, or out of memory.
+/// Reads the term of a text. Retries once if memory is refused. None means a syntax error, or out of memory twice.
 pub(crate) fn term_with_retry(alloc: Global, text: &str) -> Option<Term> {
     match read_with_retry(alloc, text) {
         Ok((term, _)) => Some(term),
@@ -21,32 +21,33 @@ pub(crate) fn term_with_retry(alloc: Global, text: &str) -> Option<Term> {
     }
 }
 
-/// The text that an output has before a term is printed into it.
-const FRONT: &str = "a front: ";
+/// The text that is already in an output before a term is appended.
+const PREFIX: &str = "a front: ";
 
-/// Builds the text `FRONT`, again if memory runs out.
-fn front_with_retry(alloc: Global) -> Option<String> {
-    match String::from_str(alloc, FRONT) {
+/// Builds an output with the text `PREFIX`. Retries once if memory is refused.
+fn prefix_with_retry(alloc: Global) -> Option<String> {
+    match String::from_str(alloc, PREFIX) {
         Ok(text) => Some(text),
-        Err(_) => String::from_str(alloc, FRONT).ok(),
+        Err(_) => String::from_str(alloc, PREFIX).ok(),
     }
 }
 
-/// Returns whether a term is printed after the front at once, or was refused memory, changed nothing, and is printed
-/// again.
+/// Prints a term after the prefix, and returns whether this succeeds. If memory is refused, the output must be
+/// unchanged, and a retry must succeed.
 fn prints_with_retry(alloc: Global, term: &Term, text: &mut String) -> bool {
     match print_term(alloc, term, text) {
         Ok(()) => true,
-        Err(_) => text.as_str() == FRONT && print_term(alloc, term, text).is_ok(),
+        Err(_) => text.as_str() == PREFIX && print_term(alloc, term, text).is_ok(),
     }
 }
 
-/// Prints a term after the front, at once or again. Returns whether the text is then `printed`.
+/// Prints a term after the prefix. Retries once if memory is refused. Returns whether the output is then `printed`.
 fn prints_text_with_retry(alloc: Global, term: &Term, text: &mut String, printed: &str) -> bool {
     prints_with_retry(alloc, term, text) && text.as_str() == printed
 }
 
-/// Returns whether the term of a text is printed after the front as `printed`, at once or again.
+/// Returns whether the term of a text is printed after the prefix so that the output is `printed`. Retries once if
+/// memory is refused.
 fn is_read_and_printed_with_retry(alloc: Global, text: &str, printed: &str) -> Option<bool> {
     let term = term_with_retry(alloc, text)?;
     let same = is_printed_with_retry(alloc, &term, printed);
@@ -54,15 +55,16 @@ fn is_read_and_printed_with_retry(alloc: Global, text: &str, printed: &str) -> O
     same
 }
 
-/// Returns whether a term is printed after the front as `printed`, at once or again.
+/// Returns whether a term is printed after the prefix so that the output is `printed`. Retries once if memory is
+/// refused.
 fn is_printed_with_retry(alloc: Global, term: &Term, printed: &str) -> Option<bool> {
-    let mut text = front_with_retry(alloc)?;
+    let mut text = prefix_with_retry(alloc)?;
     let same = prints_text_with_retry(alloc, term, &mut text, printed);
     drop(text);
     Some(same)
 }
 
-/// Returns the first text whose term is not printed as its row says.
+/// Returns the first text whose term is not printed as its row says, even with retries.
 fn first_mismatch_with_retry(
     alloc: Global,
     rows: &[(&'static str, &'static str)],
@@ -75,7 +77,7 @@ fn first_mismatch_with_retry(
     None
 }
 
-/// Texts, and how their terms are printed after the front.
+/// Each row is a text, and the output when its term is printed after the prefix. The terms take memory.
 const TERMS: [(&str, &str); 7] = [
     ("-9223372036854775808", "a front: -9223372036854775808"),
     ("<0.4294967295.0>", "a front: <0.4294967295.0>"),
@@ -99,19 +101,19 @@ const TERMS: [(&str, &str); 7] = [
 ];
 
 #[test]
-fn what_was_refused_is_read_and_printed_again(rt: HostRuntime) {
+fn a_retry_reads_and_prints_the_term(rt: HostRuntime) {
     assert_eq!(rt; first_mismatch_with_retry(rt.alloc(), &TERMS), None);
 }
 
-/// Returns whether a text has this syntax error, at once or again.
+/// Returns whether a text has this syntax error. Retries once if memory is refused.
 fn has_fault_with_retry(alloc: Global, text: &str, fault: TextFault) -> bool {
     let read = read_with_retry(alloc, text);
-    let same = matches!(&read, Err(own) if *own == fault);
+    let same = matches!(&read, Err(found) if *found == fault);
     drop(read);
     same
 }
 
-/// Returns the first text with another syntax error.
+/// Returns the first text without the syntax error of its row, even with a retry.
 fn first_fault_mismatch_with_retry(
     alloc: Global,
     rows: &[(&'static str, TextFault)],
@@ -124,7 +126,7 @@ fn first_fault_mismatch_with_retry(
     None
 }
 
-/// Texts, and their syntax errors, each with its offset.
+/// Each row is a text, and its syntax error with the offset.
 const FAULTS: [(&str, TextFault); 4] = [
     (
         "[1,2,{'an atom of more than 22 characters'",
@@ -139,6 +141,6 @@ const FAULTS: [(&str, TextFault); 4] = [
 ];
 
 #[test]
-fn what_was_refused_has_its_fault_again(rt: HostRuntime) {
+fn a_retry_has_the_syntax_error(rt: HostRuntime) {
     assert_eq!(rt; first_fault_mismatch_with_retry(rt.alloc(), &FAULTS), None);
 }

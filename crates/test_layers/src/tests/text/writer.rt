@@ -1,4 +1,5 @@
-//! A writer that fails at its k-th write, or takes a part of the bytes.
+//! Terms and texts that are written to a writer. The writer may fail after some writes, or take only a part of the
+//! bytes.
 use super::past_limits::repeat_text;
 use ets_term::Term;
 use std::alloc::{AllocError, Global};
@@ -13,7 +14,7 @@ struct FailingWriter {
     taken: Vec<u8>,
     /// The most bytes that one write takes.
     max_write_bytes: usize,
-    /// The number of writes that still succeed before one fails.
+    /// The number of further writes that succeed before one fails.
     writes_before_fault: usize,
 }
 
@@ -35,7 +36,7 @@ impl Write for FailingWriter {
     }
 }
 
-/// Writes a term. Returns whether the writer failed.
+/// Writes a term. Returns whether `write_term` returned the fault of the writer.
 fn fails_to_write(term: &Term, out: &mut FailingWriter) -> bool {
     let written = write_term(term, out);
     let failed = matches!(&written, Err(WriteFault::Io(_)));
@@ -43,51 +44,53 @@ fn fails_to_write(term: &Term, out: &mut FailingWriter) -> bool {
     failed
 }
 
-/// Returns whether a writer that fails after `left` bytes has taken this prefix of the text.
-fn leaves_a_prefix(alloc: Global, term: &Term, text: &str, left: usize) -> bool {
+/// Returns whether a writer that takes `count` single bytes and then fails has taken the first `count` bytes of the
+/// text.
+fn failing_writer_takes_prefix(alloc: Global, term: &Term, text: &str, count: usize) -> bool {
     let mut out = FailingWriter {
         taken: Vec::new(alloc),
         max_write_bytes: 1,
-        writes_before_fault: left,
+        writes_before_fault: count,
     };
     let failed = fails_to_write(term, &mut out);
-    let is_prefix = out.taken.len() == left && text.as_bytes().starts_with(out.taken.as_slice());
+    let is_prefix = out.taken.len() == count && text.as_bytes().starts_with(out.taken.as_slice());
     drop(out);
     failed && is_prefix
 }
 
-/// Writes a term to a list of bytes. Returns whether it succeeded.
-fn writes_to_list(term: &Term, whole: &mut Vec<u8>) -> bool {
-    let written = write_term(term, whole);
+/// Writes a term to a vector of bytes, `out`. Returns whether this succeeded.
+fn writes_to_vec(term: &Term, out: &mut Vec<u8>) -> bool {
+    let written = write_term(term, out);
     let done = written.is_ok();
     drop(written);
     done
 }
 
-/// Returns whether a term is written as this text.
+/// Returns whether `write_term` writes a term as this text.
 pub fn is_written_as(alloc: Global, term: &Term, text: &str) -> bool {
-    let mut whole = Vec::new(alloc);
-    let done = writes_to_list(term, &mut whole);
-    let same = whole.as_slice() == text.as_bytes();
-    drop(whole);
+    let mut out = Vec::new(alloc);
+    let done = writes_to_vec(term, &mut out);
+    let same = out.as_slice() == text.as_bytes();
+    drop(out);
     done && same
 }
 
-/// Returns whether a writer that fails after each number of bytes, below the length of the text, has this prefix of it.
-fn leaves_each_prefix(alloc: Global, term: &Term, text: &str) -> bool {
-    for left in 0..text.len() {
-        if !leaves_a_prefix(alloc, term, text, left) {
+/// Returns whether a failing writer has taken a prefix of the text, for each number of bytes below the text's length.
+fn failing_writers_take_prefixes(alloc: Global, term: &Term, text: &str) -> bool {
+    for count in 0..text.len() {
+        if !failing_writer_takes_prefix(alloc, term, text, count) {
             return false;
         }
     }
     true
 }
 
-/// Returns whether the term of a text is written as this text, and a writer that fails has a prefix of it.
-fn is_written(alloc: Global, text: &str) -> bool {
+/// Returns whether the term of a text is written as this text, and a failing writer has taken a prefix of it.
+fn writes_text_or_prefix(alloc: Global, text: &str) -> bool {
     match read_term(alloc, text) {
         Ok((term, _)) => {
-            let done = is_written_as(alloc, &term, text) && leaves_each_prefix(alloc, &term, text);
+            let done = is_written_as(alloc, &term, text)
+                && failing_writers_take_prefixes(alloc, &term, text);
             drop(term);
             done
         }
@@ -96,14 +99,14 @@ fn is_written(alloc: Global, text: &str) -> bool {
 }
 
 #[test]
-fn a_fault_leaves_a_prefix_of_the_text(rt: HostRuntime) {
-    assert!(rt; is_written(rt.alloc(), "{a,'B',[<0.1.0>,#Tid<2>],<<1,2>>,-3}"));
+fn a_failing_writer_takes_a_prefix_of_the_text(rt: HostRuntime) {
+    assert!(rt; writes_text_or_prefix(rt.alloc(), "{a,'B',[<0.1.0>,#Tid<2>],<<1,2>>,-3}"));
 }
 
-/// How many bytes a writer takes at a time.
+/// The most bytes that a writer takes at a time.
 const PART: usize = 1_000;
 
-/// Returns whether a writer takes the whole text, and its last write is the last that succeeds.
+/// Returns whether a writer takes the whole text, and no further write would succeed.
 fn takes_whole_text(text: &str, out: &mut FailingWriter) -> bool {
     let written = write_bytes(text.as_bytes(), out);
     let done = written.is_ok();
@@ -118,9 +121,9 @@ fn is_written_in_parts(alloc: Global, text: &str) -> bool {
         max_write_bytes: PART,
         writes_before_fault: 100,
     };
-    let whole = takes_whole_text(text, &mut out);
+    let takes_whole = takes_whole_text(text, &mut out);
     drop(out);
-    whole
+    takes_whole
 }
 
 /// Returns whether 100,000 bytes are written in 100 parts.
@@ -131,13 +134,14 @@ fn long_text_is_written_in_parts(alloc: Global) -> Result<bool, AllocError> {
     Ok(written)
 }
 
-/// Checks a writer that takes a hundredth of the bytes at a time.
+/// Checks `write_bytes` to a writer that takes a hundredth of the bytes at a time.
 #[test]
-fn a_writer_may_take_a_hundredth(rt: HostRuntime) {
+fn a_text_is_written_in_a_hundred_parts(rt: HostRuntime) {
     assert!(rt; long_text_is_written_in_parts(rt.alloc()) == Ok(true));
 }
 
-/// Returns whether a writer that takes nothing makes the fault `Zero`.
+/// Returns whether `write_term` fails with `WriteFault::Zero` if the writer takes no bytes. The writer itself does not
+/// fail: 9 of its writes may succeed.
 fn fault_is_zero(alloc: Global) -> bool {
     let mut stuck = FailingWriter {
         taken: Vec::new(alloc),

@@ -1,14 +1,17 @@
+// `update_counter` of an object, in place and on a copy.
 use super::rows::{Call, Update, first_mismatch, first_valid_text};
 use super::*;
 
-/// Returns whether `update_counter` has the expected answer and leaves the expected object. `expected` is the two.
-fn counts_in_place(alloc: Global, object: &mut Term, ops: &Ops, expected: (&Term, &Term)) -> bool {
+/// Returns whether `update_counter`, which changes the object in place, has the expected answer and leaves the expected
+/// object. `expected` is the answer, or the atom of a refusal, and the object.
+fn updates_counter(alloc: Global, object: &mut Term, ops: &Ops, expected: (&Term, &Term)) -> bool {
     let (expected_answer, expected_object) = expected;
     has_answer(update_counter(alloc, object, ops), expected_answer) && *object == *expected_object
 }
 
-/// Returns whether `apply_ops` has the expected answer and makes the expected object, or is refused as expected.
-fn counts_on_a_copy(alloc: Global, object: &Term, ops: &Ops, expected: (&Term, &Term)) -> bool {
+/// Returns whether `apply_ops`, which changes a copy, returns the expected object and answer, or has the expected
+/// refusal.
+fn applies_ops(alloc: Global, object: &Term, ops: &Ops, expected: (&Term, &Term)) -> bool {
     let (expected_answer, expected_object) = expected;
     match apply_ops(alloc, object, ops) {
         Ok((copy, answer)) => {
@@ -21,21 +24,22 @@ fn counts_on_a_copy(alloc: Global, object: &Term, ops: &Ops, expected: (&Term, &
     }
 }
 
-/// Returns whether both forms of an update have the expected answer and object. None means out of memory.
-fn counts_in_place_and_on_a_copy(
+/// Returns whether `update_counter` in place and `apply_ops` on a copy have the expected answer and object. None means
+/// out of memory.
+fn updates_counter_and_copy(
     alloc: Global,
     object: &Term,
     ops: &Ops,
     expected: (&Term, &Term),
 ) -> Option<bool> {
-    let mut own = object.try_clone(alloc).ok()?;
-    let in_place = counts_in_place(alloc, &mut own, ops, expected);
-    drop(own);
-    Some(in_place && counts_on_a_copy(alloc, object, ops, expected))
+    let mut copy = object.try_clone(alloc).ok()?;
+    let in_place = updates_counter(alloc, &mut copy, ops, expected);
+    drop(copy);
+    Some(in_place && applies_ops(alloc, object, ops, expected))
 }
 
-/// Returns whether operations have the expected answer and object, in place and on a copy. `expected` is the two.
-pub fn counts_as_expected(
+/// Reads operations, and returns whether they have the expected answer and object, in place and on a copy.
+pub fn updates_counter_as_expected(
     alloc: Global,
     keypos: u32,
     object: &Term,
@@ -44,7 +48,7 @@ pub fn counts_as_expected(
 ) -> Option<bool> {
     match read_ops(alloc, updates, keypos) {
         Ok(ops) => {
-            let holds = counts_in_place_and_on_a_copy(alloc, object, &ops, expected);
+            let holds = updates_counter_and_copy(alloc, object, &ops, expected);
             drop(ops);
             holds
         }
@@ -52,7 +56,8 @@ pub fn counts_as_expected(
     }
 }
 
-/// Operations that succeed. The greatest integer is 170141183460469231731687303715884105727.
+/// Rows `[Before, update, Operations, gives, Answer, leaves, After]` whose operations succeed. An operation is `Incr`,
+/// `{Pos,Incr}` or `{Pos,Incr,Threshold,SetValue}`. The greatest integer is 170141183460469231731687303715884105727.
 const COUNTED: [&str; 16] = [
     "[{c,5}, update, 3, gives, 8, leaves, {c,8}]",
     "[{c,5}, update, -7, gives, -2, leaves, {c,-2}]",
@@ -72,7 +77,7 @@ const COUNTED: [&str; 16] = [
     "[{c,5,6}, update, [{3,1},{2,-1}], gives, [7,4], leaves, {c,4,7}]",
 ];
 
-/// Checks operations that succeed.
+/// Checks the answers of operations that succeed, and the objects that they leave.
 #[test]
 fn operations_on_counters_succeed(rt: HostRuntime) {
     assert_eq!(rt;
@@ -81,7 +86,7 @@ fn operations_on_counters_succeed(rt: HostRuntime) {
     );
 }
 
-/// Sums out of range at any operation of a list, and elements that are not counters of the object.
+/// Rows of the same columns whose operations are refused. A sum is out of range, or an element is not a counter.
 const REFUSED: [&str; 10] = [
     "[{c,170141183460469231731687303715884105727}, update, 1, gives, system_limit, leaves, {c,170141183460469231731687303715884105727}]",
     "[{c,-170141183460469231731687303715884105728}, update, -1, gives, system_limit, leaves, {c,-170141183460469231731687303715884105728}]",
@@ -95,7 +100,7 @@ const REFUSED: [&str; 10] = [
     "[{c,5}, update, {3,1}, gives, badarg, leaves, {c,5}]",
 ];
 
-/// Checks operations that are refused, and leave the object as it was.
+/// Checks that refused operations leave the object as it was.
 #[test]
 fn refused_operations_leave_the_object(rt: HostRuntime) {
     assert_eq!(rt;
@@ -104,7 +109,8 @@ fn refused_operations_leave_the_object(rt: HostRuntime) {
     );
 }
 
-/// The operation of an integer alone is on the element after the key. An atom is not a counter, and 5 is not a tuple.
+/// Rows of the same columns for an object whose key is second. The operation 4 updates the element after the key. The
+/// others are refused: an atom is not a counter, and 5 is not a tuple.
 const KEY_SECOND: [&str; 3] = [
     "[{1,2,3}, update, 4, gives, 7, leaves, {1,2,7}]",
     "[{c,5}, update, {1,1}, gives, badarg, leaves, {c,5}]",
@@ -120,8 +126,8 @@ fn the_key_may_be_the_second_element(rt: HostRuntime) {
     );
 }
 
-/// Texts that are not operations on an object whose key is first.
-const WRONG: [&str; 18] = [
+/// Terms that are not operations on an object whose key is first.
+const NOT_OPERATIONS: [&str; 18] = [
     "{0,1}",
     "{-1,1}",
     "{1,1}",
@@ -142,11 +148,11 @@ const WRONG: [&str; 18] = [
     "a",
 ];
 
-/// Checks that no text of `WRONG` is read as operations.
+/// Checks that `read_ops` refuses each term of `NOT_OPERATIONS`.
 #[test]
-fn texts_that_are_no_operations_are_refused(rt: HostRuntime) {
+fn texts_that_are_not_operations_are_refused(rt: HostRuntime) {
     assert_eq!(rt;
-        first_valid_text(rt.alloc(), Update::Operations, &WRONG),
+        first_valid_text(rt.alloc(), Update::Operations, &NOT_OPERATIONS),
         Some(None)
     );
 }

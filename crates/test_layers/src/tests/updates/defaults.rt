@@ -1,56 +1,57 @@
+// Updates with a default object, as `update_counter/4` and `update_element/4` make them for a missing key.
 use super::rows::{Call, first_mismatch};
 use super::*;
 
-/// Returns whether the answer and the object are those of a row: `{Answer,Object}`.
-fn is_start(expected: &Term, answer: &Term, object: &Term) -> bool {
+/// Returns whether `expected` is the pair `{Answer,Object}` of this answer and this object.
+fn is_answer_and_object(expected: &Term, answer: &Term, object: &Term) -> bool {
     expected.element(1) == Some(answer) && expected.element(2) == Some(object)
 }
 
-/// Returns whether a default object with this key is an object, by both functions.
-fn is_object(alloc: Global, keypos: u32, default: &Term, key: &Term) -> bool {
+/// Returns whether both `with_key` and `is_default` accept a default object with this key.
+fn default_is_accepted(alloc: Global, keypos: u32, default: &Term, key: &Term) -> bool {
     let outcome = with_key(alloc, default, keypos, key);
     let has_object = outcome.is_ok();
     drop(outcome);
     has_object && is_default(default, keypos, key)
 }
 
-/// Returns whether a default object with this key is refused as no object, by both functions.
-fn is_no_object(alloc: Global, keypos: u32, default: &Term, key: &Term) -> bool {
+/// Returns whether both `with_key` and `is_default` refuse a default object with this key.
+fn default_is_refused(alloc: Global, keypos: u32, default: &Term, key: &Term) -> bool {
     let fault = with_key(alloc, default, keypos, key).err();
     !is_default(default, keypos, key) && matches!(fault, Some(CounterFault::Badarg))
 }
 
-/// Returns whether `start_counter` has the expected answer and object, or the expected refusal. `object` is a default
-/// object and a key.
-fn starts_with_ops(
+/// Returns whether `start_counter` gives the object and the answer of `expected`, `{Answer,Object}`, or the expected
+/// refusal. If it succeeds, `with_key` and `is_default` must accept the default object too.
+fn applies_ops_to_default(
     alloc: Global,
     keypos: u32,
-    object: (&Term, &Term),
+    default_and_key: (&Term, &Term),
     ops: &Ops,
     expected: &Term,
 ) -> bool {
-    let (default, key) = object;
+    let (default, key) = default_and_key;
     match start_counter(alloc, default, keypos, key, ops) {
         Ok(started) => {
-            let same = is_start(expected, &started.1, &started.0);
+            let same = is_answer_and_object(expected, &started.1, &started.0);
             drop(started);
-            same && is_object(alloc, keypos, default, key)
+            same && default_is_accepted(alloc, keypos, default, key)
         }
         Err(fault) => is_refusal(&fault, expected),
     }
 }
 
-/// Returns whether a default object with a key, `object`, gives the expected answer and object by these operations.
-pub fn starts_as_expected(
+/// Reads operations, and returns whether they give the expected result on a default object with a key.
+pub fn starts_counter_as_expected(
     alloc: Global,
     keypos: u32,
-    object: (&Term, &Term),
+    default_and_key: (&Term, &Term),
     updates: &Term,
     expected: &Term,
 ) -> Option<bool> {
     match read_ops(alloc, updates, keypos) {
         Ok(ops) => {
-            let started = starts_with_ops(alloc, keypos, object, &ops, expected);
+            let started = applies_ops_to_default(alloc, keypos, default_and_key, &ops, expected);
             drop(ops);
             Some(started)
         }
@@ -58,8 +59,8 @@ pub fn starts_as_expected(
     }
 }
 
-/// Returns whether a default object with this key and these element values is `expected`, or is refused as `expected`
-/// says.
+/// Returns whether `start_with_elements`, with keypos 1, builds the object `expected`, or is refused if `expected` is
+/// the atom of a refusal.
 pub fn writes_default_as_expected(
     alloc: Global,
     default: &Term,
@@ -76,8 +77,9 @@ pub fn writes_default_as_expected(
     }
 }
 
-/// An update of a missing key gives `{Answer,Object}`, or a refusal.
-const STARTED: [&str; 7] = [
+/// Rows `[default, Default, key, Key, update, Operations, gives, Result]`. The result is `{Answer,Object}` or a
+/// refusal.
+const COUNTED_WITH_DEFAULT: [&str; 7] = [
     "[default, {x,10}, key, h, update, {2,1}, gives, {11,{h,11}}]",
     "[default, {x,10}, key, h, update, 1, gives, {11,{h,11}}]",
     "[default, {x,10}, key, h, update, [{2,1},{2,-5}], gives, {[11,6],{h,6}}]",
@@ -87,16 +89,20 @@ const STARTED: [&str; 7] = [
     "[default, 7, key, h, update, 1, gives, badarg]",
 ];
 
-/// Checks operations on keys that have no object.
+/// Checks operations on a missing key: they count from the default object.
 #[test]
 fn counters_begin_at_their_defaults(rt: HostRuntime) {
     assert_eq!(rt;
-        first_mismatch(rt.alloc(), Call::Start(1), &STARTED),
+        first_mismatch(
+            rt.alloc(),
+            Call::UpdateCounterWithDefault(1),
+            &COUNTED_WITH_DEFAULT
+        ),
         Some(None)
     );
 }
 
-/// Element values for a missing key give the object, or a refusal.
+/// Rows `[default, Default, key, Key, set, Values, gives, Result]`. The result is the new object or a refusal.
 const WRITTEN: [&str; 4] = [
     "[default, {0,1}, key, 3, set, {2,9}, gives, {3,9}]",
     "[default, {0,1}, key, 3, set, [], gives, {3,1}]",
@@ -104,28 +110,35 @@ const WRITTEN: [&str; 4] = [
     "[default, 7, key, 3, set, {2,9}, gives, badarg]",
 ];
 
-/// Checks element values for keys that have no object.
+/// Checks element values for a missing key: they are written to the default object.
 #[test]
 fn values_are_written_to_a_default_object(rt: HostRuntime) {
     assert_eq!(rt;
-        first_mismatch(rt.alloc(), Call::WriteDefault, &WRITTEN),
+        first_mismatch(rt.alloc(), Call::UpdateElementWithDefault, &WRITTEN),
         Some(None)
     );
 }
 
-/// Returns whether a Default with a key of this text is an object, and whether it is refused as none.
-fn object_verdicts(alloc: Global, keypos: u32, default: &Term, key: &str) -> Option<(bool, bool)> {
+/// Returns whether `with_key` and `is_default` both accept a default object with the key of this text, and whether both
+/// refuse it.
+fn verdicts_on_default(
+    alloc: Global,
+    keypos: u32,
+    default: &Term,
+    key: &str,
+) -> Option<(bool, bool)> {
     let (key, _) = read_term(alloc, key).ok()?;
-    let is_object = is_object(alloc, keypos, default, &key);
-    let is_refused = is_no_object(alloc, keypos, default, &key);
+    let is_accepted = default_is_accepted(alloc, keypos, default, &key);
+    let is_refused = default_is_refused(alloc, keypos, default, &key);
     drop(key);
-    Some((is_object, is_refused))
+    Some((is_accepted, is_refused))
 }
 
-/// Returns whether a Default with a key is an object. None means that the functions disagree.
-fn is_object_of(alloc: Global, keypos: u32, default: &str, key: &str) -> Option<bool> {
+/// Returns whether the default object and the key of these texts make an object. None means out of memory, a text that
+/// is not a term, or that `with_key` and `is_default` disagree.
+fn is_valid_default(alloc: Global, keypos: u32, default: &str, key: &str) -> Option<bool> {
     let (default, _) = read_term(alloc, default).ok()?;
-    let verdicts = object_verdicts(alloc, keypos, &default, key);
+    let verdicts = verdicts_on_default(alloc, keypos, &default, key);
     drop(default);
     match verdicts? {
         (true, false) => Some(true),
@@ -134,27 +147,28 @@ fn is_object_of(alloc: Global, keypos: u32, default: &str, key: &str) -> Option<
     }
 }
 
-/// The keypos, a default object and a key that do not make an object.
-const NO_OBJECTS: [(u32, &str, &str); 4] = [
+/// Each row is a keypos, a default object and a key that do not make an object: `{x}` has no position 2 or 0, no object
+/// has the key `'$end_of_table'`, and 7 is not a tuple.
+const INVALID_DEFAULTS: [(u32, &str, &str); 4] = [
     (2, "{x}", "h"),
     (0, "{x}", "h"),
     (1, "{x}", "'$end_of_table'"),
     (1, "7", "h"),
 ];
 
-/// Returns whether no row makes an object. None means out of memory, or that the functions disagree.
-fn are_no_objects(alloc: Global, rows: &[(u32, &'static str, &'static str)]) -> Option<bool> {
+/// Returns whether no row makes an object. None is as in `is_valid_default`.
+fn are_invalid_defaults(alloc: Global, rows: &[(u32, &'static str, &'static str)]) -> Option<bool> {
     for (keypos, default, key) in rows {
-        if is_object_of(alloc, *keypos, *default, *key)? {
+        if is_valid_default(alloc, *keypos, *default, *key)? {
             return Some(false);
         }
     }
     Some(true)
 }
 
-/// Checks which Defaults are objects with a key.
+/// Checks that `with_key` and `is_default` accept a default object only if it is an object with the key.
 #[test]
-fn defaults_that_are_objects(rt: HostRuntime) {
-    assert!(rt; is_object_of(rt.alloc(), 1, "{x}", "h") == Some(true));
-    assert!(rt; are_no_objects(rt.alloc(), &NO_OBJECTS) == Some(true));
+fn only_objects_are_valid_defaults(rt: HostRuntime) {
+    assert!(rt; is_valid_default(rt.alloc(), 1, "{x}", "h") == Some(true));
+    assert!(rt; are_invalid_defaults(rt.alloc(), &INVALID_DEFAULTS) == Some(true));
 }

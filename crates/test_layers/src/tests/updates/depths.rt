@@ -1,4 +1,4 @@
-//! Element values about as deep as an object may be.
+//! Element values near the greatest depth that an object may have.
 use super::elements::writes_as_expected;
 use super::*;
 use crate::tests::depths::nested_list;
@@ -30,8 +30,8 @@ fn element_values(alloc: Global, depths: &[usize]) -> Option<Term> {
     Some(Term::List(keep_if_some(push_element_values(alloc, &mut items, depths), items)?))
 }
 
-/// The depths of the values that a list writes as the second element, and whether the list is refused. If it is not,
-/// its last value makes the object as deep as it may be.
+/// Each row is the depths of the values in a list, all for the second element, and whether the list is refused. If it
+/// is not refused, its last value makes the object as deep as it may be.
 const ROWS: [(&[usize], bool); 5] = [
     (&[MAX_DEPTH], true),
     (&[1, MAX_DEPTH], true),
@@ -40,26 +40,26 @@ const ROWS: [(&[usize], bool); 5] = [
     (&[MAX_DEPTH, MAX_DEPTH - 1], false),
 ];
 
-/// Pushes the terms that the rows need: the object `{2,1}`, the object `{2,Value}` with the deepest value, and the atom
-/// of a refusal.
+/// Pushes the terms that the rows need: the object `{2,1}` before an update, the object `{2,Value}` with the deepest
+/// value, which is built as an element value is, and the atom of the refusal.
 fn push_row_terms(alloc: Global, terms: &mut Items<Term>) -> Option<()> {
     terms.push(read_term(alloc, "{2,1}").ok()?.0).ok()?;
     terms.push(element_value(alloc, MAX_DEPTH - 1)?).ok()?;
     terms.push(read_term(alloc, "system_limit").ok()?.0).ok()
 }
 
-/// Returns whether an object with these element values is `expected`, or is refused as `expected` says, and drops the
-/// values.
-fn values_make(
+/// Returns whether these element values update an object to `expected`, or are refused if `expected` is the atom of a
+/// refusal. Drops the values.
+fn values_write_as_expected(
     alloc: Global,
     object: &Term,
     values: Option<Term>,
     expected: &Term,
 ) -> Option<bool> {
     let values = values?;
-    let makes_it = writes_as_expected(alloc, object, &values, expected);
+    let holds = writes_as_expected(alloc, object, &values, expected);
     drop(values);
-    makes_it
+    holds
 }
 
 /// Returns whether each row holds, and a single value of depth `MAX_DEPTH` is refused. The terms are those of
@@ -70,11 +70,11 @@ fn all_rows_hold(alloc: Global, terms: &[Term], rows: &[(&'static [usize], bool)
     };
     for (depths, is_refused) in rows {
         let expected = if *is_refused { refusal } else { deepest };
-        if !values_make(alloc, object, element_values(alloc, *depths), expected)? {
+        if !values_write_as_expected(alloc, object, element_values(alloc, *depths), expected)? {
             return Some(false);
         }
     }
-    values_make(alloc, object, element_value(alloc, MAX_DEPTH), refusal)
+    values_write_as_expected(alloc, object, element_value(alloc, MAX_DEPTH), refusal)
 }
 
 /// Builds the terms, and returns whether all rows hold.

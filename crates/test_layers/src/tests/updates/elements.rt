@@ -1,8 +1,9 @@
+// `update_element` of an object, in place and on a copy.
 use super::rows::{Call, Update, first_mismatch, first_valid_text};
 use super::*;
 
-/// Returns whether `write_elements` makes the object `expected`, or is refused as `expected` says and leaves the object
-/// as it was, `before`.
+/// Returns whether `write_elements` changes the object to `expected`. If `expected` is the atom of a refusal, checks
+/// this refusal, and that the object is still `before`.
 fn writes_in_place(
     alloc: Global,
     object: &mut Term,
@@ -16,7 +17,8 @@ fn writes_in_place(
     }
 }
 
-/// Returns whether `apply_elements` makes the object `expected`, or is refused as `expected` says.
+/// Returns whether `apply_elements` returns the object `expected`, or is refused if `expected` is the atom of a
+/// refusal. The keypos is 1.
 fn writes_on_a_copy(alloc: Global, object: &Term, values: &Term, expected: &Term) -> bool {
     match read_element_specs(alloc, values, 1) {
         Ok(specs) => has_answer(apply_elements(alloc, object, &specs), expected),
@@ -24,35 +26,36 @@ fn writes_on_a_copy(alloc: Global, object: &Term, values: &Term, expected: &Term
     }
 }
 
-/// Reads element values, and returns whether they write in place as expected.
-fn writes_in_own_object(
+/// Reads element values for keypos 1, and returns whether `write_elements` writes them to the object as expected.
+fn reads_and_writes_in_place(
     alloc: Global,
-    own: &mut Term,
+    object: &mut Term,
     values: &Term,
     before: &Term,
     expected: &Term,
 ) -> bool {
     match read_element_specs(alloc, values, 1) {
-        Ok(specs) => writes_in_place(alloc, own, &specs, before, expected),
+        Ok(specs) => writes_in_place(alloc, object, &specs, before, expected),
         Err(_) => false,
     }
 }
 
-/// Returns whether an object with these element values is `expected`, in place and as a copy, or is refused as
-/// `expected` says.
+/// Returns whether element values update an object to `expected`, in place and on a copy. They must be refused if
+/// `expected` is the atom of a refusal.
 pub fn writes_as_expected(
     alloc: Global,
     object: &Term,
     values: &Term,
     expected: &Term,
 ) -> Option<bool> {
-    let mut own = object.try_clone(alloc).ok()?;
-    let in_place = writes_in_own_object(alloc, &mut own, values, object, expected);
-    drop(own);
+    let mut copy = object.try_clone(alloc).ok()?;
+    let in_place = reads_and_writes_in_place(alloc, &mut copy, values, object, expected);
+    drop(copy);
     Some(in_place && writes_on_a_copy(alloc, object, values, expected))
 }
 
-/// Of several values for a position the last is written. A position above the size is refused anywhere in a list.
+/// Rows `[Before, set, Values, gives, Result]`. The result is the object afterwards or a refusal. Of several values for
+/// a position, the last is written. A position above the size is refused anywhere in a list.
 const WRITTEN: [&str; 11] = [
     "[{k,1,2}, set, {2,y}, gives, {k,y,2}]",
     "[{k,1,2}, set, [{2,y}], gives, {k,y,2}]",
@@ -69,15 +72,15 @@ const WRITTEN: [&str; 11] = [
 
 /// Checks element values that are written, and positions that are refused.
 #[test]
-fn values_of_elements(rt: HostRuntime) {
+fn element_values_are_written_or_refused(rt: HostRuntime) {
     assert_eq!(rt;
-        first_mismatch(rt.alloc(), Call::Write, &WRITTEN),
+        first_mismatch(rt.alloc(), Call::UpdateElement, &WRITTEN),
         Some(None)
     );
 }
 
-/// Texts that are not element values for an object whose key is first.
-const WRONG: [&str; 15] = [
+/// Terms that are not element values for an object whose key is first.
+const NOT_ELEMENT_VALUES: [&str; 15] = [
     "{0,x}",
     "{1,x}",
     "{-2,x}",
@@ -95,11 +98,11 @@ const WRONG: [&str; 15] = [
     "2",
 ];
 
-/// Checks that no text of `WRONG` is read as element values.
+/// Checks that `read_element_specs` refuses each term of `NOT_ELEMENT_VALUES`.
 #[test]
-fn texts_that_are_no_values_are_refused(rt: HostRuntime) {
+fn texts_that_are_not_element_values_are_refused(rt: HostRuntime) {
     assert_eq!(rt;
-        first_valid_text(rt.alloc(), Update::Values, &WRONG),
+        first_valid_text(rt.alloc(), Update::Values, &NOT_ELEMENT_VALUES),
         Some(None)
     );
 }

@@ -1,7 +1,7 @@
-// Calls that are made again if memory runs out.
+// Calls that are retried once if memory is refused. `.ci/refusals` refuses one allocation a run, so a retry has memory.
 use super::*;
 
-/// Copies a term, again if memory runs out.
+/// Copies a term. Retries once if memory is refused.
 pub fn clone_with_retry(alloc: Global, term: &Term) -> Option<Term> {
     match term.try_clone(alloc) {
         Ok(copy) => Some(copy),
@@ -9,7 +9,7 @@ pub fn clone_with_retry(alloc: Global, term: &Term) -> Option<Term> {
     }
 }
 
-/// Reads operations, again if memory runs out.
+/// Reads operations, which are valid in each row, so that only memory can fail. Retries once if this fails.
 pub fn read_ops_with_retry(alloc: Global, updates: &Term, keypos: u32) -> Option<Ops> {
     match read_ops(alloc, updates, keypos) {
         Ok(ops) => Some(ops),
@@ -17,8 +17,8 @@ pub fn read_ops_with_retry(alloc: Global, updates: &Term, keypos: u32) -> Option
     }
 }
 
-/// Reads element values of an object whose key is first, again if memory runs out.
-pub fn read_specs_with_retry(alloc: Global, values: &Term) -> Option<ElementSpecs> {
+/// Reads element values for an object whose key is first. Retries once if this fails.
+pub fn read_element_specs_with_retry(alloc: Global, values: &Term) -> Option<ElementSpecs> {
     match read_element_specs(alloc, values, 1) {
         Ok(specs) => Some(specs),
         Err(_) => read_element_specs(alloc, values, 1).ok(),
@@ -30,8 +30,9 @@ fn is_refused_memory<T>(outcome: &Result<T, CounterFault>) -> bool {
     matches!(outcome, Err(CounterFault::Memory))
 }
 
-/// Updates an object by operations, again if they were refused memory and the object is unchanged.
-pub fn update_with_retry(
+/// Updates the counters of an object in place. Retries once if memory is refused and the object is still `before`. If
+/// it is not, returns the refusal, and so the test fails.
+pub fn update_counter_with_retry(
     alloc: Global,
     object: &mut Term,
     before: &Term,
@@ -45,8 +46,8 @@ pub fn update_with_retry(
     update_counter(alloc, object, ops)
 }
 
-/// Applies operations to a copy of an object, again if memory runs out.
-pub fn apply_with_retry(
+/// Applies operations to a copy of an object. Retries once if memory is refused.
+pub fn apply_ops_with_retry(
     alloc: Global,
     object: &Term,
     ops: &Ops,
@@ -59,8 +60,8 @@ pub fn apply_with_retry(
     apply_ops(alloc, object, ops)
 }
 
-/// Applies operations to a default object whose key is first, again if memory runs out.
-pub fn start_with_retry(
+/// Applies operations to a default object whose key is first. Retries once if memory is refused.
+pub fn start_counter_with_retry(
     alloc: Global,
     default: &Term,
     key: &Term,
@@ -74,7 +75,7 @@ pub fn start_with_retry(
     start_counter(alloc, default, 1, key, ops)
 }
 
-/// Applies element values to a copy of an object, again if memory runs out.
+/// Applies element values to a copy of an object. Retries once if memory is refused.
 pub fn apply_elements_with_retry(
     alloc: Global,
     object: &Term,
@@ -88,7 +89,7 @@ pub fn apply_elements_with_retry(
     apply_elements(alloc, object, specs)
 }
 
-/// Applies element values to a default object whose key is first, again if memory runs out.
+/// Applies element values to a default object whose key is first. Retries once if memory is refused.
 pub fn start_with_elements_with_retry(
     alloc: Global,
     default: &Term,

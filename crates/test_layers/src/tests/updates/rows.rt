@@ -1,43 +1,49 @@
-use super::counts::counts_as_expected;
-use super::defaults::{starts_as_expected, writes_default_as_expected};
+// Rows of text: each is a list of lower-case labels and of terms, for one update and its expected result.
+use super::counts::updates_counter_as_expected;
+use super::defaults::{starts_counter_as_expected, writes_default_as_expected};
 use super::elements::writes_as_expected;
 use super::*;
 
-/// The form of a row of text.
+/// The call that a row of text checks, and so the columns of the row. A lower-case column is a literal label.
 #[derive(Clone, Copy)]
 pub enum Call {
     /// Operations on an object whose key is at this position:
-    /// `[Object, update, Operations, gives, Answer, leaves, Object]`.
+    /// `[Before, update, Operations, gives, Answer, leaves, After]`. The answer may be a refusal.
     UpdateCounter(u32),
-    /// Element values for an object whose key is first: `[Object, set, Values, gives, Object]`.
-    Write,
+    /// Element values for an object whose key is first: `[Before, set, Values, gives, Result]`. The result is the
+    /// object afterwards or a refusal.
+    UpdateElement,
     /// Operations on a default object whose key is at this position:
-    /// `[default, Default, key, Key, update, Operations, gives, Result]`, where the result is `{Answer,Object}` or a
-    /// refusal.
-    Start(u32),
+    /// `[default, Default, key, Key, update, Operations, gives, Result]`. The result is `{Answer,Object}` or a refusal.
+    UpdateCounterWithDefault(u32),
     /// Element values for a default object whose key is first:
-    /// `[default, Default, key, Key, set, Values, gives, Object]`.
-    WriteDefault,
+    /// `[default, Default, key, Key, set, Values, gives, Result]`. The result is the new object or a refusal.
+    UpdateElementWithDefault,
 }
 
 /// The labels of a row of `UpdateCounter`, each with its index.
 pub const COUNTER_LABELS: [(usize, &str); 3] = [(1, "update"), (3, "gives"), (5, "leaves")];
 
-/// The labels of a row of `Write`, each with its index.
-pub const WRITE_LABELS: [(usize, &str); 2] = [(1, "set"), (3, "gives")];
+/// The labels of a row of `UpdateElement`, each with its index.
+pub const ELEMENT_LABELS: [(usize, &str); 2] = [(1, "set"), (3, "gives")];
 
-/// The labels of a row of `Start`, each with its index.
-const START_LABELS: [(usize, &str); 4] = [(0, "default"), (2, "key"), (4, "update"), (6, "gives")];
+/// The labels of a row of `UpdateCounterWithDefault`, each with its index.
+const COUNTER_DEFAULT_LABELS: [(usize, &str); 4] = [
+    (0, "default"),
+    (2, "key"),
+    (4, "update"),
+    (6, "gives"),
+];
 
-/// The labels of a row of `WriteDefault`, each with its index.
-pub const WRITE_DEFAULT_LABELS: [(usize, &str); 4] = [
+/// The labels of a row of `UpdateElementWithDefault`, each with its index.
+pub const ELEMENT_DEFAULT_LABELS: [(usize, &str); 4] = [
     (0, "default"),
     (2, "key"),
     (4, "set"),
     (6, "gives"),
 ];
 
-/// Returns whether a row has these labels, so that a misspelt or misplaced one fails the test.
+/// Returns whether a row has these labels at their indices. A misspelt or misplaced label fails the test.
 pub fn has_labels(row: &[Term], labels: &[(usize, &'static str)]) -> bool {
     for (index, label) in labels {
         let Some(part) = row.get(*index) else {
@@ -50,52 +56,56 @@ pub fn has_labels(row: &[Term], labels: &[(usize, &'static str)]) -> bool {
     true
 }
 
-/// Returns whether a row has the labels of its form.
+/// Returns whether a row has the labels of its call.
 fn has_labels_of(call: Call, row: &[Term]) -> bool {
     match call {
         Call::UpdateCounter(_) => has_labels(row, &COUNTER_LABELS),
-        Call::Write => has_labels(row, &WRITE_LABELS),
-        Call::Start(_) => has_labels(row, &START_LABELS),
-        Call::WriteDefault => has_labels(row, &WRITE_DEFAULT_LABELS),
+        Call::UpdateElement => has_labels(row, &ELEMENT_LABELS),
+        Call::UpdateCounterWithDefault(_) => has_labels(row, &COUNTER_DEFAULT_LABELS),
+        Call::UpdateElementWithDefault => has_labels(row, &ELEMENT_DEFAULT_LABELS),
     }
 }
 
-/// Returns whether the operations of a row have their answer and leave their object.
+/// Returns whether the operations of a row have its answer and leave its object.
 fn counter_row_holds(alloc: Global, keypos: u32, row: &[Term]) -> Option<bool> {
     let [before, _, updates, _, answer, _, after] = row else {
         return Some(false);
     };
-    counts_as_expected(alloc, keypos, before, updates, (answer, after))
+    updates_counter_as_expected(alloc, keypos, before, updates, (answer, after))
 }
 
-/// Returns whether the element values of a row make its object, or are refused as it says.
-fn write_row_holds(alloc: Global, row: &[Term]) -> Option<bool> {
+/// Returns whether the element values of a row have its result.
+fn element_row_holds(alloc: Global, row: &[Term]) -> Option<bool> {
     let [before, _, values, _, expected] = row else {
         return Some(false);
     };
     writes_as_expected(alloc, before, values, expected)
 }
 
-/// Returns whether the updates of a default object in a row have their result.
+/// Returns whether the operations or element values of a row, on its default object, have the result of the row.
 fn default_row_holds(alloc: Global, call: Call, row: &[Term]) -> Option<bool> {
     let [_, default, _, key, _, updates, _, expected] = row else {
         return Some(false);
     };
     match call {
-        Call::Start(keypos) => starts_as_expected(alloc, keypos, (default, key), updates, expected),
+        Call::UpdateCounterWithDefault(keypos) => {
+            starts_counter_as_expected(alloc, keypos, (default, key), updates, expected)
+        }
         _ => writes_default_as_expected(alloc, default, key, updates, expected),
     }
 }
 
-/// Returns whether the call of a row has the answer and makes the object of the row.
+/// Returns whether a row has its labels, and its call has the expected result.
 fn row_holds(alloc: Global, call: Call, row: &[Term]) -> Option<bool> {
     if !has_labels_of(call, row) {
         return Some(false);
     }
     match call {
         Call::UpdateCounter(keypos) => counter_row_holds(alloc, keypos, row),
-        Call::Write => write_row_holds(alloc, row),
-        Call::Start(_) | Call::WriteDefault => default_row_holds(alloc, call, row),
+        Call::UpdateElement => element_row_holds(alloc, row),
+        Call::UpdateCounterWithDefault(_) | Call::UpdateElementWithDefault => {
+            default_row_holds(alloc, call, row)
+        }
     }
 }
 
@@ -110,7 +120,7 @@ fn text_row_holds(alloc: Global, call: Call, row: &str) -> Option<bool> {
     holds
 }
 
-/// Returns the first row that does not hold.
+/// Returns the first row that does not hold. The outer None means out of memory, or a row that is not a term.
 pub fn first_mismatch(
     alloc: Global,
     call: Call,
@@ -124,7 +134,7 @@ pub fn first_mismatch(
     Some(None)
 }
 
-/// What a text is tried to be read as, for an object whose key is first.
+/// How a test reads a text: as operations or as element values, for an object whose key is first.
 #[derive(Clone, Copy)]
 pub enum Update {
     /// Operations on counters.
@@ -134,7 +144,7 @@ pub enum Update {
 }
 
 /// Returns whether a term is refused as this form of update.
-fn is_no_update(alloc: Global, update: Update, term: &Term) -> bool {
+fn is_refused_as_update(alloc: Global, update: Update, term: &Term) -> bool {
     let fault = match update {
         Update::Operations => read_ops(alloc, term, 1).err(),
         Update::Values => read_element_specs(alloc, term, 1).err(),
@@ -143,21 +153,22 @@ fn is_no_update(alloc: Global, update: Update, term: &Term) -> bool {
 }
 
 /// Returns whether the term of a text is refused as this form of update.
-fn is_text_of_no_update(alloc: Global, update: Update, text: &str) -> Option<bool> {
+fn is_text_refused_as_update(alloc: Global, update: Update, text: &str) -> Option<bool> {
     let (term, _) = read_term(alloc, text).ok()?;
-    let is_refused = is_no_update(alloc, update, &term);
+    let is_refused = is_refused_as_update(alloc, update, &term);
     drop(term);
     Some(is_refused)
 }
 
-/// Returns the first text that is read as this form of update.
+/// Returns the first text that is read as this form of update. The outer None means out of memory, or a text that is
+/// not a term.
 pub fn first_valid_text(
     alloc: Global,
     update: Update,
     texts: &[&'static str],
 ) -> Option<Option<&'static str>> {
     for text in texts {
-        if !is_text_of_no_update(alloc, update, *text)? {
+        if !is_text_refused_as_update(alloc, update, *text)? {
             return Some(Some(*text));
         }
     }

@@ -3,31 +3,31 @@ use super::*;
 use crate::tests::plain::clauses::parts_of;
 use crate::tests::plain::functions::{is_kind_test, is_one_of};
 use crate::tests::plain::matching::{Binding, bound_value, push_binding, variable_number};
-use crate::tests::plain::operations::is_operation;
+use crate::tests::plain::operations::is_arithmetic_operator;
 
-/// Functions of at least one argument.
-const OF_SOME: [&str; 4] = ["and", "or", "andalso", "orelse"];
+/// Functions of one or more arguments.
+const VARIADIC_FUNCTIONS: [&str; 4] = ["and", "or", "andalso", "orelse"];
 
-/// Functions of one argument, other than the tests of kinds.
-const OF_ONE: [&str; 7] = ["is_number", "not", "abs", "hd", "tl", "length", "size"];
+/// Functions of one argument, without `KIND_TESTS`.
+const UNARY_FUNCTIONS: [&str; 7] = ["is_number", "not", "abs", "hd", "tl", "length", "size"];
 
-/// Functions of two arguments, other than the arithmetic operators.
-const OF_TWO: [&str; 10] = [
+/// Functions of two arguments, without the arithmetic operators.
+const BINARY_FUNCTIONS: [&str; 10] = [
     "xor", "element", ">", ">=", "<", "=<", "=:=", "==", "=/=", "/=",
 ];
 
 /// Returns whether a function of this name takes this number of arguments.
 fn is_function(name: &Term, count: usize) -> bool {
-    if is_one_of(name, &OF_SOME) {
+    if is_one_of(name, &VARIADIC_FUNCTIONS) {
         count > 0
-    } else if is_kind_test(name) || is_one_of(name, &OF_ONE) {
+    } else if is_kind_test(name) || is_one_of(name, &UNARY_FUNCTIONS) {
         count == 1
     } else {
-        count == 2 && (is_operation(name) || is_one_of(name, &OF_TWO))
+        count == 2 && (is_arithmetic_operator(name) || is_one_of(name, &BINARY_FUNCTIONS))
     }
 }
 
-/// Returns whether a term is an expression, all of whose variables are bound by the pattern.
+/// Returns whether a term is an expression all of whose variables are in the pattern, and so in `bindings`.
 #[cycle(plain_check)]
 fn is_expression(term: &Term, bindings: &[Binding]) -> bool {
     match term {
@@ -52,7 +52,7 @@ fn are_expressions(terms: &[Term], start: usize, bindings: &[Binding]) -> bool {
     true
 }
 
-/// Returns whether a tuple is an expression: a tuple in a tuple, a constant, or a function with its arguments.
+/// Returns whether a tuple is an expression: `{{..}}` (which builds a tuple), a constant, or a function with arguments.
 #[cycle(plain_check)]
 fn is_tuple_expression(items: &[Term], bindings: &[Binding]) -> bool {
     if items.is_empty() {
@@ -60,18 +60,19 @@ fn is_tuple_expression(items: &[Term], bindings: &[Binding]) -> bool {
     }
     match &items[0] {
         Term::Tuple(parts) => {
-            let inside = are_expressions(parts.as_slice(), 0, bindings);
-            items.len() == 1 && inside
+            let parts_are_expressions = are_expressions(parts.as_slice(), 0, bindings);
+            items.len() == 1 && parts_are_expressions
         }
         name => {
             let count = items.len() - 1;
-            let inside = are_expressions(items, 1, bindings);
-            (name.is_atom("const") && count == 1) || (is_function(name, count) && inside)
+            // The arguments are the items after the name.
+            let arguments_fit = are_expressions(items, 1, bindings);
+            (name.is_atom("const") && count == 1) || (is_function(name, count) && arguments_fit)
         }
     }
 }
 
-/// Collects the variables of a pattern, each bound to itself.
+/// Collects the variables of a pattern as bindings, each with the variable itself as its value.
 #[cycle(plain_variables)]
 fn collect_variables(alloc: Global, pattern: &Term, found: &mut Vec<Binding>) {
     match pattern {
@@ -79,6 +80,7 @@ fn collect_variables(alloc: Global, pattern: &Term, found: &mut Vec<Binding>) {
         Term::List(items) => collect_all_variables(alloc, items.as_slice(), found),
         _ => {
             if let Some(n) = variable_number(pattern) {
+                // Ignored: it is `None` only if memory runs out.
                 let _pushed = push_binding(alloc, n, pattern, found);
             }
         }
@@ -93,14 +95,14 @@ fn collect_all_variables(alloc: Global, parts: &[Term], found: &mut Vec<Binding>
     }
 }
 
-/// Returns whether a clause has expressions as conditions and as body, with at least one in the body.
+/// Returns whether all conditions and all parts of a body are expressions, and the body is not empty.
 fn are_conditions_and_body(conditions: &Term, body: &Term, variables: &[Binding]) -> bool {
     are_expressions(parts_of(conditions), 0, variables)
         && are_expressions(parts_of(body), 0, variables)
         && !parts_of(body).is_empty()
 }
 
-/// Returns whether a term is a clause: a pattern, conditions and a body.
+/// Returns whether a term is a clause: a pattern, which is an atom or a tuple, conditions and a body.
 fn is_clause(alloc: Global, clause: &Term) -> bool {
     let [pattern, conditions, body] = parts_of(clause) else {
         return false;
@@ -111,7 +113,7 @@ fn is_clause(alloc: Global, clause: &Term) -> bool {
         && are_conditions_and_body(conditions, body, found.as_slice())
 }
 
-/// Returns whether a list of tuples, each with lists after the pattern, is a match specification.
+/// Returns whether a list is a match specification. Its items must be tuples whose conditions and body are lists.
 pub(crate) fn is_spec(alloc: Global, spec: &Term) -> bool {
     for clause in parts_of(spec) {
         if !is_clause(alloc, clause) {

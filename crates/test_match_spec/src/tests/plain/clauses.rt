@@ -12,7 +12,7 @@ pub(crate) fn parts_of(term: &Term) -> &[Term] {
     }
 }
 
-/// Returns whether the value of a condition is `true`. A condition that fails is not.
+/// Returns whether the value of a condition is `true`. A condition that fails is not true.
 fn condition_is_true(alloc: Global, condition: &Term, object: &Term, bindings: &[Binding]) -> bool {
     match expression_value(alloc, condition, object, bindings) {
         Some(term) => term.is_atom("true"),
@@ -35,8 +35,9 @@ fn conditions_are_true(
     true
 }
 
-/// Returns the last of the values of a body, or None if an expression fails.
+/// Returns the value of the last expression of a body, or `None` if one of the expressions fails.
 fn last_value(alloc: Global, body: &[Term], object: &Term, bindings: &[Binding]) -> Option<Term> {
+    // Replaced by the first value, because a body is not empty.
     let mut last = Term::default();
     for expression in body {
         last = expression_value(alloc, expression, object, bindings)?;
@@ -44,7 +45,8 @@ fn last_value(alloc: Global, body: &[Term], object: &Term, bindings: &[Binding])
     Some(last)
 }
 
-/// Returns the result of a clause, or None if its pattern or a condition does not hold. A body that fails gives `EXIT`.
+/// Returns the result of a clause, or `None` if its pattern does not match or a condition is not true. A body that
+/// fails gives `'EXIT'`.
 fn clause_result(alloc: Global, clause: &Term, object: &Term) -> Option<Term> {
     let [pattern, conditions, body] = parts_of(clause) else {
         return None;
@@ -61,7 +63,7 @@ fn clause_result(alloc: Global, clause: &Term, object: &Term) -> Option<Term> {
     }
 }
 
-/// Returns the result of the first clause that has one.
+/// Returns the result of the first clause that has one, or `None` if no clause has one.
 pub(crate) fn result(alloc: Global, spec: &Term, object: &Term) -> Option<Term> {
     for clause in parts_of(spec) {
         if let Some(result) = clause_result(alloc, clause, object) {

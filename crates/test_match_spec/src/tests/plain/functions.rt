@@ -1,8 +1,10 @@
-// The value of a function, or None if it fails.
+// The values of the functions of match specifications. `None` means that a function fails.
 use super::*;
-use crate::tests::plain::operations::{calculate, compare_terms, difference, is_operation};
+use crate::tests::plain::operations::{
+    calculate, compare_terms, difference, is_arithmetic_operator,
+};
 
-/// Returns the boolean that a term is, or None.
+/// Returns the boolean that a term is, or `None` if it is not one.
 pub(crate) fn boolean_of(term: &Term) -> Option<bool> {
     if term.is_atom("true") {
         Some(true)
@@ -18,7 +20,7 @@ pub(crate) fn boolean_term(alloc: Global, b: bool) -> Option<Term> {
     atom(alloc, if b { "true" } else { "false" })
 }
 
-/// Returns the value of a function other than `andalso` and `orelse`, or None if it fails.
+/// Returns the value of a function other than `andalso` and `orelse`, or `None` if it fails.
 pub(crate) fn apply_function(alloc: Global, name: &Term, arguments: &[Term]) -> Option<Term> {
     if name.is_atom("and") || name.is_atom("or") {
         return boolean_term(alloc, join_booleans(arguments, name.is_atom("or"))?);
@@ -30,8 +32,8 @@ pub(crate) fn apply_function(alloc: Global, name: &Term, arguments: &[Term]) -> 
     }
 }
 
-/// Returns `stop` if an argument is `stop`, else its opposite: `or` if `stop` is true, `and` if not. None means that an
-/// argument is not a boolean.
+/// Returns the value of `or` if `stop` is true, else of `and`: `stop` if an argument is `stop`, otherwise its opposite.
+/// `None` means that an argument is not a boolean.
 fn join_booleans(arguments: &[Term], stop: bool) -> Option<bool> {
     let mut found = !stop;
     for argument in arguments {
@@ -42,7 +44,7 @@ fn join_booleans(arguments: &[Term], stop: bool) -> Option<bool> {
     Some(found)
 }
 
-/// Returns the name of the test that a term of this kind passes.
+/// Returns the name of the kind test that is true of a term.
 fn kind_test_of(term: &Term) -> &'static str {
     match term {
         Term::Int(_) => "is_integer",
@@ -55,7 +57,7 @@ fn kind_test_of(term: &Term) -> &'static str {
     }
 }
 
-/// The tests of the kind of a term.
+/// The functions that test of which kind a term is.
 const KIND_TESTS: [&str; 7] = [
     "is_integer",
     "is_atom",
@@ -66,7 +68,7 @@ const KIND_TESTS: [&str; 7] = [
     "is_binary",
 ];
 
-/// Returns whether a term is an atom of one of these names.
+/// Returns whether a term is an atom whose text is one of these names.
 pub(crate) fn is_one_of(name: &Term, names: &[&'static str]) -> bool {
     for own in names {
         if name.is_atom(*own) {
@@ -76,12 +78,12 @@ pub(crate) fn is_one_of(name: &Term, names: &[&'static str]) -> bool {
     false
 }
 
-/// Returns whether a name is that of a test of the kind of a term.
+/// Returns whether an atom is the name of one of `KIND_TESTS`.
 pub(crate) fn is_kind_test(name: &Term) -> bool {
     is_one_of(name, &KIND_TESTS)
 }
 
-/// Makes a term of an integer, if there is one.
+/// Builds the term of an integer. `None` stays `None`: the function that computed the integer failed.
 fn integer_term(n: Option<Integer>) -> Option<Term> {
     Some(Term::Int(n?))
 }
@@ -99,12 +101,12 @@ fn apply_to_one(alloc: Global, name: &Term, x: &Term) -> Option<Term> {
     }
 }
 
-/// Returns the absolute value, or None if it overflows.
+/// Returns the absolute value, or `None` if it overflows.
 fn absolute(n: Integer) -> Option<Integer> {
     if n < 0 { difference(0, n) } else { Some(n) }
 }
 
-/// Returns an absolute value, a length, a size, or the head or tail of a list.
+/// Returns the value of `abs`, `length`, `size`, `hd` or `tl`.
 fn measure_or_part(alloc: Global, name: &Term, x: &Term) -> Option<Term> {
     match x {
         Term::Int(n) if name.is_atom("abs") => integer_term(absolute(*n)),
@@ -116,7 +118,7 @@ fn measure_or_part(alloc: Global, name: &Term, x: &Term) -> Option<Term> {
     }
 }
 
-/// Returns the first item of a list, or the list of the others.
+/// Returns the value of `hd` or `tl` of a list.
 fn head_or_tail(alloc: Global, name: &Term, items: &[Term]) -> Option<Term> {
     let (first, rest) = items.split_first()?;
     if name.is_atom("hd") {
@@ -143,14 +145,14 @@ fn apply_to_two(alloc: Global, name: &Term, x: &Term, y: &Term) -> Option<Term> 
         boolean_term(alloc, boolean_of(x)? != boolean_of(y)?)
     } else if name.is_atom("element") {
         copy(alloc, element_at(x, y)?)
-    } else if is_operation(name) {
+    } else if is_arithmetic_operator(name) {
         integer_term(calculate(name, integer_of(x)?, integer_of(y)?))
     } else {
         boolean_term(alloc, compare_terms(name, x, y)?)
     }
 }
 
-/// Returns the integer that a term is, or None.
+/// Returns the integer that a term is, or `None` if it is not one.
 fn integer_of(term: &Term) -> Option<Integer> {
     match term {
         Term::Int(n) => Some(*n),
@@ -158,7 +160,8 @@ fn integer_of(term: &Term) -> Option<Integer> {
     }
 }
 
-/// Returns the element of a tuple at a position, from 1.
+/// Returns the element of a tuple at a position, from 1. It compares the position with each index, and so converts no
+/// position that `usize` may not hold.
 fn element_at<'t>(position: &Term, term: &'t Term) -> Option<&'t Term> {
     let position = integer_of(position)?;
     let Term::Tuple(items) = term else {

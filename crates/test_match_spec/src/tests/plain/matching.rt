@@ -1,14 +1,16 @@
-// Which terms a pattern matches, and what it binds.
+// Which terms a pattern matches, and what its variables are bound to.
 use super::*;
 
 /// A variable and the term that it is bound to.
 #[derive(Drop)]
 pub(crate) struct Binding {
+    /// The number of the variable.
     pub(crate) number: u32,
+    /// A copy of the term.
     pub(crate) value: Term,
 }
 
-/// Returns the number of a variable: the tests have `$0`, `$1` and `$2`.
+/// Returns the number of a variable. The tests have only the variables `$0`, `$1` and `$2`.
 pub(crate) fn variable_number(term: &Term) -> Option<u32> {
     for (n, name) in [(0, "$0"), (1, "$1"), (2, "$2")] {
         if term.is_atom(name) {
@@ -28,7 +30,7 @@ pub(crate) fn bound_value(n: u32, bindings: &[Binding]) -> Option<&Term> {
     None
 }
 
-/// Returns whether a pattern matches a term, and pushes what it binds.
+/// Returns whether a pattern matches a term, and appends the bindings of its variables.
 #[cycle(plain_match)]
 pub(crate) fn pattern_matches(
     alloc: Global,
@@ -76,7 +78,7 @@ pub(crate) fn push_binding(
     bindings.push(Binding { number: n, value }).ok()
 }
 
-/// Returns whether a variable is bound to this term, or binds it if it is not bound.
+/// Returns whether a variable is bound to this term. Binds it to the term if it is not bound.
 fn bind_variable(alloc: Global, n: u32, term: &Term, bindings: &mut Vec<Binding>) -> bool {
     match bound_value(n, bindings.as_slice()) {
         Some(value) => *value == *term,
@@ -84,9 +86,10 @@ fn bind_variable(alloc: Global, n: u32, term: &Term, bindings: &mut Vec<Binding>
     }
 }
 
-/// Returns the values in the order of the variables.
+/// Returns the list of the bound values, in the order of the variables.
 pub(crate) fn values_in_order(alloc: Global, bindings: &[Binding]) -> Option<Term> {
     let mut values = Items::new(alloc);
+    // The variables of the tests are `$0`, `$1` and `$2`.
     for n in 0..3 {
         if let Some(value) = bound_value(n, bindings) {
             values.push(copy(alloc, value)?).ok()?;
@@ -95,7 +98,7 @@ pub(crate) fn values_in_order(alloc: Global, bindings: &[Binding]) -> Option<Ter
     Some(Term::List(values))
 }
 
-/// Returns the values of the variables by which a pattern matches, or None if it does not match.
+/// Returns the list of the values of a pattern's variables, or `None` if the pattern does not match the object.
 pub(crate) fn bindings(alloc: Global, pattern: &Term, object: &Term) -> Option<Term> {
     let mut bindings = Vec::new(alloc);
     if !pattern_matches(alloc, pattern, object, &mut bindings) {

@@ -3,14 +3,14 @@ use super::*;
 use crate::tests::plain::functions::is_one_of;
 
 /// The arithmetic operators.
-const OPERATIONS: [&str; 5] = ["+", "-", "*", "div", "rem"];
+const ARITHMETIC_OPERATORS: [&str; 5] = ["+", "-", "*", "div", "rem"];
 
-/// Returns whether a name is that of an arithmetic operator.
-pub(crate) fn is_operation(name: &Term) -> bool {
-    is_one_of(name, &OPERATIONS)
+/// Returns whether an atom is the name of an arithmetic operator.
+pub(crate) fn is_arithmetic_operator(name: &Term) -> bool {
+    is_one_of(name, &ARITHMETIC_OPERATORS)
 }
 
-/// Returns the sum, or None if it overflows: it then wraps to the other side of its first number.
+/// Returns the sum, or `None` if it overflows. A sum that wraps is on the wrong side of `m` for the sign of `n`.
 fn sum(m: Integer, n: Integer) -> Option<Integer> {
     let sum = m.wrapping_add(n);
     if (sum < m) == (n < 0) {
@@ -20,7 +20,8 @@ fn sum(m: Integer, n: Integer) -> Option<Integer> {
     }
 }
 
-/// Returns the difference, or None if it overflows: it then wraps to the other side of its first number.
+/// Returns the difference, or `None` if it overflows. A difference that wraps is on the wrong side of `m` for the sign
+/// of `n`.
 pub(crate) fn difference(m: Integer, n: Integer) -> Option<Integer> {
     let difference = m.wrapping_sub(n);
     if (difference < m) == (n > 0) {
@@ -30,7 +31,7 @@ pub(crate) fn difference(m: Integer, n: Integer) -> Option<Integer> {
     }
 }
 
-/// Returns the product, or None if it overflows: a quotient of what wrapped is not its second number.
+/// Returns the product, or `None` if it overflows. A product that wraps, divided by `m`, does not give `n`.
 fn product(m: Integer, n: Integer) -> Option<Integer> {
     let product = m.wrapping_mul(n);
     if m == 0 || product.checked_div(m) == Some(n) {
@@ -40,13 +41,13 @@ fn product(m: Integer, n: Integer) -> Option<Integer> {
     }
 }
 
-/// Returns the remainder, or None by 0. The remainder by -1 is 0 for every number, also for the least, whose quotient
-/// overflows.
+/// Returns the remainder, or `None` if `n` is 0. The remainder by -1 is 0 for every number, also for the least one,
+/// whose quotient overflows.
 fn remainder(m: Integer, n: Integer) -> Option<Integer> {
     if n == -1 { Some(0) } else { m.checked_rem(n) }
 }
 
-/// Returns the value of an arithmetic operator, or None if it overflows or divides by 0.
+/// Returns the value of an arithmetic operator, or `None` if it overflows or divides by 0.
 pub(crate) fn calculate(name: &Term, m: Integer, n: Integer) -> Option<Integer> {
     if name.is_atom("+") {
         sum(m, n)
@@ -61,7 +62,7 @@ pub(crate) fn calculate(name: &Term, m: Integer, n: Integer) -> Option<Integer> 
     }
 }
 
-/// Returns the value of a comparison, or None if no comparison has this name.
+/// Returns the value of a comparison, or `None` if no comparison has this name.
 pub(crate) fn compare_terms(name: &Term, x: &Term, y: &Term) -> Option<bool> {
     if is_one_of(name, &["=:=", "=="]) {
         Some(*x == *y)

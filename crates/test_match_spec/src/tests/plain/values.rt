@@ -1,9 +1,9 @@
-// The value of an expression, or None if it fails.
+// The values of expressions. `None` means that an expression fails.
 use super::*;
 use crate::tests::plain::functions::{apply_function, boolean_of, boolean_term};
 use crate::tests::plain::matching::{Binding, bound_value, values_in_order, variable_number};
 
-/// Returns the value of an expression on an object, or None if it fails.
+/// Returns the value of an expression on an object, or `None` if it fails.
 #[cycle(plain_value)]
 pub(crate) fn expression_value(
     alloc: Global,
@@ -22,7 +22,7 @@ pub(crate) fn expression_value(
     }
 }
 
-/// Returns the value of a variable, `$_` or `$$`, or the atom itself.
+/// Returns the value of an atom: of a variable its binding, of `$_` the object, of `$$` all bindings, else the atom.
 fn atom_value(alloc: Global, name: &Term, object: &Term, bindings: &[Binding]) -> Option<Term> {
     if let Some(n) = variable_number(name) {
         copy(alloc, bound_value(n, bindings)?)
@@ -35,7 +35,7 @@ fn atom_value(alloc: Global, name: &Term, object: &Term, bindings: &[Binding]) -
     }
 }
 
-/// Returns the values of the expressions from the index `start` on, or None if one fails.
+/// Returns the values of the expressions from the index `start` on, or `None` if one fails.
 #[cycle(plain_value)]
 fn expression_values(
     alloc: Global,
@@ -53,7 +53,7 @@ fn expression_values(
     Some(values)
 }
 
-/// Returns the value of a tuple: a tuple in a tuple, a constant, or a function with its arguments.
+/// Returns the value of a tuple: `{{..}}` (which builds a tuple), a constant, or a function with arguments.
 #[cycle(plain_value)]
 fn tuple_value(alloc: Global, items: &[Term], object: &Term, bindings: &[Binding]) -> Option<Term> {
     if items.is_empty() {
@@ -71,14 +71,15 @@ fn tuple_value(alloc: Global, items: &[Term], object: &Term, bindings: &[Binding
             if name.is_atom("andalso") || name.is_atom("orelse") {
                 return short_circuit_value(alloc, items, name.is_atom("orelse"), object, bindings);
             }
+            // The arguments are the items after the name.
             let values = expression_values(alloc, items, 1, object, bindings)?;
             apply_function(alloc, name, values.as_slice())
         }
     }
 }
 
-/// Returns the value of `orelse` if `stop` is true, else of `andalso`. Arguments after the first that is `stop` have no
-/// effect.
+/// Returns the value of `orelse` if `stop` is true, else of `andalso`. Arguments after the first that is `stop` are not
+/// evaluated.
 #[cycle(plain_value)]
 fn short_circuit_value(
     alloc: Global,

@@ -4,23 +4,23 @@ use crate::tests::forms::{atom, one_item};
 use ets_term::{Items, Term};
 use std::alloc::Global;
 
-/// Returns a function that mostly gets one argument.
+/// Returns a function's name, with 1 as its usual number of arguments.
 fn unary(name: &'static str) -> (&'static str, u64) {
     (name, 1)
 }
 
-/// Returns a function that mostly gets two arguments.
+/// Returns a function's name, with 2 as its usual number of arguments.
 fn binary(name: &'static str) -> (&'static str, u64) {
     (name, 2)
 }
 
-/// Returns a function that mostly gets three arguments.
+/// Returns a function's name, with 3 as its usual number of arguments.
 fn ternary(name: &'static str) -> (&'static str, u64) {
     (name, 3)
 }
 
 impl Random {
-    /// Draws an expression without parts: a variable, an atom, an empty list or a plain term.
+    /// Draws an expression without parts: a variable, an atom, an empty list or another leaf.
     fn expression_leaf(&mut self, alloc: Global) -> Option<Term> {
         match self.random_below(12) {
             0 => atom(alloc, "$0"),
@@ -29,11 +29,11 @@ impl Random {
             3 => atom(alloc, "$$"),
             4 => atom(alloc, "_"),
             5 => Some(Term::List(Items::new(alloc))),
-            _ => self.random_plain_term(alloc),
+            _ => self.random_leaf(alloc),
         }
     }
 
-    /// Draws a function, with how many arguments it mostly gets.
+    /// Draws the name of a function and its usual number of arguments.
     fn random_function(&mut self) -> (&'static str, u64) {
         match self.random_below(34) {
             0 => unary("is_atom"),
@@ -73,7 +73,8 @@ impl Random {
         }
     }
 
-    /// Builds the application of a function, mostly with its number of arguments.
+    /// Builds a random function with arguments from the pool: its usual number, or in 1 of 40 cases a random number,
+    /// which is often refused.
     fn application(&mut self, alloc: Global, pool: &[Term]) -> Option<Term> {
         let (name, count) = self.random_function();
         let count = if self.random_below(40) == 0 {
@@ -86,7 +87,7 @@ impl Random {
         Some(Term::Tuple(parts))
     }
 
-    /// Builds an expression of those in the pool.
+    /// Builds an expression of the expressions in the pool: a list, a list of a tuple, a tuple `{{..}}` or a function.
     fn expression(&mut self, alloc: Global, pool: &[Term]) -> Option<Term> {
         match self.random_below(8) {
             0 => Some(Term::List(self.random_copies(alloc, pool, 2)?)),
@@ -96,7 +97,7 @@ impl Random {
         }
     }
 
-    /// Builds a tuple of up to `most` of the terms in the pool.
+    /// Builds a tuple of up to `most` copies of the terms in the pool.
     fn random_tuple(&mut self, alloc: Global, pool: &[Term], most: u64) -> Option<Term> {
         Some(Term::Tuple(self.random_copies(alloc, pool, most)?))
     }

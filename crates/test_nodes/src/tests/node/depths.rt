@@ -1,8 +1,10 @@
+// The depth limit. The text `deep(n)` is the empty list within n - 1 lists: a term n levels deep.
 use super::Event::{Ask, Enrol};
 use super::{Pid, Row, first_wrong_row};
 use std::process::Abort;
 
-/// Arguments and stored objects are at most 128 deep. A step checks its process first, then the depth, then all else.
+/// Steps and their wanted replies. Arguments and stored objects are at most 128 levels deep. A step checks its process
+/// first, then the depth, then all else. There is no table u, no process 2, and no call `foo`.
 static DEEP: [Row; 27] = [
     (Enrol(Pid(0)), "<0.0.0>"),
     (Enrol(Pid(1)), "<0.1.0>"),

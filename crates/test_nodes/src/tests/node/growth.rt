@@ -1,3 +1,4 @@
+// `Node::due`: the growth step of a table, if any, that is pending after each step.
 use super::Event::{Ask, Enrol, Grow, Ready};
 use super::{Bucket, Pid, Row, Tid, first_wrong_row_in};
 use Pending::{Nothing, ToGrow, ToReady};
@@ -9,6 +10,7 @@ use std::process::Abort;
 /// The pending step of a node.
 #[derive(Clone, Copy, PartialEq, Eq)]
 enum Pending {
+    /// No step.
     Nothing,
     /// To double the buckets of the table.
     ToGrow(Tid),
@@ -18,7 +20,7 @@ enum Pending {
     Other,
 }
 
-/// Returns the pending step, if any.
+/// Returns the pending step of the node, if any.
 fn first_pending<H: KeyHash + Copy + Drop>(node: &Node<H>) -> Pending {
     match node.due() {
         Some(step) => {
@@ -30,7 +32,7 @@ fn first_pending<H: KeyHash + Copy + Drop>(node: &Node<H>) -> Pending {
     }
 }
 
-/// Returns the pending step that this step is.
+/// Returns this step as a `Pending`.
 fn pending_of(step: &Step) -> Pending {
     match step {
         Step::Grow(id) => ToGrow(Tid(*id)),
@@ -39,11 +41,12 @@ fn pending_of(step: &Step) -> Pending {
     }
 }
 
-/// A step, its reply, and the pending step after it.
+/// A step and its wanted reply, and the step that is pending after it.
 type PendingRow = (Row, Pending);
 
-/// Two tables: the first one with a pending step is served first, a fixed table does not grow, and an emptied one has
-/// nothing to do.
+/// Two tables. The pending step is that of the table created first. A new table has two buckets, of which bucket 1 is
+/// not ready. Its doubling is pending if it has more than four slots for each bucket, so after the ninth key. A
+/// tombstone counts as a slot, so the doubling stays pending until the fix ends. An emptied table has no pending step.
 static STEPS: [PendingRow; 15] = [
     ((Enrol(Pid(0)), "<0.0.0>"), Nothing),
     (
@@ -83,7 +86,7 @@ static STEPS: [PendingRow; 15] = [
     ),
 ];
 
-/// Runs the rows in a node, and returns the index of the first one with another reply or another pending step.
+/// Runs the rows in a node, and returns the index of the first row with another reply or another pending step.
 fn first_wrong_pending_in<H: KeyHash + Copy + Drop>(
     alloc: Global,
     node: &mut Node<H>,
@@ -97,7 +100,7 @@ fn first_wrong_pending_in<H: KeyHash + Copy + Drop>(
     Ok(None)
 }
 
-/// Runs the rows in a new node with this hasher, and returns the index of the first one with another reply or another
+/// Runs the rows in a new node with this hasher, and returns the index of the first row with another reply or another
 /// pending step.
 fn first_wrong_pending<H: KeyHash + Copy + Drop>(
     alloc: Global,
@@ -111,7 +114,7 @@ fn first_wrong_pending<H: KeyHash + Copy + Drop>(
 }
 
 #[test]
-fn the_first_table_with_work_is_due(rt: HostRuntime) {
+fn pending_steps_come_in_order_of_creation(rt: HostRuntime) {
     assert_eq!(rt; first_wrong_pending(rt.alloc(), Fnv, &STEPS), Ok(None));
     assert_eq!(rt; first_wrong_pending(rt.alloc(), AllSame, &STEPS), Ok(None));
 }

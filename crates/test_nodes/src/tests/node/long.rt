@@ -1,8 +1,13 @@
-// Long inputs: a body that reports out of memory at a small size fails here. A template is a text for each number, which
-// replaces each N.
+// Long inputs. They fail a mutant that reports out of memory at a small size. A template is a text such as
+// `lookup(t,N)`, in which a number replaces each N.
+
+// A table that grows while objects are inserted, found and deleted.
 mod growth;
+// Many objects in a table, and long arguments and replies.
 mod objects;
+// Many processes, tables and names.
 mod processes;
+// `Node::run` and `Node::run_through` of many steps.
 mod runs;
 
 use super::Event::{Ask, Enrol};
@@ -13,11 +18,11 @@ use node_core::{Limits, Node};
 use std::alloc::{AllocError, Global};
 use std::process::Abort;
 
-/// The number of repetitions. The numbers that replace N are below it, so the last is 2099. It is more than 2,048, so
-/// that an array that doubles is moved.
+/// How often a test repeats a call. The numbers that replace N are below it, so the last is 2099. It is more than
+/// 2,048, so that an array that doubles its capacity is moved.
 const COUNT: u32 = 2_100;
 
-/// The usual limit of processes.
+/// How many processes enrol: the usual limit.
 const PROCESSES: u32 = 4_096;
 
 /// Appends a template to a text, with the number in place of each N.
@@ -50,51 +55,58 @@ fn fill_template(alloc: Global, template: &str, number: u32) -> Result<String, A
     keep_if_ok(push_template(alloc, &mut text, template, number), text)
 }
 
-/// Process 0 and its table t, a duplicate bag.
+/// Enrols process 0, and makes its table t, a duplicate bag. A row is a step and its wanted reply.
 static STARTED: [Row; 2] = [
     (Enrol(Pid(0)), "<0.0.0>"),
     (Ask(Pid(0), "new(t,[named_table,duplicate_bag])"), "t"),
 ];
 
-/// A trial of a new node.
+/// What a test checks of a new node.
 #[derive(Clone, Copy)]
-enum Trial {
+enum Check {
+    /// Replies are right while a table grows.
     Growth,
+    /// A table stores, finds and deletes many objects.
     Objects,
+    /// As many processes as the limit enrol, and some exit.
     Processes,
+    /// One process makes many tables and exits.
     Tables,
+    /// Tables take names of every length.
     Names,
+    /// `run` replies to many steps.
     Runs,
+    /// `run_through` replies to many steps.
     RunsThrough,
 }
 
-/// Returns whether a new node passes a trial.
-fn node_passes(alloc: Global, node: &mut Node<Fnv>, trial: Trial) -> Result<bool, AllocError> {
-    match trial {
-        Trial::Growth => growth::replies_as_it_grows(alloc, node),
-        Trial::Objects => objects::stores_many_objects(alloc, node),
-        Trial::Processes => processes::exits_delete_tables(alloc, node, PROCESSES),
-        Trial::Tables => processes::exit_deletes_many_tables(alloc, node, COUNT),
-        Trial::Names => processes::tables_take_names(alloc, node),
-        Trial::Runs => runs::runs_many_steps(alloc, node),
-        Trial::RunsThrough => runs::runs_through_many_steps(alloc, node),
+/// Makes a check of a new node, and returns whether the node passes it.
+fn node_passes(alloc: Global, node: &mut Node<Fnv>, check: Check) -> Result<bool, AllocError> {
+    match check {
+        Check::Growth => growth::replies_as_it_grows(alloc, node),
+        Check::Objects => objects::stores_many_objects(alloc, node),
+        Check::Processes => processes::exits_delete_tables(alloc, node, PROCESSES),
+        Check::Tables => processes::exit_deletes_many_tables(alloc, node, COUNT),
+        Check::Names => processes::tables_take_names(alloc, node),
+        Check::Runs => runs::runs_many_steps(alloc, node),
+        Check::RunsThrough => runs::runs_through_many_steps(alloc, node),
     }
 }
 
-/// Creates a node, and returns whether it passes a trial.
-fn new_node_passes(alloc: Global, trial: Trial) -> Result<bool, AllocError> {
+/// Creates a node, and returns whether it passes a check.
+fn new_node_passes(alloc: Global, check: Check) -> Result<bool, AllocError> {
     let mut node = Node::new(alloc, Limits::usual(), Fnv);
-    let passed = node_passes(alloc, &mut node, trial);
+    let passed = node_passes(alloc, &mut node, check);
     drop(node);
     passed
 }
 
-/// Enrols process 0 and makes its table, and returns whether both have their replies.
+/// Enrols process 0 and makes its table t, and returns whether both steps have their replies.
 fn starts_with_table(alloc: Global, node: &mut Node<Fnv>) -> Result<bool, AllocError> {
     Ok(first_wrong_row_in(alloc, node, &STARTED)?.is_none())
 }
 
-/// Makes a call of process 0, and returns whether it has this reply.
+/// Makes a call of process 0, and returns whether it has the wanted reply.
 fn call_has_reply(
     alloc: Global,
     node: &mut Node<Fnv>,
@@ -104,7 +116,8 @@ fn call_has_reply(
     event_has_reply(alloc, node, Ask(Pid(0), call), wanted)
 }
 
-/// Makes a call of process 0, and returns whether it has this reply, both templates filled in with a number.
+/// Fills a number into the templates of a call and a reply. Returns whether the call, made by process 0, has this
+/// reply.
 fn filled_call_has_reply(
     alloc: Global,
     node: &mut Node<Fnv>,
@@ -132,7 +145,7 @@ fn call_has_filled_reply(
     answered
 }
 
-/// Makes a call for each number, and returns the first number with another reply.
+/// Fills each number into the templates of a call and a reply. Returns the first number whose call has another reply.
 fn first_wrong_number(
     alloc: Global,
     node: &mut Node<Fnv>,

@@ -1,18 +1,15 @@
-// Steps that a node consumes: an insertion moves its object into the table. `.ci/refusals` runs this test with each
-// allocation refused in turn. A step that runs out of memory changes nothing, so an equal one has the reply of a first
-// run.
+// `Node::step_own` consumes its step: an insertion moves its object into the table. A step that runs out of memory
+// changes nothing, so an equal step is built, which must have the reply of a first run. The test is in `refused`.
 use super::Event::{Ask, Enrol};
-use super::refused::{
-    Runner, build_step_with_retry, first_wrong_row_with_retry, reply_has_text_with_retry,
-};
+use super::refused::{build_step_with_retry, reply_has_text_with_retry};
 use super::{Pid, Row};
 use ets_term::Fnv;
 use node_core::{Node, Reply, Step};
 use std::alloc::{AllocError, Global};
-use std::process::Abort;
 
-/// Objects under new keys, over others, over tombstones and after others; lists, and calls that are refused.
-static OWNED: [Row; 22] = [
+/// Steps and their wanted replies: an object goes under a new key, over another object, over a tombstone, or after the
+/// other objects of its key in a bag. Then lists of objects, and calls that are refused.
+pub(super) static OWNED: [Row; 22] = [
     (Enrol(Pid(0)), "<0.0.0>"),
     (Ask(Pid(0), "new(t,[named_table])"), "t"),
     (Ask(Pid(0), "new(u,[bag,named_table])"), "u"),
@@ -37,8 +34,8 @@ static OWNED: [Row; 22] = [
     (Ask(Pid(0), "lookup(t,a)"), "[{a,6}]"),
 ];
 
-/// Returns whether a step that the node consumes has the reply of its row. After out of memory the reply must be
-/// `NoProcess`.
+/// Runs the step `first`, which is that of the row, by `step_own`. Returns whether it has its wanted reply. If memory
+/// runs out, `reply` must be `NoProcess`, and the row's step is built and run a second time.
 pub(super) fn owned_step_has_reply_with_retry(
     alloc: Global,
     node: &mut Node<Fnv>,
@@ -55,12 +52,4 @@ pub(super) fn owned_step_has_reply_with_retry(
         node.step_own(second, reply)?;
     }
     reply_has_text_with_retry(alloc, reply, wanted)
-}
-
-#[test]
-fn an_owned_step_has_the_reply_of_a_step(rt: HostRuntime) {
-    assert_eq!(rt;
-        first_wrong_row_with_retry(rt.alloc(), Runner::StepOwn, &OWNED),
-        Ok(None)
-    );
 }

@@ -1,9 +1,10 @@
+// Enrolment and exit of processes. A row is a step and its wanted reply.
 use super::Event::{Ask, End, Enrol};
 use super::{Pid, Row, first_wrong_row, first_wrong_row_within_limits};
 use node_core::Limits;
 use std::process::Abort;
 
-/// A number is enrolled once, and ends once.
+/// A process number enrols once and exits once. The greatest number, 4294967295, may enrol too. Process 8 never enrols.
 static ONCE: [Row; 8] = [
     (Enrol(Pid(7)), "<0.7.0>"),
     (Enrol(Pid(7)), "** badarg"),
@@ -16,11 +17,11 @@ static ONCE: [Row; 8] = [
 ];
 
 #[test]
-fn a_process_enrols_and_ends_once(rt: HostRuntime) {
+fn a_process_enrols_once_and_exits_once(rt: HostRuntime) {
     assert_eq!(rt; first_wrong_row(rt.alloc(), &ONCE), Ok(None));
 }
 
-/// Two processes are the limit, which counts those that have ended.
+/// The limit is two processes, and an exited one still counts. A number that was used is refused before the limit.
 static AT_LIMIT: [Row; 6] = [
     (Enrol(Pid(4)), "<0.4.0>"),
     (End(Pid(4)), "true"),
@@ -31,7 +32,7 @@ static AT_LIMIT: [Row; 6] = [
 ];
 
 #[test]
-fn as_many_enrol_as_the_limit(rt: HostRuntime) {
+fn exited_processes_count_towards_the_limit(rt: HostRuntime) {
     let limits = Limits {
         processes: 2,
         tables: 1,

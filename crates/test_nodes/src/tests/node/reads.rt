@@ -1,4 +1,5 @@
-// `read` and `read_into` reply as `step` does, and only to calls that change nothing.
+// `Node::read` returns the reply to a call, and `Node::read_into` writes it over a previous reply. Both reply as `step`
+// does, and only to calls that change nothing.
 use super::Event::{Ask, Enrol};
 use super::{Pid, Row, ask, first_wrong_row_in, reply_has_text};
 use ets_term::Fnv;
@@ -6,20 +7,20 @@ use node_core::{Limits, Node, Reply, Step};
 use std::alloc::{AllocError, Global};
 use std::process::Abort;
 
-/// Makes a table with one object.
+/// Makes a table with one object. A row is a step and its wanted reply.
 static SETUP: [Row; 3] = [
     (Enrol(Pid(0)), "<0.0.0>"),
     (Ask(Pid(0), "new(t,[named_table])"), "t"),
     (Ask(Pid(0), "insert(t,{a,1})"), "true"),
 ];
 
-/// A process, its call, and the reply.
+/// A process, its call, and the wanted reply.
 type ReadRow = (Pid, &'static str, &'static str);
 
-/// In place of the reply to a call that `read` leaves to `step`.
+/// The wanted text of a call that `read` leaves to `step`: it may change a table, or is not a call that reads.
 const LEFT_TO_STEP: &str = "";
 
-/// Reads and their replies, and calls that `read` leaves to `step`.
+/// Calls that read, with their replies; and calls that `read` leaves to `step`. There is no process 1 and no table u.
 static READS: [ReadRow; 25] = [
     (Pid(0), "lookup(t,a)", "[{a,1}]"),
     (Pid(0), "lookup(t,b)", "[]"),
@@ -48,7 +49,7 @@ static READS: [ReadRow; 25] = [
     (Pid(0), "lookups(t,a)", LEFT_TO_STEP),
 ];
 
-/// Makes a call by `read`, and returns whether it has the reply of its row.
+/// Makes the call of a row by `read`, and returns whether it has the wanted reply.
 fn read_has_reply(alloc: Global, node: &Node<Fnv>, row: ReadRow) -> Result<bool, AllocError> {
     let (pid, call, wanted) = row;
     let step = ask(alloc, pid, call)?;
@@ -57,7 +58,7 @@ fn read_has_reply(alloc: Global, node: &Node<Fnv>, row: ReadRow) -> Result<bool,
     same
 }
 
-/// Makes the call of a step by `read`, and returns whether it has this reply, or none if the wanted text is empty.
+/// Makes the call of a step by `read`, and returns whether it has the wanted reply. `LEFT_TO_STEP` wants no reply.
 fn read_of_step_has_reply(
     alloc: Global,
     node: &Node<Fnv>,
@@ -65,6 +66,7 @@ fn read_of_step_has_reply(
     wanted: &str,
 ) -> Result<bool, AllocError> {
     let Step::Ask(pid, call) = step else {
+        // Cannot happen: `ask` builds no other step.
         return Err(AllocError);
     };
     match node.read(*pid, call)? {
@@ -77,7 +79,8 @@ fn read_of_step_has_reply(
     }
 }
 
-/// Makes a call by `read_into`, and returns whether it writes the reply of its row over the one before.
+/// Makes the call of a row by `read_into`, and returns whether it writes the wanted reply over `reply`. The text of the
+/// previous reply is `before`.
 fn overwriting_read_has_reply(
     alloc: Global,
     node: &Node<Fnv>,
@@ -92,8 +95,8 @@ fn overwriting_read_has_reply(
     same
 }
 
-/// Makes the call of a step by `read_into`, and returns whether the reply is this one, or still the one before if the
-/// wanted text is empty.
+/// Makes the call of a step by `read_into`, and returns whether `reply` is then the wanted one. If the wanted text is
+/// `LEFT_TO_STEP`, `reply` must still be the previous one, with the text `before`.
 fn overwriting_read_of_step_has_reply(
     alloc: Global,
     node: &Node<Fnv>,
@@ -103,16 +106,18 @@ fn overwriting_read_of_step_has_reply(
     reply: &mut Reply,
 ) -> Result<bool, AllocError> {
     let Step::Ask(pid, call) = step else {
+        // Cannot happen: `ask` builds no other step.
         return Err(AllocError);
     };
     let replied = node.read_into(*pid, call, reply)?;
+    // It replied to a call that it leaves to `step`, or did not reply to another.
     if replied == wanted.is_empty() {
         return Ok(false);
     }
     reply_has_text(alloc, reply, if replied { wanted } else { before })
 }
 
-/// Makes the calls by `read`, and returns the index of the first row with another reply.
+/// Makes the calls of the rows by `read`, and returns the index of the first row with another reply.
 fn first_wrong_read(
     alloc: Global,
     node: &Node<Fnv>,
@@ -126,8 +131,8 @@ fn first_wrong_read(
     Ok(None)
 }
 
-/// Makes the calls by `read_into`, each over the reply before, and returns the index of the first row with another
-/// reply.
+/// Makes the calls of the rows by `read_into`, each over the previous reply, which is `NoProcess` at the start. Returns
+/// the index of the first row with another reply.
 fn first_wrong_overwriting_read(
     alloc: Global,
     node: &Node<Fnv>,

@@ -1,14 +1,15 @@
-// Out of memory. `.ci/refusals` runs these tests with each allocation refused in turn. A step that runs out of memory
-// changes nothing, so it has the reply of a first run when it runs again. A test repeats its own allocations.
+// Out of memory. `.ci/refusals` runs these tests many times, each time with another allocation refused. A step that
+// runs out of memory changes nothing, so a second run must have the wanted reply. A test also retries its own
+// allocations.
 use super::Event::{Ask, End, Enrol, Grow, Ready};
-use super::owned::owned_step_has_reply_with_retry;
+use super::owned::{OWNED, owned_step_has_reply_with_retry};
 use super::{Bucket, Event, Pid, Row, Tid, build_step, reply_has_text};
 use ets_term::Fnv;
 use node_core::{Limits, Node, Reply, Step};
 use std::alloc::{AllocError, Global};
 use std::process::Abort;
 
-/// Builds the step of an event, again if memory runs out.
+/// Builds the step of an event, and retries once if memory runs out.
 pub(super) fn build_step_with_retry(alloc: Global, event: Event) -> Result<Step, AllocError> {
     match build_step(alloc, event) {
         Ok(step) => Ok(step),
@@ -16,7 +17,7 @@ pub(super) fn build_step_with_retry(alloc: Global, event: Event) -> Result<Step,
     }
 }
 
-/// Returns the reply to a step, which runs again if memory runs out.
+/// Returns the reply to a step, which runs a second time if memory runs out.
 fn reply_with_retry(node: &mut Node<Fnv>, step: &Step) -> Result<Reply, AllocError> {
     match node.step(step) {
         Ok(reply) => Ok(reply),
@@ -24,7 +25,7 @@ fn reply_with_retry(node: &mut Node<Fnv>, step: &Step) -> Result<Reply, AllocErr
     }
 }
 
-/// Returns whether the text is that of the reply, compared again if memory runs out.
+/// Returns whether a reply is the wanted one. Compares a second time if memory runs out.
 pub(super) fn reply_has_text_with_retry(
     alloc: Global,
     reply: &Reply,
@@ -36,7 +37,7 @@ pub(super) fn reply_has_text_with_retry(
     }
 }
 
-/// Runs a step, again if memory runs out, and returns whether it has this reply.
+/// Runs a step, a second time if memory runs out, and returns whether it has the wanted reply.
 fn step_has_reply_with_retry(
     alloc: Global,
     node: &mut Node<Fnv>,
@@ -49,9 +50,9 @@ fn step_has_reply_with_retry(
     same
 }
 
-/// Runs a step, again if memory runs out, and returns whether it writes this reply over another. After out of memory
-/// the reply must be `NoProcess`.
-fn overwrites_reply(
+/// Runs a step by `step_into`, a second time if memory runs out. Returns whether it writes the wanted reply over
+/// `reply`, which must be `NoProcess` after out of memory.
+fn step_into_has_reply_with_retry(
     alloc: Global,
     node: &mut Node<Fnv>,
     step: &Step,
@@ -67,15 +68,17 @@ fn overwrites_reply(
     reply_has_text_with_retry(alloc, reply, wanted)
 }
 
-/// How a node runs a step: it returns a reply, writes one over the reply before, or consumes the step as it does so.
+/// The method that runs a step: `step` returns the reply, `step_into` writes it over the previous reply, and `step_own`
+/// does so too and consumes the step.
 #[derive(Clone, Copy)]
-pub(super) enum Runner {
+enum Runner {
     Step,
     StepInto,
     StepOwn,
 }
 
-/// Runs the step of a row, again if memory runs out, and returns whether it has its reply, over the one before.
+/// Runs the step of a row, a second time if memory runs out, and returns whether it has its wanted reply. `reply` is
+/// the previous reply, which `step_into` and `step_own` overwrite.
 fn row_has_reply_with_retry(
     alloc: Global,
     node: &mut Node<Fnv>,
@@ -88,7 +91,7 @@ fn row_has_reply_with_retry(
     match runner {
         Runner::StepOwn => owned_step_has_reply_with_retry(alloc, node, step, reply, row),
         Runner::StepInto => {
-            let same = overwrites_reply(alloc, node, &step, reply, wanted);
+            let same = step_into_has_reply_with_retry(alloc, node, &step, reply, wanted);
             drop(step);
             same
         }
@@ -100,8 +103,9 @@ fn row_has_reply_with_retry(
     }
 }
 
-/// Runs the rows in a node, each again if memory runs out, and returns the index of the first one with another reply.
-fn first_wrong_row_again_in(
+/// Runs the rows in a node, each a second time if memory runs out. Returns the index of the first row with another
+/// reply.
+fn first_wrong_row_with_retry_in(
     alloc: Global,
     node: &mut Node<Fnv>,
     runner: Runner,
@@ -116,22 +120,23 @@ fn first_wrong_row_again_in(
     Ok(None)
 }
 
-/// Runs the rows in a new node, each again if memory runs out, and returns the index of the first one with another
+/// Runs the rows in a new node, each a second time if memory runs out. Returns the index of the first row with another
 /// reply.
-pub(super) fn first_wrong_row_with_retry(
+fn first_wrong_row_with_retry(
     alloc: Global,
     runner: Runner,
     rows: &[Row],
 ) -> Result<Option<usize>, AllocError> {
     let mut node = Node::new(alloc, Limits::usual(), Fnv);
     let mut reply = Reply::NoProcess;
-    let index = first_wrong_row_again_in(alloc, &mut node, runner, &mut reply, rows);
+    let index = first_wrong_row_with_retry_in(alloc, &mut node, runner, &mut reply, rows);
     drop(reply);
     drop(node);
     index
 }
 
-/// Steps, each with its reply when memory suffices.
+/// Steps, each with the reply that it must have when memory suffices. The long name does not fit into the place of an
+/// atom, so that it takes memory.
 static STEPS: [Row; 27] = [
     (Enrol(Pid(0)), "<0.0.0>"),
     (
@@ -178,14 +183,15 @@ static STEPS: [Row; 27] = [
 ];
 
 #[test]
-fn a_refused_step_is_done_again(rt: HostRuntime) {
+fn a_step_that_ran_out_of_memory_runs_again(rt: HostRuntime) {
     assert_eq!(rt;
         first_wrong_row_with_retry(rt.alloc(), Runner::Step, &STEPS),
         Ok(None)
     );
 }
 
-/// Lists written over lists of the same and of another length, with objects of the same and of another shape.
+/// Steps and their replies. Most replies are lists, each written over the previous one, which has the same length or
+/// another, and objects of the same shape or another.
 static LISTS_OVER_LISTS: [Row; 14] = [
     (Enrol(Pid(0)), "<0.0.0>"),
     (Ask(Pid(0), "new(t,[named_table,bag])"), "t"),
@@ -210,6 +216,14 @@ static LISTS_OVER_LISTS: [Row; 14] = [
 fn a_reply_is_written_over_another(rt: HostRuntime) {
     assert_eq!(rt;
         first_wrong_row_with_retry(rt.alloc(), Runner::StepInto, &LISTS_OVER_LISTS),
+        Ok(None)
+    );
+}
+
+#[test]
+fn an_owned_step_has_the_reply_of_a_step(rt: HostRuntime) {
+    assert_eq!(rt;
+        first_wrong_row_with_retry(rt.alloc(), Runner::StepOwn, &OWNED),
         Ok(None)
     );
 }

@@ -1,3 +1,4 @@
+// Names and identifiers of tables, and their limit. A `Row` is a step and its wanted reply.
 use super::Event::{Ask, Enrol};
 use super::{Pid, Row, Tid, first_wrong_row_in, first_wrong_row_within_limits, term};
 use ets_term::{Fnv, Term};
@@ -5,7 +6,7 @@ use node_core::{Limits, Node};
 use std::alloc::{AllocError, Global};
 use std::process::Abort;
 
-/// One table is the limit.
+/// The limit is one table. A name in use or a bad option is refused before the limit.
 static AT_LIMIT: [Row; 5] = [
     (Enrol(Pid(0)), "<0.0.0>"),
     (Ask(Pid(0), "new(t,[named_table])"), "t"),
@@ -15,7 +16,7 @@ static AT_LIMIT: [Row; 5] = [
 ];
 
 #[test]
-fn as_many_are_made_as_the_limit(rt: HostRuntime) {
+fn a_table_past_the_limit_is_refused(rt: HostRuntime) {
     let limits = Limits {
         processes: 1,
         tables: 1,
@@ -34,12 +35,13 @@ static TWO_TABLES: [Row; 3] = [
     (Ask(Pid(0), "new(u,[])"), "#Tid<1>"),
 ];
 
-/// Returns the identifier in its type, if there is one.
+/// Returns the identifier as a `Tid`, or `None` if there is none.
 fn tid_of(id: Option<u32>) -> Option<Tid> {
     Some(Tid(id?))
 }
 
-/// Runs the rows in a node, and returns the identifier of the table that a term then names.
+/// Runs the rows in a node, without a check of their replies. Returns the identifier of the table that a term then
+/// names.
 fn resolve_after(
     alloc: Global,
     node: &mut Node<Fnv>,
@@ -70,7 +72,7 @@ fn resolve_text(alloc: Global, named: &str) -> Result<Option<Tid>, AllocError> {
     resolved
 }
 
-/// What a term names in a node with these two tables.
+/// Texts of terms, and the table that each names in a node with `TWO_TABLES`.
 static NAMED: [(&str, Option<Tid>); 7] = [
     ("t", Some(Tid(0))),
     ("#Tid<0>", Some(Tid(0))),
@@ -81,7 +83,7 @@ static NAMED: [(&str, Option<Tid>); 7] = [
     ("[t]", None),
 ];
 
-/// Returns the first text whose term names another table.
+/// Returns the first text whose term names another table than wanted.
 fn first_wrong_name(
     alloc: Global,
     rows: &[(&'static str, Option<Tid>)],
@@ -107,7 +109,7 @@ static REFUSED: [Row; 4] = [
     (Ask(Pid(0), "new(t,[named_table])"), "** badarg"),
 ];
 
-/// Runs the rows in a node, and returns the identifier that the next table will get.
+/// Runs the rows in a node, without a check of their replies. Returns the identifier that the next table will get.
 fn next_identifier_after(
     alloc: Global,
     node: &mut Node<Fnv>,

@@ -1,4 +1,5 @@
-// `run` and `run_through` answer each step, a refused one too, if there is memory.
+// `Node::run` and `Node::run_through` run a list of steps. They reply to each step, a refused one too, if there is
+// memory. The answer of `run_through` to a step is `None` after out of memory.
 use super::Event::{Ask, End, Enrol, Grow, Ready};
 use super::{Bucket, Pid, Row, Tid, build_step, reply_has_text};
 use crate::tests::keep_if_ok;
@@ -7,7 +8,7 @@ use node_core::{Limits, Node, Reply, Step};
 use std::alloc::{AllocError, Global};
 use std::process::Abort;
 
-/// Each kind of step, answered and refused.
+/// Steps of each kind with their wanted replies; some are refused.
 static EACH_KIND: [Row; 16] = [
     (Enrol(Pid(0)), "<0.0.0>"),
     (Enrol(Pid(0)), "** badarg"),
@@ -27,7 +28,7 @@ static EACH_KIND: [Row; 16] = [
     (End(Pid(0)), "** noproc"),
 ];
 
-/// Appends the steps of the rows.
+/// Builds the steps of the rows and appends them.
 fn push_steps(alloc: Global, steps: &mut Vec<Step>, rows: &[Row]) -> Result<(), AllocError> {
     for (event, _) in rows {
         steps.push(build_step(alloc, *event)?)?;
@@ -35,13 +36,13 @@ fn push_steps(alloc: Global, steps: &mut Vec<Step>, rows: &[Row]) -> Result<(), 
     Ok(())
 }
 
-/// Returns the steps of the rows.
+/// Builds the steps of the rows.
 fn steps_of(alloc: Global, rows: &[Row]) -> Result<Vec<Step>, AllocError> {
     let mut steps = Vec::new(alloc);
     keep_if_ok(push_steps(alloc, &mut steps, rows), steps)
 }
 
-/// Returns the index of the first row with another reply, or without one, where a step may have none.
+/// Returns the index of the first row whose answer is another reply than wanted, or `None`, or missing.
 fn first_wrong_answer(
     alloc: Global,
     rows: &[Row],
@@ -58,8 +59,7 @@ fn first_wrong_answer(
     Ok(None)
 }
 
-/// Runs the steps of the rows by `run_through`, and returns the index of the first row with another reply, or without
-/// one.
+/// Runs the steps of the rows by `run_through`, and returns the index of the first row with another reply or no reply.
 fn first_wrong_row_through(
     alloc: Global,
     node: &mut Node<Fnv>,
@@ -72,7 +72,7 @@ fn first_wrong_row_through(
     index
 }
 
-/// Returns the index of the first row with another reply, or without one.
+/// Returns the index of the first row with another reply or no reply.
 fn first_wrong_reply(
     alloc: Global,
     rows: &[Row],
@@ -89,7 +89,8 @@ fn first_wrong_reply(
     Ok(None)
 }
 
-/// Runs the steps of the rows by `run`, and returns the index of the first row with another reply, or without one.
+/// Runs the steps of the rows by `run`, and returns the index of the first row with another reply or no reply; 0 if the
+/// run stops because memory runs out.
 fn first_wrong_row_of_run(
     alloc: Global,
     node: &mut Node<Fnv>,
@@ -109,14 +110,14 @@ fn first_wrong_row_of_run(
     }
 }
 
-/// How a node runs steps.
+/// The method that runs the steps.
 #[derive(Clone, Copy)]
 enum Runner {
     Run,
     RunThrough,
 }
 
-/// Runs the steps of the rows in a new node, and returns the index of the first row with another reply, or without one.
+/// Runs the steps of the rows in a new node, and returns the index of the first row with another reply or no reply.
 fn first_wrong_row_of_steps(
     alloc: Global,
     runner: Runner,
@@ -132,7 +133,8 @@ fn first_wrong_row_of_steps(
     index
 }
 
-/// Runs the rows in a new node, and returns the index of the first one with another reply, or without one.
+/// Builds the steps of the rows and runs them in a new node. Returns the index of the first row with another reply or
+/// no reply.
 fn first_wrong_row_by(
     alloc: Global,
     runner: Runner,
@@ -145,14 +147,14 @@ fn first_wrong_row_by(
 }
 
 #[test]
-fn every_step_is_answered_where_there_is_memory(rt: HostRuntime) {
+fn run_through_replies_to_every_step_if_memory_suffices(rt: HostRuntime) {
     assert_eq!(rt;
         first_wrong_row_by(rt.alloc(), Runner::RunThrough, &EACH_KIND),
         Ok(None)
     );
 }
 
-/// Starts a process twice and ends it twice.
+/// A process enrols twice and exits twice; the second time is refused.
 static TWICE: [Row; 4] = [
     (Enrol(Pid(0)), "<0.0.0>"),
     (Enrol(Pid(0)), "** badarg"),
@@ -161,7 +163,7 @@ static TWICE: [Row; 4] = [
 ];
 
 #[test]
-fn a_run_answers_refused_steps(rt: HostRuntime) {
+fn run_replies_to_refused_steps_too(rt: HostRuntime) {
     assert_eq!(rt;
         first_wrong_row_by(rt.alloc(), Runner::Run, &TWICE),
         Ok(None)

@@ -1,5 +1,6 @@
-// Traversals among the steps of others: the result of each, and the state that it leaves. The rules give the wanted
-// values.
+// `walk_among` traverses a table (here: walks over it), and runs steps of other processes after each key. The tests
+// check how a walk ends, and then the reply to one more step. The hasher `Fnv` spreads the keys; `AllSame` gives all
+// keys one hash.
 use super::Event::Ask;
 use super::{Pid, Row};
 use ets_term::{AllSame, Fnv};
@@ -12,14 +13,17 @@ use starts::{
 };
 use std::alloc::{AllocError, Global};
 use std::process::Abort;
-use trials::{WalkEnd, WalkTrial, walk_ends};
+use walk_check::{WalkEnd, WalkSetup, walk_ends};
 
+// An `Others` that hands in the steps of a `Plan` after each visited key.
 mod plan_follower;
+// The steps before a walk, and the steps of others during it.
 mod starts;
-mod trials;
+// Makes a walk, and checks how it ends.
+mod walk_check;
 
-/// Nine keys, each of which another process deletes and inserts again after it is visited.
-static KEYS_AGAIN: WalkTrial<'static> = WalkTrial {
+/// Nine keys, less than the limit. Another process deletes each key and inserts it again as soon as it is visited.
+static REINSERTED: WalkSetup<'static> = WalkSetup {
     rows: &NINE_KEYS,
     walker: 0,
     limit: 100,
@@ -27,14 +31,14 @@ static KEYS_AGAIN: WalkTrial<'static> = WalkTrial {
 };
 
 #[test]
-fn keys_that_go_and_come_again_are_walked_once(rt: HostRuntime) {
+fn keys_that_are_deleted_and_inserted_again_come_once(rt: HostRuntime) {
     let all_keys = WalkEnd::Keys("[1,2,3,4,5,6,7,8,9]");
-    assert!(rt; walk_ends(rt.alloc(), Fnv, KEYS_AGAIN, all_keys, IS_NOT_FIXED) == Ok(true));
-    assert!(rt; walk_ends(rt.alloc(), AllSame, KEYS_AGAIN, all_keys, IS_NOT_FIXED) == Ok(true));
+    assert!(rt; walk_ends(rt.alloc(), Fnv, REINSERTED, all_keys, IS_NOT_FIXED) == Ok(true));
+    assert!(rt; walk_ends(rt.alloc(), AllSame, REINSERTED, all_keys, IS_NOT_FIXED) == Ok(true));
 }
 
-/// Seventy keys of a protected table, walked by a process that does not own it.
-static BY_ANOTHER: WalkTrial<'static> = WalkTrial {
+/// Seventy keys of a protected table, walked by a process that does not own it. Others do nothing.
+static WALK_BY_NON_OWNER: WalkSetup<'static> = WalkSetup {
     rows: &SEVENTY_KEYS,
     walker: 7,
     limit: 70,
@@ -46,26 +50,27 @@ fn seventy_keys_are_walked_by_another_process(rt: HostRuntime) {
     let all_keys = WalkEnd::Keys(
         "[1,2,3,4,5,6,7,8,9,10,11,12,13,14,15,16,17,18,19,20,21,22,23,24,25,26,27,28,29,30,31,32,33,34,35,36,37,38,39,40,41,42,43,44,45,46,47,48,49,50,51,52,53,54,55,56,57,58,59,60,61,62,63,64,65,66,67,68,69,70]",
     );
-    assert!(rt; walk_ends(rt.alloc(), Fnv, BY_ANOTHER, all_keys, IS_NOT_FIXED) == Ok(true));
+    assert!(rt; walk_ends(rt.alloc(), Fnv, WALK_BY_NON_OWNER, all_keys, IS_NOT_FIXED) == Ok(true));
 }
 
-/// One key, after which another process inserts one key in each turn.
-static FURTHER: WalkTrial<'static> = WalkTrial {
+/// One key. Another process inserts a new key in each turn, so that the walk reaches more keys than its limit.
+static NEW_KEY_EACH_TURN: WalkSetup<'static> = WalkSetup {
     rows: &ONE_KEY,
     walker: 0,
     limit: 5,
-    plan: Plan::InsertFurther,
+    plan: Plan::InsertNewKey,
 };
 
 #[test]
 fn a_key_past_the_limit_ends_the_walk(rt: HostRuntime) {
+    // The others see five keys, not the sixth one.
     let end = WalkEnd::FaultAfter(&WalkFault::LimitReached, 5);
-    assert!(rt; walk_ends(rt.alloc(), AllSame, FURTHER, end, IS_NOT_FIXED) == Ok(true));
+    assert!(rt; walk_ends(rt.alloc(), AllSame, NEW_KEY_EACH_TURN, end, IS_NOT_FIXED) == Ok(true));
 }
 
-/// Returns a walk over two keys while others follow a plan.
-fn on_two_keys(plan: Plan) -> WalkTrial<'static> {
-    WalkTrial {
+/// Returns the setup of a walk over two keys, less than its limit, while others follow a plan.
+fn setup_of_two_keys(plan: Plan) -> WalkSetup<'static> {
+    WalkSetup {
         rows: &TWO_KEYS,
         walker: 0,
         limit: 9,
@@ -73,14 +78,14 @@ fn on_two_keys(plan: Plan) -> WalkTrial<'static> {
     }
 }
 
-/// What others do in a walk over two keys, and a step after it with its reply.
-type Stop = (Plan, Row);
+/// What others do during a walk over two keys; and a step after the walk, with its wanted reply.
+type StopRow = (Plan, Row);
 
-/// Returns the index of the first row whose walk ends without this fault, or whose step then has another reply.
+/// Returns the index of the first row whose walk does not end with the wanted fault, or whose step has another reply.
 fn first_wrong_stop(
     alloc: Global,
     wanted: &WalkFault,
-    rows: &[Stop],
+    rows: &[StopRow],
 ) -> Result<Option<usize>, AllocError> {
     for (index, stop) in rows.iter().enumerate() {
         if !walk_stops(alloc, *stop, wanted)? {
@@ -90,21 +95,21 @@ fn first_wrong_stop(
     Ok(None)
 }
 
-/// Walks over two keys, and returns whether the walk ends with this fault and the step after it has the reply of its
-/// row.
-fn walk_stops(alloc: Global, stop: Stop, wanted: &WalkFault) -> Result<bool, AllocError> {
+/// Walks over two keys, and returns whether the walk ends with the wanted fault and the step after it has its reply.
+fn walk_stops(alloc: Global, stop: StopRow, wanted: &WalkFault) -> Result<bool, AllocError> {
     let (plan, next_row) = stop;
     walk_ends(
         alloc,
         Fnv,
-        on_two_keys(plan),
+        setup_of_two_keys(plan),
         WalkEnd::Fault(wanted),
         next_row,
     )
 }
 
-/// Others delete the table, or make another one of its name, which stays as it is.
-static LOST: [Stop; 3] = [
+/// Others delete the table, or also create another table with its name. The walk ends, and does not change the new
+/// table.
+static LOST: [StopRow; 3] = [
     (
         Plan::Always(&DELETES_TABLE),
         (Ask(Pid(0), "whereis(t)"), "undefined"),
@@ -117,18 +122,19 @@ static LOST: [Stop; 3] = [
 ];
 
 #[test]
-fn a_table_that_goes_is_lost(rt: HostRuntime) {
+fn a_deleted_table_ends_the_walk(rt: HostRuntime) {
     assert_eq!(rt;
         first_wrong_stop(rt.alloc(), &WalkFault::Lost, &LOST),
         Ok(None)
     );
 }
 
-/// The table has the objects that others inserted before the step of the walker, and none inserted after it.
+/// After the walk the table has `{3,c}`, which others inserted before the step of the walker, but not the later
+/// `{4,d}`.
 const KEYS_LEFT: Row = (Ask(Pid(0), "tab2list(t)"), "any order: [{1,a},{2,b},{3,c}]");
 
-/// Others hand in a step of the walker itself.
-static OWN_STEPS: [Stop; 6] = [
+/// Others hand in a step of the walker, which is process 0. That step and the steps after it are not run.
+static OWN_STEPS: [StopRow; 6] = [
     (Plan::Always(&WALKER_ENROLS), KEYS_LEFT),
     (Plan::Always(&WALKER_ENROLS), IS_NOT_FIXED),
     (Plan::Always(&WALKER_ENDS), KEYS_LEFT),
@@ -138,7 +144,7 @@ static OWN_STEPS: [Stop; 6] = [
 ];
 
 #[test]
-fn a_step_of_the_walker_is_not_done(rt: HostRuntime) {
+fn a_step_of_the_walker_ends_the_walk(rt: HostRuntime) {
     assert_eq!(rt;
         first_wrong_stop(rt.alloc(), &WalkFault::OwnStep, &OWN_STEPS),
         Ok(None)
@@ -155,13 +161,14 @@ fn out_of_memory_ends_the_walk(rt: HostRuntime) {
 }
 
 #[test]
-fn a_table_that_is_emptied_has_one_key(rt: HostRuntime) {
-    let emptied = on_two_keys(Plan::Always(&DELETES_ALL_OBJECTS));
+fn a_walk_over_an_emptied_table_visits_one_key(rt: HostRuntime) {
+    let setup = setup_of_two_keys(Plan::Always(&DELETES_ALL_OBJECTS));
     let end = WalkEnd::KeysSeen(1);
-    assert!(rt; walk_ends(rt.alloc(), Fnv, emptied, end, IS_NOT_FIXED) == Ok(true));
+    assert!(rt; walk_ends(rt.alloc(), Fnv, setup, end, IS_NOT_FIXED) == Ok(true));
 }
 
-/// Walks after these steps, and returns whether the walk ends with this fault and the step after it has its reply.
+/// Runs `rows` and walks as process 0. Returns whether the walk ends with this fault, and `next_row` then has its
+/// reply.
 fn walk_has_fault(
     alloc: Global,
     rows: &[Row],
@@ -169,35 +176,37 @@ fn walk_has_fault(
     fault: &WalkFault,
     next_row: Row,
 ) -> Result<bool, AllocError> {
-    let trial = WalkTrial {
+    let setup = WalkSetup {
         rows,
         walker: 0,
         limit,
         plan: Plan::DeleteAndInsert,
     };
-    walk_ends(alloc, Fnv, trial, WalkEnd::Fault(fault), next_row)
+    walk_ends(alloc, Fnv, setup, WalkEnd::Fault(fault), next_row)
 }
 
-/// Asks the owner whether the table of process 1 is fixed, which it is not.
-const IS_NOT_FIXED_BY_ANOTHER: Row = (Ask(Pid(1), "info(t,fixed)"), "false");
+/// Process 1 asks whether its table is fixed. It is not.
+const OWNER_SEES_NO_FIX: Row = (Ask(Pid(1), "info(t,fixed)"), "false");
 
-/// Asks as process 0, which does not live.
+/// A call of process 0, which was not enrolled.
 const HAS_NO_PROCESS: Row = (Ask(Pid(0), "info(t,fixed)"), "** noproc");
 
-/// Walks that begin without a table to read: the steps before each, and the step after it.
-static NOT_READ: [(&[Row], Row); 3] = [
-    (&PRIVATE_TABLE_OF_ANOTHER, IS_NOT_FIXED_BY_ANOTHER),
-    (&WALKER_HAS_ENDED, IS_NOT_FIXED_BY_ANOTHER),
+/// Walks that are refused at the start: the steps before each walk, and a step after it with its reply. Process 0,
+/// which walks, may not read the table, has exited, or was not enrolled.
+static UNREADABLE: [(&[Row], Row); 3] = [
+    (&PRIVATE_TABLE_OF_ANOTHER, OWNER_SEES_NO_FIX),
+    (&WALKER_HAS_ENDED, OWNER_SEES_NO_FIX),
     (&[], HAS_NO_PROCESS),
 ];
 
-/// Returns the index of the first row whose walk ends without this fault, or whose step then has another reply.
-fn first_wrong_fault(
+/// Returns the index of the first row whose walk does not end with this fault, or whose step has another reply.
+fn first_walk_with_wrong_fault(
     alloc: Global,
     fault: &WalkFault,
     rows: &[(&'static [Row], Row)],
 ) -> Result<Option<usize>, AllocError> {
     for (index, (before, next_row)) in rows.iter().enumerate() {
+        // The limit 9 plays no part: these walks are refused before the first key.
         if !walk_has_fault(alloc, *before, 9, fault, *next_row)? {
             return Ok(Some(index));
         }
@@ -206,15 +215,15 @@ fn first_wrong_fault(
 }
 
 #[test]
-fn a_table_that_is_not_to_be_read_is_lost(rt: HostRuntime) {
+fn a_walk_without_a_readable_table_is_refused(rt: HostRuntime) {
     assert_eq!(rt;
-        first_wrong_fault(rt.alloc(), &WalkFault::Lost, &NOT_READ),
+        first_walk_with_wrong_fault(rt.alloc(), &WalkFault::Lost, &UNREADABLE),
         Ok(None)
     );
 }
 
-/// An empty table, and a walk that may visit no key.
-static NO_LIMIT: WalkTrial<'static> = WalkTrial {
+/// A walk over an empty table with the limit 0: it may not visit a key.
+static ZERO_LIMIT: WalkSetup<'static> = WalkSetup {
     rows: &NO_KEYS,
     walker: 0,
     limit: 0,
@@ -222,9 +231,9 @@ static NO_LIMIT: WalkTrial<'static> = WalkTrial {
 };
 
 #[test]
-fn no_key_is_within_no_limit(rt: HostRuntime) {
+fn a_limit_of_zero_allows_only_an_empty_table(rt: HostRuntime) {
     let alloc = rt.alloc();
     let fault = WalkFault::LimitReached;
-    assert!(rt; walk_ends(alloc, Fnv, NO_LIMIT, WalkEnd::Keys("[]"), IS_NOT_FIXED) == Ok(true));
+    assert!(rt; walk_ends(alloc, Fnv, ZERO_LIMIT, WalkEnd::Keys("[]"), IS_NOT_FIXED) == Ok(true));
     assert!(rt; walk_has_fault(alloc, &TWO_KEYS, 0, &fault, IS_NOT_FIXED) == Ok(true));
 }

@@ -1,4 +1,6 @@
-// Why a step is refused: each kind of misuse with its reason in words, as the rules want it. A value has no reason.
+// `node_reasons::why`: the reason of each refusal, in words. A reply that is a value has no reason.
+
+// The rows: steps that break a rule, each with its reason.
 mod misuses;
 
 use super::{Event, Row, build_step};
@@ -16,7 +18,7 @@ fn reason_has_words(alloc: Global, reason: Reason, wanted: &str) -> Result<bool,
     Ok(same)
 }
 
-/// Returns whether a step with this reply has this reason. Without words, the reply must be a value.
+/// Returns whether the reply to a step has the wanted reason. An empty text wants a value, which has no reason.
 fn has_reason(
     alloc: Global,
     node: &Node<Fnv>,
@@ -30,7 +32,7 @@ fn has_reason(
     }
 }
 
-/// Runs the step of an event, and returns whether its reply has this reason.
+/// Runs the step of an event, and returns whether its reply has the wanted reason.
 fn event_has_reason(
     alloc: Global,
     node: &mut Node<Fnv>,
@@ -43,7 +45,7 @@ fn event_has_reason(
     explained
 }
 
-/// Runs a step, and returns whether its reply has this reason.
+/// Runs a step, and returns whether its reply has the wanted reason.
 fn step_has_reason(
     alloc: Global,
     node: &mut Node<Fnv>,
@@ -56,7 +58,7 @@ fn step_has_reason(
     explained
 }
 
-/// Runs the rows in a node, and returns the index of the first one with another reason.
+/// Runs the rows in a node, and returns the index of the first row with another reason.
 fn first_wrong_reason_in(
     alloc: Global,
     node: &mut Node<Fnv>,
@@ -70,7 +72,7 @@ fn first_wrong_reason_in(
     Ok(None)
 }
 
-/// Runs the rows in a new node with these limits, and returns the index of the first one with another reason.
+/// Runs the rows in a new node with these limits, and returns the index of the first row with another reason.
 fn first_wrong_reason(
     alloc: Global,
     limits: Limits,

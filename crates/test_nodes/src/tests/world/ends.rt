@@ -1,8 +1,9 @@
+// Exits of processes. A row is a call and its wanted answer. Tables are numbered from 0 in order of creation.
 use super::Call::{End, Enrol, Fix, Info, New, Receive, Resolve, Set};
 use super::{DONE, Pid, Row, Tid, first_wrong_scenario};
 use std::process::Abort;
 
-/// A living heir inherits.
+/// If the owner exits, its heir gets the table and a message, if the heir lives.
 static INHERITED: [Row; 11] = [
     (Enrol(Pid(0)), DONE),
     (Enrol(Pid(1)), DONE),
@@ -17,7 +18,7 @@ static INHERITED: [Row; 11] = [
     (End(Pid(1)), "** noproc"),
 ];
 
-/// Tables without a living heir are deleted.
+/// An exit deletes a table without an heir, or whose heir has exited, is the owner itself, or was not enrolled.
 static NO_HEIR: [Row; 12] = [
     (Enrol(Pid(0)), DONE),
     (Enrol(Pid(1)), DONE),
@@ -33,7 +34,7 @@ static NO_HEIR: [Row; 12] = [
     (Resolve("#Tid<3>"), "none"),
 ];
 
-/// Messages come in order of creation.
+/// An heir gets its messages in the order in which the tables were created.
 static IN_ORDER: [Row; 11] = [
     (Enrol(Pid(0)), DONE),
     (Enrol(Pid(1)), DONE),
@@ -51,7 +52,7 @@ static IN_ORDER: [Row; 11] = [
     (Info(Tid(3), "heir"), "<0.1.0>"),
 ];
 
-/// An exit releases the fixes of its process.
+/// The exit of a process releases its fixes, also of a table that passes to an heir.
 static FIXES: [Row; 12] = [
     (Enrol(Pid(0)), DONE),
     (Enrol(Pid(1)), DONE),
@@ -67,7 +68,8 @@ static FIXES: [Row; 12] = [
     (Info(Tid(0), "owner"), "<0.2.0>"),
 ];
 
-/// A number is enrolled once.
+/// A process number enrols only once, even after its exit; 4294967295 is the greatest. The limit is three processes,
+/// and an exited one still counts.
 static ENROLLED: [Row; 8] = [
     (Enrol(Pid(7)), DONE),
     (Enrol(Pid(7)), "** badarg"),

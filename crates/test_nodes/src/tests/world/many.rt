@@ -1,4 +1,5 @@
-// Worlds of hundreds of processes and tables, compared with a plain model.
+// Worlds of hundreds of processes and tables. The owner and the fix of each table are compared with those of a plain
+// model, `owner_and_fix_after`.
 use super::Tables;
 use super::single_calls::{fix_table, new_table};
 use ets_term::Term;
@@ -6,16 +7,17 @@ use ownership::{World, WorldFault};
 use std::alloc::Global;
 use std::process::Abort;
 
-/// How many processes enrol, and how many tables they make.
+/// How many processes enrol, each of which makes one table.
 const MANY: u32 = 300;
 
 /// How many tables one process makes, all with one heir.
 const TABLES: u32 = 70;
 
-/// In place of the owner of a table that does not exist.
+/// In place of the owner of a table that does not exist. It is not the number of a process, since those are below
+/// `MANY`.
 const GONE: u32 = 1_000;
 
-/// Makes a table of the process, with this heir.
+/// Makes a table of the process, with this heir and the gift 1.
 fn make_with_heir(
     alloc: Global,
     world: &mut Tables,
@@ -37,12 +39,13 @@ fn owner_and_fix(world: &Tables, id: u32) -> (u32, bool) {
     }
 }
 
-/// Returns whether `wanted` messages are there, about the tables from 0 on, in that order.
-fn is_in_order(messages: &[Term], wanted: u32) -> bool {
+/// Returns whether there are `wanted` messages, the first about table 0, the second about table 1, and so on.
+fn are_about_tables_in_order(messages: &[Term], wanted: u32) -> bool {
     for (index, message) in messages.iter().enumerate() {
         let Term::Tuple(elements) = message else {
             return false;
         };
+        // A message is `{'ETS-TRANSFER',Table,From,Gift}`.
         match elements.as_slice().get(1) {
             Some(Term::Tid(id)) if *id as usize == index => {}
             _ => return false,
@@ -71,22 +74,22 @@ fn all_are_gone(world: &Tables) -> bool {
     true
 }
 
-/// Returns whether the owner's exit passes all tables to their heir, in order, and the heir's exit deletes them.
+/// Returns whether the exit of process 0 passes all tables to their heir in order, and the heir's exit deletes them.
 fn passes_tables_on(alloc: Global, world: &mut Tables) -> Result<bool, WorldFault> {
     make_all_with_one_heir(alloc, world)?;
     world.end(0)?;
     let last = owner_and_fix(world, TABLES - 1);
-    let is_inherited = is_in_order(world.mailbox(1), TABLES) && last == (1, false);
+    let is_inherited = are_about_tables_in_order(world.mailbox(1), TABLES) && last == (1, false);
     world.end(1)?;
     Ok(is_inherited && all_are_gone(world))
 }
 
-/// Returns whether the exits of two processes in a new world pass all tables on, and then delete them.
+/// Returns whether, in a new world, the exit of the owner passes all tables on, and the exit of the heir deletes them.
 fn new_world_passes_tables_on(alloc: Global) -> Result<bool, WorldFault> {
     let mut world = World::new(alloc, 2, TABLES);
-    let handed_on = passes_tables_on(alloc, &mut world);
+    let passed_on = passes_tables_on(alloc, &mut world);
     drop(world);
-    handed_on
+    passed_on
 }
 
 #[test]
@@ -94,25 +97,25 @@ fn seventy_tables_go_to_one_heir(rt: HostRuntime) {
     assert!(rt; new_world_passes_tables_on(rt.alloc()) == Ok(true));
 }
 
-/// Returns the heir of a table: any process, different for each table, as 17 has no divisor in common with `MANY`.
+/// Returns the heir of a table. Different tables have different heirs, because 17 and `MANY` have no common divisor.
 fn heir_of(id: u32) -> u32 {
     id.wrapping_mul(17).wrapping_add(1) % MANY
 }
 
-/// Returns the process that fixes a table: any process, different for each table, as 11 has no divisor in common with
-/// `MANY`.
+/// Returns the process that fixes a table. Different processes fix different tables, because 11 and `MANY` have no
+/// common divisor.
 fn fixer_of(id: u32) -> u32 {
     id.wrapping_mul(11).wrapping_add(5) % MANY
 }
 
-/// Returns the process that exits in a turn. Each process exits in one of `MANY` turns, as 7 has no divisor in common
-/// with `MANY`.
+/// Returns the process that exits in a turn. Each process exits in one of `MANY` turns, because 7 and `MANY` have no
+/// common divisor.
 fn process_to_end(turn: u32) -> u32 {
     turn.wrapping_mul(7) % MANY
 }
 
 /// Returns whether a process has exited after a number of turns.
-fn is_ended(pid: u32, turns: u32) -> bool {
+fn has_exited(pid: u32, turns: u32) -> bool {
     for turn in 0..turns {
         if process_to_end(turn) == pid {
             return true;
@@ -121,18 +124,18 @@ fn is_ended(pid: u32, turns: u32) -> bool {
     false
 }
 
-/// Returns the owner of a table after a number of exits, and whether it is fixed. The exit of its owner passes it to
-/// its heir, or deletes it if the heir has exited.
+/// Returns the owner that a table must have after a number of turns, and whether it must be fixed. The exit of its
+/// owner passes it to its heir, or deletes it if the heir has exited.
 fn owner_and_fix_after(id: u32, turns: u32) -> (u32, bool) {
     let heir = heir_of(id);
-    let owner = if !is_ended(id, turns) {
+    let owner = if !has_exited(id, turns) {
         id
-    } else if is_ended(heir, turns) {
+    } else if has_exited(heir, turns) {
         GONE
     } else {
         heir
     };
-    (owner, owner != GONE && !is_ended(fixer_of(id), turns))
+    (owner, owner != GONE && !has_exited(fixer_of(id), turns))
 }
 
 /// Enrols all processes.
@@ -143,7 +146,7 @@ fn enrol_all(world: &mut Tables) -> Result<(), WorldFault> {
     Ok(())
 }
 
-/// Makes a table of each process, with an heir, and fixes it by some process.
+/// Makes a table of each process, with the heir `heir_of`, and fixes it for the process `fixer_of`.
 fn make_and_fix_all(alloc: Global, world: &mut Tables) -> Result<(), WorldFault> {
     for id in 0..MANY {
         make_with_heir(alloc, world, id, heir_of(id))?;
@@ -162,11 +165,11 @@ fn first_wrong_table_after(world: &Tables, turns: u32) -> Option<u32> {
     None
 }
 
-/// Ends all processes one by one. Returns the first turn after which a table has another owner or fix, and the table.
+/// Ends all processes one by one. Returns the first turn after which a table has a wrong owner or fix, and the table.
 fn first_wrong_table_while_ending(world: &mut Tables) -> Result<Option<(u32, u32)>, WorldFault> {
     for turn in 0..MANY {
         world.end(process_to_end(turn))?;
-        // To compare all tables after each turn would take too long.
+        // Compares after one turn in 16 and after the last, since to compare after each turn would take too long.
         if turn % 16 == 0 || turn + 1 == MANY {
             if let Some(id) = first_wrong_table_after(world, turn + 1) {
                 return Ok(Some((turn, id)));
@@ -176,14 +179,14 @@ fn first_wrong_table_while_ending(world: &mut Tables) -> Result<Option<(u32, u32
     Ok(None)
 }
 
-/// Fills a world and ends all its processes. Returns the first wrong turn, and the table.
+/// Fills a world and ends all its processes. Returns the first turn after which a table is wrong, and the table.
 fn first_wrong_turn(alloc: Global, world: &mut Tables) -> Result<Option<(u32, u32)>, WorldFault> {
     enrol_all(world)?;
     make_and_fix_all(alloc, world)?;
     first_wrong_table_while_ending(world)
 }
 
-/// Ends all processes of a new world. Returns the first wrong turn, and the table.
+/// Fills a new world and ends all its processes. Returns the first turn after which a table is wrong, and the table.
 fn first_wrong_turn_of_new_world(alloc: Global) -> Result<Option<(u32, u32)>, WorldFault> {
     let mut world = World::new(alloc, MANY, MANY);
     let turn = first_wrong_turn(alloc, &mut world);

@@ -1,4 +1,5 @@
-// All that can be observed of a world, as a list of terms.
+// All that can be observed of a world, as a list of terms. A test compares two such lists to see whether a call that
+// ran out of memory changed the world. The numbers 0 to 3 and the names are those that the test in `refused` uses.
 use super::Tables;
 use crate::tests::keep_if_ok;
 use crate::tests::text::term;
@@ -6,7 +7,7 @@ use ets_term::{Integer, Term};
 use ownership::InfoItem;
 use std::alloc::{AllocError, Global};
 
-/// The items of tables that are observed.
+/// The `info` items of tables that are observed.
 static ITEMS: [InfoItem; 10] = [
     InfoItem::Name,
     InfoItem::NamedTable,
@@ -91,7 +92,7 @@ fn observe_rights(
     add_flag(observed, world.is_owner(pid, id))
 }
 
-/// Appends the rights of each process in a table.
+/// Appends the rights in a table of processes 0 to 3.
 fn observe_all_rights(world: &Tables, id: u32, observed: &mut Vec<Term>) -> Result<(), AllocError> {
     for pid in 0..4 {
         observe_rights(world, pid, id, observed)?;
@@ -99,7 +100,7 @@ fn observe_all_rights(world: &Tables, id: u32, observed: &mut Vec<Term>) -> Resu
     Ok(())
 }
 
-/// Appends the table that has a name, or 0.
+/// Appends the identifier of the table that has a name, or 0 if there is no such table.
 fn observe_name(
     alloc: Global,
     world: &Tables,
@@ -118,7 +119,7 @@ fn observe_name(
 /// The names of tables that are observed.
 static NAMES: [&str; 5] = ["a_name_longer_than_its_place", "u", "v", "w", "x"];
 
-/// Appends each process, each table with these items, and the rights in it.
+/// Appends processes 0 to 3, and tables 0 to 3 with these items and the rights of the processes in each.
 fn observe_numbers(
     alloc: Global,
     world: &Tables,
@@ -133,7 +134,7 @@ fn observe_numbers(
     Ok(())
 }
 
-/// Appends the tables that have these names.
+/// Appends the identifiers of the tables that have these names.
 fn observe_names(
     alloc: Global,
     world: &Tables,
@@ -155,6 +156,7 @@ fn observe_all(alloc: Global, world: &Tables, observed: &mut Vec<Term>) -> Resul
 
 /// Returns all that can be observed of a world.
 pub fn observe_world(alloc: Global, world: &Tables) -> Result<Vec<Term>, AllocError> {
+    // There are about a hundred observations.
     let mut observed = Vec::with_capacity(alloc, 128)?;
     keep_if_ok(observe_all(alloc, world, &mut observed), observed)
 }

@@ -1,8 +1,10 @@
+// The options of `new`, and what `info` then replies. A row is a call and its wanted answer. The world makes tables
+// also for a process that did not enrol.
 use super::Call::{Info, New};
 use super::{Pid, Row, Tid, first_wrong_scenario};
 use std::process::Abort;
 
-/// All options are read, and the last one of a kind counts.
+/// `info` shows all options. Of several options of one kind, the last one is used. The greatest keypos is 4294967295.
 static READ: [Row; 12] = [
     (
         New(
@@ -25,7 +27,7 @@ static READ: [Row; 12] = [
     (Info(Tid(1), "name"), "undefined"),
 ];
 
-/// Tuning options change nothing.
+/// Tuning options change nothing that `info` shows. Of two heirs, the last one is used.
 static TUNING: [Row; 4] = [
     (
         New(
@@ -47,7 +49,7 @@ static TUNING: [Row; 4] = [
     (Info(Tid(1), "protection"), "protected"),
 ];
 
-/// Four tables are the limit. A taken name is refused before the limit.
+/// The limit is four tables. A name in use is refused before the limit.
 static AT_LIMIT: [Row; 6] = [
     (New(Pid(0), "a", "[]"), "#Tid<0>"),
     (New(Pid(0), "b", "[]"), "#Tid<1>"),
@@ -59,7 +61,7 @@ static AT_LIMIT: [Row; 6] = [
 
 /// Runs the rows about the options of tables.
 #[test]
-fn options_and_items(rt: HostRuntime) {
+fn info_shows_the_options_of_a_table(rt: HostRuntime) {
     let scenarios: [&[Row]; 3] = [&READ, &TUNING, &AT_LIMIT];
     assert_eq!(rt; first_wrong_scenario(rt.alloc(), &scenarios), Ok(None));
 }

@@ -1,8 +1,10 @@
+// Owners, heirs, rights and names. A row is a call and its wanted answer. The world makes tables also for a process
+// that did not enrol.
 use super::Call::{Drop, End, Enrol, Give, Info, New, Receive, Resolve, Rights, Set};
 use super::{DONE, Pid, Row, Tid, first_wrong_scenario};
 use std::process::Abort;
 
-/// An owner gives its table away.
+/// Only the owner gives a table away, and only to another living process.
 static GIVEN: [Row; 14] = [
     (Enrol(Pid(0)), DONE),
     (Enrol(Pid(1)), DONE),
@@ -20,7 +22,7 @@ static GIVEN: [Row; 14] = [
     (Info(Tid(0), "owner"), "<0.1.0>"),
 ];
 
-/// An owner sets the heir.
+/// Only the owner sets the heir, and a malformed option sets nothing.
 static HEIRS: [Row; 13] = [
     (Enrol(Pid(0)), DONE),
     (Enrol(Pid(1)), DONE),
@@ -37,7 +39,7 @@ static HEIRS: [Row; 13] = [
     (Info(Tid(0), "heir"), "<0.1.0>"),
 ];
 
-/// Protection says who uses a table.
+/// The protection of a table decides which other processes may read and write it.
 static RIGHTS: [Row; 9] = [
     (New(Pid(0), "a", "[public]"), "#Tid<0>"),
     (New(Pid(0), "b", "[]"), "#Tid<1>"),
@@ -50,7 +52,8 @@ static RIGHTS: [Row; 9] = [
     (Info(Tid(2), "protection"), "private"),
 ];
 
-/// A name is free once its table is gone.
+/// A name may be used again after its table is deleted, but an identifier may not. To delete a table again does
+/// nothing.
 static NAMES: [Row; 12] = [
     (New(Pid(0), "t", "[named_table]"), "t"),
     (New(Pid(0), "t", "[]"), "#Tid<1>"),
@@ -68,7 +71,7 @@ static NAMES: [Row; 12] = [
 
 /// Runs the rows about owners, heirs, rights and names.
 #[test]
-fn owners_names_and_rights(rt: HostRuntime) {
+fn owners_rights_and_names_follow_the_rules(rt: HostRuntime) {
     let scenarios: [&[Row]; 4] = [&GIVEN, &HEIRS, &RIGHTS, &NAMES];
     assert_eq!(rt; first_wrong_scenario(rt.alloc(), &scenarios), Ok(None));
 }

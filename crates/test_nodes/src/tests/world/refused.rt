@@ -1,6 +1,6 @@
-// Out of memory. `.ci/refusals` runs these tests with each allocation refused in turn. A call that runs out of memory
-// changes nothing that can be observed, and has the answer of a first call when it is made again. A test repeats its
-// own allocations.
+// Out of memory. `.ci/refusals` runs these tests many times, each time with another allocation refused. A call that
+// runs out of memory changes nothing that can be observed, and a second call must have the wanted answer. A test also
+// retries its own allocations.
 use super::Call::{End, Enrol, Fix, Give, Info, New, Receive, Set};
 use super::observations::observe_world;
 use super::{Call, DONE, Pid, Row, Tables, Tid, Tries, answer, first_wrong_row, refusal};
@@ -10,7 +10,8 @@ use ownership::WorldFault;
 use std::alloc::{AllocError, Global};
 use std::process::Abort;
 
-/// Calls, each with its answer when memory suffices.
+/// Calls, each with the answer that it must have when memory suffices. The long name does not fit into the place of an
+/// atom, so that it takes memory.
 static CALLS: [Row; 28] = [
     (Enrol(Pid(0)), DONE),
     (Enrol(Pid(1)), DONE),
@@ -67,7 +68,7 @@ static CALLS: [Row; 28] = [
     (Info(Tid(0), "name"), "undefined"),
 ];
 
-/// Returns all that can be observed of a world, observed again if memory runs out.
+/// Returns all that can be observed of a world. Observes it a second time if memory runs out.
 fn observe_world_with_retry(alloc: Global, world: &Tables) -> Result<Vec<Term>, AllocError> {
     match observe_world(alloc, world) {
         Ok(observed) => Ok(observed),
@@ -75,7 +76,7 @@ fn observe_world_with_retry(alloc: Global, world: &Tables) -> Result<Vec<Term>, 
     }
 }
 
-/// Returns whether a text spells this term, compared again if memory runs out.
+/// Returns whether a text spells this term. Compares a second time if memory runs out.
 fn is_spelled_with_retry(alloc: Global, value: &Term, wanted: &str) -> Result<bool, AllocError> {
     match is_spelled(alloc, value, wanted) {
         Ok(same) => Ok(same),
@@ -83,7 +84,7 @@ fn is_spelled_with_retry(alloc: Global, value: &Term, wanted: &str) -> Result<bo
     }
 }
 
-/// Returns whether an answer or a refusal has this text.
+/// Returns whether an answer or a refusal is the wanted one.
 fn answer_has_text(
     alloc: Global,
     answered: Result<Term, WorldFault>,
@@ -99,7 +100,7 @@ fn answer_has_text(
     }
 }
 
-/// Returns whether all that can be observed is as before.
+/// Returns whether all that can be observed of a world is equal to `before`.
 fn is_unchanged(alloc: Global, world: &Tables, before: &[Term]) -> Result<bool, AllocError> {
     let after = observe_world_with_retry(alloc, world)?;
     let same = after.as_slice() == before;
@@ -107,8 +108,8 @@ fn is_unchanged(alloc: Global, world: &Tables, before: &[Term]) -> Result<bool, 
     Ok(same)
 }
 
-/// Returns whether a call has this answer at once; or it runs out of memory, changes nothing that can be observed, and
-/// has this answer when it is made again.
+/// Makes a call, and returns whether it has the wanted answer. If memory runs out, the call must not have changed what
+/// can be observed, which was `before`, and a second call must have the wanted answer.
 fn call_has_answer_or_is_refused_once(
     alloc: Global,
     world: &mut Tables,
@@ -127,7 +128,8 @@ fn call_has_answer_or_is_refused_once(
     )
 }
 
-/// Makes a call, again if memory runs out, and returns whether it has this answer and changed nothing before.
+/// Makes a call, a second time if memory runs out. Returns whether it has the wanted answer, and a call that ran out of
+/// memory changed nothing.
 pub(super) fn call_has_answer_with_retry(
     alloc: Global,
     world: &mut Tables,
@@ -141,9 +143,9 @@ pub(super) fn call_has_answer_with_retry(
 }
 
 #[test]
-fn a_refused_call_is_called_again(rt: HostRuntime) {
+fn a_call_that_ran_out_of_memory_is_made_again(rt: HostRuntime) {
     assert_eq!(rt;
-        first_wrong_row(rt.alloc(), Tries::AgainIfRefused, &CALLS),
+        first_wrong_row(rt.alloc(), Tries::RetryIfOutOfMemory, &CALLS),
         Ok(None)
     );
 }

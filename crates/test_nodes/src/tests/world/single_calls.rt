@@ -1,4 +1,4 @@
-// One call of a world each, whose arguments are texts.
+// Each function makes one call of a world. Texts spell the names, options and terms that the call takes.
 use super::Tables;
 use crate::tests::text::term;
 use bucket_table::PlainRows;
@@ -13,7 +13,7 @@ pub fn empty_tuple(alloc: Global) -> Term {
     Term::Tuple(Items::new(alloc))
 }
 
-/// Makes a table, whose options are a text. Returns its name or its identifier.
+/// Makes a table with the options that a text spells. Returns its name if it is named, and its identifier otherwise.
 pub fn new_table(
     alloc: Global,
     world: &mut Tables,
@@ -28,6 +28,7 @@ pub fn new_table(
             drop(name);
             named
         }
+        // Out of memory, or a name that is too long for an atom, which is a fault of the test.
         Err(_) => {
             drop(options);
             Err(WorldFault::Memory)
@@ -43,7 +44,8 @@ fn options_of(alloc: Global, options: &str) -> Result<NewOptions, WorldFault> {
     read
 }
 
-/// Puts an empty table for at most ten objects into the world. Returns its name or its identifier.
+/// Puts an empty table for at most ten objects into the world. Returns its name if it is named, and its identifier
+/// otherwise.
 fn add_table(
     alloc: Global,
     world: &mut Tables,
@@ -52,11 +54,12 @@ fn add_table(
     options: NewOptions,
 ) -> Result<Term, WorldFault> {
     let rows = PlainRows::new(alloc);
+    // The options were read from a term, so keypos is at least 1; `max` makes this known to the prover.
     let table = Table::new(alloc, rows, options.kind(), options.keypos().max(1), 10);
     world.new_table(pid, name, options, Walked::new(alloc, table))
 }
 
-/// Returns an item of a table, or `undefined` if the table does not exist.
+/// Returns an `info` item of a table, or `undefined` if the table does not exist.
 pub fn info_or_undefined(
     alloc: Global,
     world: &Tables,
@@ -72,7 +75,7 @@ pub fn info_or_undefined(
     }
 }
 
-/// Returns the item that a text names, if it is one.
+/// Returns the `info` item that a text names, if there is such an item.
 fn item_of(alloc: Global, item: &str) -> Result<Option<InfoItem>, AllocError> {
     let item = term(alloc, item)?;
     let read = InfoItem::read(&item);
@@ -91,7 +94,7 @@ pub fn tid_or_none(alloc: Global, world: &Tables, named: &str) -> Result<Term, W
     }
 }
 
-/// Returns what a process may do with a table, as a list.
+/// Returns the list of what a process may do with a table: `read`, `write`, `own`.
 pub fn list_of_rights(
     alloc: Global,
     world: &Tables,
@@ -121,7 +124,7 @@ fn push_rights(
     push_right(alloc, rights, "own", world.is_owner(pid, id))
 }
 
-/// Appends what a process may do, if it may.
+/// Appends the name of a right, if the process has it.
 fn push_right(
     alloc: Global,
     rights: &mut Items<Term>,
@@ -134,13 +137,14 @@ fn push_right(
     Ok(())
 }
 
-/// Fixes a table for a process.
+/// Fixes a table for a process. A table that does not exist is refused.
 pub fn fix_table(alloc: Global, world: &mut Tables, pid: u32, id: u32) -> Result<Term, WorldFault> {
     let Some(table) = world.table_mut(id) else {
         return Err(WorldFault::Badarg);
     };
     match table.fix(pid) {
         Ok(()) => Ok(empty_tuple(alloc)),
+        // Out of memory: no test makes the greatest number of fixes.
         Err(_) => Err(WorldFault::Memory),
     }
 }
@@ -160,7 +164,7 @@ pub fn give_away(
     given
 }
 
-/// Sets the options of a table that a text spells.
+/// Sets options of a table, which a text spells.
 pub fn set_options(
     alloc: Global,
     world: &mut Tables,

@@ -1,30 +1,31 @@
-// A reader: it reads the tables of the writers and its own, and traverses fixed tables.
+// A reader: it reads the tables of the writers and its own, and it fixes and traverses the tables of the writers. Table
+// `tN` is the table of process N. A reader or a turn 'is right' if all its replies are right.
 use super::{KEPT_KEYS, READS, WRITERS};
-use crate::tests::calls::{call_with, is_done_with, read_lists};
+use crate::tests::calls::{call_with, caller_gets_value_for, read_gives_list};
 use ets_term::{KeyHash, Term};
 use node_core::Reply;
 use node_shared::{Caller, HistoryId, Server};
 use std::alloc::{AllocError, Global};
 use std::sync::Wait;
 
-/// A bound of the loop over the keys of a table, which has fewer.
+/// More keys than a table has: a bound of the loop over its keys.
 const MAX_KEYS: u32 = 1_000_000;
 
 /// The number of turns in which a reader traverses the table of each writer once.
 const TRAVERSAL_PERIOD: u32 = 50_000;
 
-/// The turns of a period in which a reader traverses the tables of the two writers. Each is 2 more than a multiple of
-/// `OWN_WRITE_PERIOD`, since the turns 0 and 1 write and read.
+/// The turns of a period in which a reader traverses the table of the first and of the second writer. Each is 2 more
+/// than a multiple of `OWN_WRITE_PERIOD`, since the multiple itself is a write, and the turn after it a read.
 const TRAVERSALS: [u32; 2] = [25_002, 45_002];
 
-/// The number of turns in which a reader writes its own table once, and then reads what it wrote.
+/// In each period of this number of turns, turn 0 writes the own table of the reader, and turn 1 reads what it wrote.
 const OWN_WRITE_PERIOD: u32 = 20;
 
-/// The distance of the keys of successive lookups. It has no divisor in common with `KEPT_KEYS`.
+/// The difference between the keys of successive turns. It has no common divisor with `KEPT_KEYS` but 1.
 const KEY_DISTANCE: u32 = 7;
 
-/// Makes all calls, and returns whether all replies are right.
-pub(super) fn read_all<B: HistoryId, H: KeyHash + Copy + Drop, R: Wait>(
+/// Makes all calls of a reader. Returns whether all replies are right.
+pub(super) fn reader_is_right<B: HistoryId, H: KeyHash + Copy + Drop, R: Wait>(
     rt: &R,
     alloc: Global,
     server: &Server<B, H>,
@@ -49,34 +50,35 @@ fn turn_is_right<B: HistoryId, H: KeyHash + Copy + Drop, R: Wait>(
 ) -> Option<bool> {
     let [one, other] = WRITERS;
     let [turn_of_one, turn_of_other] = TRAVERSALS;
+    // A lookup in an even turn is in the table of the first writer, in an odd turn in that of the second.
     let writer = if turn % 2 == 0 { one } else { other };
     let own_table = caller.pid();
     match turn % OWN_WRITE_PERIOD {
         0 => {
             let object = format!(in alloc; "[t{own_table},{{own,{turn}}}]");
-            is_done_with(rt, alloc, server, caller, ("insert", object))
+            caller_gets_value_for(rt, alloc, server, caller, ("insert", object))
         }
         1 => {
             let written = turn.wrapping_sub(1);
             let pattern = format!(in alloc; "[t{own_table},{{own,{written}}}]");
-            read_lists(rt, alloc, server, caller, ("match_object", pattern), 1)
+            read_gives_list(rt, alloc, server, caller, ("match_object", pattern), 1)
         }
-        _ if turn % TRAVERSAL_PERIOD == turn_of_one => traversal_is_whole(
+        _ if turn % TRAVERSAL_PERIOD == turn_of_one => traversal_is_exact(
             rt, alloc, server, caller, one,
         ),
-        _ if turn % TRAVERSAL_PERIOD == turn_of_other => traversal_is_whole(
+        _ if turn % TRAVERSAL_PERIOD == turn_of_other => traversal_is_exact(
             rt, alloc, server, caller, other,
         ),
         _ => {
             let key = turn.wrapping_mul(KEY_DISTANCE) % KEPT_KEYS;
             let arguments = format!(in alloc; "[t{writer},{key}]");
-            read_lists(rt, alloc, server, caller, ("lookup", arguments), 1)
+            read_gives_list(rt, alloc, server, caller, ("lookup", arguments), 1)
         }
     }
 }
 
-/// Fixes the table of a writer and traverses it. Returns whether each kept key was visited once.
-fn traversal_is_whole<B: HistoryId, H: KeyHash + Copy + Drop, R: Wait>(
+/// Fixes the table of a writer, traverses it, and releases it. Returns whether each kept key was visited once.
+fn traversal_is_exact<B: HistoryId, H: KeyHash + Copy + Drop, R: Wait>(
     rt: &R,
     alloc: Global,
     server: &Server<B, H>,
@@ -84,15 +86,15 @@ fn traversal_is_whole<B: HistoryId, H: KeyHash + Copy + Drop, R: Wait>(
     writer: u32,
 ) -> Option<bool> {
     let fix = format!(in alloc; "[t{writer},true]");
-    let is_fixed = is_done_with(rt, alloc, server, caller, ("safe_fixtable", fix))?;
-    let is_whole = visits_are_right(rt, alloc, server, caller, writer)?;
+    let is_fixed = caller_gets_value_for(rt, alloc, server, caller, ("safe_fixtable", fix))?;
+    let is_whole = visits_each_kept_key_once(rt, alloc, server, caller, writer)?;
     let release = format!(in alloc; "[t{writer},false]");
-    let is_released = is_done_with(rt, alloc, server, caller, ("safe_fixtable", release))?;
+    let is_released = caller_gets_value_for(rt, alloc, server, caller, ("safe_fixtable", release))?;
     Some(is_fixed && is_whole && is_released)
 }
 
-/// Traverses the table of a writer, and returns whether each kept key was visited once.
-fn visits_are_right<B: HistoryId, H: KeyHash + Copy + Drop, R: Wait>(
+/// Traverses the table of a writer. Returns whether each kept key was visited once.
+fn visits_each_kept_key_once<B: HistoryId, H: KeyHash + Copy + Drop, R: Wait>(
     rt: &R,
     alloc: Global,
     server: &Server<B, H>,
@@ -105,7 +107,7 @@ fn visits_are_right<B: HistoryId, H: KeyHash + Copy + Drop, R: Wait>(
     Some(visits.iter().all(|times| *times == 1))
 }
 
-/// Traverses the table of a writer, and counts how often each kept key is visited.
+/// Traverses the table of a writer, and counts in `visits` how often each kept key is visited.
 fn count_visits<B: HistoryId, H: KeyHash + Copy + Drop, R: Wait>(
     rt: &R,
     server: &Server<B, H>,
@@ -120,6 +122,7 @@ fn count_visits<B: HistoryId, H: KeyHash + Copy + Drop, R: Wait>(
         let Some(key) = current else {
             break;
         };
+        // Other keys than the kept ones are not counted.
         if let Some(times) = visits.get_mut(key as usize) {
             *times = u8::saturating_add(*times, 1);
         }
@@ -129,16 +132,17 @@ fn count_visits<B: HistoryId, H: KeyHash + Copy + Drop, R: Wait>(
     Some(())
 }
 
-/// Makes a read, and returns the key that it replies. The inner `None` is a reply that is no number.
+/// Makes a read, and returns the key that is its reply. The inner `None` is a reply that is not an integer, as at the
+/// end of the table.
 fn key_of<B: HistoryId, H: KeyHash + Copy + Drop, R: Wait>(
     rt: &R,
     alloc: Global,
     server: &Server<B, H>,
     caller: &Caller<B>,
-    asked: (&str, Result<String, AllocError>),
+    text: (&str, Result<String, AllocError>),
 ) -> Option<Option<u32>> {
-    let asked = call_with(alloc, asked)?;
-    Some(match caller.read(rt, server, &asked).ok()? {
+    let request = call_with(alloc, text)?;
+    Some(match caller.read(rt, server, &request).ok()? {
         Some(Reply::Value(Term::Int(key))) => u32::try_from(key).ok(),
         _ => None,
     })

@@ -1,6 +1,7 @@
-// A writer: its table grows while it inserts and deletes in batches, and it inherits the tables of others.
+// A writer: it inserts and deletes in batches, so that its table grows, and it inherits the tables of its guests. Table
+// `tN` is the table of process N. A writer or a batch 'is right' if all its replies are right.
 use super::{BATCHES, GUESTS, KEPT_KEYS};
-use crate::tests::calls::{call, call_with, is_done_with, is_list, read_lists};
+use crate::tests::calls::{build_call, call_with, caller_gets_value_for, is_list, read_gives_list};
 use ets_term::KeyHash;
 use node_core::Call;
 use node_shared::{Caller, HistoryId, Server};
@@ -10,11 +11,11 @@ use std::sync::Wait;
 /// The number of keys that a batch inserts.
 const INSERTED: u32 = 8;
 
-/// The number of keys that a batch deletes then, the first ones that it inserted.
+/// The number of keys that a batch then deletes: the first of those that it inserted.
 const DELETED: u32 = 2;
 
-/// Makes all calls, in batches, and inherits from each guest. Returns whether all replies are right.
-pub(super) fn write_all<B: HistoryId, H: KeyHash + Copy + Drop, R: Wait>(
+/// Makes all calls of a writer, in batches, and inherits from each guest. Returns whether all replies are right.
+pub(super) fn writer_is_right<B: HistoryId, H: KeyHash + Copy + Drop, R: Wait>(
     rt: &R,
     alloc: Global,
     server: &Server<B, H>,
@@ -34,7 +35,7 @@ pub(super) fn write_all<B: HistoryId, H: KeyHash + Copy + Drop, R: Wait>(
     Some(true)
 }
 
-/// Makes the calls of a batch at once, and then reads its last object. Returns whether all replies are right.
+/// Makes the calls of a batch under one lock, and then reads its last object. Returns whether all replies are right.
 fn batch_is_right<B: HistoryId, H: KeyHash + Copy + Drop, R: Wait>(
     rt: &R,
     alloc: Global,
@@ -45,13 +46,14 @@ fn batch_is_right<B: HistoryId, H: KeyHash + Copy + Drop, R: Wait>(
     let first = number.wrapping_mul(INSERTED).wrapping_add(KEPT_KEYS);
     let last = first.wrapping_add(INSERTED - 1);
     let own_table = caller.pid();
-    let is_asked = all_are_done(rt, server, caller, batch(alloc, own_table, first)?)?;
+    let is_written = all_get_values(rt, server, caller, batch(alloc, own_table, first)?)?;
     let object = format!(in alloc; "[t{own_table},{{{last},{number}}}]");
-    Some(is_asked && read_lists(rt, alloc, server, caller, ("match_object", object), 1)?)
+    Some(is_written && read_gives_list(rt, alloc, server, caller, ("match_object", object), 1)?)
 }
 
-/// Makes the calls at once, and returns whether all replies are values.
-fn all_are_done<B: HistoryId, H: KeyHash + Copy + Drop, R: Wait>(
+/// Makes the calls, and then runs at most `2 * INSERTED` growth steps, under one lock, by `ask_all`. Returns whether
+/// all replies are values.
+fn all_get_values<B: HistoryId, H: KeyHash + Copy + Drop, R: Wait>(
     rt: &R,
     server: &Server<B, H>,
     caller: &mut Caller<B>,
@@ -62,13 +64,13 @@ fn all_are_done<B: HistoryId, H: KeyHash + Copy + Drop, R: Wait>(
     Some(replies.len() == count && replies.iter().all(|reply| reply.is_value()))
 }
 
-/// Returns the insertions of the keys from this one on, whose values are the number of the batch, and the deletions of
-/// the first of them.
+/// Returns the calls of the batch whose first key is `first`: the insertions of its keys, each with the number of the
+/// batch as its value, and the deletions of the first keys.
 fn batch(alloc: Global, own_table: u32, first: u32) -> Option<Vec<Call>> {
     let number = first.wrapping_sub(KEPT_KEYS) / INSERTED;
     let mut calls = Vec::new(alloc);
-    for place in 0..INSERTED {
-        let key = first.wrapping_add(place);
+    for index in 0..INSERTED {
+        let key = first.wrapping_add(index);
         let object = format!(in alloc; "[t{own_table},{{{key},{number}}}]");
         calls.push(call_with(alloc, ("insert", object))?).ok()?;
     }
@@ -76,18 +78,18 @@ fn batch(alloc: Global, own_table: u32, first: u32) -> Option<Vec<Call>> {
     Some(calls)
 }
 
-/// Appends the deletions of a batch, whose first key is this one.
+/// Appends the deletions of the batch whose first key is `first`.
 fn push_deletions(calls: &mut Vec<Call>, own_table: u32, first: u32) -> Option<()> {
     let alloc = *calls.allocator();
-    for place in 0..DELETED {
-        let key = first.wrapping_add(place);
+    for index in 0..DELETED {
+        let key = first.wrapping_add(index);
         let arguments = format!(in alloc; "[t{own_table},{key}]");
         calls.push(call_with(alloc, ("delete", arguments))?).ok()?;
     }
     Some(())
 }
 
-/// Lets a guest make a table, fill it and end. Returns whether the caller gets the table with its objects.
+/// Lets a guest make a table, fill it and end. Returns whether the caller inherits the table with its objects.
 fn inherits_from_guest<B: HistoryId, H: KeyHash + Copy + Drop, R: Wait>(
     rt: &R,
     alloc: Global,
@@ -102,7 +104,8 @@ fn inherits_from_guest<B: HistoryId, H: KeyHash + Copy + Drop, R: Wait>(
     Some(is_left && inherits(rt, alloc, server, caller, table)?)
 }
 
-/// Makes the table, fills it and ends. Returns whether both calls have a value.
+/// Makes the table of a guest, which has an heir, fills it, and ends the guest. Returns whether both replies are
+/// values.
 fn leaves_table<B: HistoryId, H: KeyHash + Copy + Drop, R: Wait>(
     rt: &R,
     alloc: Global,
@@ -112,14 +115,14 @@ fn leaves_table<B: HistoryId, H: KeyHash + Copy + Drop, R: Wait>(
 ) -> Option<bool> {
     let table = guest.pid();
     let options = format!(in alloc; "[t{table},[named_table,{{heir,<0.{heir}.0>,gift}}]]");
-    let is_made = is_done_with(rt, alloc, server, guest, ("new", options))?;
+    let is_made = caller_gets_value_for(rt, alloc, server, guest, ("new", options))?;
     let objects = format!(in alloc; "[t{table},[{{1}},{{2}},{{3}}]]");
-    let is_filled = is_done_with(rt, alloc, server, guest, ("insert", objects))?;
+    let is_filled = caller_gets_value_for(rt, alloc, server, guest, ("insert", objects))?;
     guest.end(rt, server).ok()?;
     Some(is_made && is_filled)
 }
 
-/// Returns whether the caller has one message and the table has its objects. Deletes the table.
+/// Returns whether the caller has one message, and can read the objects of the inherited table and delete it.
 fn inherits<B: HistoryId, H: KeyHash + Copy + Drop, R: Wait>(
     rt: &R,
     alloc: Global,
@@ -129,20 +132,20 @@ fn inherits<B: HistoryId, H: KeyHash + Copy + Drop, R: Wait>(
 ) -> Option<bool> {
     let has_message = has_one_message(rt, alloc, server, caller)?;
     let name = format!(in alloc; "[t{table}]");
-    let has_objects = read_lists(rt, alloc, server, caller, ("tab2list", name), 3)?;
+    let has_objects = read_gives_list(rt, alloc, server, caller, ("tab2list", name), 3)?;
     let name = format!(in alloc; "[t{table}]");
-    let is_deleted = is_done_with(rt, alloc, server, caller, ("delete", name))?;
+    let is_deleted = caller_gets_value_for(rt, alloc, server, caller, ("delete", name))?;
     Some(has_message && has_objects && is_deleted)
 }
 
-/// Takes the caller's messages, and returns whether there is one.
+/// Takes the caller's messages. Returns whether there is exactly one.
 fn has_one_message<B: HistoryId, H: KeyHash + Copy + Drop, R: Wait>(
     rt: &R,
     alloc: Global,
     server: &Server<B, H>,
     caller: &mut Caller<B>,
 ) -> Option<bool> {
-    let receive = call(alloc, ("receive", "[]"))?;
+    let receive = build_call(alloc, ("receive", "[]"))?;
     let messages = caller.ask(rt, server, receive).ok()?;
     Some(is_list(&messages, 1))
 }

@@ -1,12 +1,13 @@
+// Random calls on rows, compared with the same calls on a plain list that has the state of each key.
 use super::checks::{Check, plain_rows_pass, split_rows_pass};
 use super::sweeps::sweep_sometimes;
 use super::traversals::traverses;
 use super::*;
 
-/// The number of keys that calls are made with.
+/// The calls use the keys below this number.
 const KEYS: u32 = 150;
 
-/// The number of rounds. After each one all keys are compared.
+/// The number of rounds. After each round the states of all keys are compared.
 const ROUNDS: u32 = 200;
 
 /// The number of calls in a round.
@@ -15,12 +16,13 @@ const CALLS_IN_ROUND: u32 = 25;
 /// A call on one key.
 #[derive(Clone, Copy)]
 enum Call {
-    /// Inserts the object, or replaces that of the key.
+    /// Inserts the object, or replaces the object of the key.
     Insert(Integer),
     /// Inserts the object only if the key has no slot.
     Put(Integer),
-    /// Replaces the objects of the slot by none.
+    /// Replaces the objects of the slot by an empty chain, which makes it a tombstone.
     LeaveTombstone,
+    /// Removes the slot of the key.
     Remove,
     /// Removes the slot at the place where `find` finds the key.
     RemoveAtPlace,
@@ -38,7 +40,7 @@ fn draw_call(draws: &mut Draws) -> Call {
     }
 }
 
-/// Returns the state of a key after a call.
+/// Returns the state that a key must have after a call.
 fn state_after_call(call: Call, before: KeyState) -> KeyState {
     match (call, before) {
         (Call::Insert(value), _) => KeyState::Object(value),
@@ -51,7 +53,7 @@ fn state_after_call(call: Call, before: KeyState) -> KeyState {
     }
 }
 
-/// Puts the row of a key if it has no slot. Returns the state before.
+/// Inserts a slot by `Rows::put` if the key has none. Returns the state of the key before.
 fn put<R: Rows>(
     rows: &mut R,
     alloc: Global,
@@ -68,7 +70,7 @@ fn put<R: Rows>(
     Ok(KeyState::Nothing)
 }
 
-/// Removes the slot at the place of a key. Returns the state before.
+/// Removes the slot at the place where `find` finds the key. Returns the state of the key before.
 fn remove_at_place<R: Rows>(rows: &mut R, key: Integer) -> KeyState {
     let term = Term::Int(key);
     let found = rows.find(&term);
@@ -99,7 +101,7 @@ fn run_call<R: Rows>(
     }
 }
 
-/// Makes a call on the list with the state of each key. Returns the state of the key before.
+/// Makes a call on the list, which has the state of each key at its index. Returns the state of the key before.
 fn run_on_list(list: &mut [KeyState], key: u32, call: Call) -> Option<KeyState> {
     let state = list.get_mut(key as usize)?;
     let before = *state;
@@ -107,8 +109,8 @@ fn run_on_list(list: &mut [KeyState], key: u32, call: Call) -> Option<KeyState> 
     Some(before)
 }
 
-/// Makes a random call on rows and on the list. Returns whether the key had the same state in both before it.
-fn calls_agree<R: Rows>(
+/// Makes a random call on rows and on the list. Returns whether its key had the same state in both before the call.
+fn random_call_agrees<R: Rows>(
     rows: &mut R,
     alloc: Global,
     list: &mut [KeyState],
@@ -120,7 +122,7 @@ fn calls_agree<R: Rows>(
     Ok(run_on_list(list, key, call) == Some(before))
 }
 
-/// Returns whether each key has the state of the list, and no other key has a slot.
+/// Returns whether each key has the state of the list, no other key has a slot, and a traversal visits each slot.
 fn states_agree<R: Rows>(rows: &R, list: &[KeyState]) -> bool {
     let mut slots = 0usize;
     let mut all_agree = true;
@@ -149,7 +151,7 @@ fn new_list(alloc: Global) -> Result<Vec<KeyState>, AllocError> {
     }
 }
 
-/// Makes `CALLS_IN_ROUND` calls on keys. Returns whether rows and list agree in each.
+/// Makes `CALLS_IN_ROUND` random calls. Returns whether rows and list agree on the key of each before the call.
 fn all_calls_agree<R: Rows>(
     rows: &mut R,
     alloc: Global,
@@ -158,13 +160,12 @@ fn all_calls_agree<R: Rows>(
 ) -> Result<bool, AllocError> {
     let mut all_agree = true;
     for _ in 0..CALLS_IN_ROUND {
-        all_agree = calls_agree(rows, alloc, list, draws)? && all_agree;
+        all_agree = random_call_agrees(rows, alloc, list, draws)? && all_agree;
     }
     Ok(all_agree)
 }
 
-/// Makes a round of calls on keys, growth steps, and sometimes a call on all slots. Returns whether rows and list
-/// agree.
+/// Makes a round of random calls, growth steps, and sometimes `clear` or `purge`. Returns whether rows and list agree.
 fn round_agrees<R: Rows>(
     rows: &mut R,
     alloc: Global,
@@ -172,12 +173,12 @@ fn round_agrees<R: Rows>(
     draws: &mut Draws,
 ) -> Result<bool, AllocError> {
     let all_agree = all_calls_agree(rows, alloc, list, draws)?;
-    ready_some(rows, draws)?;
+    grow_and_ready_some(rows, draws)?;
     sweep_sometimes(rows, list, draws);
     Ok(states_agree(rows, list) && all_agree)
 }
 
-/// Makes all rounds. Returns whether rows and list agree in each.
+/// Makes `ROUNDS` rounds. Returns whether rows and list agree in each.
 fn rounds_agree<R: Rows>(
     rows: &mut R,
     alloc: Global,
@@ -191,7 +192,7 @@ fn rounds_agree<R: Rows>(
     Ok(all_agree)
 }
 
-/// Returns whether 5,000 calls on rows and on a list agree.
+/// Returns whether new rows and a list without slots agree in 5,000 random calls.
 pub(super) fn rows_agree_with_list<R: Rows>(
     rows: &mut R,
     alloc: Global,
@@ -203,18 +204,18 @@ pub(super) fn rows_agree_with_list<R: Rows>(
 }
 
 #[test]
-fn plain_rows_are_a_list(rt: HostRuntime) {
+fn plain_rows_agree_with_a_list(rt: HostRuntime) {
     assert!(rt; plain_rows_pass(rt.alloc(), Check::AgreeWithList) == Ok(true));
 }
 
 #[test]
-fn split_rows_are_a_list(rt: HostRuntime) {
+fn split_rows_agree_with_a_list(rt: HostRuntime) {
     assert!(rt; split_rows_pass(rt.alloc(), Fnv, Check::AgreeWithList) == Ok(true));
     assert!(rt; split_rows_pass(rt.alloc(), Even, Check::AgreeWithList) == Ok(true));
 }
 
 #[test]
-fn split_rows_of_one_hash_are_a_list(rt: HostRuntime) {
+fn split_rows_of_one_hash_agree_with_a_list(rt: HostRuntime) {
     assert!(rt; split_rows_pass(rt.alloc(), AllSame, Check::AgreeWithList) == Ok(true));
     assert!(rt; split_rows_pass(rt.alloc(), Greatest, Check::AgreeWithList) == Ok(true));
 }

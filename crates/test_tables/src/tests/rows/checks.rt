@@ -1,25 +1,38 @@
-// Checks of new rows. All of them share the functions that create and drop rows.
+// The checks of this folder, each run on new rows. All of them share the functions that create and drop rows.
 use super::calls::rows_agree_with_list;
 use super::free::calls_take_no_memory;
-use super::growth::{doubles, is_one_bucket, keeps_ready_buckets, readies_buckets_of_most};
-use super::refused::{all_run_with_retry, refuses_too_much};
+use super::growth::{
+    doubles_to_most_buckets, has_one_ready_bucket, keeps_ready_buckets, readies_among_most_buckets,
+};
+use super::refused::{all_run_with_retry, refuses_too_many_slots};
 use super::several::puts_by_threes;
 use super::sizes::{clears_and_purges, inserts_replaces_and_removes};
 use super::*;
 
-/// What new rows must do.
+/// What new rows must do. `passes` names the function that checks each.
 #[derive(Clone, Copy)]
 pub(super) enum Check {
+    /// Agree with a plain list in random calls.
     AgreeWithList,
+    /// Insert three slots by one call of `put`, again and again.
     PutByThrees,
+    /// Insert, replace and remove 70,000 slots.
     InsertReplaceAndRemove,
+    /// Have no slots after `clear` and `purge` of 70,000.
     ClearAndPurge,
+    /// Take no memory for reads, replacements, removals and calls on all slots.
     TakeNoMemory,
-    RefuseTooMuch,
+    /// Refuse to reserve more slots than memory can hold.
+    RefuseTooManySlots,
+    /// Change nothing when memory runs out, and answer the repeated call.
     RunWithRetry,
-    Double,
-    ReadyBucketsOfMost,
+    /// Double from 2 buckets to the most that rows can have.
+    DoubleToMost,
+    /// Make buckets ready in any order when there are the most buckets.
+    ReadyAmongMostBuckets,
+    /// Keep ready buckets ready in a doubling.
     KeepReadyBuckets,
+    /// Have one bucket, which is ready: a check of plain rows only.
     HaveOneBucket,
 }
 
@@ -31,16 +44,16 @@ fn passes<R: Rows>(rows: &mut R, alloc: Global, check: Check) -> Result<bool, Al
         Check::InsertReplaceAndRemove => inserts_replaces_and_removes(rows, alloc),
         Check::ClearAndPurge => clears_and_purges(rows, alloc),
         Check::TakeNoMemory => calls_take_no_memory(rows, alloc),
-        Check::RefuseTooMuch => refuses_too_much(rows, alloc),
+        Check::RefuseTooManySlots => refuses_too_many_slots(rows, alloc),
         Check::RunWithRetry => all_run_with_retry(rows, alloc),
-        Check::Double => doubles(rows),
-        Check::ReadyBucketsOfMost => readies_buckets_of_most(rows),
+        Check::DoubleToMost => doubles_to_most_buckets(rows),
+        Check::ReadyAmongMostBuckets => readies_among_most_buckets(rows),
         Check::KeepReadyBuckets => keeps_ready_buckets(rows),
-        Check::HaveOneBucket => is_one_bucket(rows),
+        Check::HaveOneBucket => has_one_ready_bucket(rows),
     }
 }
 
-/// Returns whether new split rows with this hash pass a check.
+/// Returns whether new split rows with this hasher pass a check.
 pub(super) fn split_rows_pass<H: KeyHash + Copy + Drop>(
     alloc: Global,
     hash: H,

@@ -1,20 +1,21 @@
-// Calls that take no memory: `.ci/refusals` refuses each allocation between two marks.
+// Calls that take no memory. The tests mark where these calls begin and end, and `.ci/refusals` refuses each allocation
+// between the marks.
 use super::checks::{Check, plain_rows_pass, split_rows_pass};
 use super::*;
 
-/// More bytes than any machine has, so that each request is refused. To `.ci/refusals` such a request marks the start
-/// or the end of a part that takes no memory.
+/// More bytes than any machine has, so that an allocation of them is refused. For `.ci/refusals` such an allocation
+/// marks the start or the end of a part that takes no memory.
 const MARK: usize = 1 << 60;
 
-/// Requests `MARK` bytes, and returns whether they are refused.
+/// Marks the start or the end of a part that takes no memory. Returns whether the allocation is refused, as it must be.
 fn mark(alloc: Global) -> bool {
     Vec::<u8>::with_capacity(alloc, MARK).is_err()
 }
 
-/// The keys are the numbers from 1 on that are below this one.
+/// The keys are the integers from 1 that are below this number.
 const PAST_KEYS: u32 = 5;
 
-/// Inserts the keys 1 to 4, each with itself as its object.
+/// Inserts the keys 1 to 4, each with itself as its object. Then doubles the buckets and makes bucket 1 ready.
 fn fill_with_keys<R: Rows>(rows: &mut R, alloc: Global) -> Result<(), AllocError> {
     for key in 1..PAST_KEYS {
         let key = Integer::from(key);
@@ -41,7 +42,7 @@ fn number_of(object: Option<&Term>) -> Integer {
     }
 }
 
-/// Returns the sum of the first objects of all slots, which it visits in order.
+/// Returns the sum of the objects of all slots, found by `first_at` and by `next_at` of each key.
 fn sum_of_objects<R: Rows>(rows: &R) -> Integer {
     let mut total = first_integer_of_slot(rows.first_at());
     for key in 1..PAST_KEYS {
@@ -54,20 +55,25 @@ fn sum_of_objects<R: Rows>(rows: &R) -> Integer {
     total
 }
 
-/// The sums of the objects before the calls, after the object of key 1 is replaced, and after key 2 is removed; and the
-/// states of both keys before.
+/// What `run_free_calls` observes.
 #[derive(Clone, Copy, PartialEq, Eq)]
 struct Observed {
+    /// The sum of all objects before the calls.
     sum: Integer,
+    /// The state of key 1 before its object is replaced.
     replaced: KeyState,
+    /// The sum of all objects after the replacement.
     sum_replaced: Integer,
+    /// The state of key 2 before it is removed.
     removed: KeyState,
+    /// The sum of all objects after the removal.
     sum_removed: Integer,
     /// The number of slots after `clear` and `purge`.
     slots_cleared: usize,
 }
 
-/// Replaces the object of key 1 by 10, removes key 2, and then removes all keys. Returns what rows have in between.
+/// Makes calls that take no memory: replaces the object of key 1 by 10, and removes key 2. Then `clear(true)` makes
+/// tombstones of the other slots, and `purge` removes them.
 fn run_free_calls<R: Rows>(rows: &mut R, alloc: Global) -> Observed {
     let sum = sum_of_objects(rows);
     let replaced = replace(rows, 1, Chain::one(alloc, Term::Int(10)));
@@ -86,7 +92,7 @@ fn run_free_calls<R: Rows>(rows: &mut R, alloc: Global) -> Observed {
     }
 }
 
-/// Makes the calls between two marks, and returns whether they have the right results.
+/// Runs `run_free_calls` between two marks, and returns whether the calls have the right results.
 pub(super) fn calls_take_no_memory<R: Rows>(
     rows: &mut R,
     alloc: Global,
@@ -107,28 +113,28 @@ pub(super) fn calls_take_no_memory<R: Rows>(
 }
 
 #[test]
-fn rows_take_no_memory(rt: HostRuntime) {
+fn reads_replacements_and_removals_take_no_memory(rt: HostRuntime) {
     assert!(rt; plain_rows_pass(rt.alloc(), Check::TakeNoMemory) == Ok(true));
     assert!(rt; split_rows_pass(rt.alloc(), Fnv, Check::TakeNoMemory) == Ok(true));
 }
 
-/// Returns whether a counted search finds a key and misses another between two marks.
+/// Returns whether counted searches between two marks find key 3, miss key 9, and count a visited node.
 fn counted_searches_are_right(rows: &SplitRows<Fnv>, alloc: Global) -> bool {
-    let mut steps = Steps::new();
+    let mut visited = Steps::new();
     let began = mark(alloc);
-    let found = is_found(rows, 3, &mut steps);
-    let missed = !is_found(rows, 9, &mut steps);
+    let found = is_found(rows, 3, &mut visited);
+    let missed = !is_found(rows, 9, &mut visited);
     let ended = mark(alloc);
-    began && found && missed && ended && steps.count() > 0
+    began && found && missed && ended && visited.count() > 0
 }
 
-/// Inserts the keys 1 to 4, and returns whether counted searches are then right.
+/// Inserts the keys 1 to 4, and returns whether counted searches between two marks are right.
 fn filled_rows_are_searched(rows: &mut SplitRows<Fnv>, alloc: Global) -> Result<bool, AllocError> {
     fill_with_keys(rows, alloc)?;
     Ok(counted_searches_are_right(rows, alloc))
 }
 
-/// Searches new split rows between two marks, and returns whether the searches are right.
+/// Returns whether counted searches in new split rows are right between two marks.
 fn split_searches_take_no_memory(alloc: Global) -> Result<bool, AllocError> {
     let mut rows = SplitRows::new(alloc, Fnv)?;
     let searched = filled_rows_are_searched(&mut rows, alloc);

@@ -1,19 +1,20 @@
+// The doubling of buckets, and the readying of buckets.
 use super::checks::{Check, plain_rows_pass, split_rows_pass};
 use super::*;
 
-/// Returns whether `ready` gives this answer, and the bucket, if it exists, is then ready.
+/// Returns whether `ready` gives this answer, and the bucket is then ready unless the answer is that it does not exist.
 pub(super) fn ready_answers<R: Rows>(
     rows: &mut R,
     bucket: u32,
     answer: Readying,
 ) -> Result<bool, AllocError> {
     let readying = rows.ready(bucket)?;
-    let is_bucket = answer != Readying::NotABucket;
-    Ok(readying == answer && rows.is_ready(bucket) == is_bucket)
+    let bucket_exists = answer != Readying::NotABucket;
+    Ok(readying == answer && rows.is_ready(bucket) == bucket_exists)
 }
 
-/// Doubles the buckets a number of times, and returns whether each `grow` gives this answer.
-pub(super) fn grows<R: Rows>(
+/// Calls `grow` a number of times, and returns whether it gives this answer each time.
+pub(super) fn each_grow_answers<R: Rows>(
     rows: &mut R,
     times: usize,
     answer: Growth,
@@ -37,26 +38,26 @@ fn each_ready_answers<R: Rows>(
     Ok(all_right)
 }
 
-/// The greatest number of buckets.
+/// The greatest number of buckets that split rows can have.
 const MAX_BUCKETS: u32 = 1_048_576;
 
-/// How often two buckets are doubled to become `MAX_BUCKETS`.
+/// The number of doublings from 2 buckets to `MAX_BUCKETS`.
 const DOUBLINGS: usize = 19;
 
-/// Returns whether rows double from two buckets to the most, and then grow no more.
-pub(super) fn doubles<R: Rows>(rows: &mut R) -> Result<bool, AllocError> {
+/// Returns whether rows double from 2 buckets to `MAX_BUCKETS`, and two more calls of `grow` then change nothing.
+pub(super) fn doubles_to_most_buckets<R: Rows>(rows: &mut R) -> Result<bool, AllocError> {
     let starts_with_two = rows.buckets() == 2;
-    let grown = grows(rows, DOUBLINGS, Growth::Grown)?;
-    let stopped = grows(rows, 2, Growth::AtMost)?;
+    let grown = each_grow_answers(rows, DOUBLINGS, Growth::Grown)?;
+    let stopped = each_grow_answers(rows, 2, Growth::AtMost)?;
     Ok(starts_with_two && grown && stopped && rows.buckets() == MAX_BUCKETS)
 }
 
 #[test]
-fn doubles_nineteen_times(rt: HostRuntime) {
-    assert!(rt; split_rows_pass(rt.alloc(), AllSame, Check::Double) == Ok(true));
+fn two_buckets_double_nineteen_times(rt: HostRuntime) {
+    assert!(rt; split_rows_pass(rt.alloc(), AllSame, Check::DoubleToMost) == Ok(true));
 }
 
-/// Buckets, and the answer of `ready` for each when there are `MAX_BUCKETS`.
+/// Buckets, each with the answer of `ready` when there are `MAX_BUCKETS` buckets.
 const READY_ANSWERS: [(u32, Readying); 5] = [
     (MAX_BUCKETS, Readying::NotABucket),
     (0, Readying::AlreadyReady),
@@ -65,35 +66,35 @@ const READY_ANSWERS: [(u32, Readying); 5] = [
     (MAX_BUCKETS - 1, Readying::Ready),
 ];
 
-/// Returns whether `ready` gives these answers, and bucket 1 is the first unready bucket before and after.
+/// Returns whether `ready` gives these answers, while bucket 1 stays the first unready bucket.
 fn readies_past_first<R: Rows>(
     rows: &mut R,
     wanted: &[(u32, Readying)],
 ) -> Result<bool, AllocError> {
-    let least = rows.first_unready();
+    let first_before = rows.first_unready();
     let readied = each_ready_answers(rows, wanted)?;
-    Ok(readied && least == Some(1) && rows.first_unready() == Some(1))
+    Ok(readied && first_before == Some(1) && rows.first_unready() == Some(1))
 }
 
-/// Returns whether `ready` gives its answers in rows that are doubled to the most buckets.
-pub(super) fn readies_buckets_of_most<R: Rows>(rows: &mut R) -> Result<bool, AllocError> {
-    let grown = grows(rows, DOUBLINGS, Growth::Grown)?;
+/// Doubles rows to `MAX_BUCKETS`, and returns whether `ready` then gives `READY_ANSWERS`.
+pub(super) fn readies_among_most_buckets<R: Rows>(rows: &mut R) -> Result<bool, AllocError> {
+    let grown = each_grow_answers(rows, DOUBLINGS, Growth::Grown)?;
     let readied = readies_past_first(rows, &READY_ANSWERS)?;
     Ok(grown && readied)
 }
 
 #[test]
-fn readies_buckets(rt: HostRuntime) {
-    assert!(rt; split_rows_pass(rt.alloc(), AllSame, Check::ReadyBucketsOfMost) == Ok(true));
+fn ready_distinguishes_ready_and_missing_buckets(rt: HostRuntime) {
+    assert!(rt; split_rows_pass(rt.alloc(), AllSame, Check::ReadyAmongMostBuckets) == Ok(true));
 }
 
-/// Buckets, and the answer of `ready` for each in plain rows, which have one.
+/// Buckets, each with the answer of `ready` in plain rows, which have one bucket.
 const ONE_BUCKET: [(u32, Readying); 2] = [(0, Readying::AlreadyReady), (1, Readying::NotABucket)];
 
 /// Returns whether rows have one bucket, which is ready, and do not grow.
-pub(super) fn is_one_bucket<R: Rows>(rows: &mut R) -> Result<bool, AllocError> {
+pub(super) fn has_one_ready_bucket<R: Rows>(rows: &mut R) -> Result<bool, AllocError> {
     let readied = each_ready_answers(rows, &ONE_BUCKET)?;
-    let grown = grows(rows, 1, Growth::AtMost)?;
+    let grown = each_grow_answers(rows, 1, Growth::AtMost)?;
     Ok(readied && grown && rows.buckets() == 1 && rows.first_unready() == None)
 }
 
@@ -102,13 +103,14 @@ fn plain_rows_have_one_bucket(rt: HostRuntime) {
     assert!(rt; plain_rows_pass(rt.alloc(), Check::HaveOneBucket) == Ok(true));
 }
 
-/// How often two buckets are doubled to become 65,536.
+/// The number of doublings from 2 buckets to 65,536.
 const DOUBLINGS_TO_MANY: usize = 15;
 
-/// Buckets of 65,536, in the order in which they are made ready.
+/// Some of 65,536 buckets, in the order in which they are made ready. All but 1 are at the start or the end of a
+/// segment of the directory. A segment has 16,384 buckets.
 const READIED: [u32; 6] = [32_768, 1, 65_535, 16_384, 32_767, 16_383];
 
-/// Buckets that stay unready.
+/// Some buckets that stay unready.
 const UNREADIED: [u32; 3] = [2, 16_385, 49_152];
 
 /// Returns whether none of these buckets is ready.
@@ -121,7 +123,7 @@ fn none_is_ready<R: Rows>(rows: &R, buckets: &[u32]) -> bool {
     true
 }
 
-/// Returns whether of `READIED` the first few buckets are ready and no other is.
+/// Returns whether the first `count` buckets of `READIED` are ready, and its other buckets are not.
 fn first_are_ready<R: Rows>(rows: &R, count: usize) -> bool {
     for (index, bucket) in READIED.iter().enumerate() {
         if rows.is_ready(*bucket) != (index < count) {
@@ -131,34 +133,38 @@ fn first_are_ready<R: Rows>(rows: &R, count: usize) -> bool {
     true
 }
 
-/// Returns whether bucket 0 and the first few of `READIED` are ready, and no other bucket of the two tables is.
-fn are_ready<R: Rows>(rows: &R, count: usize) -> bool {
+/// Returns whether bucket 0 and the first `count` of `READIED` are ready, and no other bucket of `READIED` or
+/// `UNREADIED` is.
+fn only_first_are_ready<R: Rows>(rows: &R, count: usize) -> bool {
     rows.is_ready(0) && first_are_ready(rows, count) && none_is_ready(rows, &UNREADIED)
 }
 
-/// Makes the buckets of `READIED` ready in order. Returns whether the right ones are ready after each.
+/// Makes the buckets of `READIED` ready in order. Returns whether `is_ready` is right after each.
 fn readies_in_order<R: Rows>(rows: &mut R) -> Result<bool, AllocError> {
     let mut count = 0usize;
-    let mut all_right = are_ready(rows, count);
+    let mut all_right = only_first_are_ready(rows, count);
     for bucket in &READIED {
         all_right = ready_answers(rows, *bucket, Readying::Ready)? && all_right;
         count = count.wrapping_add(1);
-        all_right = are_ready(rows, count) && all_right;
+        all_right = only_first_are_ready(rows, count) && all_right;
     }
     Ok(all_right)
 }
 
-/// Returns whether there are this many buckets, those of `READIED` are ready, and 2 is the first unready one.
+/// Returns whether rows have this number of buckets, those of `READIED` are ready, and 2 is the first unready one.
 fn are_all_ready<R: Rows>(rows: &R, buckets: u32) -> bool {
-    rows.buckets() == buckets && are_ready(rows, READIED.len()) && rows.first_unready() == Some(2)
+    rows.buckets() == buckets
+        && only_first_are_ready(rows, READIED.len())
+        && rows.first_unready() == Some(2)
 }
 
-/// Returns whether rows of 65,536 buckets know which are ready, and still do after one more doubling.
+/// Makes the buckets of `READIED` ready among 65,536. Returns whether `is_ready` is right then, and after one more
+/// doubling.
 pub(super) fn keeps_ready_buckets<R: Rows>(rows: &mut R) -> Result<bool, AllocError> {
-    let grown = grows(rows, DOUBLINGS_TO_MANY, Growth::Grown)?;
+    let grown = each_grow_answers(rows, DOUBLINGS_TO_MANY, Growth::Grown)?;
     let readied = readies_in_order(rows)?;
     let are_ready = are_all_ready(rows, 65_536);
-    let grown_again = grows(rows, 1, Growth::Grown)?;
+    let grown_again = each_grow_answers(rows, 1, Growth::Grown)?;
     Ok(grown && readied && are_ready && grown_again && are_all_ready(rows, 131_072))
 }
 

@@ -1,9 +1,11 @@
 ghost use Rattle.std.specs.Prelude.{◌*◌, ◌/◌};
 ghost use Rattle.ets_term.specs.Encoding.{encoding, fnv};
 
+// The hashers of the tests. Of each, `ghost hash` is what contracts see of `hash32`, and `ghost below` proves that
+// hashes are below 2^32.
 use ets_term::{Fnv, KeyHash, Term};
 
-/// A hash that is never odd, so that each odd bucket of every size is empty.
+/// A hasher whose hashes are never odd, so that each odd bucket is empty, however many buckets there are.
 #[derive(Clone, Copy, Drop)]
 pub struct Even;
 
@@ -20,7 +22,7 @@ impl KeyHash for Even {
     }
 }
 
-/// A hash that is the number of a process, and 0 for every other term.
+/// A hasher whose hash of a process is its number, and of every other term 0.
 #[derive(Clone, Copy, Drop)]
 pub struct PidNumber;
 
@@ -39,7 +41,7 @@ impl KeyHash for PidNumber {
     }
 }
 
-/// A hash that is the greatest number for all keys.
+/// A hasher whose hash of every key is the greatest, so that all keys are in the last bucket.
 #[derive(Clone, Copy, Drop)]
 pub struct Greatest;
 

@@ -1,25 +1,25 @@
 // Out of memory. `.ci/refusals` runs these tests with each allocation refused in turn. A call that ran out of memory
 // must have changed nothing, and must succeed when it is made again.
 use super::checks::{Check, plain_rows_pass, split_rows_pass};
-use super::growth::{grows, ready_answers};
+use super::growth::{each_grow_answers, ready_answers};
 use super::several::{put_three, three_keys};
 use super::*;
 
-/// How often three rows are put, the buckets are doubled, and one of them is made ready.
+/// The number of times that three slots are put, the buckets are doubled, and one bucket is made ready.
 const TIMES: u32 = 8;
 
-/// More keys than are put, so that the states of missing keys count too.
+/// The keys whose states are hashed are below this number. The last two are never inserted.
 const KEYS: u32 = 27;
 
 /// A prime, so that the order of the numbers changes the hash.
 const PRIME: u64 = 1_000_003;
 
-/// Returns the hash of some numbers and one more, from the hash of the first ones.
+/// Returns the hash of a list of numbers from the hash of all but the last, and the last.
 fn add_to_hash(hash: u64, number: u64) -> u64 {
     hash.wrapping_mul(PRIME).wrapping_add(number)
 }
 
-/// Returns the first integer of a slot plus 2, or 1 for a tombstone. 0 is left for a missing slot.
+/// Returns a code of a slot: its first object plus 2, or 1 for a tombstone. The code of a missing slot is 0.
 fn code_of_objects(objects: &[Term]) -> u64 {
     match objects.first() {
         Some(Term::Int(value)) => u64::try_from(*value).unwrap_or(u64::MAX).wrapping_add(2),
@@ -27,7 +27,8 @@ fn code_of_objects(objects: &[Term]) -> u64 {
     }
 }
 
-/// Returns a hash of the state of a key and of that of the key after it.
+/// Returns a hash of the objects of a key and of the slot after it. The code of that slot is 1 if the key has the last
+/// slot, and 0 if the key has no slot.
 fn hash_at_key<R: Rows>(rows: &R, key: Integer) -> u64 {
     let term = Term::Int(key);
     let code = match rows.get(&term) {
@@ -43,7 +44,7 @@ fn hash_at_key<R: Rows>(rows: &R, key: Integer) -> u64 {
     add_to_hash(code, next_code)
 }
 
-/// Returns a hash of all that a caller can read of rows: the state of each key, their order, and the ready buckets.
+/// Returns a hash of what a caller can read of rows: the objects of each key, their order, and the ready buckets.
 fn hash_of_rows<R: Rows>(rows: &R) -> u64 {
     let mut hash = rows.len() as u64;
     for key in 0..KEYS {
@@ -58,7 +59,7 @@ fn hash_of_rows<R: Rows>(rows: &R) -> u64 {
 /// A call that takes memory.
 #[derive(Clone, Copy)]
 enum Call {
-    /// Puts the three rows of a number.
+    /// Puts the slots of `three_keys` of a number.
     PutThree(u32),
     /// Doubles the buckets.
     Grow,
@@ -68,18 +69,18 @@ enum Call {
     Insert(Integer),
 }
 
-/// Makes a call. Returns whether it does what it must if memory suffices.
+/// Makes a call. Returns whether its result is the expected one, or an error if memory runs out.
 fn run_call<R: Rows>(rows: &mut R, alloc: Global, call: Call) -> Result<bool, AllocError> {
     match call {
         Call::PutThree(number) => put_three(rows, alloc, three_keys(number)),
-        Call::Grow => grows(rows, 1, Growth::Grown),
+        Call::Grow => each_grow_answers(rows, 1, Growth::Grown),
         Call::Ready(bucket) => ready_answers(rows, bucket, Readying::Ready),
         Call::Insert(key) => Ok(insert(rows, alloc, key, key)? == KeyState::Nothing),
     }
 }
 
-/// Makes a call, and again if memory runs out. Returns whether it does what it must, and changed nothing when memory
-/// ran out.
+/// Makes a call, and repeats it if memory runs out. Returns whether its result is the expected one, and it changed
+/// nothing when memory ran out.
 fn runs_with_retry<R: Rows>(rows: &mut R, alloc: Global, call: Call) -> Result<bool, AllocError> {
     let before = hash_of_rows(rows);
     match run_call(rows, alloc, call) {
@@ -92,25 +93,27 @@ fn runs_with_retry<R: Rows>(rows: &mut R, alloc: Global, call: Call) -> Result<b
     }
 }
 
-/// Puts three rows, doubles the buckets, and makes the first unready one ready, each again if memory runs out.
-fn grows_with_retry<R: Rows>(rows: &mut R, alloc: Global, time: u32) -> Result<bool, AllocError> {
-    let put = runs_with_retry(rows, alloc, Call::PutThree(time))?;
+/// Puts the three slots of a number, doubles the buckets, and makes the first unready one ready. Repeats calls that run
+/// out of memory. Returns whether each has its result.
+fn grows_with_retry<R: Rows>(rows: &mut R, alloc: Global, number: u32) -> Result<bool, AllocError> {
+    let put = runs_with_retry(rows, alloc, Call::PutThree(number))?;
     let grown = runs_with_retry(rows, alloc, Call::Grow)?;
+    // After a doubling some bucket is not ready, so 0 is never used.
     let bucket = rows.first_unready().unwrap_or(0);
     let readied = runs_with_retry(rows, alloc, Call::Ready(bucket))?;
     Ok(put && grown && readied)
 }
 
-/// Returns whether rows are put, and buckets doubled and made ready, each again if memory runs out.
+/// Runs `grows_with_retry` for each of `TIMES` numbers, and returns whether it succeeds each time.
 fn all_grow_with_retry<R: Rows>(rows: &mut R, alloc: Global) -> Result<bool, AllocError> {
     let mut all_right = true;
-    for time in 0..TIMES {
-        all_right = grows_with_retry(rows, alloc, time)? && all_right;
+    for number in 0..TIMES {
+        all_right = grows_with_retry(rows, alloc, number)? && all_right;
     }
     Ok(all_right)
 }
 
-/// Returns whether rows are put, buckets doubled and made ready, and a key inserted, each again if memory runs out.
+/// Puts slots, grows, and inserts a key. Repeats calls that run out of memory. Returns whether each has its result.
 pub(super) fn all_run_with_retry<R: Rows>(rows: &mut R, alloc: Global) -> Result<bool, AllocError> {
     let keys_put = TIMES.wrapping_mul(3);
     let grown = all_grow_with_retry(rows, alloc)?;
@@ -122,8 +125,11 @@ pub(super) fn all_run_with_retry<R: Rows>(rows: &mut R, alloc: Global) -> Result
 /// 32 bytes. A sum with this number does not overflow, unlike one with `usize::MAX`.
 const UNALLOCATABLE_SLOTS: usize = 1 << 58;
 
-/// Returns whether capacity for more slots than memory can hold is refused, and nothing is changed.
-pub(super) fn refuses_too_much<R: Rows>(rows: &mut R, alloc: Global) -> Result<bool, AllocError> {
+/// Returns whether `reserve` refuses more slots than memory can hold, and changes nothing.
+pub(super) fn refuses_too_many_slots<R: Rows>(
+    rows: &mut R,
+    alloc: Global,
+) -> Result<bool, AllocError> {
     let put = runs_with_retry(rows, alloc, Call::PutThree(0))?;
     let before = hash_of_rows(rows);
     let refused = rows.reserve(usize::MAX).is_err() && rows.reserve(UNALLOCATABLE_SLOTS).is_err();
@@ -131,12 +137,12 @@ pub(super) fn refuses_too_much<R: Rows>(rows: &mut R, alloc: Global) -> Result<b
 }
 
 #[test]
-fn a_refused_call_is_called_again(rt: HostRuntime) {
+fn a_refused_call_succeeds_when_repeated(rt: HostRuntime) {
     assert!(rt; split_rows_pass(rt.alloc(), Fnv, Check::RunWithRetry) == Ok(true));
 }
 
 #[test]
 fn too_much_capacity_is_refused(rt: HostRuntime) {
-    assert!(rt; split_rows_pass(rt.alloc(), Fnv, Check::RefuseTooMuch) == Ok(true));
-    assert!(rt; plain_rows_pass(rt.alloc(), Check::RefuseTooMuch) == Ok(true));
+    assert!(rt; split_rows_pass(rt.alloc(), Fnv, Check::RefuseTooManySlots) == Ok(true));
+    assert!(rt; plain_rows_pass(rt.alloc(), Check::RefuseTooManySlots) == Ok(true));
 }

@@ -1,3 +1,5 @@
+// Searches at random moments of growth: each finds exactly the keys that were inserted, and in a ready bucket visits at
+// most two nodes more than the bucket has keys. The keys are the integers below the number of slots.
 use super::*;
 
 /// The number of moments of growth at which keys are searched for, for each of four hashers.
@@ -33,7 +35,7 @@ fn zeros(alloc: Global, count: usize) -> Result<Vec<u64>, AllocError> {
     }
 }
 
-/// Adds to the count of each bucket how many slots it has.
+/// Adds to the count of each bucket the number of its slots, if the keys are the integers below `slots`.
 fn count_slots<H: KeyHash + Copy + Drop>(counts: &mut [u64], hash: H, buckets: u32, slots: u32) {
     for number in 0..slots {
         count_in(counts, bucket_of(hash, number, buckets));
@@ -44,7 +46,7 @@ fn count_slots<H: KeyHash + Copy + Drop>(counts: &mut [u64], hash: H, buckets: u
 /// and the node after the bucket.
 const MAX_EXTRA_VISITS: u64 = 2;
 
-/// Returns the most nodes that a search in a bucket visits if it is ready.
+/// Returns the most nodes that a search in a ready bucket may visit, from the number of keys in each bucket.
 fn max_visits(counts: &[u64], bucket: u32) -> u64 {
     counts
         .get(bucket as usize)
@@ -53,8 +55,8 @@ fn max_visits(counts: &[u64], bucket: u32) -> u64 {
         .wrapping_add(MAX_EXTRA_VISITS)
 }
 
-/// Searches for a key, and returns whether it is found exactly if it is below the number of slots, and then visits at
-/// least one node. In a ready bucket of n keys it must visit at most n + `MAX_EXTRA_VISITS` nodes.
+/// Searches for a key. Returns whether it is found exactly if it is below `slots`. A search that finds its key must
+/// visit a node, and a search in a ready bucket of n keys at most n + `MAX_EXTRA_VISITS` nodes.
 fn search_is_right<H: KeyHash + Copy + Drop>(
     rows: &SplitRows<H>,
     hash: H,
@@ -62,11 +64,11 @@ fn search_is_right<H: KeyHash + Copy + Drop>(
     slots: u32,
     key_number: u32,
 ) -> bool {
-    let mut visits = Steps::new();
-    let found = is_found(rows, key_number, &mut visits);
+    let mut visited = Steps::new();
+    let found = is_found(rows, key_number, &mut visited);
     let bucket = bucket_of(hash, key_number, rows.buckets());
-    let visits_few_nodes = visits.count() <= max_visits(counts, bucket) || !rows.is_ready(bucket);
-    found == (key_number < slots) && visits_few_nodes && (visits.count() >= 1 || !found)
+    let visits_few_nodes = visited.count() <= max_visits(counts, bucket) || !rows.is_ready(bucket);
+    found == (key_number < slots) && visits_few_nodes && (visited.count() >= 1 || !found)
 }
 
 /// Searches for random keys, about half of them missing, and returns whether each search is right.
@@ -79,17 +81,19 @@ fn searches_are_right<H: KeyHash + Copy + Drop>(
 ) -> bool {
     let mut all_right = true;
     for _ in 0..SEARCHES {
+        // `max`, because `random_below` requires a bound above 0.
         let number = draws.random_below(slots.wrapping_mul(2).max(1));
         all_right = search_is_right(rows, hash, counts, slots, number) && all_right;
     }
     all_right
 }
 
-/// The number of keys from 0 on that are inserted at a moment is below this one.
+/// `insert_some_and_grow` inserts fewer keys than this number.
 const PAST_NEW_KEYS: u32 = 20;
 
-/// Inserts the next few keys, up to a total, and makes some buckets ready. Returns how many keys there are now.
-fn grow_some<R: Rows>(
+/// Inserts the next few keys, up to `max_slots` in all, doubles the buckets sometimes, and makes some ready. Returns
+/// how many keys there are now.
+fn insert_some_and_grow<R: Rows>(
     rows: &mut R,
     alloc: Global,
     slots: u32,
@@ -100,11 +104,11 @@ fn grow_some<R: Rows>(
         .saturating_add(draws.random_below(PAST_NEW_KEYS))
         .min(max_slots);
     insert_range(rows, alloc, slots, new_total)?;
-    ready_some(rows, draws)?;
+    grow_and_ready_some(rows, draws)?;
     Ok(new_total)
 }
 
-/// Returns whether searches in rows with this number of slots are right.
+/// Counts the keys of each bucket, and returns whether searches at this moment of growth are right.
 fn searches_are_right_now<H: KeyHash + Copy + Drop>(
     rows: &SplitRows<H>,
     alloc: Global,
@@ -120,7 +124,7 @@ fn searches_are_right_now<H: KeyHash + Copy + Drop>(
     Ok(right)
 }
 
-/// Inserts up to a number of slots, and returns whether the searches at each moment of growth are right.
+/// Inserts up to `max_slots` keys, and returns whether the searches at each moment of growth are right.
 fn searches_are_right_as_rows_grow<H: KeyHash + Copy + Drop>(
     rows: &mut SplitRows<H>,
     alloc: Global,
@@ -131,14 +135,14 @@ fn searches_are_right_as_rows_grow<H: KeyHash + Copy + Drop>(
     let mut slots = 0;
     let mut all_right = true;
     for _ in 0..MOMENTS {
-        slots = grow_some(rows, alloc, slots, max_slots, &mut draws)?;
+        slots = insert_some_and_grow(rows, alloc, slots, max_slots, &mut draws)?;
         all_right = searches_are_right_now(rows, alloc, hash, slots, &mut draws)? && all_right;
     }
     Ok(all_right)
 }
 
-/// Returns whether searches in new split rows with this hasher are right as the rows grow.
-fn new_rows_search_rightly<H: KeyHash + Copy + Drop>(
+/// Returns whether searches in new split rows with this hasher are right as the rows grow to `max_slots` slots.
+fn searches_are_right_as_new_rows_grow<H: KeyHash + Copy + Drop>(
     alloc: Global,
     hash: H,
     max_slots: u32,
@@ -149,26 +153,26 @@ fn new_rows_search_rightly<H: KeyHash + Copy + Drop>(
     found
 }
 
-/// Searches rows with the usual hash.
+/// Searches rows with the usual hasher.
 #[test]
 fn searches_by_fnv_are_right(rt: HostRuntime) {
-    assert!(rt; new_rows_search_rightly(rt.alloc(), Fnv, 10_000) == Ok(true));
+    assert!(rt; searches_are_right_as_new_rows_grow(rt.alloc(), Fnv, 10_000) == Ok(true));
 }
 
 /// Searches rows in which each odd bucket is empty.
 #[test]
 fn searches_by_even_hashes_are_right(rt: HostRuntime) {
-    assert!(rt; new_rows_search_rightly(rt.alloc(), Even, 10_000) == Ok(true));
+    assert!(rt; searches_are_right_as_new_rows_grow(rt.alloc(), Even, 10_000) == Ok(true));
 }
 
-/// Searches rows in which all keys share the bucket 0.
+/// Searches rows in which all keys share the bucket 0. The keys are few because a search may visit all of them.
 #[test]
 fn searches_by_one_hash_are_right(rt: HostRuntime) {
-    assert!(rt; new_rows_search_rightly(rt.alloc(), AllSame, 50) == Ok(true));
+    assert!(rt; searches_are_right_as_new_rows_grow(rt.alloc(), AllSame, 50) == Ok(true));
 }
 
-/// Searches rows in which all keys share the last bucket.
+/// Searches rows in which all keys share the last bucket. The keys are few because a search may visit all of them.
 #[test]
 fn searches_by_the_greatest_hash_alone_are_right(rt: HostRuntime) {
-    assert!(rt; new_rows_search_rightly(rt.alloc(), Greatest, 8) == Ok(true));
+    assert!(rt; searches_are_right_as_new_rows_grow(rt.alloc(), Greatest, 8) == Ok(true));
 }

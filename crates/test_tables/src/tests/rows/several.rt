@@ -1,7 +1,8 @@
+// Insertions of three slots by one call of `put`.
 use super::checks::{Check, plain_rows_pass, split_rows_pass};
 use super::*;
 
-/// How often three rows are put at once.
+/// The number of calls of `put_three`.
 const TIMES: u32 = 100;
 
 /// Builds the chain of one object, this integer.
@@ -9,8 +10,8 @@ fn chain_of_one(alloc: Global, number: Integer) -> Chain {
     Chain::one(alloc, Term::Int(number))
 }
 
-/// Puts the rows of three keys at once, each with its own number. Returns false without a change if two keys are the
-/// same or one has a slot.
+/// Inserts three slots by one call of `put`, each with the integer of its key as its object. Returns false without a
+/// change if two keys are the same or one has a slot.
 pub fn put_three<R: Rows>(
     rows: &mut R,
     alloc: Global,
@@ -42,20 +43,20 @@ pub fn three_keys(number: u32) -> (Integer, Integer, Integer) {
     (first, first.wrapping_add(1), first.wrapping_add(2))
 }
 
-/// Puts three rows at a time, at moments of growth, and returns whether each of them is then found.
+/// Puts three slots at a time while the rows grow. Returns whether all of them are inserted and found.
 pub(super) fn puts_by_threes<R: Rows>(rows: &mut R, alloc: Global) -> Result<bool, AllocError> {
     let mut draws = Draws::new();
     let mut all_right = true;
-    for time in 0..TIMES {
-        all_right = put_three(rows, alloc, three_keys(time))? && all_right;
-        ready_some(rows, &mut draws)?;
+    for number in 0..TIMES {
+        all_right = put_three(rows, alloc, three_keys(number))? && all_right;
+        grow_and_ready_some(rows, &mut draws)?;
     }
-    let all_there = each_has_its_number(rows, TIMES.wrapping_mul(3));
-    Ok(all_right && all_there && rows.len() == 3 * TIMES as usize)
+    let all_found = each_has_its_number(rows, TIMES.wrapping_mul(3));
+    Ok(all_right && all_found && rows.len() == 3 * TIMES as usize)
 }
 
 #[test]
-fn three_rows_are_put_at_once(rt: HostRuntime) {
+fn three_slots_are_put_at_once(rt: HostRuntime) {
     let alloc = rt.alloc();
     assert!(rt; plain_rows_pass(alloc, Check::PutByThrees) == Ok(true));
     assert!(rt; split_rows_pass(alloc, Fnv, Check::PutByThrees) == Ok(true));

@@ -1,10 +1,11 @@
+// Rows of 70,000 slots: `insert`, `replace`, `remove`, `clear` and `purge`.
 use super::checks::{Check, plain_rows_pass, split_rows_pass};
 use super::*;
 
-/// More than 65,536 slots, so that arrays and directories pass each lower power of two.
+/// More than 65,536 slots, so that arrays and directories grow past each lower power of two.
 const SLOTS: u32 = 70_000;
 
-/// Returns whether each key is inserted as a new one, while the buckets are doubled and made ready as they fill.
+/// Inserts all keys, while the buckets are doubled and made ready. Returns whether each key is new.
 fn inserts_all<R: Rows>(rows: &mut R, alloc: Global) -> Result<bool, AllocError> {
     let mut all_new = true;
     for key in 0..SLOTS {
@@ -35,7 +36,7 @@ fn grow_as_rows_fill<R: Rows>(rows: &mut R) -> Result<(), AllocError> {
     Ok(())
 }
 
-/// Returns whether each key has its own number, and its object is replaced by the next number.
+/// Returns whether the object of each key is the key, and an insertion replaces it by the next number.
 fn replaces_all<R: Rows>(rows: &mut R, alloc: Global) -> Result<bool, AllocError> {
     let mut all_right = true;
     for key in 0..SLOTS {
@@ -47,7 +48,7 @@ fn replaces_all<R: Rows>(rows: &mut R, alloc: Global) -> Result<bool, AllocError
     Ok(all_right && state_at(rows, Integer::from(SLOTS)) == KeyState::Nothing)
 }
 
-/// Returns whether each key is removed, the last first.
+/// Removes the keys, the last first. Returns whether each had its object, and no slot remains.
 fn removes_all<R: Rows>(rows: &mut R) -> bool {
     let mut all_right = true;
     for index_from_end in 0..SLOTS {
@@ -62,43 +63,44 @@ pub(super) fn inserts_replaces_and_removes<R: Rows>(
     rows: &mut R,
     alloc: Global,
 ) -> Result<bool, AllocError> {
+    // A small reservation, which the insertions outgrow.
     rows.reserve(3)?;
     Ok(inserts_all(rows, alloc)? && replaces_all(rows, alloc)? && removes_all(rows))
 }
 
-/// Returns whether `clear` leaves a tombstone for each slot and `purge` removes them.
-fn clears_then_purges<R: Rows>(rows: &mut R) -> bool {
+/// Returns whether `clear(true)` leaves a tombstone for each slot, and `purge` removes the tombstones.
+fn clear_leaves_tombstones_for_purge<R: Rows>(rows: &mut R) -> bool {
     rows.clear(true);
     let cleared = rows.len() == SLOTS as usize && state_at(rows, 0) == KeyState::Tombstone;
     rows.purge();
     cleared && rows.len() == 0
 }
 
-/// Returns whether `clear` and then `purge` remove all slots, or `clear` removes all at once.
+/// Fills rows twice. Returns whether `clear(true)` and `purge` empty them, and later `clear(false)` alone.
 pub(super) fn clears_and_purges<R: Rows>(rows: &mut R, alloc: Global) -> Result<bool, AllocError> {
     let filled = inserts_all(rows, alloc)?;
-    let swept = clears_then_purges(rows);
+    let swept = clear_leaves_tombstones_for_purge(rows);
     let again = inserts_all(rows, alloc)?;
     rows.clear(false);
     Ok(filled && swept && again && rows.len() == 0)
 }
 
 #[test]
-fn split_rows_serve(rt: HostRuntime) {
+fn split_rows_insert_replace_and_remove(rt: HostRuntime) {
     assert!(rt; split_rows_pass(rt.alloc(), Fnv, Check::InsertReplaceAndRemove) == Ok(true));
 }
 
 #[test]
-fn plain_rows_serve(rt: HostRuntime) {
+fn plain_rows_insert_replace_and_remove(rt: HostRuntime) {
     assert!(rt; plain_rows_pass(rt.alloc(), Check::InsertReplaceAndRemove) == Ok(true));
 }
 
 #[test]
-fn split_rows_are_swept(rt: HostRuntime) {
+fn split_rows_are_cleared_and_purged(rt: HostRuntime) {
     assert!(rt; split_rows_pass(rt.alloc(), Fnv, Check::ClearAndPurge) == Ok(true));
 }
 
 #[test]
-fn plain_rows_are_swept(rt: HostRuntime) {
+fn plain_rows_are_cleared_and_purged(rt: HostRuntime) {
     assert!(rt; plain_rows_pass(rt.alloc(), Check::ClearAndPurge) == Ok(true));
 }

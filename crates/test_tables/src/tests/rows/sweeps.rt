@@ -1,4 +1,4 @@
-// Calls on all slots.
+// Calls on all slots, `clear` and `purge`, made on rows and on the list that `calls` compares them with.
 use super::*;
 
 /// A call on all slots.
@@ -12,7 +12,7 @@ enum Sweep {
     Purge,
 }
 
-/// Returns the state of a key after a call on all slots.
+/// Returns the state that a key must have after a call on all slots.
 fn state_after_sweep(sweep: Sweep, before: KeyState) -> KeyState {
     match (sweep, before) {
         (Sweep::LeaveTombstones, KeyState::Object(_)) => KeyState::Tombstone,
@@ -22,7 +22,7 @@ fn state_after_sweep(sweep: Sweep, before: KeyState) -> KeyState {
     }
 }
 
-/// Draws a call on all slots: most often it purges.
+/// Draws a call on all slots: `purge` most often.
 fn draw_sweep(draws: &mut Draws) -> Sweep {
     match draws.random_below(6) {
         0 => Sweep::LeaveTombstones,
@@ -31,7 +31,7 @@ fn draw_sweep(draws: &mut Draws) -> Sweep {
     }
 }
 
-/// Makes a call on all slots of the list.
+/// Sets the state of each key of the list to the one after a call on all slots.
 fn sweep_list(list: &mut [KeyState], sweep: Sweep) {
     for state in list.iter_mut() {
         let before = *state;
@@ -39,7 +39,7 @@ fn sweep_list(list: &mut [KeyState], sweep: Sweep) {
     }
 }
 
-/// Makes a call on all slots of rows and of the list, once in about four calls.
+/// Makes a random call on all slots of rows and of the list, once in about four times.
 pub(super) fn sweep_sometimes<R: Rows>(rows: &mut R, list: &mut [KeyState], draws: &mut Draws) {
     if draws.random_below(4) != 0 {
         return;

@@ -1,4 +1,4 @@
-// Traversals in which each next slot is found twice: by the place of a key, and by the key.
+// Traversals of all slots. Each next slot is found twice: by `next_place`, and by `next_at` of the key.
 use super::*;
 
 /// Returns the integer that a key is, or -1.
@@ -16,7 +16,7 @@ fn first_key<R: Rows>(rows: &R) -> Option<Integer> {
     Some(number_of(key))
 }
 
-/// Returns the key after another, found by places.
+/// Returns the key after another, found by `next_place`.
 fn key_after<R: Rows>(rows: &R, key: Integer) -> Option<Integer> {
     let term = Term::Int(key);
     let found = rows.find(&term);
@@ -27,7 +27,7 @@ fn key_after<R: Rows>(rows: &R, key: Integer) -> Option<Integer> {
     Some(number_of(key))
 }
 
-/// Returns whether `next_at` gives this key after another.
+/// Returns whether `next_at` gives `next` after `key`, where `None` means that `key` is the last.
 fn is_key_after<R: Rows>(rows: &R, key: Integer, next: Option<Integer>) -> bool {
     let term = Term::Int(key);
     let is_next = match rows.next_at(&term) {
@@ -39,8 +39,8 @@ fn is_key_after<R: Rows>(rows: &R, key: Integer, next: Option<Integer>) -> bool 
     is_next
 }
 
-/// Returns whether a traversal from the first slot visits each slot, finds each next key by its place and by its key,
-/// and then ends.
+/// Returns whether a traversal from the first slot takes as many steps as there are slots and then ends, and
+/// `next_place` and `next_at` agree at each.
 pub(super) fn traverses<R: Rows>(rows: &R) -> bool {
     let mut all_right = true;
     let mut next_key = first_key(rows);

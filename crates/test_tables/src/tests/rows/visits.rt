@@ -1,13 +1,13 @@
-// The exact number of nodes that searches visit, in rows whose buckets are known.
-use super::growth::{grows, ready_answers};
+// The number of nodes that searches visit, in rows whose keys in each bucket are known.
+use super::growth::{each_grow_answers, ready_answers};
 use super::*;
 
-/// Returns how many nodes a search visits.
+/// Returns how many nodes a search for a key visits.
 fn count_visited<H: KeyHash + Copy + Drop>(rows: &SplitRows<H>, key: Term) -> u64 {
-    let mut visits = Steps::new();
-    let _found = rows.get_counted(&key, &mut visits);
+    let mut visited = Steps::new();
+    let _found = rows.get_counted(&key, &mut visited);
     drop(key);
-    visits.count()
+    visited.count()
 }
 
 /// Puts a slot without objects whose key is the process of a number.
@@ -25,11 +25,12 @@ fn put_process<R: Rows>(rows: &mut R, alloc: Global, number: u32) -> Result<(), 
     }
 }
 
-/// The number of buckets after two doublings, and of the keys in them. The hash is the number of a process, so each
-/// bucket has one key.
+/// The number of buckets after two doublings, and of keys. A key is a process, and its hash is the number of the
+/// process, so each bucket has one key.
 const BUCKETS: u32 = 8;
 
-/// The keys that are searched for. Those from `BUCKETS` on are missing.
+/// The searches are for the processes below this number, one for each of the 8 intervals of each bucket. Those from
+/// `BUCKETS` on are missing.
 const SEARCHED: u32 = 64;
 
 /// The most nodes that a search in a ready bucket of one key visits: the dummy at the bucket's start, the key, and the
@@ -54,15 +55,15 @@ fn each_search_is_short(rows: &SplitRows<PidNumber>) -> bool {
     all_short
 }
 
-/// Returns whether searches are short if each of eight ready buckets has one key.
+/// Puts one key into each of eight ready buckets. Returns whether each search is then short.
 fn searches_are_short(rows: &mut SplitRows<PidNumber>, alloc: Global) -> Result<bool, AllocError> {
-    let grown = grows(rows, 2, Growth::Grown)?;
+    let grown = each_grow_answers(rows, 2, Growth::Grown)?;
     ready_and_put_each(rows, alloc)?;
     Ok(grown && each_search_is_short(rows))
 }
 
-/// Returns whether searches in new split rows with eight ready buckets are short.
-fn new_rows_search_shortly(alloc: Global) -> Result<bool, AllocError> {
+/// Returns whether searches are short in new split rows that get eight ready buckets.
+fn searches_in_new_rows_are_short(alloc: Global) -> Result<bool, AllocError> {
     let mut rows = SplitRows::new(alloc, PidNumber)?;
     let short = searches_are_short(&mut rows, alloc);
     drop(rows);
@@ -71,7 +72,7 @@ fn new_rows_search_shortly(alloc: Global) -> Result<bool, AllocError> {
 
 #[test]
 fn searches_in_ready_buckets_visit_few_nodes(rt: HostRuntime) {
-    assert!(rt; new_rows_search_shortly(rt.alloc()) == Ok(true));
+    assert!(rt; searches_in_new_rows_are_short(rt.alloc()) == Ok(true));
 }
 
 /// Puts the key of each bucket.
@@ -82,7 +83,7 @@ fn put_each<R: Rows>(rows: &mut R, alloc: Global) -> Result<(), AllocError> {
     Ok(())
 }
 
-/// Returns whether each bucket but the first becomes ready.
+/// Makes each bucket but the first ready. Returns whether each becomes ready.
 fn each_becomes_ready<R: Rows>(rows: &mut R) -> Result<bool, AllocError> {
     let mut all_ready = true;
     for bucket in 1..BUCKETS {
@@ -91,27 +92,28 @@ fn each_becomes_ready<R: Rows>(rows: &mut R) -> Result<bool, AllocError> {
     Ok(all_ready)
 }
 
-/// Returns whether each search visits no node if its interval is empty, and one node if the slot of the key is the
-/// first of its interval.
-fn each_search_is_exact(rows: &SplitRows<PidNumber>) -> bool {
+/// Returns whether each search visits the fewest nodes: one for a key that is the first of its interval, and none for a
+/// missing key, whose interval is empty.
+fn each_search_visits_fewest_nodes(rows: &SplitRows<PidNumber>) -> bool {
     let mut all_exact = true;
     for number in 0..SEARCHED {
-        let visits = u64::from(number < BUCKETS);
-        all_exact = count_visited(rows, Term::Pid(number)) == visits && all_exact;
+        let fewest = u64::from(number < BUCKETS);
+        all_exact = count_visited(rows, Term::Pid(number)) == fewest && all_exact;
     }
     all_exact
 }
 
-/// Returns whether the readying of a bucket sets the hints of its intervals and of those of its parent.
+/// Puts eight keys, doubles two buckets to eight, and makes them ready. Returns whether each search then visits the
+/// fewest nodes, as it does if the readying of a bucket sets the hints of its intervals and of its parent's.
 fn hints_are_set(rows: &mut SplitRows<PidNumber>, alloc: Global) -> Result<bool, AllocError> {
     put_each(rows, alloc)?;
-    let grown = grows(rows, 2, Growth::Grown)?;
+    let grown = each_grow_answers(rows, 2, Growth::Grown)?;
     let readied = each_becomes_ready(rows)?;
-    Ok(grown && readied && each_search_is_exact(rows))
+    Ok(grown && readied && each_search_visits_fewest_nodes(rows))
 }
 
 /// Returns whether the readying of buckets sets the hints of new split rows.
-fn new_rows_set_hints(alloc: Global) -> Result<bool, AllocError> {
+fn hints_of_new_rows_are_set(alloc: Global) -> Result<bool, AllocError> {
     let mut rows = SplitRows::new(alloc, PidNumber)?;
     let hints = hints_are_set(&mut rows, alloc);
     drop(rows);
@@ -120,26 +122,27 @@ fn new_rows_set_hints(alloc: Global) -> Result<bool, AllocError> {
 
 #[test]
 fn readying_sets_hints(rt: HostRuntime) {
-    assert!(rt; new_rows_set_hints(rt.alloc()) == Ok(true));
+    assert!(rt; hints_of_new_rows_are_set(rt.alloc()) == Ok(true));
 }
 
-/// The number of keys with one hash.
+/// The number of keys that all have the same hash.
 const SAME_HASH_KEYS: u32 = 1_000;
 
-/// The most nodes that a search among them visits: the dummy, these keys, and the node after the bucket.
+/// The most nodes that a search among these keys visits: the dummy, the keys, and the node after the bucket.
 const MOST_SAME_HASH_VISITS: u64 = 1_002;
 
-/// Returns whether each search for one of these keys is bounded.
+/// Returns whether each search for one of these keys visits at most `MOST_SAME_HASH_VISITS` nodes.
 fn each_search_is_bounded(rows: &SplitRows<AllSame>) -> bool {
     let mut all_bounded = true;
     for number in 0..SAME_HASH_KEYS {
-        let visits = count_visited(rows, Term::Int(Integer::from(number)));
-        all_bounded = visits <= MOST_SAME_HASH_VISITS && all_bounded;
+        let visited = count_visited(rows, Term::Int(Integer::from(number)));
+        all_bounded = visited <= MOST_SAME_HASH_VISITS && all_bounded;
     }
     all_bounded
 }
 
-/// Returns whether searches among keys of one hash visit at most all of them, and for a missing key all.
+/// Inserts keys of one hash. Returns whether a search for a missing key visits all of them, and no search visits more
+/// than `MOST_SAME_HASH_VISITS` nodes.
 fn same_hash_searches_are_bounded(
     rows: &mut SplitRows<AllSame>,
     alloc: Global,
@@ -150,8 +153,8 @@ fn same_hash_searches_are_bounded(
     Ok(missed_all && each_search_is_bounded(rows))
 }
 
-/// Returns whether searches in new split rows with one hash for all keys visit at most all of them.
-fn new_rows_bound_same_hash_searches(alloc: Global) -> Result<bool, AllocError> {
+/// Returns whether searches are bounded in new split rows with one hash for all keys.
+fn same_hash_searches_in_new_rows_are_bounded(alloc: Global) -> Result<bool, AllocError> {
     let mut rows = SplitRows::new(alloc, AllSame)?;
     let bounded = same_hash_searches_are_bounded(&mut rows, alloc);
     drop(rows);
@@ -160,5 +163,5 @@ fn new_rows_bound_same_hash_searches(alloc: Global) -> Result<bool, AllocError> 
 
 #[test]
 fn searches_among_keys_of_one_hash_are_bounded(rt: HostRuntime) {
-    assert!(rt; new_rows_bound_same_hash_searches(rt.alloc()) == Ok(true));
+    assert!(rt; same_hash_searches_in_new_rows_are_bounded(rt.alloc()) == Ok(true));
 }

@@ -1,4 +1,4 @@
-// The expected answers of steps, and the number for each answer.
+// The expected answers of steps, and the code of each answer.
 use super::terms::as_integer;
 use ets_term::Integer;
 use table_ops::Refusal;
@@ -6,15 +6,20 @@ use table_ops::Refusal;
 /// The expected answer of a step, or what it leaves.
 #[derive(Clone, Copy)]
 pub enum Answer {
+    /// `true`, or the success of a step that has no other answer.
     True,
+    /// `false`.
     False,
+    /// The refusal `badarg`.
     Badarg,
+    /// The refusal `system_limit`.
     SystemLimit,
     /// An element that is an integer, or the new value of a counter.
     Int(Integer),
     /// A list of this length.
     ListOf(usize),
-    /// The second elements of the objects that are answered, in order. Each is a digit.
+    /// The second elements of the objects that are answered, in order. Each is from 0 to 9, because `code` makes them
+    /// the digits of one number.
     Values(&'static [Integer]),
     /// The second element of the one object that is answered.
     OneValue(Integer),
@@ -24,33 +29,34 @@ pub enum Answer {
     Slots(Integer),
     /// How many objects are deleted.
     Deleted(Integer),
-    /// How many objects `match` and `match_object` find each. They test no other object.
+    /// How many objects each of `match` and `match_object` finds. They test no other objects.
     Matched(Integer),
-    /// How many objects `select` and `select_count` find each.
+    /// How many objects each of `select` and `select_count` finds.
     Selected(Integer),
 }
 
-/// The number for the refusal `badarg`.
+/// The code of the refusal `badarg`.
 const BADARG: Integer = -1;
 
-/// The number for the refusal `system_limit`.
+/// The code of the refusal `system_limit`.
 const SYSTEM_LIMIT: Integer = -2;
 
 impl Answer {
-    /// Returns the number for an expected answer. `answer` returns the same number for a step with this answer.
-    pub fn number(self) -> Integer {
+    /// Returns the code of an expected answer. `answer_code` returns the same code for a step with this answer.
+    pub fn code(self) -> Integer {
         match self {
             Answer::True => 1,
             Answer::False => 0,
             Answer::Badarg => BADARG,
             Answer::SystemLimit => SYSTEM_LIMIT,
-            Answer::Values(values) => number_of_values(values),
+            Answer::Values(values) => code_of_values(values),
             Answer::ListOf(length) => as_integer(length),
-            Answer::Matched(count) => number_of_matches(
+            // Two searches, each of which finds `count` objects and tests no others.
+            Answer::Matched(count) => code_of_matchings(
                 count.wrapping_mul(2),
                 count.wrapping_mul(2),
             ),
-            Answer::Selected(count) => number_of_selected(count, count),
+            Answer::Selected(count) => code_of_selections(count, count),
             Answer::Int(count)
             | Answer::OneValue(count)
             | Answer::Objects(count)
@@ -60,7 +66,7 @@ impl Answer {
     }
 }
 
-/// Returns the number for a refusal.
+/// Returns the code of a refusal.
 pub fn refusal_code(refusal: Refusal) -> Integer {
     match refusal {
         Refusal::Badarg => BADARG,
@@ -69,8 +75,8 @@ pub fn refusal_code(refusal: Refusal) -> Integer {
     }
 }
 
-/// Returns one number whose digits are these values.
-fn number_of_values(values: &[Integer]) -> Integer {
+/// Returns the number whose digits are these values.
+fn code_of_values(values: &[Integer]) -> Integer {
     let mut digits: Integer = 0;
     for value in values {
         digits = add_digit(digits, *value);
@@ -83,12 +89,14 @@ pub fn add_digit(number: Integer, digit: Integer) -> Integer {
     number.wrapping_mul(10).wrapping_add(digit)
 }
 
-/// Returns a number for how many results two searches have in all, and how many objects they test in all.
-pub fn number_of_matches(results: Integer, tested: Integer) -> Integer {
+/// Returns the code of `match` and `match_object`: how many results both have in all, and how many objects they test.
+/// The number of tested objects, at most 99, is in the last two digits.
+pub fn code_of_matchings(results: Integer, tested: Integer) -> Integer {
     results.wrapping_mul(100).wrapping_add(tested.min(99))
 }
 
-/// Returns a number for how many results `select` has, and how many `select_count` counts.
-pub fn number_of_selected(results: Integer, count: Integer) -> Integer {
+/// Returns the code of `select` and `select_count`: how many results one has, and how many the other counts. Each
+/// number is below 100,000 in these tests, so that different numbers have different codes.
+pub fn code_of_selections(results: Integer, count: Integer) -> Integer {
     results.wrapping_mul(100_000).wrapping_add(count)
 }

@@ -1,10 +1,10 @@
-// Lists with a term that is not an object, at each index.
+// Lists of objects and one bad term, which is not an object, at each index.
 use super::answers::Answer::{Badarg, True};
 use super::checks::{Check, plain_table_passes, split_table_passes};
-use super::objects::object_at_end;
+use super::objects::object_under_end_of_table;
 use super::single_calls::{insert, try_insert, try_insert_new};
 use super::terms::{as_integer, push_built, tuple};
-use super::{Empty, Keypos, MaxObjects};
+use super::{EmptyTable, Keypos, MaxObjects};
 use bucket_table::Rows;
 use ets_term::{Fnv, Items, Term};
 use std::alloc::Global;
@@ -12,7 +12,7 @@ use std::process::Abort;
 use table_ops::{Kind, Table};
 
 /// Returns a copy of the bad term at its index, and at each other index an object whose key is the index.
-fn object_at(alloc: Global, index: usize, bad_index: usize, bad: &Term) -> Option<Term> {
+fn item_at(alloc: Global, index: usize, bad_index: usize, bad: &Term) -> Option<Term> {
     if index == bad_index {
         bad.try_clone(alloc).ok()
     } else {
@@ -29,13 +29,14 @@ fn push_objects(
     bad: &Term,
 ) -> Option<()> {
     for index in 0..length {
-        push_built(objects, object_at(alloc, index, bad_index, bad))?;
+        push_built(objects, item_at(alloc, index, bad_index, bad))?;
     }
     Some(())
 }
 
-/// Returns whether a list of this length with the bad term at an index is not inserted.
-fn refuses_at<R: Rows>(
+/// Returns whether `insert` and `insert_new` refuse a list of this length with the bad term at an index. The table
+/// keeps the one object that it had.
+fn refuses_list_with_bad<R: Rows>(
     alloc: Global,
     table: &mut Table<R>,
     length: usize,
@@ -44,53 +45,53 @@ fn refuses_at<R: Rows>(
 ) -> Option<bool> {
     let mut objects = Items::new(alloc);
     let pushed = push_objects(alloc, &mut objects, length, bad_index, bad);
-    let first = try_insert(table, objects.as_slice());
-    let second = try_insert_new(table, objects.as_slice());
+    let inserted = try_insert(table, objects.as_slice());
+    let inserted_new = try_insert_new(table, objects.as_slice());
     drop(objects);
     pushed?;
-    Some(first == Badarg.number() && second == Badarg.number() && table.size() == 1)
+    Some(inserted == Badarg.code() && inserted_new == Badarg.code() && table.size() == 1)
 }
 
 /// The length of a list with a bad term.
 const LENGTH: usize = 5;
 
-/// Returns whether no list with the bad term at any index is inserted, nor the list of it alone.
-fn refuses_at_each_place<R: Rows>(alloc: Global, table: &mut Table<R>, bad: &Term) -> bool {
+/// Returns whether each list with the bad term at an index is refused, and the list of the bad term alone.
+fn refuses_at_each_index<R: Rows>(alloc: Global, table: &mut Table<R>, bad: &Term) -> bool {
     for bad_index in 0..LENGTH {
-        if refuses_at(alloc, table, LENGTH, bad_index, bad) != Some(true) {
+        if refuses_list_with_bad(alloc, table, LENGTH, bad_index, bad) != Some(true) {
             return false;
         }
     }
-    refuses_at(alloc, table, 1, 0, bad) == Some(true)
+    refuses_list_with_bad(alloc, table, 1, 0, bad) == Some(true)
 }
 
-/// Returns whether no list with a term is inserted, and drops the term. `None` means out of memory.
+/// Returns whether each list with the built term is refused, and drops the term. `None` means out of memory.
 fn refuses_and_drops<R: Rows>(
     alloc: Global,
     table: &mut Table<R>,
     built: Option<Term>,
 ) -> Option<bool> {
     let bad = built?;
-    let refused = refuses_at_each_place(alloc, table, &bad);
+    let refused = refuses_at_each_index(alloc, table, &bad);
     drop(bad);
     Some(refused)
 }
 
-/// Returns whether no list with a term that is not an object is inserted into a table of `{3,0}`.
+/// Inserts `{3,0}`. Returns whether lists with 7, with `{}` and with `{'$end_of_table',1}` are then refused.
 pub fn refuses_bad_terms<R: Rows>(alloc: Global, table: &mut Table<R>) -> Option<bool> {
     Some(
-        insert(table, tuple(alloc, &[3, 0]))? == True.number()
+        insert(table, tuple(alloc, &[3, 0]))? == True.code()
             && refuses_and_drops(alloc, table, Some(Term::Int(7)))?
             && refuses_and_drops(alloc, table, tuple(alloc, &[]))?
-            && refuses_and_drops(alloc, table, object_at_end(alloc))?,
+            && refuses_and_drops(alloc, table, object_under_end_of_table(alloc))?,
     )
 }
 
 #[test]
-fn a_bad_object_at_each_place(rt: HostRuntime) {
+fn a_bad_object_at_each_index_is_refused(rt: HostRuntime) {
     let alloc = rt.alloc();
-    let set = Empty(Kind::Set, Keypos(1), MaxObjects(10));
-    let bag = Empty(Kind::DuplicateBag, Keypos(1), MaxObjects(10));
+    let set = EmptyTable(Kind::Set, Keypos(1), MaxObjects(10));
+    let bag = EmptyTable(Kind::DuplicateBag, Keypos(1), MaxObjects(10));
     assert!(rt; plain_table_passes(alloc, set, Check::RefuseBadTerms) == Some(true));
     assert!(rt; split_table_passes(alloc, Fnv, bag, Check::RefuseBadTerms) == Some(true));
 }

@@ -80,7 +80,7 @@ const DUPLICATE_BAGS: [(Step, Answer); 14] = [
     (Purge, Slots(0)),
 ];
 
-/// Steps on a set of at most three objects.
+/// Steps on a set of at most three objects, some of which are refused with `system_limit`.
 const LIMITS: [(Step, Answer); 15] = [
     (InsertTwo(Object(1, 1), Object(2, 1)), True),
     (InsertTwo(Object(3, 1), Object(4, 1)), SystemLimit),
@@ -139,7 +139,7 @@ const QUERIES: [(Step, Answer); 16] = [
     (Purge, Slots(0)),
 ];
 
-/// The tables with their steps.
+/// Each table with its steps.
 const SCENARIOS: [Scenario; 6] = [
     (Kind::Set, Keypos(1), MaxObjects(10), &SETS),
     (Kind::Bag, Keypos(1), MaxObjects(10), &BAGS),

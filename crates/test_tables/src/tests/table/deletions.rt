@@ -1,5 +1,5 @@
-// How many objects a deletion by patterns or match specifications tests: those of the bound key, else all. The table has
-// the objects `{Key,0}` for the keys 1 to 1,000.
+// How many objects a deletion by a pattern or a match specification tests: those of the bound key, or all if it binds
+// no key. The table has the objects `{Key,0}` for the keys 1 to 1,000.
 use super::Key;
 use super::searches::{Found, MISSING, Tested, both_find, select_by_keys};
 use super::terms::{pattern_of_key, spec_of_keys};
@@ -20,7 +20,8 @@ struct Slots(usize);
 #[derive(Clone, Copy, PartialEq, Eq)]
 struct Objects(usize);
 
-/// Deletes by a clause for each key. Returns how many objects it deletes, leaves and tests.
+/// Deletes by a match specification with a clause for each key, and leaves no tombstones (`false`). Returns how many
+/// objects it deletes, leaves and tests.
 fn delete_by_keys<R: Rows>(
     alloc: Global,
     table: &mut Table<R>,
@@ -37,7 +38,8 @@ fn delete_by_keys<R: Rows>(
     ))
 }
 
-/// Deletes by the pattern of a key. Returns how many slots and objects it leaves, and how many objects it tests.
+/// Deletes by the pattern of a key, and leaves a tombstone (`true`). Returns how many slots and objects it leaves, and
+/// how many objects it tests.
 fn delete_by_pattern<R: Rows>(
     alloc: Global,
     table: &mut Table<R>,
@@ -55,7 +57,9 @@ fn delete_by_pattern<R: Rows>(
     ))
 }
 
-/// What clauses of keys delete, how many objects remain, and how many are tested: those of one key, or all.
+/// Columns: the keys of the clauses, and how many objects are then deleted, left and tested. Clauses of one key test
+/// its objects, and clauses of different keys all objects. The second row deletes the object of key 7,
+/// so the third deletes only that of key 8.
 const DELETIONS: [(&[Integer], Deleted, Objects, Tested); 3] = [
     (&[MISSING], Deleted(0), Objects(1_000), Tested(0)),
     (&[7], Deleted(1), Objects(999), Tested(1)),
@@ -76,7 +80,8 @@ fn deletions_by_keys_are_right<R: Rows>(
     true
 }
 
-/// Keys whose patterns delete, and how many objects they test. Each time 998 slots and 997 objects remain.
+/// Columns: the key of a pattern, and how many objects a deletion by it tests. After each, 998 slots and 997 objects
+/// remain: the first makes a tombstone of the slot of key 9, which has no object to test.
 const PATTERN_DELETIONS: [(Key, Tested); 3] = [
     (Key(9), Tested(1)),
     (Key(9), Tested(0)),
@@ -98,7 +103,8 @@ fn deletions_by_patterns_are_right<R: Rows>(
     true
 }
 
-/// Returns whether deletions by one bound key test its objects, and deletions by different keys all objects.
+/// Returns whether deletions by one bound key test its objects, and deletions by different keys all objects. At the end
+/// each of two searches by two keys must test all 997 objects that are left.
 pub fn deletions_are_right<R: Rows>(alloc: Global, table: &mut Table<R>) -> bool {
     deletions_by_keys_are_right(alloc, table, &DELETIONS)
         && deletions_by_patterns_are_right(alloc, table, &PATTERN_DELETIONS)

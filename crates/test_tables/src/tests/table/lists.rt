@@ -1,10 +1,10 @@
-// Lists of objects whose keys repeat. The key of an object is its index modulo `KEYS`, its value the last digit of the
+// A list of objects whose keys repeat. The key of an object is its index modulo `KEYS`, its value the last digit of the
 // index.
 use super::answers::Answer::{self, False, SystemLimit, True};
 use super::checks::{Check, both_tables_pass};
-use super::single_calls::{lookup_digits, try_insert, try_insert_new};
+use super::single_calls::{lookup_code, try_insert, try_insert_new};
 use super::terms::{push_built, tuple};
-use super::{Empty, Keypos, MaxObjects};
+use super::{EmptyTable, Keypos, MaxObjects};
 use bucket_table::Rows;
 use ets_term::{Integer, Items, Term};
 use std::alloc::Global;
@@ -20,15 +20,19 @@ const KEYS: u32 = 97;
 /// The number of different objects, and so of objects in a bag: each key has ten values.
 const DIFFERENT_OBJECTS: u32 = 970;
 
-/// A table, the answer of the insertion, and what the table then has.
+/// A table into which the list is inserted, the answer, and what the table then has.
 #[derive(Clone, Copy)]
 pub struct Row {
     kind: Kind,
+    /// The greatest number of objects that the table may have.
     max_objects: MaxObjects,
+    /// The answer to the insertion of the list.
     answer: Answer,
+    /// How many objects the table then has.
     objects: u32,
+    /// How many slots the table then has.
     slots: u32,
-    /// The values of key 0 as the digits of one number, which wraps.
+    /// The values of key 0 as the decimal digits of one number, which wraps.
     digits: Integer,
 }
 
@@ -84,10 +88,10 @@ const ROWS: [Row; 6] = [
     },
 ];
 
-/// The ten different values of key 0: 0, 7, 4 and so on.
+/// The ten different values of key 0 as digits: 0, 7, 4 and so on.
 const DIGITS_IN_BAG: Integer = 741_852_963;
 
-/// The 104 values of key 0. A number of 104 digits wraps.
+/// The 104 values of key 0 as digits. A number of 104 digits wraps.
 const DIGITS_IN_DUPLICATE_BAG: Integer = 17_411_923_686_422_082_608_420_841_024_488_311_317;
 
 /// Appends `OBJECTS` objects, in the order of their indexes.
@@ -104,19 +108,19 @@ fn push_objects(alloc: Global, objects: &mut Items<Term>) -> Option<()> {
 fn has_contents<R: Rows>(table: &Table<R>, row: Row) -> bool {
     table.size() == row.objects as usize
         && table.slots() == row.slots as usize
-        && lookup_digits(table, 0) == row.digits
+        && lookup_code(table, 0) == row.digits
 }
 
 /// Returns whether `insert` of the list does what the row says.
 pub fn inserts<R: Rows>(table: &mut Table<R>, list: &[Term], row: Row) -> bool {
-    try_insert(table, list) == row.answer.number() && has_contents(table, row)
+    try_insert(table, list) == row.answer.code() && has_contents(table, row)
 }
 
 /// Returns whether `insert_new` of the list does what the row says, and does not insert it again.
 pub fn inserts_new<R: Rows>(table: &mut Table<R>, list: &[Term], row: Row) -> bool {
-    let answer = row.answer.number();
+    let answer = row.answer.code();
     let again = match row.answer {
-        True => False.number(),
+        True => False.code(),
         _ => answer,
     };
     try_insert_new(table, list) == answer
@@ -126,12 +130,12 @@ pub fn inserts_new<R: Rows>(table: &mut Table<R>, list: &[Term], row: Row) -> bo
 
 /// Returns whether `insert` and `insert_new` do what the row says, each on new tables over each form of rows.
 fn row_holds(alloc: Global, list: &[Term], row: Row) -> bool {
-    let empty = Empty(row.kind, Keypos(1), row.max_objects);
+    let empty = EmptyTable(row.kind, Keypos(1), row.max_objects);
     both_tables_pass(alloc, empty, Check::Insert(list, row))
         && both_tables_pass(alloc, empty, Check::InsertNew(list, row))
 }
 
-/// Returns the index of the first row whose table differs.
+/// Returns the index of the first row whose insertion does not do what the row says.
 fn first_row_mismatch(alloc: Global, list: &[Term], rows: &[Row]) -> Option<usize> {
     for (index, row) in rows.iter().enumerate() {
         if !row_holds(alloc, list, *row) {
@@ -152,6 +156,6 @@ fn all_rows_hold(alloc: Global, rows: &[Row]) -> Option<bool> {
 }
 
 #[test]
-fn lists_with_repeated_keys(rt: HostRuntime) {
+fn a_list_with_repeated_keys_is_inserted_whole_or_refused(rt: HostRuntime) {
     assert!(rt; all_rows_hold(rt.alloc(), &ROWS) == Some(true));
 }

@@ -1,4 +1,4 @@
-// Long runs: the same answers over each form of rows, past many powers of two.
+// Long runs of steps: the same answers over plain rows and over split rows, at sizes past many powers of two.
 use super::Emptied::{LeaveTombstone, RemoveSlot};
 use super::Step::{
     CountObjects, CountSlots, Delete, DeleteObject, Grow, Insert, InsertNew, InsertTwo,
@@ -10,8 +10,8 @@ use super::answers::Answer::{
 };
 use super::checks::{Check, plain_table_passes, split_table_passes};
 use super::{
-    Empty, Incr, Key, Keypos, MaxObjects, Object, Pos, Start, Step, Value, answer, plain_table,
-    step_answers, steps_answer,
+    EmptyTable, Incr, Key, Keypos, MaxObjects, Object, Pos, Start, Step, Value, answer_code,
+    plain_table, step_answers, steps_answer,
 };
 use bucket_table::Rows;
 use ets_term::{AllSame, Fnv, Integer};
@@ -19,7 +19,7 @@ use std::alloc::Global;
 use std::process::Abort;
 use table_ops::{Kind, Table};
 
-/// The number of calls on two tables that are compared.
+/// The number of steps on two tables whose answers are compared.
 const CALLS: u32 = 10_000;
 
 /// The number of objects of a table that grows object by object.
@@ -28,17 +28,17 @@ const OBJECTS: u32 = 10_000;
 /// More objects than any table here has.
 const MAX_OBJECTS: MaxObjects = MaxObjects(1_000_000);
 
-/// Knuth's multiplicative hash: 2^32 divided by the golden ratio. It spreads consecutive numbers.
+/// The factor of Knuth's multiplicative hash: 2^32 divided by the golden ratio. It spreads consecutive numbers.
 const SPREAD: u32 = 2_654_435_761;
 
-/// The number of keys of the calls.
+/// The steps use the keys below this number.
 const KEYS: Integer = 97;
 
-/// The number of values of the calls.
+/// The steps use the values below this number.
 const VALUES: Integer = 10;
 
-/// Returns the step of a number on one key. Its kind is the five highest bits of the spread number; key and value are
-/// lower ones. In the first 16 of each 64 numbers deletions leave tombstones.
+/// Returns the step on one key that a number chooses. The five highest bits of the spread number choose the kind of the
+/// step, and lower bits its key and value. In the first 16 of each 64 numbers, deletions leave tombstones.
 fn step_on_key_at(number: u32) -> Step {
     let spread = number.wrapping_mul(SPREAD);
     let key = (spread >> 16) as Integer % KEYS;
@@ -68,9 +68,10 @@ fn step_on_key_at(number: u32) -> Step {
     }
 }
 
-/// Returns a step on the whole table four times in 1024 numbers, and otherwise that of `step_on_key_at`. The four are
-/// rare because they take long, and far apart so that the table fills between them. Each second deletion of objects
-/// leaves tombstones. 7 and 3 do not divide 1024, so that the bounds of the values differ.
+/// Returns the step that a number chooses: for four of each 1024 numbers a step on the whole table, and else the step
+/// of `step_on_key_at`. The four are rare because they take long, and far apart so that the table fills between them.
+/// Each second deletion of objects leaves tombstones. 7 and 3 do not divide 1024, so that the bounds of the values
+/// differ.
 fn step_at(number: u32) -> Step {
     match number % 1024 {
         0 => Step::AllObjects,
@@ -97,24 +98,24 @@ fn tables_answer_alike<A: Rows, B: Rows>(
 ) -> bool {
     for number in 0..steps {
         let step = step_at(number);
-        if answer(alloc, first, step) != answer(alloc, second, step) {
+        if answer_code(alloc, first, step) != answer_code(alloc, second, step) {
             return false;
         }
     }
     true
 }
 
-/// Returns whether a table answers as one over plain rows.
+/// Returns whether a table answers `CALLS` steps as a table over plain rows does.
 pub fn answers_as_plain_table<B: Rows>(alloc: Global, second: &mut Table<B>) -> bool {
-    let mut first = plain_table(alloc, Empty(second.kind(), Keypos(1), MAX_OBJECTS));
+    let mut first = plain_table(alloc, EmptyTable(second.kind(), Keypos(1), MAX_OBJECTS));
     let alike = tables_answer_alike(alloc, &mut first, second, CALLS);
     drop(first);
     alike
 }
 
-/// Returns whether tables of this kind answer alike over each form of rows, and if all keys share a hash.
+/// Returns whether tables of this kind over split rows answer as over plain rows, also if all keys share a hash.
 fn all_rows_answer_alike(alloc: Global, kind: Kind) -> bool {
-    let empty = Empty(kind, Keypos(1), MAX_OBJECTS);
+    let empty = EmptyTable(kind, Keypos(1), MAX_OBJECTS);
     split_table_passes(alloc, Fnv, empty, Check::AnswerAsPlainTable) == Some(true)
         && split_table_passes(alloc, AllSame, empty, Check::AnswerAsPlainTable) == Some(true)
 }
@@ -134,11 +135,11 @@ fn duplicate_bags_answer_alike(rt: HostRuntime) {
     assert!(rt; all_rows_answer_alike(rt.alloc(), Kind::DuplicateBag));
 }
 
-/// The number of insertions for each `Grow`. The buckets double far more often than they fill.
+/// One of this number of insertions is followed by a `Grow`. So the buckets double far more often than they fill.
 const GROW_PERIOD: u32 = 8;
 
-/// Inserts an object, and returns whether a table then answers as it must. All calls are checked at the powers of two
-/// alone, which keeps the test fast.
+/// Inserts an object, and returns whether a table then answers as it must. To keep the test fast, it runs
+/// `each_call_answers` only if the key is a power of two.
 fn answers_at<R: Rows>(alloc: Global, table: &mut Table<R>, key: u32) -> bool {
     let number = key as Integer;
     step_answers(alloc, table, Insert(Object(number, 1)), True)
@@ -147,7 +148,7 @@ fn answers_at<R: Rows>(alloc: Global, table: &mut Table<R>, key: u32) -> bool {
         && (!key.is_power_of_two() || each_call_answers(alloc, table, number))
 }
 
-/// Returns whether a table answers as it must while it grows object by object, and deletes all at the end.
+/// Inserts objects one by one, and deletes all at the end. Returns whether a table answers as it must.
 pub fn answers_as_it_grows<R: Rows>(alloc: Global, table: &mut Table<R>) -> bool {
     for key in 0..OBJECTS {
         if !answers_at(alloc, table, key) {
@@ -188,7 +189,7 @@ fn each_call_answers<R: Rows>(alloc: Global, table: &mut Table<R>, last: Integer
 
 #[test]
 fn a_table_answers_as_it_fills_and_empties(rt: HostRuntime) {
-    let set = Empty(Kind::Set, Keypos(1), MAX_OBJECTS);
+    let set = EmptyTable(Kind::Set, Keypos(1), MAX_OBJECTS);
     assert!(rt; plain_table_passes(rt.alloc(), set, Check::AnswerAsItGrows) == Some(true));
     assert!(rt; split_table_passes(rt.alloc(), Fnv, set, Check::AnswerAsItGrows) == Some(true));
 }

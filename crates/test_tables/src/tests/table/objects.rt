@@ -1,4 +1,4 @@
-// What an object is: its key, and its depth.
+// Which terms are objects: tables with other keyposes, values of the greatest depth, and the key `'$end_of_table'`.
 use super::Emptied::{LeaveTombstone, RemoveSlot};
 use super::Step::{
     CountObjects, CountSlots, Delete, DeleteObject, Insert, InsertDeep, InsertNew, InsertNewDeep,
@@ -12,8 +12,8 @@ use super::single_calls::{count_of, try_insert, try_insert_new};
 use super::terms::{Part, atom, tuple_of};
 use super::updates::{increment_of_counter, second_element_value};
 use super::{
-    Depth, Empty, Incr, Key, Keypos, MaxObjects, Object, Pos, Scenario, Start, Step, Triple, Value,
-    first_mismatch,
+    Depth, EmptyTable, Incr, Key, Keypos, MaxObjects, Object, Pos, Scenario, Start, Step, Triple,
+    Value, first_mismatch,
 };
 use bucket_table::Rows;
 use ets_term::{Fnv, Term};
@@ -22,7 +22,8 @@ use std::process::Abort;
 use std::slice;
 use table_ops::{Kind, Table};
 
-/// Steps on a set whose keypos is 2.
+/// Steps on a set whose keypos is 2. Updates are refused: `UpdateElement` writes the second element, which is the key,
+/// and the counter would be the third element, which a pair lacks.
 const KEY_IS_SECOND: [(Step, Answer); 15] = [
     (Insert(Object(1, 7)), True),
     (Insert(Object(2, 7)), True),
@@ -41,7 +42,8 @@ const KEY_IS_SECOND: [(Step, Answer); 15] = [
     (CountObjects, Objects(1)),
 ];
 
-/// Steps on a bag whose keypos is 3. A pair is no object of it.
+/// Steps on a bag whose keypos is 3. A pair is not an object of it, because it has no key. A bag has no counters, and
+/// does not insert an object a second time.
 const KEY_IS_THIRD: [(Step, Answer); 14] = [
     (Insert(Object(1, 2)), Badarg),
     (InsertNew(Object(1, 2)), Badarg),
@@ -60,6 +62,7 @@ const KEY_IS_THIRD: [(Step, Answer); 14] = [
 ];
 
 /// Steps with the deepest values that a table stores, and with values one deeper. The set has at most two objects.
+/// An object is one level deeper than its value, and at most 128 deep.
 const DEEPEST_OBJECTS: [(Step, Answer); 14] = [
     (InsertDeep(Key(7), Depth(127)), True),
     (InsertDeep(Key(8), Depth(128)), SystemLimit),
@@ -77,7 +80,7 @@ const DEEPEST_OBJECTS: [(Step, Answer); 14] = [
     (CountSlots, Slots(2)),
 ];
 
-/// The tables with their steps.
+/// Each table with its steps.
 const SCENARIOS: [Scenario; 3] = [
     (Kind::Set, Keypos(2), MaxObjects(10), &KEY_IS_SECOND),
     (Kind::Bag, Keypos(3), MaxObjects(10), &KEY_IS_THIRD),
@@ -85,28 +88,29 @@ const SCENARIOS: [Scenario; 3] = [
 ];
 
 #[test]
-fn keys_and_depths_of_objects(rt: HostRuntime) {
+fn objects_obey_keypos_and_depth_limit(rt: HostRuntime) {
     assert_eq!(rt; first_mismatch(rt.alloc(), &SCENARIOS), None);
 }
 
-/// Builds the pair of `'$end_of_table'` and 1.
-pub fn object_at_end(alloc: Global) -> Option<Term> {
+/// Builds `{'$end_of_table',1}`, which is not an object, because `'$end_of_table'` is not a key.
+pub fn object_under_end_of_table(alloc: Global) -> Option<Term> {
     tuple_of(alloc, &[Part::Atom("$end_of_table"), Part::Int(1)])
 }
 
-/// Returns whether an object whose key is `'$end_of_table'` is not inserted.
-fn inserts_none<R: Rows>(table: &mut Table<R>, object: &Term) -> bool {
-    try_insert(table, slice::from_ref(object)) == Badarg.number()
-        && try_insert_new(table, slice::from_ref(object)) == Badarg.number()
+/// Returns whether `insert` and `insert_new` refuse an object whose key is `'$end_of_table'`.
+fn refuses_to_insert<R: Rows>(table: &mut Table<R>, object: &Term) -> bool {
+    try_insert(table, slice::from_ref(object)) == Badarg.code()
+        && try_insert_new(table, slice::from_ref(object)) == Badarg.code()
 }
 
-/// Returns whether no counter of that key is updated, with a default object or without.
-fn counts_none<R: Rows>(
+/// Returns whether `update_counter` is refused for the key `'$end_of_table'`, with a default object and without.
+fn refuses_to_update_counter<R: Rows>(
     alloc: Global,
     table: &mut Table<R>,
     end: &Term,
     object: &Term,
 ) -> Option<bool> {
+    // The increment 1 of a counter, read for the keypos 1.
     let ops = increment_of_counter(alloc, 1, 1)?;
     let alone = table.update_counter(end, &ops, None).err();
     let with_default = table.update_counter(end, &ops, Some(object)).err();
@@ -114,24 +118,26 @@ fn counts_none<R: Rows>(
     Some(alone.is_some() && with_default.is_some())
 }
 
-/// Returns whether no element of that key is written.
-fn writes_none<R: Rows>(alloc: Global, table: &mut Table<R>, end: &Term) -> Option<bool> {
+/// Returns whether `update_element` finds no object with the key `'$end_of_table'`.
+fn updates_no_element<R: Rows>(alloc: Global, table: &mut Table<R>, end: &Term) -> Option<bool> {
+    // Any value would do.
     let specs = second_element_value(alloc, 5)?;
     let updated = table.update_element(end, &specs, None);
     drop(specs);
     Some(updated == Ok(false))
 }
 
-/// Returns whether that key has nothing to take and nothing to delete.
-fn deletes_none<R: Rows>(table: &mut Table<R>, end: &Term, object: &Term) -> bool {
+/// Returns whether `take` and deletions find nothing under the key `'$end_of_table'`. The two deletions would leave a
+/// tombstone (`true`) if they found an object.
+fn deletes_nothing<R: Rows>(table: &mut Table<R>, end: &Term, object: &Term) -> bool {
     let taken = count_of(table.take(end, false).ok());
     table.delete_key(end, true);
     let deleted = table.delete_object(object, true);
     taken == Some(0) && deleted.is_err() && table.slots() == 0
 }
 
-/// Returns whether that key has nothing to read.
-fn reads_none<R: Rows>(table: &Table<R>, end: &Term) -> bool {
+/// Returns whether lookups find nothing under the key `'$end_of_table'`.
+fn reads_nothing<R: Rows>(table: &Table<R>, end: &Term) -> bool {
     let element = table.lookup_element(end, 1).err();
     element.is_some() && table.lookup(end).is_empty() && !table.member(end)
 }
@@ -144,33 +150,37 @@ fn refuses_end_of_table<R: Rows>(
     object: &Term,
 ) -> Option<bool> {
     Some(
-        inserts_none(table, object)
-            && counts_none(alloc, table, end, object)?
-            && writes_none(alloc, table, end)?
-            && deletes_none(table, end, object)
-            && reads_none(table, end),
+        refuses_to_insert(table, object)
+            && refuses_to_update_counter(alloc, table, end, object)?
+            && updates_no_element(alloc, table, end)?
+            && deletes_nothing(table, end, object)
+            && reads_nothing(table, end),
     )
 }
 
-/// Builds the object, and returns whether no call finds or changes anything under its key.
-fn nothing_is_stored_at<R: Rows>(alloc: Global, table: &mut Table<R>, end: &Term) -> Option<bool> {
-    let object = object_at_end(alloc)?;
+/// Builds `{'$end_of_table',1}`, and returns whether no call finds or changes anything under its key.
+fn nothing_is_under_end_of_table<R: Rows>(
+    alloc: Global,
+    table: &mut Table<R>,
+    end: &Term,
+) -> Option<bool> {
+    let object = object_under_end_of_table(alloc)?;
     let is_refused = refuses_end_of_table(alloc, table, end, &object);
     drop(object);
     is_refused
 }
 
 /// Builds the key `'$end_of_table'`, and returns whether no call finds or changes anything under it.
-pub fn end_is_no_key<R: Rows>(alloc: Global, table: &mut Table<R>) -> Option<bool> {
+pub fn end_of_table_is_not_a_key<R: Rows>(alloc: Global, table: &mut Table<R>) -> Option<bool> {
     let end = atom(alloc, "$end_of_table")?;
-    let is_no_key = nothing_is_stored_at(alloc, table, &end);
+    let is_no_key = nothing_is_under_end_of_table(alloc, table, &end);
     drop(end);
     is_no_key
 }
 
 #[test]
-fn end_of_table_is_no_key(rt: HostRuntime) {
-    let set = Empty(Kind::Set, Keypos(1), MaxObjects(10));
+fn no_object_has_the_key_end_of_table(rt: HostRuntime) {
+    let set = EmptyTable(Kind::Set, Keypos(1), MaxObjects(10));
     assert!(rt; plain_table_passes(rt.alloc(), set, Check::RefuseEndOfTable) == Some(true));
     assert!(rt; split_table_passes(rt.alloc(), Fnv, set, Check::RefuseEndOfTable) == Some(true));
 }

@@ -14,8 +14,8 @@ use super::checks::{Check, plain_table_passes, split_table_passes};
 use super::single_calls::{count_of, hash_of_objects};
 use super::terms::{pattern_of_key, spec_below};
 use super::{
-    Depth, Empty, Incr, Key, Keypos, MaxObjects, OUT_OF_MEMORY, Object, Pos, Start, Step, Value,
-    answer,
+    Depth, EmptyTable, Incr, Key, Keypos, MaxObjects, OUT_OF_MEMORY, Object, Pos, Start, Step,
+    Value, answer_code,
 };
 use bucket_table::Rows;
 use ets_term::{AllSame, Fnv, Integer};
@@ -75,8 +75,8 @@ fn state_of_table<R: Rows>(table: &Table<R>) -> Option<(Integer, usize, usize)> 
     Some((objects, table.size(), table.slots()))
 }
 
-/// Returns whether a step has its answer at once, or was refused memory, changed nothing, and has its answer when it is
-/// run again.
+/// Runs a step, and returns whether it has its answer. If the step is refused memory, it must change nothing, and is
+/// run a second time.
 fn answers_with_retry<R: Rows>(
     alloc: Global,
     table: &mut Table<R>,
@@ -84,14 +84,14 @@ fn answers_with_retry<R: Rows>(
     wanted: Answer,
 ) -> bool {
     let before = state_of_table(table);
-    let first = answer(alloc, table, step);
+    let first = answer_code(alloc, table, step);
     if first != OUT_OF_MEMORY {
-        return first == wanted.number();
+        return first == wanted.code();
     }
-    state_of_table(table) == before && answer(alloc, table, step) == wanted.number()
+    state_of_table(table) == before && answer_code(alloc, table, step) == wanted.code()
 }
 
-/// Runs steps, each again if it is refused memory. Returns whether each has its answer.
+/// Runs steps in order, and a step a second time if it is refused memory. Returns whether each has its answer.
 pub fn steps_answer_with_retry<R: Rows>(
     alloc: Global,
     table: &mut Table<R>,
@@ -105,20 +105,21 @@ pub fn steps_answer_with_retry<R: Rows>(
     true
 }
 
-/// A set and a bag of at most nine objects.
-const SET: Empty = Empty(Kind::Set, Keypos(1), MaxObjects(9));
+/// A set of at most nine objects.
+const SET: EmptyTable = EmptyTable(Kind::Set, Keypos(1), MaxObjects(9));
 
-const BAG: Empty = Empty(Kind::Bag, Keypos(1), MaxObjects(9));
+/// A bag of at most nine objects.
+const BAG: EmptyTable = EmptyTable(Kind::Bag, Keypos(1), MaxObjects(9));
 
 #[test]
-fn refused_steps_of_plain_rows_run_again(rt: HostRuntime) {
+fn refused_steps_on_plain_rows_answer_when_repeated(rt: HostRuntime) {
     let alloc = rt.alloc();
     assert!(rt; plain_table_passes(alloc, SET, Check::AnswerWithRetry(&SET_STEPS)) == Some(true));
     assert!(rt; plain_table_passes(alloc, BAG, Check::AnswerWithRetry(&BAG_STEPS)) == Some(true));
 }
 
 #[test]
-fn refused_steps_of_split_rows_run_again(rt: HostRuntime) {
+fn refused_steps_on_split_rows_answer_when_repeated(rt: HostRuntime) {
     let alloc = rt.alloc();
     let set_steps = Check::AnswerWithRetry(&SET_STEPS);
     let bag_steps = Check::AnswerWithRetry(&BAG_STEPS);
@@ -126,8 +127,9 @@ fn refused_steps_of_split_rows_run_again(rt: HostRuntime) {
     assert!(rt; split_table_passes(alloc, AllSame, BAG, bag_steps) == Some(true));
 }
 
-/// Runs the six counted searches, of which the last two delete. Returns whether none of them lowers the counter.
-fn searches_never_lower<R: Rows>(
+/// Runs the six searches that count tested objects, of which the last two delete and leave no tombstones (`false`).
+/// Returns whether none of them lowers the count, also when memory runs out.
+fn searches_never_lower_looks<R: Rows>(
     table: &mut Table<R>,
     pattern: &Pattern,
     spec: &Spec,
@@ -145,13 +147,13 @@ fn searches_never_lower<R: Rows>(
     let _ = table.match_delete_counted(pattern, false, looks);
     let fifth = looks.count();
     let _ = table.select_delete_counted(spec, false, looks);
-    let front = start <= first && first <= second && second <= third;
-    front && third <= fourth && fourth <= fifth && fifth <= looks.count()
+    let first_three = start <= first && first <= second && second <= third;
+    first_three && third <= fourth && fourth <= fifth && fifth <= looks.count()
 }
 
-/// Returns whether no search lowers the counter, by a pattern and by the match specification that chooses the objects
-/// below an integer. `None` means out of memory.
-fn counter_never_falls_below<R: Rows>(
+/// Runs searches by a pattern, and by the match specification that chooses the objects below an integer. Returns
+/// whether none lowers the count of tested objects. `None` means out of memory.
+fn looks_never_fall_for_pattern<R: Rows>(
     alloc: Global,
     table: &mut Table<R>,
     pattern: &Pattern,
@@ -159,35 +161,37 @@ fn counter_never_falls_below<R: Rows>(
 ) -> Option<bool> {
     let spec = spec_below(alloc, limit)?;
     let mut looks = Looks::new();
+    // A search before the others, so that the count does not start at 0.
     let _ = count_of(table.matches_counted(pattern, &mut looks).ok());
-    let never_falls = searches_never_lower(table, pattern, &spec, &mut looks);
+    let never_falls = searches_never_lower_looks(table, pattern, &spec, &mut looks);
     drop(spec);
     Some(never_falls)
 }
 
-/// Returns whether no search lowers the counter, by the pattern of a key and by the match specification that chooses
-/// the objects below it. `None` means out of memory.
-fn counter_never_falls_at_key<R: Rows>(
+/// Runs searches by the pattern of a key, and by the match specification that chooses the objects below it. Returns
+/// whether none lowers the count of tested objects. `None` means out of memory.
+fn looks_never_fall_for_key<R: Rows>(
     alloc: Global,
     table: &mut Table<R>,
     key: Integer,
 ) -> Option<bool> {
     let pattern = pattern_of_key(alloc, key)?;
-    let never_falls = counter_never_falls_below(alloc, table, &pattern, key);
+    let never_falls = looks_never_fall_for_pattern(alloc, table, &pattern, key);
     drop(pattern);
     never_falls
 }
 
-/// Inserts four objects into a table, or fewer if memory runs out. Returns whether no search lowers the counter.
-pub fn counter_never_falls<R: Rows>(alloc: Global, table: &mut Table<R>) -> bool {
+/// Inserts four objects into a table, or fewer if memory runs out. Returns whether no search lowers the count of tested
+/// objects. If memory runs out when the test builds its pattern or match specification, nothing is searched.
+pub fn looks_never_fall<R: Rows>(alloc: Global, table: &mut Table<R>) -> bool {
     for key in 1..5u32 {
         let key = Integer::from(key);
-        let _ = answer(alloc, table, Insert(Object(key, key)));
+        let _ = answer_code(alloc, table, Insert(Object(key, key)));
     }
-    counter_never_falls_at_key(alloc, table, 4).unwrap_or(true)
+    looks_never_fall_for_key(alloc, table, 4).unwrap_or(true)
 }
 
 #[test]
-fn counters_never_fall(rt: HostRuntime) {
-    assert!(rt; plain_table_passes(rt.alloc(), SET, Check::CountUpwards) == Some(true));
+fn looks_never_fall_when_memory_runs_out(rt: HostRuntime) {
+    assert!(rt; plain_table_passes(rt.alloc(), SET, Check::NeverLowerLooks) == Some(true));
 }

@@ -1,10 +1,10 @@
-// How many objects a search tests: those of the bound key, else all. The objects are `{Key,0}` for the keys 1 to
-// 1,000.
+// How many objects a search tests: those of the bound key, or all if it binds no key. The objects are `{Key,0}` for the
+// keys 1 to 1,000.
 use super::checks::{Check, plain_table_passes, split_table_passes};
 use super::deletions::deletions_are_right;
 use super::single_calls::{count_matches, count_of, insert, insert_all};
 use super::terms::{pattern_of_key, pattern_of_value, spec_of_keys, tuple, tuples};
-use super::{Empty, Keypos, MaxObjects};
+use super::{EmptyTable, Keypos, MaxObjects};
 use bucket_table::Rows;
 use ets_term::{Fnv, Integer, Term};
 use match_spec::{Pattern, Spec};
@@ -16,14 +16,14 @@ use table_ops::{Kind, Looks, Table};
 #[derive(Clone, Copy, PartialEq, Eq)]
 pub struct Found(pub usize);
 
-/// How many objects are tested in all.
+/// How many objects the calls of a search test in all.
 #[derive(Clone, Copy, PartialEq, Eq)]
 pub struct Tested(pub u64);
 
 /// A key that no object has.
 pub const MISSING: Integer = 2_000;
 
-/// What each of two calls finds, and how many objects both test. `None` means out of memory.
+/// How many objects each of two calls finds, and how many both test in all. `None` means out of memory.
 pub type Search = Option<(Found, Found, Tested)>;
 
 /// Returns the result of two calls that find this many objects each.
@@ -80,7 +80,8 @@ fn match_bound<R: Rows>(alloc: Global, table: &Table<R>, bound: Bound) -> Search
     match_by_pattern(table, compiled)
 }
 
-/// What patterns find, and how many objects they test: with a bound key those of the key, and without one all.
+/// Columns: what a pattern binds, how many objects each of two calls finds, and how many both test. With a bound key
+/// they test the objects of the key, else all.
 const MATCHES: [(Bound, Found, Tested); 4] = [
     (Bound::Key(7), Found(1), Tested(2)),
     (Bound::Key(MISSING), Found(0), Tested(0)),
@@ -121,8 +122,8 @@ fn answers_bindings<R: Rows>(alloc: Global, table: &Table<R>) -> Option<bool> {
     Some(same)
 }
 
-/// What clauses of keys find, and how many objects they test: clauses of one key those of the key, and clauses of
-/// different keys all.
+/// Columns: the keys of the clauses, how many objects each of two calls finds, and how many both test. Clauses of one
+/// key test its objects, and clauses of different keys all objects.
 const SELECTIONS: [(&[Integer], Found, Tested); 5] = [
     (&[7], Found(1), Tested(2)),
     (&[7, 7], Found(1), Tested(2)),
@@ -131,7 +132,7 @@ const SELECTIONS: [(&[Integer], Found, Tested); 5] = [
     (&[MISSING, 7], Found(1), Tested(2_000)),
 ];
 
-/// Returns whether the clauses of keys find and test as many objects as they must.
+/// Returns whether searches by the clauses of keys find and test as many objects as they must.
 fn selects_are_right<R: Rows>(
     alloc: Global,
     table: &Table<R>,
@@ -148,7 +149,8 @@ fn selects_are_right<R: Rows>(
 /// The objects `{Key,0}` of the key 7, three times, and of its neighbours.
 const SEVEN_THRICE: [[Integer; 2]; 5] = [[6, 0], [7, 0], [7, 0], [7, 0], [8, 0]];
 
-/// Returns whether a search tests each of three objects under one key of a duplicate bag.
+/// Returns whether a search tests each of three objects under one key of a duplicate bag. A search is two calls, so it
+/// tests each object twice. A search by two keys tests all five objects.
 pub fn tests_each_of_three<R: Rows>(alloc: Global, table: &mut Table<R>) -> Option<bool> {
     insert_all(table, tuples(alloc, &SEVEN_THRICE))?;
     let of_one_key = match_bound(alloc, table, Bound::Key(7)) == both_find(Found(3), Tested(6));
@@ -165,18 +167,18 @@ pub fn searches_are_right<R: Rows>(alloc: Global, table: &mut Table<R>) -> Optio
     Some(bindings && matched && selected && deletions_are_right(alloc, table))
 }
 
-/// Searches sets by keys.
+/// Searches and deletes in sets by keys.
 #[test]
-fn bound_keys(rt: HostRuntime) {
-    let set = Empty(Kind::Set, Keypos(1), MaxObjects(1_000));
+fn a_search_by_a_bound_key_tests_only_its_objects(rt: HostRuntime) {
+    let set = EmptyTable(Kind::Set, Keypos(1), MaxObjects(1_000));
     assert!(rt; plain_table_passes(rt.alloc(), set, Check::SearchByKeys) == Some(true));
     assert!(rt; split_table_passes(rt.alloc(), Fnv, set, Check::SearchByKeys) == Some(true));
 }
 
 /// Searches duplicate bags by a key with three objects.
 #[test]
-fn bound_keys_of_bags(rt: HostRuntime) {
-    let bag = Empty(Kind::DuplicateBag, Keypos(1), MaxObjects(10));
+fn a_search_of_a_bag_tests_each_object_of_its_key(rt: HostRuntime) {
+    let bag = EmptyTable(Kind::DuplicateBag, Keypos(1), MaxObjects(10));
     assert!(rt; plain_table_passes(rt.alloc(), bag, Check::TestEachOfThree) == Some(true));
     assert!(rt; split_table_passes(rt.alloc(), Fnv, bag, Check::TestEachOfThree) == Some(true));
 }

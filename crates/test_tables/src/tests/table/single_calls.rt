@@ -1,6 +1,7 @@
-// One call on a table each, and the number for its answer.
+// Functions that make one call on a table, and return the code of its answer. `leave_tombstone` says whether a slot
+// that loses its last object stays as a tombstone. `built` is an argument just built, or `None` if memory ran out.
 use super::OUT_OF_MEMORY;
-use super::answers::{number_of_matches, number_of_selected, refusal_code};
+use super::answers::{code_of_matchings, code_of_selections, refusal_code};
 use super::terms::{
     as_integer, digits_of, hash_of_pairs, integer_of, nested_list, pair, pattern_of_key, spec_below,
 };
@@ -11,7 +12,7 @@ use std::alloc::Global;
 use std::slice;
 use table_ops::{Looks, Table};
 
-/// Inserts a list. Returns 1, or the number for the refusal.
+/// Inserts a list. Returns 1, or the code of the refusal.
 pub fn try_insert<R: Rows>(table: &mut Table<R>, objects: &[Term]) -> Integer {
     match table.insert(objects) {
         Ok(()) => 1,
@@ -19,7 +20,7 @@ pub fn try_insert<R: Rows>(table: &mut Table<R>, objects: &[Term]) -> Integer {
     }
 }
 
-/// Inserts a list of new keys. Returns 1 or 0 for true or false, or the number for the refusal.
+/// Inserts a list if all its keys are new. Returns 1 or 0 for true or false, or the code of the refusal.
 pub fn try_insert_new<R: Rows>(table: &mut Table<R>, objects: &[Term]) -> Integer {
     match table.insert_new(objects) {
         Ok(true) => 1,
@@ -28,7 +29,7 @@ pub fn try_insert_new<R: Rows>(table: &mut Table<R>, objects: &[Term]) -> Intege
     }
 }
 
-/// Returns the integer that an element is or the length of its list, or the number for the refusal.
+/// Returns an element of a key's object if it is an integer, or its length if it is a list, or the code of the refusal.
 pub fn try_lookup_element<R: Rows>(table: &Table<R>, key: Integer, position: Position) -> Integer {
     let key = Term::Int(key);
     let found = table.lookup_element(&key, position);
@@ -51,10 +52,10 @@ fn integer_or_length(element: &Term) -> Integer {
     }
 }
 
-/// Takes the objects of a key. Returns their second elements as digits, or the number for out of memory.
-pub fn try_take<R: Rows>(table: &mut Table<R>, key: Integer, hold: bool) -> Integer {
+/// Takes the objects of a key. Returns their second elements as digits, or `OUT_OF_MEMORY`.
+pub fn try_take<R: Rows>(table: &mut Table<R>, key: Integer, leave_tombstone: bool) -> Integer {
     let key = Term::Int(key);
-    let taken = table.take(&key, hold);
+    let taken = table.take(&key, leave_tombstone);
     drop(key);
     match taken {
         Ok(objects) => {
@@ -66,15 +67,14 @@ pub fn try_take<R: Rows>(table: &mut Table<R>, key: Integer, hold: bool) -> Inte
     }
 }
 
-/// Deletes an object, and drops the argument. Returns how many objects the table then has, or the number for the
-/// refusal.
+/// Deletes an object, and drops the argument. Returns how many objects the table then has, or the code of the refusal.
 pub fn delete_object<R: Rows>(
     table: &mut Table<R>,
     built: Option<Term>,
-    hold: bool,
+    leave_tombstone: bool,
 ) -> Option<Integer> {
     let object = built?;
-    let deleted = table.delete_object(&object, hold);
+    let deleted = table.delete_object(&object, leave_tombstone);
     drop(object);
     match deleted {
         Ok(()) => Some(as_integer(table.size())),
@@ -90,8 +90,8 @@ pub fn count_of(found: Option<Items<Term>>) -> Option<usize> {
     Some(count)
 }
 
-/// Returns how many results `match` has and how many `match_object`, and how many objects the two test. `None` means
-/// out of memory.
+/// Returns how many results `match` has, how many results `match_object` has, and how many objects the two test. `None`
+/// means out of memory.
 pub fn count_matches<R: Rows>(table: &Table<R>, pattern: &Pattern) -> Option<(usize, usize, u64)> {
     let mut looks = Looks::new();
     let bindings = count_of(table.matches_counted(pattern, &mut looks).ok())?;
@@ -99,7 +99,7 @@ pub fn count_matches<R: Rows>(table: &Table<R>, pattern: &Pattern) -> Option<(us
     Some((bindings, objects, looks.count()))
 }
 
-/// Returns a number for how many results the pattern of a key has, and how many objects it tests.
+/// Searches by `match` and `match_object` with the pattern of a key. Returns the code of both answers.
 pub fn count_matches_of_key<R: Rows>(
     alloc: Global,
     table: &Table<R>,
@@ -110,17 +110,17 @@ pub fn count_matches_of_key<R: Rows>(
     drop(pattern);
     let (bindings, objects, looks) = found?;
     let results = as_integer(bindings).wrapping_add(as_integer(objects));
-    Some(number_of_matches(results, looks as Integer))
+    Some(code_of_matchings(results, looks as Integer))
 }
 
-/// Searches by `select` and `select_count` for the objects whose second element is below a limit. Returns the number
-/// for both results.
+/// Searches by `select` and `select_count` for the objects whose second element is below a limit. Returns the code of
+/// both answers.
 pub fn select_below<R: Rows>(alloc: Global, table: &Table<R>, limit: Integer) -> Option<Integer> {
     let spec = spec_below(alloc, limit)?;
     let results = count_of(table.select(&spec).ok());
     let count = table.select_count(&spec).ok();
     drop(spec);
-    Some(number_of_selected(as_integer(results?), as_integer(count?)))
+    Some(code_of_selections(as_integer(results?), as_integer(count?)))
 }
 
 /// Deletes the objects whose second element is below a limit. Returns how many.
@@ -128,10 +128,10 @@ pub fn delete_below<R: Rows>(
     alloc: Global,
     table: &mut Table<R>,
     limit: Integer,
-    hold: bool,
+    leave_tombstone: bool,
 ) -> Option<Integer> {
     let spec = spec_below(alloc, limit)?;
-    let deleted = table.select_delete(&spec, hold);
+    let deleted = table.select_delete(&spec, leave_tombstone);
     drop(spec);
     Some(as_integer(deleted.ok()?))
 }
@@ -141,16 +141,16 @@ pub fn delete_matching<R: Rows>(
     alloc: Global,
     table: &mut Table<R>,
     key: Integer,
-    hold: bool,
+    leave_tombstone: bool,
 ) -> Option<Integer> {
     let pattern = pattern_of_key(alloc, key)?;
-    let done = table.match_delete(&pattern, hold);
+    let done = table.match_delete(&pattern, leave_tombstone);
     drop(pattern);
     done.ok()?;
     Some(as_integer(table.size()))
 }
 
-/// Returns a hash of all objects of a table, whatever their order. `None` means out of memory.
+/// Returns a hash of all objects of a table that does not depend on their order. `None` means out of memory.
 pub fn hash_of_objects<R: Rows>(table: &Table<R>) -> Option<Integer> {
     let objects = table.objects().ok()?;
     let hash = hash_of_pairs(objects.as_slice());
@@ -168,16 +168,16 @@ pub fn grow<R: Rows>(table: &mut Table<R>) -> Option<Integer> {
 }
 
 /// Deletes the objects of a key. Returns how many objects the table then has.
-pub fn delete_key<R: Rows>(table: &mut Table<R>, key: Integer, hold: bool) -> Integer {
+pub fn delete_key<R: Rows>(table: &mut Table<R>, key: Integer, leave_tombstone: bool) -> Integer {
     let key = Term::Int(key);
-    table.delete_key(&key, hold);
+    table.delete_key(&key, leave_tombstone);
     drop(key);
     as_integer(table.size())
 }
 
 /// Deletes all objects. Returns how many slots the table then has.
-pub fn clear<R: Rows>(table: &mut Table<R>, hold: bool) -> Integer {
-    table.delete_all(hold);
+pub fn clear<R: Rows>(table: &mut Table<R>, leave_tombstone: bool) -> Integer {
+    table.delete_all(leave_tombstone);
     as_integer(table.slots())
 }
 
@@ -193,7 +193,7 @@ pub fn deep_object(alloc: Global, key: Integer, depth: usize) -> Option<Term> {
     pair(alloc, Term::Int(key), value)
 }
 
-/// Inserts an object, and drops the argument. Returns 1 or the number for the refusal.
+/// Inserts an object, and drops the argument. Returns 1 or the code of the refusal.
 pub fn insert<R: Rows>(table: &mut Table<R>, built: Option<Term>) -> Option<Integer> {
     let object = built?;
     let answer = try_insert(table, slice::from_ref(&object));
@@ -201,7 +201,7 @@ pub fn insert<R: Rows>(table: &mut Table<R>, built: Option<Term>) -> Option<Inte
     Some(answer)
 }
 
-/// Inserts an object of a new key, and drops the argument. Returns 1 or 0 for true or false, or the number for the
+/// Inserts an object if its key is new, and drops the argument. Returns 1 or 0 for true or false, or the code of the
 /// refusal.
 pub fn insert_new<R: Rows>(table: &mut Table<R>, built: Option<Term>) -> Option<Integer> {
     let object = built?;
@@ -210,7 +210,7 @@ pub fn insert_new<R: Rows>(table: &mut Table<R>, built: Option<Term>) -> Option<
     Some(answer)
 }
 
-/// Inserts a list of objects, and drops the argument. Returns 1 or the number for the refusal.
+/// Inserts a list of objects, and drops the argument. Returns 1 or the code of the refusal.
 pub fn insert_all<R: Rows>(table: &mut Table<R>, built: Option<Items<Term>>) -> Option<Integer> {
     let objects = built?;
     let answer = try_insert(table, objects.as_slice());
@@ -219,7 +219,7 @@ pub fn insert_all<R: Rows>(table: &mut Table<R>, built: Option<Items<Term>>) -> 
 }
 
 /// Returns the second elements of the objects of a key, as digits.
-pub fn lookup_digits<R: Rows>(table: &Table<R>, key: Integer) -> Integer {
+pub fn lookup_code<R: Rows>(table: &Table<R>, key: Integer) -> Integer {
     let key = Term::Int(key);
     let digits = digits_of(table.lookup(&key));
     drop(key);

@@ -1,8 +1,8 @@
-// How a step runs on a table. Each function runs some kinds of steps and passes on the others.
+// Runs a step on a table. Each function runs some kinds of steps, and passes the other kinds to the next function.
 use super::Step;
 use super::single_calls::{
     clear, count_matches_of_key, deep_object, delete_below, delete_key, delete_matching,
-    delete_object, grow, hash_of_objects, insert, insert_all, insert_new, lookup_digits, purge,
+    delete_object, grow, hash_of_objects, insert, insert_all, insert_new, lookup_code, purge,
     select_below, try_lookup_element, try_take,
 };
 use super::terms::{as_integer, tuple, tuples};
@@ -12,7 +12,7 @@ use ets_term::{Integer, Term};
 use std::alloc::Global;
 use table_ops::Table;
 
-/// Runs a step, which here inserts; passes on all others. Returns the number for its answer. `None` means out of
+/// Runs a step that inserts, and passes all other kinds on. Returns the code of the step's answer. `None` means out of
 /// memory.
 pub fn run_step<R: Rows>(alloc: Global, table: &mut Table<R>, step: Step) -> Option<Integer> {
     match step {
@@ -32,7 +32,8 @@ pub fn run_step<R: Rows>(alloc: Global, table: &mut Table<R>, step: Step) -> Opt
     }
 }
 
-/// Runs a step that deletes by a key, an object, or all; passes on all others.
+/// Runs a step that takes or deletes by a key, by an object, or all objects, or that purges tombstones. `run_update` gets
+/// all other kinds.
 fn run_deletion<R: Rows>(alloc: Global, table: &mut Table<R>, step: Step) -> Option<Integer> {
     match step {
         Step::Take(key, emptied) => Some(try_take(table, key.0, emptied.leaves_tombstone())),
@@ -48,7 +49,7 @@ fn run_deletion<R: Rows>(alloc: Global, table: &mut Table<R>, step: Step) -> Opt
     }
 }
 
-/// Runs a step that updates or grows, or deletes what a pattern or a match specification chooses; passes on all others.
+/// Runs a step that updates or grows, or deletes by a pattern or a match specification, and passes all other kinds on.
 fn run_update<R: Rows>(alloc: Global, table: &mut Table<R>, step: Step) -> Option<Integer> {
     match step {
         Step::UpdateCounter(key, incr) => update_counter(alloc, table, key.0, incr.0, None),
@@ -76,12 +77,13 @@ fn run_update<R: Rows>(alloc: Global, table: &mut Table<R>, step: Step) -> Optio
 /// Runs a step that changes nothing.
 fn run_read<R: Rows>(alloc: Global, table: &Table<R>, step: Step) -> Option<Integer> {
     match step {
-        Step::Lookup(key) => Some(lookup_digits(table, key.0)),
+        Step::Lookup(key) => Some(lookup_code(table, key.0)),
         Step::LookupElement(key, position) => Some(try_lookup_element(table, key.0, position.0)),
         Step::Match(key) => count_matches_of_key(alloc, table, key.0),
         Step::SelectBelow(limit) => select_below(alloc, table, limit),
         Step::AllObjects => hash_of_objects(table),
         Step::CountSlots => Some(as_integer(table.slots())),
+        // `CountObjects`, the last kind.
         _ => Some(as_integer(table.size())),
     }
 }

@@ -1,4 +1,4 @@
-// Terms, patterns and match specifications that the tests are built of, and numbers for objects.
+// Builds the terms, patterns and match specifications of the tests, and computes hashes and digits of objects.
 use super::answers::add_digit;
 use ets_term::{Atom, Integer, Items, Term};
 use match_spec::{Pattern, Spec};
@@ -15,7 +15,7 @@ fn keep_if_some(pushed: Option<()>, items: Items<Term>) -> Option<Items<Term>> {
     }
 }
 
-/// Appends a term that is built. `None` means out of memory.
+/// Appends a term, if it was built. `None` means out of memory.
 pub fn push_built(items: &mut Items<Term>, built: Option<Term>) -> Option<()> {
     items.push(built?).ok()
 }
@@ -61,7 +61,7 @@ pub fn integer_of(term: Option<&Term>) -> Integer {
     }
 }
 
-/// Returns the second elements of pairs as the digits of one number.
+/// Returns the second elements of objects as the digits of one number, which may wrap.
 pub fn digits_of(objects: &[Term]) -> Integer {
     let mut digits: Integer = 0;
     for object in objects {
@@ -70,10 +70,10 @@ pub fn digits_of(objects: &[Term]) -> Integer {
     digits
 }
 
-/// A prime, so that the two elements of a pair count differently.
+/// A prime, so that a pair has another hash if its elements are swapped.
 const PRIME: Integer = 1_000_003;
 
-/// Returns a hash of pairs, whatever their order: the sum of the squares of their numbers.
+/// Returns a hash of pairs that does not depend on their order: the sum of squares of a number for each pair.
 pub fn hash_of_pairs(objects: &[Term]) -> Integer {
     let mut sum: Integer = 0;
     for object in objects {
@@ -168,7 +168,7 @@ fn list_of(alloc: Global, built: Option<Term>) -> Option<Term> {
     Some(Term::List(keep_if_some(push_built(&mut items, built), items)?))
 }
 
-/// Builds 0 in lists within lists, a term of this depth.
+/// Builds 0 in lists within lists, so that the term has this depth. 0 alone has the depth 1.
 pub fn nested_list(alloc: Global, depth: usize) -> Option<Term> {
     let mut term = Some(Term::Int(0));
     for _ in 1..depth {
@@ -197,7 +197,7 @@ fn push_clause(
     push_built(items, list_of(alloc, atom(alloc, "true")))
 }
 
-/// Builds the clause `{Head,Conditions,[true]}`.
+/// Builds the clause `{Pattern,Conditions,[true]}`.
 fn clause(alloc: Global, pattern: &[Part], condition: Option<&[Part]>) -> Option<Term> {
     let mut items = Items::new(alloc);
     Some(Term::Tuple(keep_if_some(push_clause(alloc, &mut items, pattern, condition), items)?))

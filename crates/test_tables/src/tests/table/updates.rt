@@ -1,4 +1,4 @@
-// Updates of counters and elements, and the numbers for their answers.
+// Updates of counters and elements, and the codes of their answers.
 use super::answers::refusal_code;
 use super::terms::{integer_of, tuple};
 use bucket_table::Rows;
@@ -7,7 +7,7 @@ use ets_term::{Integer, Term};
 use std::alloc::Global;
 use table_ops::Table;
 
-/// Builds the operation that adds an increment to the element after the key.
+/// Builds the operation that adds an increment to the element after the key, which is the counter.
 pub fn increment_of_counter(alloc: Global, increment: Integer, keypos: u32) -> Option<Ops> {
     let update = Term::Int(increment);
     let ops = read_ops(alloc, &update, keypos);
@@ -15,7 +15,7 @@ pub fn increment_of_counter(alloc: Global, increment: Integer, keypos: u32) -> O
     ops.ok()
 }
 
-/// Updates the counter after the key, with a default object or without. Returns its new value, or the number for the
+/// Updates the counter after the key, with a default object or without. Returns its new value, or the code of the
 /// refusal.
 pub fn update_counter<R: Rows>(
     alloc: Global,
@@ -39,7 +39,7 @@ pub fn update_counter<R: Rows>(
     }
 }
 
-/// Updates a counter with the default object `{0,Start}`. Returns its new value, or the number for the refusal.
+/// Updates a counter with the default object `{0,Start}`. Returns its new value, or the code of the refusal.
 pub fn update_counter_from<R: Rows>(
     alloc: Global,
     table: &mut Table<R>,
@@ -61,7 +61,8 @@ pub fn second_element_value(alloc: Global, value: Integer) -> Option<ElementSpec
     specs.ok()
 }
 
-/// Writes the second element of a key. Returns 1 or 0 for true or false, or the number for the refusal.
+/// Writes the second element of a key's object, without a default object. Returns 1 or 0 for true or false, or the code
+/// of the refusal.
 pub fn update_element<R: Rows>(
     alloc: Global,
     table: &mut Table<R>,

@@ -1,3 +1,4 @@
+// What a table should have during a traversal, and what the traversal has visited.
 use crate::tests::keep_if_some;
 use std::alloc::Global;
 
@@ -5,11 +6,12 @@ use std::alloc::Global;
 /// of the keys.
 #[derive(Drop)]
 pub(super) struct Expectation {
-    /// The number of keys, which are the numbers below it.
+    /// The number of keys. They are the numbers below it.
     pub(super) keys: u32,
-    /// The values of the objects of each key, added: a value is 1, 2 or 4, and no two objects of a key have the same.
+    /// The values of each key's objects. A value is 1, 2 or 4, so that a set of values is one number, a bit for each.
+    /// No two objects of a key have the same value.
     values: Vec<u32>,
-    /// Whether each key has had values at all times so far.
+    /// Whether each key is stable: it has had values at the start and after each step so far.
     stable: Vec<bool>,
     /// Whether the traversal has visited each key.
     visited: Vec<bool>,
@@ -38,15 +40,15 @@ impl Expectation {
         Some(())
     }
 
-    /// Returns the values of a key, or 0 if it has none.
+    /// Returns the values of a key, a bit for each. 0 means that the key has no objects.
     pub(super) fn values_of(&self, key: u32) -> u32 {
         self.values.get(key as usize).copied().unwrap_or(0)
     }
 
-    /// Changes the values of a key. A key without values is no longer stable.
+    /// Sets the values of a key, a bit for each. A key without values is no longer stable.
     pub(super) fn set_values(&mut self, key: u32, values: u32) {
-        if let Some(own) = self.values.get_mut(key as usize) {
-            *own = values;
+        if let Some(current) = self.values.get_mut(key as usize) {
+            *current = values;
         }
         if let Some(stable) = self.stable.get_mut(key as usize) {
             *stable = *stable && values != 0;
@@ -54,7 +56,7 @@ impl Expectation {
     }
 
     /// Marks a key as visited. Returns whether it has values and is visited for the first time.
-    pub(super) fn visit(&mut self, key: u32) -> bool {
+    pub(super) fn mark_visited(&mut self, key: u32) -> bool {
         let is_present = self.values_of(key) != 0;
         match self.visited.get_mut(key as usize) {
             Some(visited) => {
@@ -66,12 +68,12 @@ impl Expectation {
         }
     }
 
-    /// Returns how many keys had values at all times.
+    /// Returns how many keys are stable.
     pub(super) fn count_stable(&self) -> usize {
         self.stable.iter().filter(|stable| **stable).count()
     }
 
-    /// Returns whether the traversal has visited each key that had values at all times.
+    /// Returns whether the traversal has visited each stable key.
     pub(super) fn has_visited_stable(&self) -> bool {
         for (stable, visited) in self.stable.iter().zip(self.visited.iter()) {
             if *stable && !*visited {

@@ -1,4 +1,5 @@
-// Pseudo-random steps of other processes, and what they change in the expectation.
+// Pseudo-random steps that other processes make during a traversal. Each also notes in the `Expectation` which values
+// its key then has, a bit for each value: `|` adds a value, and `& !` removes it.
 use super::expectation::Expectation;
 use crate::tests::fixes::answers::{Expected, try_delete_object};
 use crate::tests::fixes::{build_object, delete, grow, insert};
@@ -22,7 +23,8 @@ fn next_random(seed: u64) -> u64 {
     seed.wrapping_mul(SEED_FACTOR).wrapping_add(SEED_INCREMENT)
 }
 
-/// Inserts an object of a key. In a set it replaces the values of the key, in a bag it adds to them.
+/// Inserts the object `{Key,Value}`. In a set, its value replaces the values of the key. In a bag, it is added to them.
+/// Returns whether the call succeeds.
 fn insert_value<R: Rows>(
     alloc: Global,
     table: &mut Walked<R>,
@@ -30,16 +32,16 @@ fn insert_value<R: Rows>(
     key: u32,
     value: u32,
 ) -> bool {
-    let before = if table.kind() == Kind::Set {
+    let kept_values = if table.kind() == Kind::Set {
         0
     } else {
         expectation.values_of(key)
     };
-    expectation.set_values(key, before | value);
+    expectation.set_values(key, kept_values | value);
     insert(alloc, table, Integer::from(key), Integer::from(value))
 }
 
-/// Deletes one object of a key, if the key has it.
+/// Deletes the object `{Key,Value}`, if the table has it. Returns whether the call succeeds.
 fn delete_value<R: Rows>(
     alloc: Global,
     table: &mut Walked<R>,
@@ -52,14 +54,15 @@ fn delete_value<R: Rows>(
     try_delete_object(table, object) == Expected::Done.code()
 }
 
-/// Deletes all objects of a key.
+/// Deletes all objects of a key. Returns true, because this call always succeeds.
 fn delete_values<R: Rows>(table: &mut Walked<R>, expectation: &mut Expectation, key: u32) -> bool {
     expectation.set_values(key, 0);
     delete(table, Integer::from(key));
     true
 }
 
-/// Deletes all objects of a key and inserts one, so that the key has objects afterwards.
+/// Deletes all objects of a key and inserts one, so that a stable key stays stable. Returns whether the insertion
+/// succeeds.
 fn replace_values<R: Rows>(
     alloc: Global,
     table: &mut Walked<R>,
@@ -72,15 +75,16 @@ fn replace_values<R: Rows>(
     insert(alloc, table, Integer::from(key), Integer::from(value))
 }
 
-/// Runs a step of another process: its key, its value and its kind are from different bits of the seed. The value is
-/// one of three bits, as an expectation adds the values of a key. On average two of ten steps insert, five delete or
-/// replace, one makes a bucket ready and two grow the table. Returns whether the step succeeds.
+/// Runs a step of another process. Bits of the seed decide its kind, its key below `expectation.keys`, and its value,
+/// which is 1, 2 or 4. On average two of ten steps insert, five delete or replace, one makes a bucket below 4,096
+/// ready, and two grow the table. Returns whether the step succeeds.
 fn run_other_step<R: Rows>(
     alloc: Global,
     table: &mut Walked<R>,
     expectation: &mut Expectation,
     seed: u64,
 ) -> bool {
+    // There are keys, so the remainder exists.
     let key = ((seed >> 33) as u32)
         .checked_rem(expectation.keys)
         .unwrap_or(0);

@@ -1,6 +1,6 @@
-//! The order of nodes, in short and long lists: by their keys, and items of one key by their insertion.
+//! The order of nodes, in short and long lists: by split key, and of equal split keys by insertion.
 use super::{
-    Visits, add_dummy, add_item, count_visited, first_key_mismatch, search_for, second_place,
+    Visits, add_dummy, add_item, count_visited, first_visits_mismatch, search_for, second_place,
 };
 use ets_term::Term;
 use node_list::{At, NodeList};
@@ -30,8 +30,8 @@ fn add_in_split_order(list: &mut NodeList, alloc: Global) -> Result<(), AllocErr
     Ok(())
 }
 
-/// Split keys in ascending order, and how many nodes a search for each visits. Each key is one node further, and no
-/// node follows the last.
+/// Each row is a split key, in ascending order, and how many nodes a search for it visits: those up to the split key,
+/// and the next one. No node follows the last.
 pub(super) const SPLIT_ORDER: [(u64, Visits); 5] = [
     (DUMMY_0, Visits(2)),
     (DUMMY_2, Visits(3)),
@@ -40,17 +40,18 @@ pub(super) const SPLIT_ORDER: [(u64, Visits); 5] = [
     (ITEM_OF_HASH_3, Visits(5)),
 ];
 
-/// Returns whether dummies and an item are sorted by their split keys.
+/// Inserts three dummies and an item. Returns whether searches visit the wanted numbers of nodes, so that the five
+/// nodes are sorted by their split keys.
 pub(super) fn has_split_order(
     list: &mut NodeList,
     alloc: Global,
     wanted: &[(u64, Visits)],
 ) -> Result<bool, AllocError> {
     add_in_split_order(list, alloc)?;
-    Ok(first_key_mismatch(list, wanted) == None && list.len() == 5)
+    Ok(first_visits_mismatch(list, wanted) == None && list.len() == 5)
 }
 
-/// Inserts two items of key 5 and one of key 7. Returns the places of the first two.
+/// Inserts two items of split key 5 and one of split key 7. Returns the places of the first two.
 fn add_equal_keys(list: &mut NodeList, alloc: Global) -> Result<(At, At), AllocError> {
     let first = add_item(list, alloc, 5, 1)?;
     let second = add_item(list, alloc, 5, 2)?;
@@ -58,7 +59,8 @@ fn add_equal_keys(list: &mut NodeList, alloc: Global) -> Result<(At, At), AllocE
     Ok((first, second))
 }
 
-/// Returns whether two items of one key are in the order of insertion, and a search counts the nodes that it visits.
+/// Returns whether two items of one split key are in the order of insertion, and searches for items visit 3 or all 4
+/// nodes of the list. The head is one of them.
 pub(super) fn finds_equal_keys(list: &mut NodeList, alloc: Global) -> Result<bool, AllocError> {
     let (first, second) = add_equal_keys(list, alloc)?;
     Ok(
@@ -69,13 +71,13 @@ pub(super) fn finds_equal_keys(list: &mut NodeList, alloc: Global) -> Result<boo
     )
 }
 
-/// How many nodes a long list has, the head included.
+/// How many nodes a long list has, the head included: enough for its memory to grow many times.
 const NODES: u64 = 2_100;
 
-/// The greatest key of a long list.
+/// The greatest split key of a long list.
 const LAST_KEY: u64 = 2_099;
 
-/// Inserts an item of each key from `LAST_KEY` down to 1, each after the head, so that the slab grows many times.
+/// Inserts an item of each split key from `LAST_KEY` down to 1, each after the head.
 fn add_many_nodes(list: &mut NodeList, alloc: Global) -> Result<(), AllocError> {
     for number in 1..NODES {
         add_item(list, alloc, NODES - number, 1)?;
@@ -83,7 +85,8 @@ fn add_many_nodes(list: &mut NodeList, alloc: Global) -> Result<(), AllocError> 
     Ok(())
 }
 
-/// Returns whether nodes are in the order of their keys: each search visits one node more.
+/// Returns whether the nodes of a long list are in the order of their split keys. A search for `key` visits the nodes 0
+/// to `key`, and the next one if there is one.
 fn has_keys_in_order(list: &NodeList) -> bool {
     for key in 0..LAST_KEY {
         if count_visited(list, key) != key + 2 {
@@ -93,7 +96,7 @@ fn has_keys_in_order(list: &NodeList) -> bool {
     count_visited(list, LAST_KEY) == NODES
 }
 
-/// Returns whether a list can have many nodes, in order.
+/// Returns whether a list of `NODES` nodes has them in order.
 pub(super) fn has_many_nodes(list: &mut NodeList, alloc: Global) -> Result<bool, AllocError> {
     add_many_nodes(list, alloc)?;
     Ok(list.len() == NODES as usize && has_keys_in_order(list))

@@ -1,12 +1,13 @@
-//! Items found by their places.
-use super::{add_dummy, add_item, comes_and_goes, leaves_second};
+//! Items found by their places, with `next_item_at`: the first item at or after a place.
+use super::{add_dummy, add_item, adds_and_unlinks, unlinks_first_of_two};
 use node_list::{At, NodeList};
 use std::alloc::{AllocError, Global};
 
-/// Returns the first place for which `next_item_at` returns another place than the wanted one.
+/// Returns the first place for which `next_item_at` does not return the wanted place. The index in `wanted` is the
+/// place.
 fn first_place_mismatch(list: &NodeList, wanted: &[Option<At>]) -> Option<usize> {
-    for (start, at) in wanted.iter().enumerate() {
-        if list.next_item_at(start) != *at {
+    for (start, wanted_place) in wanted.iter().enumerate() {
+        if list.next_item_at(start) != *wanted_place {
             return Some(start);
         }
     }
@@ -32,8 +33,8 @@ const SECOND_ITEM: Option<At> = Some(3);
 /// The place of its third item.
 const THIRD_ITEM: Option<At> = Some(5);
 
-/// The first item from each place on, after `add_five_nodes`: from the head, a dummy, two items, a dummy, an item, and
-/// past the end.
+/// What `next_item_at` returns from the places 0 to 6 after `add_five_nodes`: the head, a dummy, two items, a dummy, an
+/// item, and past the end.
 pub(super) const PLACES_OF_FIVE: [Option<At>; 7] = [
     FIRST_ITEM,
     FIRST_ITEM,
@@ -44,7 +45,7 @@ pub(super) const PLACES_OF_FIVE: [Option<At>; 7] = [
     None,
 ];
 
-/// Returns whether items are found by their places.
+/// Inserts five nodes. Returns whether `next_item_at` finds the wanted items, and nothing from a place past the end.
 pub(super) fn finds_places(
     list: &mut NodeList,
     alloc: Global,
@@ -54,20 +55,20 @@ pub(super) fn finds_places(
     Ok(first_place_mismatch(list, wanted) == None && list.next_item_at(usize::MAX) == None)
 }
 
-/// The place of the only item that `leaves_second` leaves.
+/// The place of the only item that `unlinks_first_of_two` leaves.
 const ONLY_ITEM: Option<At> = Some(2);
 
-/// The first item from each place on, if only the place 2 has an item.
+/// What `next_item_at` returns from the places 0 to 6, if only the place 2 has an item.
 pub(super) const PLACE_OF_SECOND: [Option<At>; 7] = [
     ONLY_ITEM, ONLY_ITEM, ONLY_ITEM, None, None, None, None,
 ];
 
-/// Returns whether a free place has no item until a later item gets it.
-pub(super) fn finds_no_unlinked(
+/// Returns whether `next_item_at` skips the places of unlinked items, also after a dummy is inserted.
+pub(super) fn skips_unlinked_items(
     list: &mut NodeList,
     alloc: Global,
     wanted: &[Option<At>],
 ) -> Result<bool, AllocError> {
-    let left = leaves_second(list, alloc)? && first_place_mismatch(list, wanted) == None;
-    Ok(comes_and_goes(list, alloc)? && left && first_place_mismatch(list, wanted) == None)
+    let skips = unlinks_first_of_two(list, alloc)? && first_place_mismatch(list, wanted) == None;
+    Ok(adds_and_unlinks(list, alloc)? && skips && first_place_mismatch(list, wanted) == None)
 }

@@ -1,4 +1,4 @@
-//! Parts of the text of terms, read plainly.
+//! How the plain reader reads parts of a term: blanks, names, digits and quoted characters.
 use super::Reader;
 use term_text::TextFault;
 
@@ -7,7 +7,7 @@ pub(super) fn is_name_byte(byte: u8) -> bool {
     matches!(byte, b'a'..=b'z' | b'A'..=b'Z' | b'0'..=b'9' | b'_' | b'@')
 }
 
-/// Returns the offset of the first byte from an offset on that is not a blank, a tab or an end of a line.
+/// Returns the offset of the first byte at or after `from` that is not a blank, a tab or an end of a line.
 fn end_of_blanks(text: &[u8], from: usize) -> usize {
     for at in from..text.len() {
         if !matches!(text.get(at), Some(b' ' | b'\t' | b'\n' | b'\r')) {
@@ -17,7 +17,7 @@ fn end_of_blanks(text: &[u8], from: usize) -> usize {
     text.len()
 }
 
-/// Returns the offset of the first byte from an offset on that may not be in an atom without quotes.
+/// Returns the offset of the first byte at or after `from` that may not be in an atom without quotes.
 fn end_of_name(text: &[u8], from: usize) -> usize {
     for at in from..text.len() {
         if !matches!(text.get(at), Some(b) if is_name_byte(*b)) {
@@ -27,7 +27,7 @@ fn end_of_name(text: &[u8], from: usize) -> usize {
     text.len()
 }
 
-/// Returns the offset of the first byte from an offset on that is no digit.
+/// Returns the offset of the first byte at or after `from` that is not a digit.
 fn end_of_digits(text: &[u8], from: usize) -> usize {
     for at in from..text.len() {
         if !matches!(text.get(at), Some(b'0'..=b'9')) {
@@ -37,7 +37,7 @@ fn end_of_digits(text: &[u8], from: usize) -> usize {
     text.len()
 }
 
-/// Returns the number of these digits, or the greatest number of 128 bits if theirs is greater.
+/// Returns the number of these decimal digits, or the greatest number of 128 bits if it is greater than that.
 fn number_of(digits: &[u8]) -> u128 {
     let mut n: u128 = 0;
     for digit in digits {
@@ -69,8 +69,9 @@ impl Reader<'_> {
         from
     }
 
-    /// Reads one digit or more, up to `limit`, of a number that begins at the offset `start`.
+    /// Reads one digit or more of a number that begins at the offset `start`, and is at most `limit`.
     pub(super) fn read_digits(&mut self, start: usize, limit: u128) -> Result<u128, TextFault> {
+        // At the end of the text this is the error `Unclosed`.
         let _first = self.next_byte()?;
         let from = self.at;
         self.at = end_of_digits(self.text, from);
@@ -129,8 +130,8 @@ impl Reader<'_> {
         Ok(self.quoted.push(b)?)
     }
 
-    /// Reads the next character between quotes. Returns whether it is the backslash of an escape, or None for the closing
-    /// quote.
+    /// Reads the next character between quotes. Returns whether it is the backslash of an escape, or None for the
+    /// closing quote.
     fn read_character(
         &mut self,
         is_escaped: bool,
@@ -160,6 +161,7 @@ impl Reader<'_> {
         self.quoted.clear();
         let mut is_escaped = false;
         for _ in self.at..self.text.len() {
+            // Passes the opening quote, or the character that the previous round has read.
             self.at = self.at.saturating_add(1);
             let Some(begins_escape) = self.read_character(is_escaped, quote, max_bytes, fault)?
             else {

@@ -1,4 +1,4 @@
-//! A plain printer of the parts of terms.
+//! How the plain reader prints the parts of terms.
 use super::pieces::is_name_byte;
 use std::alloc::{AllocError, Global};
 

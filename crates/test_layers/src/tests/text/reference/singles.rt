@@ -1,4 +1,4 @@
-//! Terms other than tuples and lists in brackets.
+//! How the plain reader reads and prints terms other than tuples and lists in brackets.
 use super::printer::{put_atom, put_number, put_numbers};
 use super::{MAX_CHARACTERS, MAX_LEVELS, Reader};
 use term_text::TextFault;
@@ -67,7 +67,8 @@ impl Reader<'_> {
         self.put_quoted_atom()
     }
 
-    /// Reads a string, and prints it as a list of bytes. At the greatest depth only the empty string is a term.
+    /// Reads a string, and prints it as a list of bytes. The bytes are one level deeper than the list, so at the
+    /// greatest depth only the empty string is a term.
     fn read_string(&mut self) -> Result<(), TextFault> {
         let max_bytes = if self.closing.len() < MAX_LEVELS - 1 {
             self.text.len()
@@ -116,12 +117,13 @@ impl Reader<'_> {
     /// Reads a byte into `quoted`. Returns whether a comma follows.
     fn read_byte_of_binary(&mut self) -> Result<bool, TextFault> {
         let n = self.read_digits(self.at, MAX_BYTE)?;
+        // `min` changes nothing, because `read_digits` refuses a greater number.
         self.quoted.push(n.min(MAX_BYTE) as u8)?;
         self.skip_blanks();
         self.passes_comma()
     }
 
-    /// Reads bytes with commas between them into `quoted`.
+    /// Reads bytes with commas between them into `quoted`. A text has fewer numbers than bytes, which bounds the loop.
     fn read_bytes(&mut self) -> Result<(), TextFault> {
         for _ in 0..self.text.len() {
             if !self.read_byte_of_binary()? {
@@ -137,6 +139,7 @@ impl Reader<'_> {
         self.skip_blanks();
         match self.next_byte()? {
             b'>' => Ok(()),
+            // The fault cannot happen: a string in the text is shorter than the text.
             b'"' => self.read_quoted(b'"', self.text.len(), TextFault::Memory),
             _ => self.read_bytes(),
         }
@@ -161,6 +164,7 @@ impl Reader<'_> {
         }
         match self.text.get(from..self.at) {
             Some(name) => Ok(put_atom(&mut self.out, name)?),
+            // This cannot happen: `from` and `at` are offsets of the text, in this order.
             None => Err(TextFault::Memory),
         }
     }

@@ -1,3 +1,5 @@
+// A table grows by at most one pending step after each number, and replies as the rules want. In a template a number
+// replaces each N.
 use super::*;
 
 /// Runs the first pending step, if any, and returns whether there was one.
@@ -31,8 +33,8 @@ fn has_no_pending(node: &Node<Fnv>) -> bool {
     none
 }
 
-/// Inserts an object for each number, each followed by a pending step. Returns the first number whose object is not
-/// inserted.
+/// Inserts an object for each number, and runs a pending step, if any, after each. Returns the first number whose
+/// object is not inserted.
 fn first_not_inserted(alloc: Global, node: &mut Node<Fnv>) -> Result<Option<u32>, AllocError> {
     for number in 0..COUNT {
         if !filled_call_has_reply(alloc, node, "insert(t,{N,x})", "true", number)? {
@@ -43,7 +45,8 @@ fn first_not_inserted(alloc: Global, node: &mut Node<Fnv>) -> Result<Option<u32>
     Ok(None)
 }
 
-/// Calls for each number, with their replies. A pending step runs after each number.
+/// Templates of calls and of their replies. All calls are made for a number; then a pending step, if any, runs. The
+/// table is a duplicate bag, and has the object `{N,x}` of each number at the start.
 static GROWN: [(&str, &str); 5] = [
     ("lookup(t,N)", "[{N,x}]"),
     ("insert(t,{N,y})", "true"),
@@ -52,7 +55,7 @@ static GROWN: [(&str, &str); 5] = [
     ("take(t,N)", "[{N,y}]"),
 ];
 
-/// Makes the calls for a number, and returns whether they have these replies.
+/// Fills a number into the rows, makes the calls, and returns whether all have their replies.
 fn calls_have_replies(
     alloc: Global,
     node: &mut Node<Fnv>,
@@ -67,8 +70,8 @@ fn calls_have_replies(
     Ok(true)
 }
 
-/// Makes the calls for each number, each followed by a pending step. Returns the first number for which a call has
-/// another reply.
+/// Makes the calls of the rows for each number, and runs a pending step, if any, after each number. Returns the first
+/// number for which a call has another reply.
 fn first_wrong_number_while_growing(
     alloc: Global,
     node: &mut Node<Fnv>,
@@ -83,7 +86,8 @@ fn first_wrong_number_while_growing(
     Ok(None)
 }
 
-/// Returns whether a table of many objects that grows has the same replies as one that does not.
+/// Returns whether calls have their replies while a table grows and is emptied. In the end fewer than `COUNT` steps may
+/// be pending. The table must have 2100 objects, which is `COUNT`, after the insertions.
 pub fn replies_as_it_grows(alloc: Global, node: &mut Node<Fnv>) -> Result<bool, AllocError> {
     Ok(
         starts_with_table(alloc, node)?
@@ -98,5 +102,5 @@ pub fn replies_as_it_grows(alloc: Global, node: &mut Node<Fnv>) -> Result<bool, 
 
 #[test]
 fn a_table_of_many_objects_grows(rt: HostRuntime) {
-    assert!(rt; new_node_passes(rt.alloc(), Trial::Growth) == Ok(true));
+    assert!(rt; new_node_passes(rt.alloc(), Check::Growth) == Ok(true));
 }

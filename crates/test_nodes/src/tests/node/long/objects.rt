@@ -1,6 +1,7 @@
+// Many objects in a table: one by one, in one call, and in one reply. In a template a number replaces each N.
 use super::*;
 
-/// Calls with their replies. Each is made for each number before the next one.
+/// Templates of calls and of their replies. Each call is made for all numbers before the next call.
 static OBJECTS: [(&str, &str); 6] = [
     ("insert(t,{N,x})", "true"),
     ("lookup(t,N)", "[{N,x}]"),
@@ -10,7 +11,7 @@ static OBJECTS: [(&str, &str); 6] = [
     ("member(t,N)", "false"),
 ];
 
-/// Makes each call for each number, and returns whether all have their replies.
+/// Makes each call of the rows for each number, and returns whether all have their replies.
 fn calls_have_replies_for_each(
     alloc: Global,
     node: &mut Node<Fnv>,
@@ -31,10 +32,11 @@ pub fn stores_many_objects(alloc: Global, node: &mut Node<Fnv>) -> Result<bool, 
 
 #[test]
 fn a_table_has_many_objects(rt: HostRuntime) {
-    assert!(rt; new_node_passes(rt.alloc(), Trial::Objects) == Ok(true));
+    assert!(rt; new_node_passes(rt.alloc(), Check::Objects) == Ok(true));
 }
 
-/// A text: the middle, filled in with each of the numbers, between the two ends.
+/// A long text: `start`, then the template `middle` for each number in turn, then `end`. A `middle` ends with a comma;
+/// the module `text`, which reads the text, allows a comma before the closing bracket.
 #[derive(Clone, Copy)]
 struct LongText<'a> {
     start: &'a str,
@@ -42,7 +44,7 @@ struct LongText<'a> {
     end: &'a str,
 }
 
-/// Appends a long text.
+/// Builds a long text and appends it.
 fn push_long_text(alloc: Global, text: &mut String, long: LongText) -> Result<(), AllocError> {
     text.push_str(long.start)?;
     for number in 0..COUNT {
@@ -51,75 +53,78 @@ fn push_long_text(alloc: Global, text: &mut String, long: LongText) -> Result<()
     text.push_str(long.end)
 }
 
-/// Returns a long text.
+/// Builds a long text.
 fn long_text(alloc: Global, long: LongText) -> Result<String, AllocError> {
     let mut text = String::new(alloc);
     keep_if_ok(push_long_text(alloc, &mut text, long), text)
 }
 
-/// A trial of a new node with two long texts.
+/// What a test checks of a new node, with two long texts.
 #[derive(Clone, Copy)]
-enum TextTrial {
+enum TextCheck {
+    /// One call, the first text, inserts many objects; `tab2list` then has the second text.
     Inserts,
+    /// The texts are the replies of `match` and of `select`.
     Finds,
+    /// One call of `update_counter`, the first text, has the second text as its reply.
     Counts,
 }
 
-/// Returns whether a node passes a trial with these two texts.
+/// Makes a check with these two texts, and returns whether the node passes it.
 fn node_passes_with_texts(
     alloc: Global,
     node: &mut Node<Fnv>,
-    trial: TextTrial,
+    check: TextCheck,
     first: &str,
     second: &str,
 ) -> Result<bool, AllocError> {
-    match trial {
-        TextTrial::Inserts => inserts_and_lists(alloc, node, first, second),
-        TextTrial::Finds => finds_many_objects(alloc, node, first, second),
-        TextTrial::Counts => call_on_set_has_reply(alloc, node, first, second),
+    match check {
+        TextCheck::Inserts => inserts_and_lists(alloc, node, first, second),
+        TextCheck::Finds => finds_many_objects(alloc, node, first, second),
+        TextCheck::Counts => call_on_set_has_reply(alloc, node, first, second),
     }
 }
 
-/// Creates a node, and returns whether it passes a trial with these two texts.
+/// Creates a node, and returns whether it passes a check with these two texts.
 fn new_node_passes_with_texts(
     alloc: Global,
-    trial: TextTrial,
+    check: TextCheck,
     first: &str,
     second: &str,
 ) -> Result<bool, AllocError> {
     let mut node = Node::new(alloc, Limits::usual(), Fnv);
-    let passed = node_passes_with_texts(alloc, &mut node, trial, first, second);
+    let passed = node_passes_with_texts(alloc, &mut node, check, first, second);
     drop(node);
     passed
 }
 
-/// Builds the second text, and returns whether a new node passes a trial with both texts.
+/// Builds the second text, and returns whether a new node passes a check with both texts.
 fn passes_with_second_text(
     alloc: Global,
-    trial: TextTrial,
+    check: TextCheck,
     first: &str,
     second: LongText,
 ) -> Result<bool, AllocError> {
     let second = long_text(alloc, second)?;
-    let passed = new_node_passes_with_texts(alloc, trial, first, second.as_str());
+    let passed = new_node_passes_with_texts(alloc, check, first, second.as_str());
     drop(second);
     passed
 }
 
-/// Builds both texts, and returns whether a new node passes a trial with them.
+/// Builds both texts, and returns whether a new node passes a check with them.
 fn passes_with_long_texts(
     alloc: Global,
-    trial: TextTrial,
+    check: TextCheck,
     first: LongText,
     second: LongText,
 ) -> Result<bool, AllocError> {
     let first = long_text(alloc, first)?;
-    let passed = passes_with_second_text(alloc, trial, first.as_str(), second);
+    let passed = passes_with_second_text(alloc, check, first.as_str(), second);
     drop(first);
     passed
 }
 
-/// Returns whether a call inserts all objects, and the table lists them.
+/// Returns whether the call `insert` inserts objects, `tab2list` then replies `listed`, and they can be deleted.
 fn inserts_and_lists(
     alloc: Global,
     node: &mut Node<Fnv>,
@@ -135,7 +140,7 @@ fn inserts_and_lists(
     )
 }
 
-/// Returns whether one call inserts an object for each number, given as a template.
+/// Returns whether one call inserts an object for each number. The call begins with `start`; `object` is a template.
 fn inserts_at_once(alloc: Global, start: &str, object: &str) -> Result<bool, AllocError> {
     let insert = LongText {
         start,
@@ -147,10 +152,10 @@ fn inserts_at_once(alloc: Global, start: &str, object: &str) -> Result<bool, All
         middle: object,
         end: "]",
     };
-    passes_with_long_texts(alloc, TextTrial::Inserts, insert, listed)
+    passes_with_long_texts(alloc, TextCheck::Inserts, insert, listed)
 }
 
-/// Returns whether one call inserts many objects of different keys, and one call many objects of one key.
+/// Returns whether one call inserts many objects under different keys, and another call many objects under one key.
 fn inserts_many_keys_and_one(alloc: Global, start: &str) -> Result<bool, AllocError> {
     Ok(inserts_at_once(alloc, start, "{N,x},")? && inserts_at_once(alloc, start, "{x,N},")?)
 }
@@ -161,30 +166,31 @@ fn many_objects_are_inserted_at_once(rt: HostRuntime) {
     assert!(rt; inserts_many_keys_and_one(rt.alloc(), "insert_new(t,[") == Ok(true));
 }
 
-/// Inserts many objects, and returns whether a pattern and a match specification find these results.
+/// Inserts `COUNT` objects. Returns whether a pattern finds `bindings`, a match specification finds `results`, and
+/// `select_delete` deletes 2100 objects, which is `COUNT`.
 fn finds_many_objects(
     alloc: Global,
     node: &mut Node<Fnv>,
-    bound: &str,
+    bindings: &str,
     results: &str,
 ) -> Result<bool, AllocError> {
     Ok(
         starts_with_table(alloc, node)?
             && first_wrong_number(alloc, node, "insert(t,{N,x})", "true")?.is_none()
-            && call_has_reply(alloc, node, "match(t,{'$1',x})", bound)?
+            && call_has_reply(alloc, node, "match(t,{'$1',x})", bindings)?
             && call_has_reply(alloc, node, "select(t,[{{'$1',_},[],['$1']}])", results)?
             && call_has_reply(alloc, node, "select_delete(t,[{_,[],[true]}])", "2100")?,
     )
 }
 
-/// The keys of many objects, as bindings of a pattern.
-const BOUND: LongText<'static> = LongText {
+/// The reply of `match` with the keys of many objects: a list of bindings for each object.
+const BINDINGS: LongText<'static> = LongText {
     start: "any order: [",
     middle: "[N],",
     end: "]",
 };
 
-/// The keys of many objects, as results of a match specification.
+/// The reply of `select` with the keys of many objects.
 const RESULTS: LongText<'static> = LongText {
     start: "any order: [",
     middle: "N,",
@@ -193,10 +199,12 @@ const RESULTS: LongText<'static> = LongText {
 
 #[test]
 fn many_objects_are_found(rt: HostRuntime) {
-    assert!(rt; passes_with_long_texts(rt.alloc(), TextTrial::Finds, BOUND, RESULTS) == Ok(true));
+    assert!(rt;
+        passes_with_long_texts(rt.alloc(), TextCheck::Finds, BINDINGS, RESULTS) == Ok(true)
+    );
 }
 
-/// Makes a call on a new table s, a set, and returns whether it has this reply.
+/// Makes a new table s, a set, and returns whether a call on it has the wanted reply.
 fn call_on_set_has_reply(
     alloc: Global,
     node: &mut Node<Fnv>,
@@ -210,14 +218,14 @@ fn call_on_set_has_reply(
     )
 }
 
-/// One call that adds 1 to a counter many times. The counter starts at -1.
+/// One call that adds 1 to a counter many times. The counter starts at -1, so that its first value is 0.
 const INCREMENTS: LongText<'static> = LongText {
     start: "update_counter(s,c,[",
     middle: "{2,1},",
     end: "],{c,-1})",
 };
 
-/// The values of the counter after each addition.
+/// The reply: the value of the counter after each addition.
 const VALUES: LongText<'static> = LongText {
     start: "[",
     middle: "N,",
@@ -225,8 +233,8 @@ const VALUES: LongText<'static> = LongText {
 };
 
 #[test]
-fn many_operations_are_done_at_once(rt: HostRuntime) {
+fn one_call_adds_to_a_counter_many_times(rt: HostRuntime) {
     assert!(rt;
-        passes_with_long_texts(rt.alloc(), TextTrial::Counts, INCREMENTS, VALUES) == Ok(true)
+        passes_with_long_texts(rt.alloc(), TextCheck::Counts, INCREMENTS, VALUES) == Ok(true)
     );
 }

@@ -1,9 +1,10 @@
+// Many processes, many tables of one process, and names of every length.
 use super::super::Event::End;
 use super::super::{Event, term};
 use super::*;
 use ets_term::Term;
 
-/// Runs the step of an event, and returns whether its reply is the template filled in with a number.
+/// Runs the step of an event, and returns whether its reply is the template `wanted`, filled in with a number.
 fn event_has_filled_reply(
     alloc: Global,
     node: &mut Node<Fnv>,
@@ -17,12 +18,12 @@ fn event_has_filled_reply(
     done
 }
 
-/// Returns whether a process enrols.
+/// Enrols a process, and returns whether the reply is its pid.
 fn enrols(alloc: Global, node: &mut Node<Fnv>, pid: u32) -> Result<bool, AllocError> {
     event_has_filled_reply(alloc, node, Enrol(Pid(pid)), "<0.N.0>", pid)
 }
 
-/// Returns whether a process makes an unnamed table, which gets this identifier.
+/// Makes an unnamed table of a process, and returns whether it gets this identifier.
 fn makes_table(alloc: Global, node: &mut Node<Fnv>, pid: u32, id: u32) -> Result<bool, AllocError> {
     event_has_filled_reply(alloc, node, Ask(Pid(pid), "new(u,[])"), "#Tid<N>", id)
 }
@@ -35,7 +36,8 @@ fn resolve_identifier(node: &Node<Fnv>, id: u32) -> Option<u32> {
     found
 }
 
-/// Returns whether a number of processes enrol, each with a table.
+/// Enrols processes 0 up to `count`, exclusive, and makes a table of each, with the identifier that is the number of
+/// the process. Returns whether all steps have their replies.
 fn all_enrol(alloc: Global, node: &mut Node<Fnv>, count: u32) -> Result<bool, AllocError> {
     for pid in 0..count {
         if !enrols(alloc, node, pid)? || !makes_table(alloc, node, pid, pid)? {
@@ -45,37 +47,39 @@ fn all_enrol(alloc: Global, node: &mut Node<Fnv>, count: u32) -> Result<bool, Al
     Ok(true)
 }
 
-/// Every process whose number is a multiple of this one ends.
-const ENDING: u32 = 16;
+/// Each process whose number is a multiple of this one exits.
+const EXIT_EVERY: u32 = 16;
 
-/// Returns whether every sixteenth process ends.
-fn some_end(alloc: Global, node: &mut Node<Fnv>, count: u32) -> Result<bool, AllocError> {
+/// Ends every sixteenth process, and returns whether all these steps have their replies.
+fn every_16th_exits(alloc: Global, node: &mut Node<Fnv>, count: u32) -> Result<bool, AllocError> {
     for pid in 0..count {
-        if pid % ENDING == 0 && !event_has_reply(alloc, node, End(Pid(pid)), "true")? {
+        if pid % EXIT_EVERY == 0 && !event_has_reply(alloc, node, End(Pid(pid)), "true")? {
             return Ok(false);
         }
     }
     Ok(true)
 }
 
-/// Returns whether a number of processes enrol, and the exits of some delete their tables and no others.
+/// Enrols `count` processes, each with a table, and ends every sixteenth. Returns whether exactly their tables are
+/// deleted.
 pub fn exits_delete_tables(
     alloc: Global,
     node: &mut Node<Fnv>,
     count: u32,
 ) -> Result<bool, AllocError> {
-    if !all_enrol(alloc, node, count)? || !some_end(alloc, node, count)? {
+    if !all_enrol(alloc, node, count)? || !every_16th_exits(alloc, node, count)? {
         return Ok(false);
     }
-    Ok((0..count).all(|pid| resolve_identifier(node, pid).is_some() == (pid % ENDING != 0)))
+    Ok((0..count).all(|pid| resolve_identifier(node, pid).is_some() == (pid % EXIT_EVERY != 0)))
 }
 
 #[test]
 fn a_node_has_many_processes(rt: HostRuntime) {
-    assert!(rt; new_node_passes(rt.alloc(), Trial::Processes) == Ok(true));
+    assert!(rt; new_node_passes(rt.alloc(), Check::Processes) == Ok(true));
 }
 
-/// Returns whether process 0 makes tables with the identifiers from 1 up to a number.
+/// Makes tables of process 0, which already has table 0. Returns whether they get the identifiers from 1 up to `count`,
+/// exclusive.
 fn makes_many_tables(alloc: Global, node: &mut Node<Fnv>, count: u32) -> Result<bool, AllocError> {
     for id in 1..count {
         if !makes_table(alloc, node, 0, id)? {
@@ -85,7 +89,7 @@ fn makes_many_tables(alloc: Global, node: &mut Node<Fnv>, count: u32) -> Result<
     Ok(true)
 }
 
-/// Returns whether a process makes a number of tables, and its exit deletes all of them.
+/// Makes `count` tables of process 0, and returns whether its exit deletes all of them.
 pub fn exit_deletes_many_tables(
     alloc: Global,
     node: &mut Node<Fnv>,
@@ -105,10 +109,10 @@ pub fn exit_deletes_many_tables(
 
 #[test]
 fn a_process_has_many_tables(rt: HostRuntime) {
-    assert!(rt; new_node_passes(rt.alloc(), Trial::Tables) == Ok(true));
+    assert!(rt; new_node_passes(rt.alloc(), Check::Tables) == Ok(true));
 }
 
-/// Returns whether a new table gets this name, and the name resolves to it.
+/// Makes a table with this name, and returns whether the name resolves to it.
 fn table_takes_name(
     alloc: Global,
     node: &mut Node<Fnv>,
@@ -118,7 +122,7 @@ fn table_takes_name(
     Ok(makes_named_table(alloc, node, name)? && name_resolves_to(alloc, node, name, id)?)
 }
 
-/// Returns whether process 0 makes a table with this name.
+/// Makes a table of process 0, and returns whether it gets this name.
 fn makes_named_table(alloc: Global, node: &mut Node<Fnv>, name: &str) -> Result<bool, AllocError> {
     let call = format!(in alloc; "new({name},[named_table])")?;
     let answered = call_has_reply(alloc, node, call.as_str(), name);
@@ -139,8 +143,8 @@ fn name_resolves_to(
     Ok(found == Some(id))
 }
 
-/// Makes tables with longer and longer names, up to the 255 letters of the longest atom. Returns the first length that
-/// is no table's name.
+/// Makes tables with names of 1 up to 255 letters, the length of the longest atom. The identifier of each is the length
+/// of its name, because table 0 exists. Returns the first length at which a table does not get its name.
 fn first_wrong_length(
     alloc: Global,
     node: &mut Node<Fnv>,
@@ -155,7 +159,7 @@ fn first_wrong_length(
     Ok(None)
 }
 
-/// Returns whether tables take names of every length.
+/// Makes tables with names of every length, and returns whether each gets its name.
 pub fn tables_take_names(alloc: Global, node: &mut Node<Fnv>) -> Result<bool, AllocError> {
     if !starts_with_table(alloc, node)? {
         return Ok(false);
@@ -168,5 +172,5 @@ pub fn tables_take_names(alloc: Global, node: &mut Node<Fnv>) -> Result<bool, Al
 
 #[test]
 fn names_have_every_length(rt: HostRuntime) {
-    assert!(rt; new_node_passes(rt.alloc(), Trial::Names) == Ok(true));
+    assert!(rt; new_node_passes(rt.alloc(), Check::Names) == Ok(true));
 }

@@ -1,14 +1,15 @@
+// `Node::run` and `Node::run_through` with thousands of steps.
 use super::super::{ask, build_step, reply_has_text};
 use super::*;
 use node_core::{Reply, Step};
 
-/// Returns the steps of a process that makes a table, and then many times inserts an object and looks it up.
+/// Builds the steps of a process that makes a table, and then `count` times inserts an object and looks it up.
 fn steps_of_run(alloc: Global, count: u32) -> Result<Vec<Step>, AllocError> {
     let mut steps = Vec::new(alloc);
     keep_if_ok(push_steps_of_run(alloc, &mut steps, count), steps)
 }
 
-/// Appends the steps of a process that makes a table, and then many times inserts an object and looks it up.
+/// Appends the steps of a process that makes a table, and then `count` times inserts an object and looks it up.
 fn push_steps_of_run(alloc: Global, steps: &mut Vec<Step>, count: u32) -> Result<(), AllocError> {
     push_step(steps, build_step(alloc, Enrol(Pid(0)))?)?;
     push_step(steps, ask(alloc, Pid(0), "new(t,[])")?)?;
@@ -32,7 +33,7 @@ fn insertion(alloc: Global, number: u32) -> Result<Step, AllocError> {
     step
 }
 
-/// Returns whether the reply is the object that was inserted last.
+/// Returns whether the last reply exists, and is the object that was inserted last: that of `COUNT` - 1.
 fn is_last_object(alloc: Global, reply: Option<&Reply>) -> Result<bool, AllocError> {
     match reply {
         Some(reply) => reply_has_text(alloc, reply, "[{a,2099}]"),
@@ -40,7 +41,7 @@ fn is_last_object(alloc: Global, reply: Option<&Reply>) -> Result<bool, AllocErr
     }
 }
 
-/// Runs the steps by `run`, and returns whether each has a reply, and the last reply is the object inserted last.
+/// Runs the steps by `run`. Returns whether each has a reply, and the last reply is the object that was inserted last.
 fn run_replies_to_each(
     alloc: Global,
     node: &mut Node<Fnv>,
@@ -60,21 +61,21 @@ fn run_replies_to_each(
     }
 }
 
-/// Runs the steps by `run_through`, and returns whether each has a reply, and the last reply is the object inserted
-/// last.
+/// Runs the steps by `run_through`. Returns whether each has a reply, and the last reply is the object that was
+/// inserted last.
 fn run_through_replies_to_each(
     alloc: Global,
     node: &mut Node<Fnv>,
     steps: &[Step],
 ) -> Result<bool, AllocError> {
     let answers = node.run_through(steps)?;
-    let is_whole = answers.iter().all(|answer| answer.is_some());
+    let has_all = answers.iter().all(|answer| answer.is_some());
     let last = is_last_answer(alloc, answers.as_slice());
     drop(answers);
-    Ok(last? && is_whole)
+    Ok(last? && has_all)
 }
 
-/// Returns whether the last answer is the object inserted last.
+/// Returns whether the last answer is the object that was inserted last.
 fn is_last_answer(alloc: Global, answers: &[Option<Reply>]) -> Result<bool, AllocError> {
     match answers.last() {
         Some(answer) => is_last_object(alloc, answer.as_ref()),
@@ -99,11 +100,11 @@ pub fn runs_through_many_steps(alloc: Global, node: &mut Node<Fnv>) -> Result<bo
 }
 
 #[test]
-fn a_run_is_long(rt: HostRuntime) {
-    assert!(rt; new_node_passes(rt.alloc(), Trial::Runs) == Ok(true));
+fn run_replies_to_thousands_of_steps(rt: HostRuntime) {
+    assert!(rt; new_node_passes(rt.alloc(), Check::Runs) == Ok(true));
 }
 
 #[test]
-fn a_run_through_is_long(rt: HostRuntime) {
-    assert!(rt; new_node_passes(rt.alloc(), Trial::RunsThrough) == Ok(true));
+fn run_through_replies_to_thousands_of_steps(rt: HostRuntime) {
+    assert!(rt; new_node_passes(rt.alloc(), Check::RunsThrough) == Ok(true));
 }

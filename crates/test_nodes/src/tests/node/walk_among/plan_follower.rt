@@ -1,4 +1,5 @@
-// Others that hand in the steps of a plan.
+// An `Others` for tests: it hands in the steps of a plan after each key that the traversal visits. The index of the
+// key, from 0, is the turn.
 ghost use Rattle.std.specs.Prelude.{◌≡◌, []};
 
 use super::super::Event::{Ask, Grow, Ready};
@@ -8,30 +9,33 @@ use ets_term::{Integer, Term};
 use node_core::{Others, Step};
 use std::alloc::{AllocError, Global};
 
-/// Which steps are handed in after a key.
+/// Which steps the others hand in after a visited key.
 #[derive(Clone, Copy)]
 pub enum Plan {
-    /// These, after each key.
+    /// These steps, after each key.
     Always(&'static [Event<'static>]),
-    /// Process 1 deletes the last key and inserts it again; the table grows, and the bucket of the turn becomes ready.
+    /// Process 1 deletes the visited key and inserts it again, the buckets double, and the bucket whose number is the
+    /// turn becomes ready.
     DeleteAndInsert,
-    /// Process 1 inserts the key that is the number of the turn and ten.
-    InsertFurther,
-    /// None: memory runs out.
+    /// Process 1 inserts a new key, 10 plus the turn: greater than all keys of the table.
+    InsertNewKey,
+    /// No steps: the others report out of memory.
     NoMemory,
 }
 
-/// Others that follow a plan. They keep the keys they saw, and the steps they handed in with their turns.
+/// Others that follow a plan. They keep the keys that they saw, and the steps that they handed in, each with its turn.
 #[derive(Drop)]
 pub struct PlanFollower {
     alloc: Global,
     plan: Plan,
+    /// The visited keys, in the order of the traversal.
     keys: Vec<Term>,
+    /// The steps, each with its turn.
     handed_in: Vec<(usize, Step)>,
 }
 
 impl PlanFollower {
-    /// Returns others with this plan that have seen no key.
+    /// Returns others with this plan, before the first key.
     pub fn new(alloc: Global, plan: Plan) -> PlanFollower
         ensures keys { result.keys.items ≡ [] }
         ensures handed_in { result.handed_in.items ≡ [] }
@@ -46,18 +50,23 @@ impl PlanFollower {
 }
 
 impl Others for PlanFollower {
+    // What contracts of `Others` call the keys and the steps.
     ghost keys = { λ h. h.keys.items };
 
     ghost steps = { λ h. h.handed_in.items };
 
+    // Returns the visited keys.
     fn seen(&self) -> &[Term] {
         self.keys.as_slice()
     }
 
+    // Returns the steps handed in so far, each with its turn.
     fn given(&self) -> &[(usize, Step)] {
         self.handed_in.as_slice()
     }
 
+    // Called after the visit of the key `last`. Reserves all memory first, because running out of memory must change
+    // nothing.
     fn between(&mut self, last: &Term) -> Result<(), AllocError> {
         let turn = self.keys.len();
         self.keys.reserve(1)?;
@@ -65,14 +74,14 @@ impl Others for PlanFollower {
         self.handed_in.reserve(steps.len())?;
         let key = last.try_clone(self.alloc)?;
         self.keys.push_reserved(key);
-        for event in steps {
-            self.handed_in.push_reserved((turn, event));
+        for step in steps {
+            self.handed_in.push_reserved((turn, step));
         }
         Ok(())
     }
 }
 
-/// Returns the steps that the plan wants in a turn, after this key.
+/// Returns the steps that the plan hands in after the key `last`, in this turn.
 fn plan_steps(
     alloc: Global,
     plan: Plan,
@@ -82,18 +91,18 @@ fn plan_steps(
     match plan {
         Plan::Always(events) => steps_of(alloc, events),
         Plan::DeleteAndInsert => delete_and_insert(alloc, turn, last),
-        Plan::InsertFurther => insert_further(alloc, turn),
+        Plan::InsertNewKey => insert_new_key(alloc, turn),
         Plan::NoMemory => Err(AllocError),
     }
 }
 
-/// Returns the steps of events.
+/// Builds the steps of events.
 fn steps_of(alloc: Global, events: &[Event]) -> Result<Vec<Step>, AllocError> {
     let mut steps = Vec::with_capacity(alloc, events.len())?;
     keep_if_ok(push_steps(alloc, &mut steps, events), steps)
 }
 
-/// Appends the steps of events.
+/// Builds the steps of events and appends them.
 fn push_steps(alloc: Global, steps: &mut Vec<Step>, events: &[Event]) -> Result<(), AllocError> {
     for event in events {
         steps.push(build_step(alloc, *event)?)?;
@@ -101,12 +110,15 @@ fn push_steps(alloc: Global, steps: &mut Vec<Step>, events: &[Event]) -> Result<
     Ok(())
 }
 
-/// Returns the steps that delete a key and insert it again, double the buckets and make the bucket of the turn ready.
+/// Returns the steps of `Plan::DeleteAndInsert`: they delete and insert the key, double the buckets, and ready a
+/// bucket.
 fn delete_and_insert(alloc: Global, turn: usize, last: &Term) -> Result<Vec<Step>, AllocError> {
     let Term::Int(key) = last else {
+        // Cannot happen: all keys of the tables are integers.
         return Err(AllocError);
     };
     let Ok(bucket) = u32::try_from(turn) else {
+        // Cannot happen: a turn is below the limit of the walk, which is a `u32`.
         return Err(AllocError);
     };
     let mut steps = Vec::new(alloc);
@@ -116,7 +128,7 @@ fn delete_and_insert(alloc: Global, turn: usize, last: &Term) -> Result<Vec<Step
     )
 }
 
-/// Appends the steps that delete a key and insert it again, double the buckets and make a bucket ready.
+/// Appends the steps that delete the key and insert it again, double the buckets of table 0, and ready this bucket.
 fn push_delete_and_insert(
     alloc: Global,
     steps: &mut Vec<Step>,
@@ -128,15 +140,15 @@ fn push_delete_and_insert(
     push_steps(alloc, steps, &[Grow(Tid(0)), Ready(Tid(0), Bucket(bucket))])
 }
 
-/// Appends a call of process 1.
+/// Appends the step of a call that process 1 makes.
 fn push_ask(alloc: Global, steps: &mut Vec<Step>, call: String) -> Result<(), AllocError> {
     let pushed = push_steps(alloc, steps, &[Ask(Pid(1), call.as_str())]);
     drop(call);
     pushed
 }
 
-/// Returns the step that inserts the key of the turn and ten.
-fn insert_further(alloc: Global, turn: usize) -> Result<Vec<Step>, AllocError> {
+/// Returns the step of `Plan::InsertNewKey`: it inserts the key 10 plus the turn, into the table t.
+fn insert_new_key(alloc: Global, turn: usize) -> Result<Vec<Step>, AllocError> {
     let key = turn.saturating_add(10);
     let call = format!(in alloc; "insert(t,{{{key}}})")?;
     let mut steps = Vec::new(alloc);

@@ -1,18 +1,19 @@
-// The steps before a walk, and the steps of others meanwhile.
+// The steps before a walk (`Row`s with their replies), and the steps of others during it (`Event`s). Process 0 walks,
+// in all but `SEVENTY_KEYS`; process 1 is one of the others.
 use super::super::Event::{self, Ask, Enrol};
 use super::super::{Pid, Row};
 
-/// Asks whether the table is fixed, which it is not.
+/// Process 0 asks whether the table is fixed. It is not.
 pub const IS_NOT_FIXED: Row = (Ask(Pid(0), "info(t,fixed)"), "false");
 
-/// The public table t of process 0, and process 1.
+/// Makes the public table t of process 0, without keys, and enrols process 1.
 pub const NO_KEYS: [Row; 3] = [
     (Enrol(Pid(0)), "<0.0.0>"),
     (Enrol(Pid(1)), "<0.1.0>"),
     (Ask(Pid(0), "new(t,[named_table,public])"), "t"),
 ];
 
-/// The same table with one key.
+/// Makes the same table as `NO_KEYS`, with one key.
 pub const ONE_KEY: [Row; 4] = [
     (Enrol(Pid(0)), "<0.0.0>"),
     (Enrol(Pid(1)), "<0.1.0>"),
@@ -20,7 +21,7 @@ pub const ONE_KEY: [Row; 4] = [
     (Ask(Pid(0), "insert(t,{1})"), "true"),
 ];
 
-/// The same table with two keys.
+/// Makes the same table as `NO_KEYS`, with two keys.
 pub static TWO_KEYS: [Row; 4] = [
     (Enrol(Pid(0)), "<0.0.0>"),
     (Enrol(Pid(1)), "<0.1.0>"),
@@ -28,7 +29,7 @@ pub static TWO_KEYS: [Row; 4] = [
     (Ask(Pid(0), "insert(t,[{1,a},{2,b}])"), "true"),
 ];
 
-/// The same table with nine keys.
+/// Makes the same table as `NO_KEYS`, with nine keys.
 pub const NINE_KEYS: [Row; 4] = [
     (Enrol(Pid(0)), "<0.0.0>"),
     (Enrol(Pid(1)), "<0.1.0>"),
@@ -39,7 +40,7 @@ pub const NINE_KEYS: [Row; 4] = [
     ),
 ];
 
-/// The protected table t of process 0 with seventy keys, and process 7.
+/// Makes the protected table t of process 0 with seventy keys, and enrols process 7, which walks.
 pub const SEVENTY_KEYS: [Row; 4] = [
     (Enrol(Pid(0)), "<0.0.0>"),
     (Enrol(Pid(7)), "<0.7.0>"),
@@ -56,28 +57,28 @@ pub const SEVENTY_KEYS: [Row; 4] = [
 /// Others delete the table.
 pub const DELETES_TABLE: [Event; 1] = [Ask(Pid(1), "delete(t)")];
 
-/// Others delete the table and make another of its name.
+/// Others delete the table and create another table with its name.
 pub const MAKES_TABLE_ANEW: [Event; 3] = [
     Ask(Pid(1), "delete(t)"),
     Ask(Pid(1), "new(t,[named_table,public])"),
     Ask(Pid(1), "insert(t,[{1,a},{2,b}])"),
 ];
 
-/// The walker enrols again, among the steps of another.
+/// The walker enrols again, between two steps of process 1.
 pub const WALKER_ENROLS: [Event; 3] = [
     Ask(Pid(1), "insert(t,{3,c})"),
     Enrol(Pid(0)),
     Ask(Pid(1), "insert(t,{4,d})"),
 ];
 
-/// The walker exits, among the steps of another.
+/// The walker exits, between two steps of process 1.
 pub const WALKER_ENDS: [Event; 3] = [
     Ask(Pid(1), "insert(t,{3,c})"),
     Event::End(Pid(0)),
     Ask(Pid(1), "insert(t,{4,d})"),
 ];
 
-/// The walker deletes the table, among the steps of another.
+/// The walker deletes the table, between two steps of process 1.
 pub const WALKER_DELETES_TABLE: [Event; 3] = [
     Ask(Pid(1), "insert(t,{3,c})"),
     Ask(Pid(0), "delete(t)"),
@@ -87,14 +88,14 @@ pub const WALKER_DELETES_TABLE: [Event; 3] = [
 /// Others delete all objects.
 pub static DELETES_ALL_OBJECTS: [Event; 1] = [Ask(Pid(1), "delete_all_objects(t)")];
 
-/// The private table t of process 1.
+/// Makes the private table t of process 1, which process 0 may not read.
 pub const PRIVATE_TABLE_OF_ANOTHER: [Row; 3] = [
     (Enrol(Pid(0)), "<0.0.0>"),
     (Enrol(Pid(1)), "<0.1.0>"),
     (Ask(Pid(1), "new(t,[named_table,private])"), "t"),
 ];
 
-/// The table t of process 1, and process 0, which has exited.
+/// Makes the table t of process 1; process 0, the walker, exits before the walk.
 pub const WALKER_HAS_ENDED: [Row; 4] = [
     (Enrol(Pid(0)), "<0.0.0>"),
     (Enrol(Pid(1)), "<0.1.0>"),

@@ -1,16 +1,17 @@
-// Misuses of each kind, and steps past a limit, each with its reason in words. The steps before them have none.
+// Steps that break a rule or pass a limit. A row is a step and the wanted reason of its refusal: the first rule that it
+// breaks. A step that is not refused has `NO_REASON`.
 use super::super::{Bucket, Pid, Tid};
 use super::Event::{Ask, End, Enrol, Grow, Ready};
 use super::Row;
 
-/// In place of the reason of a step that is not refused.
+/// The wanted text of a step that is not refused.
 const NO_REASON: &str = "";
 
 /// The reason of an argument that cannot be stored.
 const NOT_AN_OBJECT: &str =
     "argument 2: not a tuple that has the key position, or the key is '$end_of_table'";
 
-/// The reason of a position that the object does not have.
+/// The reason of a position that the object does not have, such as 18446744073709551617, which is 2^64 + 1.
 const PAST_THE_END: &str = "argument 3: position is past the end of the object";
 
 /// The reason of an update that is malformed, or would change the key.
@@ -19,7 +20,8 @@ const MALFORMED_UPDATE: &str = "argument 3: malformed update, or it would change
 /// The reason of an option that is unknown or malformed.
 const MALFORMED_OPTION: &str = "argument 2: unknown or malformed option";
 
-/// Steps that name no living process, no call or no table of the process.
+/// Steps with a wrong process number, call or table, or with a table that the process may not use in this way. There is
+/// no process 9, no table `nosuch`, 3 or 9, and no call `lokup`.
 pub static STEPS: [Row; 22] = [
     (Enrol(Pid(6)), NO_REASON),
     (Enrol(Pid(7)), NO_REASON),
@@ -66,7 +68,7 @@ pub static STEPS: [Row; 22] = [
     ),
 ];
 
-/// Calls with something else than an object, a key, a position, a pattern or a specification.
+/// Calls with a wrong argument where an object, a key, a position, a pattern or a match specification must be.
 pub static OBJECTS: [Row; 21] = [
     (Enrol(Pid(7)), NO_REASON),
     (Ask(Pid(7), "new(t,[named_table])"), NO_REASON),
@@ -115,7 +117,7 @@ pub static OBJECTS: [Row; 21] = [
     ),
 ];
 
-/// Updates of counters and elements.
+/// Updates of counters and elements that are malformed, or do not fit the table or the object.
 pub static UPDATES: [Row; 21] = [
     (Enrol(Pid(7)), NO_REASON),
     (Ask(Pid(7), "new(t,[named_table])"), NO_REASON),
@@ -173,7 +175,7 @@ pub static UPDATES: [Row; 21] = [
     ),
 ];
 
-/// Calls that make tables, report on them, fix them or give them away.
+/// Calls that wrongly make tables, report on them, fix them or give them away.
 pub static TABLES: [Row; 22] = [
     (Enrol(Pid(6)), NO_REASON),
     (Enrol(Pid(7)), NO_REASON),
@@ -223,7 +225,7 @@ pub static TABLES: [Row; 22] = [
     (Ask(Pid(7), "new(t,[{keypos,2},compressed])"), NO_REASON),
 ];
 
-/// Steps that pass a limit, of one process, one table and one object.
+/// Steps in a node whose limits are one process, one table and one object.
 pub static LIMITED: [Row; 8] = [
     (Enrol(Pid(7)), NO_REASON),
     (Enrol(Pid(8)), "process limit reached"),

@@ -1,31 +1,31 @@
-//! What is timed: one call on one key. Each method returns whether it did what it should.
+//! What is timed: one call on one key. The calls go to a whole table, or to its rows alone.
 use ets_term::{Integer, Items, Term};
 use std::alloc::{AllocError, Global};
 
 /// The number of objects per bucket above which the buckets double.
 const MAX_OBJECTS_PER_BUCKET: usize = 4;
 
-/// A store of objects `{K,V}` under their keys K.
-pub trait Store: Drop {
-    /// Builds a store without objects.
+/// A table to time, with objects `{K,V}` under their keys K. A boolean says whether the call did what it should.
+pub trait BenchTable: Drop {
+    /// Builds a table without objects.
     fn empty(alloc: Global) -> Result<Self, AllocError>;
 
-    /// Returns the name of the store that the report prints.
+    /// Returns the name of this kind of table in a report.
     fn name() -> &'static str;
 
-    /// Inserts `{K,1}` under a new key, and runs two pending growth steps.
+    /// Inserts `{K,1}` under a new key, and then runs at most two pending growth steps.
     fn insert(&mut self, alloc: Global, k: u64) -> Result<bool, AllocError>;
 
-    /// Looks up the object of a key, which is in the table.
+    /// Looks up the object of a key that is in the table. Returns whether its value is at least 1.
     fn has_object(&mut self, k: u64) -> bool;
 
-    /// Searches for a key, which is not in the table.
+    /// Searches for a key that is not in the table. Returns whether it is missing.
     fn lacks_key(&mut self, k: u64) -> bool;
 
     /// Adds one to the value of the key's object, in place.
     fn count_up(&mut self, alloc: Global, k: u64) -> Result<bool, AllocError>;
 
-    /// Deletes the object of a key.
+    /// Deletes the object of a key that is in the table.
     fn delete(&mut self, k: u64) -> bool;
 
     /// Doubles the buckets.
@@ -43,12 +43,12 @@ pub(crate) fn build_object(alloc: Global, k: u64) -> Result<Term, AllocError> {
     Ok(Term::Tuple(Items::from_vec(elements)))
 }
 
-/// Returns whether there are too many slots for this number of buckets.
+/// Returns whether a table with this number of slots must double its buckets.
 pub(crate) fn is_full(slots: usize, buckets: u32) -> bool {
     slots / MAX_OBJECTS_PER_BUCKET > buckets as usize
 }
 
-/// Reads the objects. Returns whether there is one, with a value of at least 1.
+/// Reads the objects of a key. Returns whether there is exactly one object, with a value of at least 1.
 pub(crate) fn has_value(objects: &[Term]) -> bool {
     match objects {
         [Term::Tuple(elements)] => matches!(elements.get(1), Some(Term::Int(1..))),

@@ -1,6 +1,6 @@
 use Rattle.std.proofs.Common.{◌≡◌, ◌+◌, ◌≤◌, length, vec_len, vec_capacity}
 use Rattle.bench_layers.specs.Buckets.{HasDummies}
-use Rattle.bench_layers.proofs.list.build_dummies.Given as goal
+use Rattle.bench_layers.proofs.list.build_empty_lists.Given as goal
 
 abbrev pub invariant-loop-bucket : goal.invariant-loop-bucket
 invariant-loop-bucket l = record {

@@ -1,4 +1,5 @@
-//! Pending growth steps run after calls, two at most, and after nothing else.
+//! After each call of a spawned process, a script runs at most two pending growth steps. After another line it runs
+//! none.
 use super::devices::{FlushLog, GOOD_DEVICES, Source, Target};
 use ets_script::{NodeSettings, Streams, run_script};
 use ets_term::Fnv;
@@ -6,29 +7,29 @@ use node_core::{Limits, Step};
 use std::alloc::{AllocError, Global};
 use std::test::Fail;
 
-/// The pending step of the node that a script leaves.
+/// The growth step that is pending in the node after a script.
 #[derive(Clone, Copy, PartialEq, Eq)]
-enum Due {
+enum Pending {
     Nothing,
-    /// This bucket of the first table becomes ready.
+    /// To ready this bucket of the first table.
     Bucket(u32),
-    /// Any other step.
+    /// Any other step, such as a doubling.
     OtherStep,
     /// The script did not run to its end.
     ScriptFailed,
 }
 
-/// Returns which step is pending.
-fn due_of_step(step: Option<Step>) -> Due {
+/// Returns the pending step in the words of `Pending`.
+fn pending_of_step(step: Option<Step>) -> Pending {
     match step {
-        None => Due::Nothing,
-        Some(Step::Ready(0, bucket)) => Due::Bucket(bucket),
-        Some(_) => Due::OtherStep,
+        None => Pending::Nothing,
+        Some(Step::Ready(0, bucket)) => Pending::Bucket(bucket),
+        Some(_) => Pending::OtherStep,
     }
 }
 
-/// Runs a script, and returns the pending step of the node that it leaves.
-fn due_after(alloc: Global, script: &[u8]) -> Due {
+/// Runs a script. Returns the step that is pending in its node at the end.
+fn pending_after(alloc: Global, script: &[u8]) -> Pending {
     let log = FlushLog::new();
     let mut streams = Streams {
         input: Source {
@@ -50,12 +51,12 @@ fn due_after(alloc: Global, script: &[u8]) -> Due {
         hasher: Fnv,
     };
     match run_script(alloc, &mut streams, settings) {
-        Ok(node) => due_of_step(node.due()),
-        Err(_) => Due::ScriptFailed,
+        Ok(node) => pending_of_step(node.due()),
+        Err(_) => Pending::ScriptFailed,
     }
 }
 
-/// Returns the parts of a script, one after the other.
+/// Joins the three parts of a script.
 fn join_parts(alloc: Global, parts: [&str; 3]) -> Result<String, AllocError> {
     let mut script = String::new(alloc);
     for part in parts {
@@ -64,38 +65,42 @@ fn join_parts(alloc: Global, parts: [&str; 3]) -> Result<String, AllocError> {
     Ok(script)
 }
 
-/// Spawns two processes, and makes a table.
+/// Lines that spawn two processes and make a table.
 const MAKE_TABLE: &str = "spawn p\nspawn q\np new(t,[named_table])\n";
 
-/// Inserts nine objects one by one. The last one doubles the two buckets, and readies bucket 2.
+/// Lines that insert nine objects one by one. After the last one, two growth steps run: the two buckets are doubled to
+/// four, and bucket 2 is readied.
 const INSERT_NINE: &str =
     "p insert(t,{1})\np insert(t,{2})\np insert(t,{3})\np insert(t,{4})\np insert(t,{5})\np insert(t,{6})\np insert(t,{7})\np insert(t,{8})\np insert(t,{9})\n";
 
-/// Inserts forty objects at once. For them the buckets double three times.
+/// A line that inserts forty objects. The buckets double three times for them, in later steps.
 const INSERT_FORTY: &str =
     "p insert(t,[{1},{2},{3},{4},{5},{6},{7},{8},{9},{10},{11},{12},{13},{14},{15},{16},{17},{18},{19},{20},{21},{22},{23},{24},{25},{26},{27},{28},{29},{30},{31},{32},{33},{34},{35},{36},{37},{38},{39},{40}])\n";
 
-/// Lines after a new table, the lines after them, and the step that is pending at the end.
-const ROWS: [(&str, &str, Due); 12] = [
-    ("", "", Due::Nothing),
-    (INSERT_NINE, "", Due::Bucket(3)),
-    (INSERT_NINE, "p lookup(t,9)\n", Due::Nothing),
-    (INSERT_NINE, "p lookup(nope,9)\n", Due::Nothing),
-    (INSERT_NINE, "r lookup(t,9)\n", Due::Bucket(3)),
-    (INSERT_NINE, "exit q\n", Due::Bucket(3)),
-    (INSERT_NINE, "q lookup(t,9\n", Due::Bucket(3)),
-    (INSERT_FORTY, "", Due::OtherStep),
-    (INSERT_FORTY, "p new(u,[])\n", Due::Bucket(3)),
-    ("grow t\n", "", Due::Bucket(2)),
-    ("grow t\n", "ready t 2\n", Due::Bucket(3)),
-    ("grow t\n", "ready t 3\n", Due::Bucket(2)),
+/// A row is the lines after `MAKE_TABLE`, the lines after them, and the step that is pending at the end.
+const ROWS: [(&str, &str, Pending); 12] = [
+    ("", "", Pending::Nothing),
+    (INSERT_NINE, "", Pending::Bucket(3)),
+    (INSERT_NINE, "p lookup(t,9)\n", Pending::Nothing),
+    (INSERT_NINE, "p lookup(nope,9)\n", Pending::Nothing),
+    (INSERT_NINE, "r lookup(t,9)\n", Pending::Bucket(3)),
+    (INSERT_NINE, "exit q\n", Pending::Bucket(3)),
+    (INSERT_NINE, "q lookup(t,9\n", Pending::Bucket(3)),
+    (INSERT_FORTY, "", Pending::OtherStep),
+    (INSERT_FORTY, "p new(u,[])\n", Pending::Bucket(3)),
+    ("grow t\n", "", Pending::Bucket(2)),
+    ("grow t\n", "ready t 2\n", Pending::Bucket(3)),
+    ("grow t\n", "ready t 3\n", Pending::Bucket(2)),
 ];
 
 /// Returns the index of the first row whose script leaves another pending step.
-fn first_wrong_row(alloc: Global, rows: &[(&str, &str, Due)]) -> Result<Option<usize>, AllocError> {
-    for (index, (lines, next_lines, due)) in rows.iter().enumerate() {
+fn first_wrong_row(
+    alloc: Global,
+    rows: &[(&str, &str, Pending)],
+) -> Result<Option<usize>, AllocError> {
+    for (index, (lines, next_lines, pending)) in rows.iter().enumerate() {
         let script = join_parts(alloc, [MAKE_TABLE, *lines, *next_lines])?;
-        if due_after(alloc, script.as_bytes()) != *due {
+        if pending_after(alloc, script.as_bytes()) != *pending {
             return Ok(Some(index));
         }
     }

@@ -1,5 +1,5 @@
 use Rattle.node_list.proofs.CallerLaws.{put-has_item, put-keeps_item}
-use Rattle.test_layers.proofs.tests.lists.nodes.leaves_second.Goals as goal
+use Rattle.test_layers.proofs.tests.lists.nodes.unlinks_first_of_two.Goals as goal
 
 pub unlinks-requires : goal.unlinks-requires
 unlinks-requires c =

@@ -1,6 +1,6 @@
 use Rattle.std.proofs.Common.{◌≡◌, ℕ, vec_len, sym, subst, arith}
 use Rattle.split_key.specs.Keys.{IsPowerOfTwo}
-use Rattle.bench_layers.proofs.list.build_dummies.Goals as goal
+use Rattle.bench_layers.proofs.list.build_empty_lists.Goals as goal
 
 pub returns-clause-ready : goal.returns-clause-ready
 returns-clause-ready c =

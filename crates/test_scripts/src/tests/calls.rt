@@ -1,6 +1,7 @@
-//! Scripts with their answers: what the calls do is in docs/calls.md.
+//! Scripts with their answers. docs/calls.md says what the calls do.
 use super::{count_answered_scripts, usual_run};
 
+/// Answers scripts that start and end processes, and that name tables. A row is a script and its answers.
 #[test]
 fn scripts_about_processes_tables_and_names_are_answered(rt: HostRuntime) {
     let rows: [(&[u8], &[u8]); 7] = [
@@ -33,6 +34,7 @@ fn scripts_about_processes_tables_and_names_are_answered(rt: HostRuntime) {
     );
 }
 
+/// Answers insertions and lookups in sets and bags. A row is a script and its answers.
 #[test]
 fn each_kind_of_table_answers_insertions_and_lookups(rt: HostRuntime) {
     let rows: [(&[u8], &[u8]); 6] = [
