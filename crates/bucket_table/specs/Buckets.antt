@@ -8,13 +8,13 @@ use Rattle.bucket_table.specs.declared.growth.Readying.{Readying}
 use Rattle.bucket_table.specs.declared.growth.Readying.TheVariants.{Ready, AlreadyReady, NotABucket}
 use Rattle.bucket_table.specs.Slots.{Slot, objects_of}
 
--- Growth: the buckets are doubled, the old ones as ready as before and the new ones not; or they have their greatest
--- number.
+-- The result of a growth: the number of buckets is doubled, each old bucket is ready as before and no new bucket is; or
+-- nothing changes, because the number is the greatest.
 abbrev pub IsGrown : ℕ → List Bool → Growth → List Bool → Type 0
 IsGrown most old Grown new = new ≡ old ++ replicate (length old) false
 IsGrown most old AtMost new = (new ≡ old) × (length old ≡ most)
 
--- Readying: the bucket was not ready and is now; or it was ready; or no bucket has this number.
+-- The result of a readying: the bucket was not ready and is now; or it was ready before; or no bucket has this number.
 abbrev pub IsReadied : ℕ → List Bool → Readying → List Bool → Type 0
 IsReadied bucket old Ready new = (bucket < length old) × (get_or old bucket true ≡ false) × (new ≡ set old bucket true)
 IsReadied bucket old AlreadyReady new = (get_or old bucket false ≡ true) × (new ≡ old)
@@ -28,8 +28,9 @@ hash_keys hash_of hash slots = count_by (λ slot. nat_eq (hash_of slot.0) hash) 
 abbrev pub bucket_keys : (Term → ℕ) → ℕ → ℕ → List Slot → ℕ
 bucket_keys hash_of size bucket slots = count_by (λ slot. nat_eq (hash_of slot.0 % size) bucket) slots
 
--- The nodes that a search for a key visits. If the key has a slot, at least one; if not, at least one for each key of
--- its hash. If its bucket is ready, at most the keys of the bucket and two.
+-- The number of nodes that a search for a key visits and counts. If the key has a slot, it is at least 1; if not, at
+-- least the number of keys with the same hash. If its bucket is ready, it is at most the number of keys of the bucket,
+-- plus 2.
 pub record HasLooked (hash_of : Term → ℕ) (slots : List Slot) (ready : List Bool)
     (key : Term) (old new : ℕ) : Type 0 where
   pub nodes : ℕ

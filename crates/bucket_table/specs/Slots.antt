@@ -38,11 +38,12 @@ abbrev pub EnterAll : List Slot → List Slot → List Slot → Type 0
 EnterAll old [] new = new ≡ old
 EnterAll old (row ∷ rows) new = (next : List Slot) × Enters old row.0 row.1 next × EnterAll next rows new
 
--- None of these rows has a key of these slots.
+-- None of the keys of these rows has a slot among these slots.
 abbrev pub AreNew : List Slot → List Slot → Type 0
 AreNew slots [] = Unit {0}
 AreNew slots (row ∷ rows) = (objects_of slots row.0 ≡ None) × AreNew slots rows
 
+-- Whether there are objects: the slot is not a tombstone.
 abbrev pub has_objects : List Term → Bool
 has_objects [] = false
 has_objects (object ∷ objects) = true

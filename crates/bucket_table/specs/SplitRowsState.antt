@@ -19,9 +19,11 @@ pub record SplitRowsState (H : Type 0) : Type 0 where
 abbrev pub key_of_place : List (ℕ × Term) → ℕ → Option Term
 key_of_place places place = lookup (nat_eq place) places
 
+-- The code of a slot, as a tuple of its fields.
 abbrev pub slot_code : Coded Slot
 slot_code = coded× term.the_row.coded (coded_list term.the_row.coded)
 
+-- The code of the state, as a tuple of its fields.
 abbrev pub state_code : {H : Type 0} → Coded H → Coded (SplitRowsState H)
 state_code {H} code =
     code_by

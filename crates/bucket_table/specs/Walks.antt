@@ -15,12 +15,12 @@ abbrev pub IsFirstPlace : (ℕ → Option Term) → List Slot → Option ℕ →
 IsFirstPlace key_at slots None = slots ≡ []
 IsFirstPlace key_at slots (Some place) = IsFirstAt key_at slots place
 
--- The slots after the one with this key. `None` if there is no such slot.
+-- The slots after the slot of this key. `None` if there is no key, or if it has no slot.
 abbrev pub behind_in : List Slot → Option Term → Option (List Slot)
 behind_in slots None = None
 behind_in slots (Some key) = slots_behind slots key
 
--- The place of the first slot after the one with this key.
+-- The place of the first slot after the slot of this key. `None` if that slot is the last.
 pub record IsNextPlace (key_at : ℕ → Option Term) (slots : List Slot)
     (key : Option Term) (next : Option ℕ) : Type 0 where
   pub rest : List Slot

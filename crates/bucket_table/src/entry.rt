@@ -1,4 +1,4 @@
-/// The index of a slot. It is valid until a slot is inserted or removed.
+/// The place of a slot: its index in the rows. It is valid until a slot is inserted or removed.
 pub type Place = usize;
 
 /// The result of a search for an insertion: the place of the key's slot, or the hash of a key without a slot.

@@ -1,21 +1,22 @@
-//! Rows: slots with distinct keys, in hash buckets or in insertion order; each call has its exact effect on them.
+//! Rows: slots (a key with its objects) with distinct keys, in hash buckets or in insertion order. The contract of each
+//! call states its exact effect on the slots.
 //!
 //! *Guarantee.* No call reorders the slots that remain, and growth changes no slot. A call that runs out of memory
 //! changes no slot. In a ready bucket of n keys, tombstones included, a search visits at most n + 2 nodes.
 //!
 //! *Weakness.* Keys of equal hashes share a bucket at every size, so a bad hasher makes searches long. `clear` visits
-//! all nodes. `purge` also does if more slots became tombstones than the log had room for. A traversal also reads
-//! free places and those of dummies.
+//! all nodes. So does `purge`, if more slots became tombstones than the tombstone log had room for. A traversal also
+//! reads free places and the places of dummies.
 //!
 //! *Mechanism.* `SplitRows` is a split-ordered list (Shalev and Shavit): one list of nodes, sorted by split keys. A
 //! bucket is an interval of the list that starts at a sentinel, its dummy. The directory has the place of each dummy.
-//! The hints are a cache: for each eighth of a bucket, an *interval*, they give the place of its first item. They may
-//! also say that the interval is empty, or that nothing is known. A search starts at a hint, or without one at the
+//! The hints are a cache: for each eighth of a bucket, an *interval*, they give the place of its first item. A hint may
+//! also say that the interval is empty, or that it is unknown. A search starts at a hint, or without one at the
 //! dummy of the nearest ready bucket. An insertion refreshes the hint of its interval if that is unknown.
 //!
-//! A doubling moves no node. It keeps the old hints as previous ones, and each insertion rehashes two of them. The
-//! directory is written when buckets become ready. The slots come in the order of their places, and a traversal reads
-//! these forward. `PlainRows` keeps the slots in insertion order, in one bucket.
+//! A doubling moves no node. It keeps the old hints as previous hints, and each insertion rehashes a few of them. The
+//! directory is written when buckets become ready. The order of the slots is that of their places, and a traversal
+//! reads the places forward. `PlainRows` keeps the slots in insertion order, in one bucket.
 //!
 //! A *tombstone* is a slot without objects: its key was deleted while the table is fixed. Public names call it
 //! *held*.
@@ -23,6 +24,8 @@
 //! *Limits.* `SplitRows` has 2 to 1,048,576 buckets. A place that becomes free is used again.
 #![tactic(auto)]
 
+// The modules: the trait of `rows`, the results of a search (`entry`) and of a `growth`, and the two kinds of rows:
+// `plain`, in insertion order, and `split`, in hash buckets.
 mod entry;
 mod growth;
 mod plain;

@@ -28,7 +28,7 @@ impl PlainRows {
         }
     }
 
-    /// Appends a slot for a key that has none.
+    /// Appends a slot for a key that has no slot.
     fn push(&mut self, key: Term, objects: Chain) -> Result<(), AllocError>
         requires { objects_of self.old.slots.entries key ≡ None }
         ensures ok { OnOk result (self.new.slots.entries ≡ self.old.slots.entries ++ (key, objects) ∷ []) }
@@ -41,6 +41,7 @@ impl PlainRows {
     }
 }
 
+// The trait `Rows` documents these methods. The place of a slot is its index in the map.
 impl Rows for PlainRows {
     ghost content = { λ s. s.slots.entries };
 
@@ -109,6 +110,7 @@ impl Rows for PlainRows {
     }
 
     fn reveal_invariant(&self) {
+        // The call changes nothing. It gives the proof the invariant of the map.
         let _ = self.slots.len();
     }
 

@@ -37,8 +37,8 @@ pub trait Rows: Drop {
     fn get(&self, key: &Term) -> Option<&[Term]>
         ensures { option_copied result ≡ objects_of (content self.now) key.now };
 
-    /// Inserts a slot for each row. The keys must be distinct and without slots. If memory runs out, no slot is
-    /// inserted and the rows are dropped.
+    /// Inserts a slot for each pair of a key and its objects. The keys must be distinct and must not have slots. If
+    /// memory runs out, no slot is inserted and the rows are dropped.
     fn put(&mut self, rows: Vec<(Term, Chain)>) -> Result<(), AllocError>
         requires distinct { HasDistinctKeys rows.items }
         requires new { AreNew (content self.old) rows.items }
@@ -47,7 +47,7 @@ pub trait Rows: Drop {
         ensures hash { hash_of self.new ≡ hash_of self.old }
         ensures buckets { readiness self.new ≡ readiness self.old };
 
-    /// Replaces the objects of the key's slot and returns the old ones. Returns `None` if the key has no slot.
+    /// Replaces the objects of the key's slot and returns the old objects. Returns `None` if the key has no slot.
     fn replace(&mut self, key: &Term, objects: Chain) -> Option<Chain>
         ensures objects { result ≡ objects_of (content self.old) key.now }
         ensures now { content self.new ≡ with_objects (content self.old) key.now objects }
@@ -61,15 +61,15 @@ pub trait Rows: Drop {
         ensures hash { hash_of self.new ≡ hash_of self.old }
         ensures buckets { readiness self.new ≡ readiness self.old };
 
-    /// Removes all objects. If `hold` is set, each slot remains as a tombstone. Otherwise slots with objects are
-    /// removed, and tombstones remain.
+    /// Removes all objects. If `hold` is true, each slot remains as a tombstone. Otherwise slots with objects are
+    /// removed, and slots that were tombstones before remain.
     fn clear(&mut self, hold: bool)
         ensures now { content self.new ≡ cleared hold (content self.old) }
         ensures hash { hash_of self.new ≡ hash_of self.old }
         ensures buckets { readiness self.new ≡ readiness self.old };
 
-    /// Removes all tombstones. `SplitRows` searches for the logged ones by their hashes. It scans all slots after a
-    /// `clear`, or if the log has no room for a hash: it keeps one for each sixteen nodes, if memory allows.
+    /// Removes all tombstones. `SplitRows` finds them by the hashes in its tombstone log. It scans all slots after a
+    /// `clear`, or if the log overflowed. The log has room for one hash per sixteen nodes, if memory allows.
     fn purge(&mut self)
         ensures now { content self.new ≡ purged (content self.old) }
         ensures hash { hash_of self.new ≡ hash_of self.old }
@@ -87,7 +87,8 @@ pub trait Rows: Drop {
     fn first_at(&self) -> Option<(&Term, &[Term])>
         ensures { option_map deref_pair result ≡ slice_get (content self.now) 0 };
 
-    /// Returns the slot after that of the key. The outer `None` means that the key has no slot.
+    /// Returns the slot after the key's slot. The outer `None` means that the key has no slot, and the inner `None`
+    /// that its slot is the last.
     fn next_at(&self, key: &Term) -> Option<Option<(&Term, &[Term])>>
         ensures { option_map (option_map deref_pair) result
             ≡ option_map (λ slots. slice_get slots 0) (slots_behind (content self.now) key.now) };
@@ -97,7 +98,7 @@ pub trait Rows: Drop {
         ensures { MatchOption result (objects_of (content self.now) key.now ≡ None)
             (λ place. (key_at self.now place ≡ Some key.now) × IsSome (objects_of (content self.now) key.now)) };
 
-    /// Returns the place of the key's slot. If it has none, returns the key's hash, for `put_at`.
+    /// Returns the place of the key's slot. If it has no slot, returns the key's hash, for `put_at`.
     fn entry(&self, key: &Term) -> SlotEntry
         ensures { IsEntry (content self.now) (hash_of self.now) (key_at self.now) key.now result };
 
@@ -105,7 +106,7 @@ pub trait Rows: Drop {
     fn first_place(&self) -> Option<Place>
         ensures { IsFirstPlace (key_at self.now) (content self.now) result };
 
-    /// Returns the place of the next slot, if there is one. `SplitRows` reads each place up to it.
+    /// Returns the place of the slot after the slot at `place`, if there is one. `SplitRows` reads each place up to it.
     fn next_place(&self, place: Place) -> Option<Place>
         requires { IsSome (key_at self.now place) }
         ensures { IsNextPlace (key_at self.now) (content self.now) (key_at self.now place) result };
@@ -121,7 +122,7 @@ pub trait Rows: Drop {
         requires { IsSome (key_at self.now place) }
         ensures { objects_in (content self.now) (key_at self.now place) ≡ Some result.now };
 
-    /// Replaces the objects of the slot at a place and returns the old ones.
+    /// Replaces the objects of the slot at a place and returns the old objects.
     fn replace_at(&mut self, place: Place, objects: Chain) -> Chain
         requires { IsSome (key_at self.old place) }
         ensures objects { objects_in (content self.old) (key_at self.old place) ≡ Some result }
@@ -142,8 +143,8 @@ pub trait Rows: Drop {
         ensures hash { hash_of self.new ≡ hash_of self.old }
         ensures buckets { readiness self.new ≡ readiness self.old };
 
-    /// Sets an element of the only object of the slot at a place, counted from 0. Changes nothing if the object is no
-    /// tuple or has no such element.
+    /// Sets an element of the only object of the slot at a place, counted from 0. Changes nothing if the object is
+    /// not a tuple or has no such element.
     fn set_element_at(&mut self, place: Place, index: usize, value: Term)
         requires { HasOneObject (content self.old) (key_at self.old place) }
         ensures now { content self.new ≡ with_element_in (content self.old) (key_at self.old place) index value }
@@ -164,8 +165,8 @@ pub trait Rows: Drop {
         ensures hash { hash_of self.new ≡ hash_of self.old }
         ensures buckets { readiness self.new ≡ readiness self.old };
 
-    /// Removes the slot at a place and returns the number of its objects. `SplitRows` moves none of them. The slots
-    /// before it keep their places.
+    /// Removes the slot at a place, drops its objects and returns their number. `SplitRows` drops them without moving
+    /// them. The slots before it keep their places.
     fn drop_at(&mut self, place: Place) -> usize
         requires { IsSome (key_at self.old place) }
         ensures count { option_map length (objects_in (content self.old) (key_at self.old place)) ≡ Some result }
@@ -185,7 +186,7 @@ pub trait Rows: Drop {
         ensures hash { hash_of self.new ≡ hash_of self.old }
         ensures buckets { readiness self.new ≡ readiness self.old };
 
-    /// Inserts a slot for a key that has none. `hash` is the key's hash, as `entry` returned it.
+    /// Inserts a slot for a key that has no slot. `hash` is the key's hash, as `entry` returned it.
     fn put_at(&mut self, hash: u32, key: Term, objects: Chain) -> Result<(), AllocError>
         requires new { objects_of (content self.old) key ≡ None }
         requires hash { hash ≡ hash_of self.old key }

@@ -2,6 +2,9 @@ ghost use Rattle.std.specs.Prelude.{◌≡◌, ◌∷◌, [], true, false, IfOk,
 ghost use Rattle.bucket_table.specs.Slots.{objects_of};
 ghost use Rattle.bucket_table.specs.Buckets.{HasLooked};
 
+// The modules: the `index` (list, `directory` of buckets and `hints`), the trait methods (`rows`), insertions and
+// sweeps of slots (`changes`, `sweep`), the tombstone log (`tombstone_log`), and a single `hint` and a list of them
+// (`hint_list`).
 mod changes;
 mod directory;
 mod hint;
@@ -19,7 +22,8 @@ use node_list::Steps;
 use std::alloc::{AllocError, Global};
 use std::marker::Model;
 
-/// Rows in one list sorted by split keys, with a directory of buckets. The slots come in the order of their places.
+/// Rows in one list sorted by split keys, with a directory of buckets. The order of the slots is that of their places.
+/// `slots` is the number of slots, and `first_unready` is the lowest bucket that is not ready.
 #[derive(Drop)]
 pub struct SplitRows<H: KeyHash + Copy + Drop> {
     index: SplitIndex<H>,
@@ -28,6 +32,7 @@ pub struct SplitRows<H: KeyHash + Copy + Drop> {
     log: TombstoneLog,
 }
 
+// The value that contracts see of this type (`view`), and what is true of its fields between calls (`invariant`).
 impl<H: KeyHash + Copy + Drop> Model for SplitRows<H> {
     ghost use Rattle.bucket_table.specs.SplitRowsState.{SplitRowsState, state_code};
     ghost use Rattle.bucket_table.specs.inside.SplitIndex.{TableInvariant, state_of};

@@ -12,6 +12,7 @@ use Rattle.counters.specs.declared.fault.CounterFault.{CounterFault}
 use Rattle.counters.specs.declared.fault.CounterFault.TheVariants.{Badarg, SystemLimit}
 use Rattle.counters.specs.declared.ops.Ops.{Ops}
 
+-- the Default with the key at keypos, by the first level of the Default
 abbrev pub with_key_form : ℕ → Term → Term-F Term → Option Term
 with_key_form keypos key (Term-F.Tuple ts) =
     if nat_lt 0 keypos && nat_le keypos (length ts) && not (is_atom (codes "$end_of_table") key)
@@ -23,21 +24,23 @@ with_key_form keypos key _ = None
 abbrev pub with_key : ℕ → Term → Term → Option Term
 with_key keypos key default = with_key_form keypos key (out-Term default)
 
--- an object deeper than max_depth is not stored
+-- an object deeper than max_depth, here in a pair with its answer, is refused with system limit
 abbrev pub refuse_deep_pair : Result (Term × Term) CounterFault → Result (Term × Term) CounterFault
 refuse_deep_pair (Ok r) = if is_too_deep r.0 then Err SystemLimit else Ok r
 refuse_deep_pair (Err fault) = Err fault
 
+-- an object deeper than max_depth is refused with system limit
 abbrev pub refuse_deep : Result Term CounterFault → Result Term CounterFault
 refuse_deep (Ok object) = if is_too_deep object then Err SystemLimit else Ok object
 refuse_deep (Err fault) = Err fault
 
--- the Default with its counters updated, and the answer; every test for badarg precedes the limit of depth
+-- the Default after its counters are updated, and the answer; badarg without a Default that has the key; every test for
+-- badarg comes before the limit of depth
 abbrev pub start_counter : Ops → Option Term → Result (Term × Term) CounterFault
 start_counter ops None = Err Badarg
 start_counter ops (Some object) = refuse_deep_pair (counters.apply_ops ops object)
 
--- the Default with its elements written
+-- the Default after its elements are written; badarg without a Default that has the key
 abbrev pub start_elements : ElementSpecs → Option Term → Result Term CounterFault
 start_elements specs None = Err Badarg
 start_elements specs (Some object) = refuse_deep (elements.apply_elements specs object)

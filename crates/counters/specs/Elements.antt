@@ -14,12 +14,13 @@ use Rattle.counters.specs.declared.elements.ElementSpec.{ElementSpec}
 use Rattle.counters.specs.declared.elements.ElementSpecs.{ElementSpecs}
 use Rattle.counters.specs.declared.elements.ElementSpecs.TheVariants.{One, Many}
 
--- the position and value of a pair
+-- the position and value of a pair; None if these are not two elements or the position is not allowed
 abbrev pub spec_of_parts : ℕ → List Term → Option ElementSpec
 spec_of_parts keypos (position ∷ value ∷ []) =
     option_map (λ p. record { position = p; value = value }) (updatable_position keypos position)
 spec_of_parts keypos _ = None
 
+-- the values of a list of pairs; None if one of them is not a pair of an allowed position and a value
 abbrev pub all_specs : ℕ → List Term → Option (List ElementSpec)
 all_specs keypos [] = Some []
 all_specs keypos (term ∷ terms) =
@@ -27,6 +28,7 @@ all_specs keypos (term ∷ terms) =
     (λ first. option_map (λ rest. first ∷ rest) (all_specs keypos terms))
     (spec_of_parts keypos (elements term))
 
+-- the values that a term gives for elements, by its first level
 abbrev pub specs_form : ℕ → Term-F Term → Option ElementSpecs
 specs_form keypos (Term-F.Tuple parts) = option_map One (spec_of_parts keypos parts)
 specs_form keypos (Term-F.List terms) = option_map Many (all_specs keypos terms)
@@ -36,6 +38,7 @@ specs_form keypos _ = None
 abbrev pub specs_of : ℕ → Term → Option ElementSpecs
 specs_of keypos term = specs_form keypos (out-Term term)
 
+-- the values as a list
 abbrev pub spec_list : ElementSpecs → List ElementSpec
 spec_list (One spec) = spec ∷ []
 spec_list (Many specs) = specs
@@ -50,7 +53,7 @@ last_value [] position element = element
 last_value (spec ∷ specs) position element =
     last_value specs position (if spec.position == position then spec.value else element)
 
--- these elements, the first of which has this position, with the last value for each
+-- these elements, the first of which has this position, each replaced by the last value given for its position
 abbrev pub with_values_from : ℕ → List ElementSpec → List Term → List Term
 with_values_from position specs [] = []
 with_values_from position specs (element ∷ elements) =
@@ -60,17 +63,18 @@ with_values_from position specs (element ∷ elements) =
 abbrev pub with_values : List ElementSpec → List Term → List Term
 with_values specs elements = with_values_from 1 specs elements
 
--- whether the values make an object too deep whose other elements are of depth 1
+-- whether the values alone make an object too deep: all other elements are taken as having depth 1
 abbrev pub make_too_deep : List ElementSpec → List Term → Bool
 make_too_deep specs elements = is_too_deep (term.Tuple (with_values specs (map (λ element. term.Int (pos 0)) elements)))
 
--- the new elements; badarg goes before the limit of depth
+-- the new elements; badarg if a position is missing, and then system limit if a value is too deep
 abbrev pub write_values : List ElementSpec → List Term → Result (List Term) CounterFault
 write_values specs elements =
     if not (has_all (length elements) specs) then Err Badarg
     else if make_too_deep specs elements then Err SystemLimit
     else Ok (with_values specs elements)
 
+-- the new object, by the first level of the old one; badarg if it is not a tuple
 abbrev pub apply_elements_form : List ElementSpec → Term-F Term → Result Term CounterFault
 apply_elements_form specs (Term-F.Tuple elements) =
     result_map_both term.Tuple (λ fault. fault) (write_values specs elements)

@@ -11,18 +11,22 @@ use Rattle.counters.specs.declared.ops.Threshold.{Threshold}
 use Rattle.counters.specs.declared.ops.Ops.{Ops}
 use Rattle.counters.specs.declared.ops.Ops.TheVariants.{One, Many}
 
+-- the threshold of these two terms; None if one of them is not an integer
 abbrev pub threshold_of : Term → Term → Option Threshold
 threshold_of threshold set_value =
     option_and_then
     (λ t. option_map (λ v. record { value = t; set_value = v }) (integer_of set_value))
     (integer_of threshold)
 
+-- the operation with this position, increment and threshold; None if the position is not allowed or the increment is
+-- not an integer
 abbrev pub op_from : ℕ → Term → Term → Option Threshold → Option Op
 op_from keypos position increment threshold =
     option_and_then
     (λ p. option_map (λ i. record { position = p; increment = i; threshold = threshold }) (integer_of increment))
     (updatable_position keypos position)
 
+-- the operation that the elements of a tuple describe; None if they have a wrong form
 abbrev pub op_of_parts : ℕ → List Term → Option Op
 op_of_parts keypos (position ∷ increment ∷ []) = op_from keypos position increment None
 op_of_parts keypos (position ∷ increment ∷ threshold ∷ set_value ∷ []) =
@@ -33,11 +37,13 @@ op_of_parts keypos _ = None
 abbrev pub op_of : ℕ → Term → Option Op
 op_of keypos term = op_of_parts keypos (elements term)
 
+-- the operations that a list of tuples describes; None if one of them has a wrong form
 abbrev pub all_ops : ℕ → List Term → Option (List Op)
 all_ops keypos [] = Some []
 all_ops keypos (term ∷ terms) =
     option_and_then (λ op. option_map (λ ops. op ∷ ops) (all_ops keypos terms)) (op_of keypos term)
 
+-- the operations that a term describes, by its first level
 abbrev pub ops_form : ℕ → Term-F Term → Option Ops
 ops_form keypos (Term-F.Int n) = Some (One (record { position = keypos + 1; increment = n; threshold = None }))
 ops_form keypos (Term-F.Tuple terms) = option_map One (op_of_parts keypos terms)
@@ -48,6 +54,7 @@ ops_form keypos _ = None
 abbrev pub ops_of : ℕ → Term → Option Ops
 ops_of keypos term = ops_form keypos (out-Term term)
 
+-- whether a term is a list, by its first level
 abbrev pub is_list_form : Term-F Term → Bool
 is_list_form (Term-F.List terms) = true
 is_list_form _ = false

@@ -3,7 +3,7 @@ use Rattle.std.specs.Prelude.{◌+ℤ◌, Bool, if◌then◌else◌, ℤ, pos, i
 use Rattle.counters.specs.declared.ops.Op.{Op}
 use Rattle.counters.specs.declared.ops.Threshold.{Threshold}
 
--- whether a sum is over the threshold when counting up, or under it when counting down
+-- whether a sum is past the threshold: greater if the counter counts up, or less if it counts down
 abbrev pub is_past : ℤ → ℤ → ℤ → Bool
 is_past increment threshold sum = if int_le (pos 0) increment then int_lt threshold sum else int_lt sum threshold
 

@@ -14,7 +14,7 @@ use crate::sum::new_value;
 use ets_term::{Integer, Items, Position, Term};
 use std::alloc::Global;
 
-/// Returns the integer at a position, from 1; None if there is none.
+/// Returns the integer at a position, counted from 1, or `None` if the element is missing or not an integer.
 #[inline(always)]
 pub fn integer_at(elements: &[Term], position: Position) -> Option<Integer>
     ensures value { result ≡ integer_at position elements.now }
@@ -27,8 +27,8 @@ pub fn integer_at(elements: &[Term], position: Position) -> Option<Integer>
     integer_of(elements.get((position - 1) as usize)?)
 }
 
-/// Returns the new value of the counter of one operation. Badarg if there is no integer at the position; SystemLimit if
-/// the new value is out of range.
+/// Returns the new value of the counter that one operation names. `Badarg` if there is no integer at the position;
+/// `SystemLimit` if the new value is out of range.
 #[inline(always)]
 fn next_value(elements: &[Term], op: Op) -> Result<Integer, CounterFault>
     ensures done { IfOk result (λ n. apply_to_elements (One op) elements.now
@@ -47,8 +47,8 @@ fn next_value(elements: &[Term], op: Op) -> Result<Integer, CounterFault>
     Ok(next)
 }
 
-/// Returns the new value of the counter of one operation, and changes nothing. The refusals are those of
-/// `update_counter`. If there is a value, the position is that of an element, so its index fits a `usize`.
+/// Returns the new value of the counter that one operation names, and changes nothing. Refuses what `update_counter`
+/// refuses. If it returns a value, the object has an element at the position, so the element's index fits a `usize`.
 #[inline(always)]
 pub fn counter_value(object: &Term, op: Op) -> Result<Integer, CounterFault>
     ensures done { IfOk result (λ n.
@@ -62,7 +62,7 @@ pub fn counter_value(object: &Term, op: Op) -> Result<Integer, CounterFault>
     next_value(elements.as_slice(), op)
 }
 
-/// Does one operation in place and returns the new value; it takes no memory.
+/// Does one operation on the elements of an object in place, and returns the new value. It takes no memory.
 fn apply_one(elements: &mut Items<Term>, op: Op) -> Result<Term, CounterFault>
     ensures done { AnswersAs result (apply_to_elements (One op) elements.old) (Tuple elements.new) }
     ensures err { IfErr result (λ fault. apply_to_elements (One op) elements.old ≡ Err fault) }
@@ -75,13 +75,13 @@ fn apply_one(elements: &mut Items<Term>, op: Op) -> Result<Term, CounterFault>
 }
 
 /// Updates the counters of an object in place (stdlib manual, module ets, update_counter/3). Returns the new value, or
-/// the list of new values if the operations are a list. All operations are done or none: Badarg if the object is not a
-/// tuple or has no integer at one of the positions; SystemLimit if a new value is out of range. A single operation
+/// the list of new values if the operations are a list. All operations are done or none. `Badarg` if the object is not
+/// a tuple or has no integer at one of the positions; `SystemLimit` if a new value is out of range. A single operation
 /// takes no memory and writes only its element.
 pub fn update_counter(alloc: Global, object: &mut Term, ops: &Ops) -> Result<Term, CounterFault>
     ensures done { AnswersAs result (apply_ops ops.now object.old) object.new }
     ensures badarg { FailsJustAs result CounterFault.Badarg (apply_ops ops.now object.old) }
-    // A list may run out of memory before the limit is found.
+    // A list of operations may run out of memory before a value out of range is found.
     ensures limit { FailsOnlyAs result CounterFault.SystemLimit (apply_ops ops.now object.old) }
     ensures kept { OnErr result (object.new ≡ object.old) }
     ensures room { is_one ops.now ≡ true → ¬ IsErrOf result CounterFault.Memory }
@@ -95,7 +95,7 @@ pub fn update_counter(alloc: Global, object: &mut Term, ops: &Ops) -> Result<Ter
     }
 }
 
-/// Returns a copy of an object with its counters updated, and the answer, as `update_counter` makes them.
+/// Returns a copy of an object with its counters updated, and the answer, both as `update_counter` computes them.
 pub fn apply_ops(alloc: Global, object: &Term, ops: &Ops) -> Result<(Term, Term), CounterFault>
     ensures done { IfOk result (λ r. apply_ops ops.now object.now ≡ Ok r) }
     ensures badarg { FailsOnlyAs result CounterFault.Badarg (apply_ops ops.now object.now) }

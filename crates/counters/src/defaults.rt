@@ -1,4 +1,5 @@
-//! Objects made from a Default for a missing key.
+//! Objects for a missing key, which are made from the Default: the last argument of update_counter/4 and
+//! update_element/4.
 ghost use Rattle.std.specs.Prelude.{◌≡◌, ◌↔◌, ◌&&◌, nat_lt, nat_le, is_some, Some, None, Ok, Err, IfOk, IsErrOf};
 ghost use Rattle.counters.specs.Defaults.{with_key, start_counter, start_elements};
 ghost use Rattle.counters.specs.Outcomes.{FailsOnlyAs};
@@ -11,8 +12,8 @@ use crate::write::write_elements;
 use ets_term::Term;
 use std::alloc::Global;
 
-/// Returns whether the Default with the key at keypos, from 1, is an object: the Default is a tuple with that element,
-/// and the key is not `'$end_of_table'`.
+/// Returns whether the Default becomes an object if the key is set at keypos, counted from 1: the Default is a tuple
+/// that has this element, and the key is not `'$end_of_table'`.
 pub fn is_default(default: &Term, keypos: u32, key: &Term) -> bool
     ensures { result ≡ is_some (with_key keypos key.now default.now) }
 {
@@ -23,14 +24,14 @@ pub fn is_default(default: &Term, keypos: u32, key: &Term) -> bool
     }
 }
 
-/// Returns whether a tuple of `count` elements has the key's position.
+/// Returns whether a tuple of `count` elements has an element at keypos.
 fn is_position(count: usize, keypos: u32) -> bool
     ensures { result ≡ (nat_lt 0 keypos && nat_le keypos count) }
 {
     0 < keypos && keypos as usize <= count
 }
 
-/// Returns a copy of the Default with the key at keypos; Badarg if `is_default` is false.
+/// Returns a copy of the Default with the key set at keypos. `Badarg` if `is_default` is false.
 pub fn with_key(
     alloc: Global,
     default: &Term,
@@ -56,8 +57,8 @@ pub fn with_key(
 }
 
 /// Returns the object to store for a missing key, and the answer (stdlib manual, module ets, update_counter/4): the
-/// Default with the key at keypos and its counters updated. Badarg if `is_default` is false, or as in `update_counter`.
-/// Then SystemLimit, also if the object has more than `MAX_DEPTH` levels.
+/// Default with the key at keypos and its counters updated. `Badarg` if `is_default` is false, or if `update_counter`
+/// refuses so. Then `SystemLimit`, also if the object has more than `MAX_DEPTH` levels.
 pub fn start_counter(
     alloc: Global,
     default: &Term,
@@ -79,9 +80,9 @@ pub fn start_counter(
     Ok((object, answer))
 }
 
-/// Returns the object to store for a missing key: the Default with the key at keypos and with values written as by
-/// `write_elements`. Badarg if `is_default` is false, or as in `write_elements`. Then SystemLimit, also if the object
-/// has more than `MAX_DEPTH` levels.
+/// Returns the object to store for a missing key: the Default with the key at keypos, after `write_elements` has
+/// written the values. `Badarg` if `is_default` is false, or if `write_elements` refuses so. Then `SystemLimit`, also
+/// if the object has more than `MAX_DEPTH` levels.
 pub fn start_with_elements(
     alloc: Global,
     default: &Term,

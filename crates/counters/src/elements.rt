@@ -1,4 +1,4 @@
-//! Values for elements of an object, and how they are read from a term.
+//! The values that `update_element` writes to elements of an object, and how they are read from a term.
 ghost use Rattle.std.specs.Prelude.{◌≡◌, ◌↔◌, false, Some, None, IfOk, IfSome, IsErrOf};
 ghost use Rattle.counters.specs.declared.elements.ElementSpecs.TheVariants.{One};
 ghost use Rattle.counters.specs.Elements.{spec_of_parts, all_specs, specs_of};
@@ -10,26 +10,26 @@ use crate::position::updatable_position;
 use ets_term::{Items, Position, Term};
 use std::alloc::Global;
 
-/// A value for one element.
+/// A new value for one element: `{Pos,Value}`.
 #[derive(Drop)]
 pub struct ElementSpec {
-    /// The position of the element, from 1.
+    /// The position of the element, counted from 1.
     pub position: Position,
     /// The new element.
     pub value: Term,
 }
 
-/// The values of one update.
+/// The values that one call of `update_element` writes.
 #[derive(Drop)]
 pub enum ElementSpecs {
     /// A value that is not in a list.
     One(ElementSpec),
-    /// A list of values. The last one for a position is written.
+    /// A list of values. If it has several values for a position, the last is written.
     Many(Items<ElementSpec>),
 }
 
-/// Reads the values for elements of an object with this keypos: `{Pos,Value}`, or a list of these pairs. Badarg for
-/// every other form, and if a position is not an integer, is under 1 or is keypos.
+/// Reads the values for elements of an object with this keypos: `{Pos,Value}`, or a list of these pairs. `Badarg` for
+/// any other term, and if a position is not an integer, is less than 1 or is keypos.
 pub fn read_element_specs(
     alloc: Global,
     term: &Term,
@@ -37,7 +37,7 @@ pub fn read_element_specs(
 ) -> Result<ElementSpecs, CounterFault>
     ensures read { IfOk result (λ specs. specs_of keypos term.now ≡ Some specs) }
     ensures badarg { IsErrOf result CounterFault.Badarg → specs_of keypos term.now ≡ None }
-    // A list may run out of memory before a pair of a wrong form is read.
+    // A list may run out of memory before its first faulty pair is read.
     ensures one { is_list term.now ≡ false → specs_of keypos term.now ≡ None → IsErrOf result CounterFault.Badarg }
     ensures limit { ¬ IsErrOf result CounterFault.SystemLimit }
 {
@@ -65,7 +65,7 @@ pub fn read_pair(term: &Term, keypos: u32) -> Option<(Position, &Term)>
     }
 }
 
-/// Reads a position and a value from the elements of a tuple.
+/// Reads a position and a value from the elements of a tuple, which must be two.
 #[inline(always)]
 fn pair_of_parts(keypos: u32, parts: &[Term]) -> Option<(Position, &Term)>
     ensures { IfSome result (λ pair.
@@ -77,7 +77,7 @@ fn pair_of_parts(keypos: u32, parts: &[Term]) -> Option<(Position, &Term)>
     }
 }
 
-/// Reads the position and the value of a pair.
+/// Reads the position of a pair, and copies its value. `Badarg` if the elements are not such a pair.
 fn spec_of_parts(alloc: Global, keypos: u32, parts: &[Term]) -> Result<ElementSpec, CounterFault>
     ensures read { IfOk result (λ spec. spec_of_parts keypos parts.now ≡ Some spec) }
     ensures badarg { IsErrOf result CounterFault.Badarg ↔ (spec_of_parts keypos parts.now ≡ None) }
@@ -95,7 +95,7 @@ fn spec_of_parts(alloc: Global, keypos: u32, parts: &[Term]) -> Result<ElementSp
     })
 }
 
-/// Reads a list of pairs.
+/// Reads a list of pairs, as `spec_of_parts` reads each.
 fn all_specs(alloc: Global, keypos: u32, terms: &[Term]) -> Result<Items<ElementSpec>, CounterFault>
     ensures read { IfOk result (λ specs. all_specs keypos terms.now ≡ Some specs) }
     ensures badarg { IsErrOf result CounterFault.Badarg → all_specs keypos terms.now ≡ None }

@@ -1,4 +1,4 @@
-//! A list of operations: done in place one after another, and undone if one of them cannot be done.
+//! A list of counter operations: done in place one after another, and undone if one of them is refused.
 ghost use Rattle.std.specs.Prelude.{◌≡◌, Some, None, Ok, Err, IfOk, OnOk, OnErr, IsErrOf, is_some};
 ghost use Rattle.std.specs.List.{list_all};
 ghost use Rattle.counters.specs.Counters.{integer_at, apply_one, apply_all, apply_to_elements};
@@ -14,7 +14,7 @@ use crate::sum::new_value;
 use ets_term::{Integer, Items, Term};
 use std::alloc::Global;
 
-/// An integer that an operation replaced, and the index of its element, from 0.
+/// An entry of the undo log: an integer that an operation replaced, and the index of its element, counted from 0.
 #[derive(Clone, Copy, Debug)]
 pub struct Overwritten {
     at: usize,
@@ -38,7 +38,7 @@ pub fn apply_many(
     Ok(Term::List(apply_list(alloc, elements, ops)?))
 }
 
-/// Returns whether each operation finds an integer.
+/// Returns whether there is an integer at the position of each operation.
 fn are_counters(elements: &[Term], ops: &[Op]) -> bool
     ensures { result ≡ list_all (λ op. is_some (integer_at op.position elements.now)) ops.now }
 {
@@ -46,7 +46,7 @@ fn are_counters(elements: &[Term], ops: &[Op]) -> bool
         .all(|op| integer_at(elements, op.position).is_some())
 }
 
-/// Does the operations from the left and returns the new values. If one cannot be done, undoes those before it.
+/// Does the operations in their order and returns the new values. If one is refused, undoes the earlier operations.
 fn apply_list(
     alloc: Global,
     elements: &mut Items<Term>,
@@ -93,7 +93,7 @@ fn apply_next(
     Ok(())
 }
 
-/// Writes the replaced integers back, the last one first.
+/// Undoes operations: writes the replaced integers back, the last first.
 #[tactic(auto, using(crate::proofs::RestoreLaws::restore_push, crate::proofs::RestoreLaws::one_back))]
 fn restore(elements: &mut Items<Term>, mut overwritten: Items<Overwritten>)
     ensures { elements.new ≡ restore overwritten elements.old }

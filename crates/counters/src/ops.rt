@@ -1,4 +1,4 @@
-//! Operations on counters, and how they are read from a term.
+//! The operations of `update_counter`, and how they are read from a term.
 ghost use Rattle.std.specs.Prelude.{◌≡◌, ◌+◌, false, Some, None, IfOk, IfSome, IsErrOf};
 ghost use Rattle.counters.specs.declared.ops.Ops.TheVariants.{One};
 ghost use Rattle.counters.specs.Ops.{threshold_of, op_from, op_of_parts, op_of, all_ops, ops_of, is_list};
@@ -8,36 +8,36 @@ use crate::position::{integer_of, updatable_position};
 use ets_term::{Integer, Items, Position, Term};
 use std::alloc::Global;
 
-/// One operation: what is added to which element, and what replaces a sum past a threshold.
+/// One counter operation: adds an increment to an element. If the sum is past the threshold, another value is written.
 #[derive(Clone, Copy, Debug)]
 pub struct Op {
-    /// The position of the element, from 1.
+    /// The position of the element, counted from 1.
     pub position: Position,
-    /// What is added; negative to count down.
+    /// The integer that is added; it is negative to count down.
     pub increment: Integer,
     /// The threshold, if the operation has one.
     pub threshold: Option<Threshold>,
 }
 
-/// A threshold: a sum over it, or under it when counting down, is replaced.
+/// A threshold: a sum that is greater, or less if the counter counts down, is replaced by `set_value`.
 #[derive(Clone, Copy, Debug)]
 pub struct Threshold {
-    /// The threshold itself; a sum equal to it stays.
+    /// The threshold itself; an equal sum is not replaced.
     pub value: Integer,
-    /// What replaces the sum.
+    /// The value that replaces the sum.
     pub set_value: Integer,
 }
 
-/// The operations of one update.
+/// The operations of one call of `update_counter`.
 #[derive(Debug, Drop)]
 pub enum Ops {
-    /// An operation that is not in a list. Its answer is an integer, and it takes no memory.
+    /// An operation that is not in a list. The answer is an integer, and the update takes no memory.
     One(Op),
-    /// A list of operations. Its answer is a list of integers.
+    /// A list of operations. The answer is a list of integers.
     Many(Items<Op>),
 }
 
-/// Reads a threshold and the value that replaces a sum.
+/// Reads a threshold and the value that replaces a sum. Returns `None` if one is not an integer.
 fn threshold_of(threshold: &Term, set_value: &Term) -> Option<Threshold>
     ensures { result ≡ threshold_of threshold.now set_value.now }
 {
@@ -47,7 +47,8 @@ fn threshold_of(threshold: &Term, set_value: &Term) -> Option<Threshold>
     })
 }
 
-/// Reads a position and an increment.
+/// Reads a position and an increment, and returns their operation. Returns `None` if the position is not allowed or the
+/// increment is not an integer.
 #[inline(always)]
 fn op_from(
     keypos: u32,
@@ -78,7 +79,7 @@ fn op_of_parts(keypos: u32, parts: &[Term]) -> Option<Op>
     }
 }
 
-/// Reads an operation from a tuple.
+/// Reads an operation from a tuple. Returns `None` for any other term.
 fn op_of(keypos: u32, term: &Term) -> Option<Op>
     ensures { result ≡ op_of keypos term.now }
 {
@@ -105,8 +106,8 @@ fn all_ops(alloc: Global, keypos: u32, terms: &[Term]) -> Result<Items<Op>, Coun
 }
 
 /// Reads the operations on an object with this keypos: `Incr`, which is `{keypos+1,Incr}`, or `{Pos,Incr}`, or
-/// `{Pos,Incr,Threshold,SetValue}`, or a list of the tuple forms. Badarg for every other form, and if an operand is not
-/// an integer or a position is under 1 or is keypos.
+/// `{Pos,Incr,Threshold,SetValue}`, or a list of the tuple forms. `Badarg` for any other term, and if a part of a tuple
+/// is not an integer or a position is less than 1 or is keypos.
 pub fn read_ops(alloc: Global, term: &Term, keypos: u32) -> Result<Ops, CounterFault>
     ensures read { IfOk result (λ ops. ops_of keypos term.now ≡ Some ops) }
     ensures badarg { IsErrOf result CounterFault.Badarg → ops_of keypos term.now ≡ None }
@@ -125,7 +126,7 @@ pub fn read_ops(alloc: Global, term: &Term, keypos: u32) -> Result<Ops, CounterF
 }
 
 /// Reads an operation that is not in a list and has no threshold: `Incr` or `{Pos,Incr}`. Returns `None` for any other
-/// term, which `read_ops` reads. Most operations are of this kind, and they need no place in memory.
+/// term, which `read_ops` reads. Most operations are of this kind, and reading them takes no memory.
 #[inline(always)]
 pub fn read_increment(term: &Term, keypos: u32) -> Option<Op>
     ensures { IfSome result (λ op. ops_of keypos term.now ≡ Some (One op)) }
@@ -148,7 +149,7 @@ fn increment_of_parts(keypos: u32, parts: &[Term]) -> Option<Op>
     }
 }
 
-/// Returns the operation that an integer alone is. It is for the position after the key's.
+/// Returns the operation `Incr`, given as an integer alone: it adds to the element after the key.
 #[inline(always)]
 fn increment_by(keypos: u32, n: Integer) -> Op
     ensures { result ≡ record { position = keypos + 1; increment = n; threshold = None } }

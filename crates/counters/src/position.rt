@@ -5,7 +5,7 @@ ghost use Rattle.counters.specs.Positions.{integer_of, position_at, updatable_po
 
 use ets_term::{Integer, Position, Term};
 
-/// Returns the integer that a term is; None for any other term.
+/// Returns the value of an integer, or `None` for any other term.
 #[inline(always)]
 pub fn integer_of(term: &Term) -> Option<Integer>
     ensures value { result ≡ integer_of term.now }
@@ -17,7 +17,7 @@ pub fn integer_of(term: &Term) -> Option<Integer>
     }
 }
 
-/// Returns the position that a term names if an update may name it: at least 1 and not keypos.
+/// Returns the position that a term names, or `None` if it is not an integer, is less than 1 or is keypos.
 #[inline(always)]
 pub fn updatable_position(keypos: u32, term: &Term) -> Option<Position>
     ensures { result ≡ updatable_position keypos term.now }
@@ -25,7 +25,7 @@ pub fn updatable_position(keypos: u32, term: &Term) -> Option<Position>
     position_at(keypos, integer_of(term)?)
 }
 
-/// Returns an integer as a position, with the test of `updatable_position`.
+/// Returns an integer as a position, or `None` if it is less than 1 or is keypos.
 #[inline(always)]
 fn position_at(keypos: u32, n: Integer) -> Option<Position>
     ensures { result ≡ position_at keypos n }

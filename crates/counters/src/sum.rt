@@ -1,4 +1,4 @@
-//! The addition of a counter, which may leave the range of integers.
+//! The new value of a counter. The sum may be out of the range of integers.
 ghost use Rattle.std.specs.Prelude.{◌≡◌};
 ghost use Rattle.ets_term.specs.Integers.{in_range};
 ghost use Rattle.counters.specs.Sums.{is_past, new_value};
@@ -6,7 +6,7 @@ ghost use Rattle.counters.specs.Sums.{is_past, new_value};
 use crate::ops::Op;
 use ets_term::Integer;
 
-/// Returns whether a sum is over a threshold when counting up, or under it when counting down.
+/// Returns whether a sum is past a threshold: greater if the counter counts up, or less if it counts down.
 fn is_past(increment: Integer, threshold: Integer, sum: Integer) -> bool
     ensures { result ≡ is_past increment threshold sum }
 {
@@ -17,7 +17,8 @@ fn is_past(increment: Integer, threshold: Integer, sum: Integer) -> bool
     }
 }
 
-/// Returns the new value of an element; None if it is out of range. A sum that is out of range is past every threshold.
+/// Returns the new value of a counter after an operation, or `None` if it is out of range. A sum that is out of range
+/// is past every threshold.
 #[inline(always)]
 pub fn new_value(op: Op, value: Integer) -> Option<Integer>
     ensures { result ≡ in_range (new_value op value) }

@@ -1,4 +1,4 @@
-//! Values for elements of one object, copied or written.
+//! Writes values to elements of one object, in place or in a copy.
 ghost use Rattle.std.specs.Prelude.{◌≡◌, ◌-◌, ◌<◌, ◌^◌, ◌==◌, ◌∷◌, [], slice_set, Ok, Err, IfOk, OnOk, OnErr, IfErr};
 ghost use Rattle.std.specs.List.{list_any};
 ghost use Rattle.counters.specs.Elements.{has_all, write_values, apply_elements};
@@ -11,7 +11,7 @@ use crate::fault::CounterFault;
 use ets_term::{Items, MAX_DEPTH, Position, Term};
 use std::alloc::{AllocError, Global};
 
-/// Returns a copy of an object with values written as by `write_elements`.
+/// Returns a copy of an object, with the values that `write_elements` writes.
 pub fn apply_elements(
     alloc: Global,
     object: &Term,
@@ -27,8 +27,9 @@ pub fn apply_elements(
 }
 
 /// Writes copies of values into elements of an object in place (stdlib manual, module ets, update_element/3). Of
-/// several values for a position, the last one is written. All values are written or none: Badarg if the object is not
-/// a tuple or does not have each position; then SystemLimit if a value to be written has `MAX_DEPTH` levels or more.
+/// several values for a position, the last one is written. All values are written or none. `Badarg` if the object is
+/// not a tuple or does not have each position; then `SystemLimit` if a value to be written has `MAX_DEPTH` levels or
+/// more.
 pub fn write_elements(
     alloc: Global,
     object: &mut Term,
@@ -48,8 +49,8 @@ pub fn write_elements(
     }
 }
 
-/// Returns a copy of the value of one update, and changes nothing. The refusals are those of `write_elements`. If there
-/// is a copy, the position is that of an element, so its index fits a `usize`.
+/// Returns a copy of the value that an update writes, and changes nothing. Refuses what `write_elements` refuses. If it
+/// returns a copy, the object has an element at the position, so the element's index fits a `usize`.
 #[inline(always)]
 pub fn element_value(
     alloc: Global,
@@ -72,7 +73,7 @@ pub fn element_value(
     copied_value(alloc, elements.as_slice(), position, value)
 }
 
-/// Returns a copy of one value, if it may be written.
+/// Returns a copy of one value, if `check_one` allows to write it.
 #[inline(always)]
 fn copied_value(
     alloc: Global,
@@ -93,7 +94,7 @@ fn copied_value(
     Ok(copy_value(alloc, value)?)
 }
 
-/// Returns a copy of a value. An integer takes no call.
+/// Returns a copy of a value. An integer is copied without a further call.
 #[inline(always)]
 fn copy_value(alloc: Global, value: &Term) -> Result<Term, AllocError>
     ensures { IfOk result (λ copy. copy ≡ value.now) }
@@ -104,7 +105,7 @@ fn copy_value(alloc: Global, value: &Term) -> Result<Term, AllocError>
     }
 }
 
-/// Writes a copy of one value, without a list.
+/// Writes a copy of one value that is not in a list.
 fn copy_one(
     alloc: Global,
     elements: &mut Items<Term>,
@@ -137,6 +138,7 @@ fn copy_list(
     Ok(())
 }
 
+/// Returns copies of values with their positions.
 fn copy_specs(alloc: Global, specs: &[ElementSpec]) -> Result<Vec<ElementSpec>, AllocError>
     ensures { IfOk result (λ copies. copies.items ≡ specs.now) }
 {
@@ -150,8 +152,8 @@ fn copy_specs(alloc: Global, specs: &[ElementSpec]) -> Result<Vec<ElementSpec>, 
     Ok(copies)
 }
 
-/// Tests whether one value may be written: Badarg if the tuple does not have the position, then SystemLimit if the
-/// value is too deep.
+/// Checks whether one value may be written: `Badarg` if the tuple does not have the position, then `SystemLimit` if the
+/// value is too deep for an element.
 #[inline(always)]
 fn check_one(elements: &[Term], position: Position, value: &Term) -> Result<(), CounterFault>
     ensures ok { OnOk result
@@ -170,7 +172,7 @@ fn check_one(elements: &[Term], position: Position, value: &Term) -> Result<(), 
     Ok(())
 }
 
-/// Tests whether a list of values may be written, with the refusals of `check_one`.
+/// Checks whether a list of values may be written, with the refusals of `check_one`.
 fn check_list(elements: &[Term], specs: &[ElementSpec]) -> Result<(), CounterFault>
     ensures ok { OnOk result (write_values specs.now elements.now ≡ Ok (write_each specs.now elements.now)) }
     ensures err { IfErr result (λ fault. write_values specs.now elements.now ≡ Err fault) }
@@ -191,7 +193,7 @@ fn has_all(count: usize, specs: &[ElementSpec]) -> bool
     specs.iter().all(|spec| 0 < spec.position && spec.position <= count as Position)
 }
 
-/// Returns whether a value is too deep for an element and is the last one for its position.
+/// Returns whether a value is too deep for an element and no later value of the list replaces it.
 fn too_deep_as_element(specs: &[ElementSpec]) -> bool
     ensures { result ≡ too_deep_as_element specs.now }
 {
@@ -204,14 +206,14 @@ fn too_deep_as_element(specs: &[ElementSpec]) -> bool
     false
 }
 
-/// Returns whether a value is given for a position.
+/// Returns whether the list has a value for a position.
 fn gives_value(specs: &[ElementSpec], position: Position) -> bool
     ensures { result ≡ list_any (λ later. later.position == position) specs.now }
 {
     specs.iter().any(|later| later.position == position)
 }
 
-/// Writes values from the left, so that the last one for a position stays.
+/// Writes values in their order, so that the last value for a position stays.
 fn write_all(elements: &mut Items<Term>, mut specs: Vec<ElementSpec>)
     ensures { elements.new ≡ write_each specs.items elements.old }
 {

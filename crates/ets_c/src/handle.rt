@@ -6,8 +6,8 @@ use node_text::Store;
 use std::alloc::Global;
 use std::mem;
 
-/// A handle: it is closed, or it holds a store. To C it is two words, of which only this library reads the content, and
-/// two zeros are a closed handle.
+/// A handle: it is closed, or it holds a store. To C it is two words, which only this library reads. Two zeros are a
+/// closed handle.
 #[repr(C)]
 #[derive(Drop)]
 pub struct Handle {
@@ -17,7 +17,7 @@ pub struct Handle {
 }
 
 impl Handle {
-    /// Makes a handle without a store. `take` puts it in the place of the old one.
+    /// Makes a closed handle, with which `take` replaces an open one.
     fn make_closed(alloc: Global) -> Handle
         ensures { result.pointer.store ≡ None }
     {

@@ -1,21 +1,22 @@
-//! The store as a C library: each call on a handle does one step of the store, and returns a status and the reply's text
-//! or its bytes in Erlang's External Term Format.
+//! The store as a C library: each call on a handle runs one step of the store, and returns a status and the reply, as a
+//! text or in Erlang's External Term Format.
 //!
 //! bindings/c/include/yoyoash.h declares these functions.
 //!
-//! *Guarantee.* A call on a handle does the step that its text or term spells, as the specification says, or it is
+//! *Guarantee.* A call on a handle runs the step that its text or term spells, as the specification says, or it is
 //! refused and changes nothing. The status, the number of the reply's bytes and the bytes in the caller's buffer are
-//! those of the reply. `yoyoash_why` returns why the last call was refused. Each call on a closed handle returns `CLOSED`.
+//! those of the reply. `yoyoash_why` returns why the last call was refused. Each call on a closed handle returns
+//! `CLOSED`.
 //!
 //! *Weakness.* Nothing checks what a caller in C must do: move a handle and never copy it, pass buffers that do not
 //! overlap, and let one call at a time use a handle. A handle may move to another thread, since a store is `Send`; the
 //! caller's lock, or a join, must then order the calls of the two threads.
 //!
-//! *Mechanism.* A handle is a pointer to a box, and whether there is one. A call takes the box out, does its step, and
-//! puts the box back.
+//! *Mechanism.* A handle is a pointer to a box with the store, and a flag whether there is one. A call takes the box
+//! out, runs its step, and puts the box back.
 //!
-//! *Limits.* The tuple of a call counts as one of the 128 levels that a text may have, so an argument may have 127; in a
-//! term the list of the arguments counts too, so an argument may have 126.
+//! *Limits.* The tuple of a call counts as one of the 128 levels that a text may have, so an argument may have 127; in
+//! a term the list of the arguments counts too, so an argument may have 126.
 #![tactic(auto)]
 
 ghost use Rattle.std.specs.Prelude.{◌≡◌, None};
@@ -34,8 +35,8 @@ use node_text::laws::is_send;
 use node_text::{CLOSED, NO_MEMORY, Store, VALUE};
 use std::alloc::Global;
 
-/// Opens a new store in a handle. The limits are the number of processes ever spawned, of tables ever made, and of
-/// objects in one table. Frees an earlier store of the handle. `NO_MEMORY` changes nothing.
+/// Opens a new store in a handle. The limits are the greatest numbers of processes ever spawned, of tables ever made,
+/// and of objects in one table. Frees an earlier store of the handle. `NO_MEMORY` changes nothing.
 #[unsafe(no_mangle)]
 pub extern "C" fn yoyoash_open(
     alloc: Global,
@@ -60,7 +61,7 @@ pub extern "C" fn yoyoash_open(
     VALUE
 }
 
-/// Spawns the process of this number. A number is used once.
+/// Spawns the process with this number. A number can be used only once.
 #[unsafe(no_mangle)]
 pub extern "C" fn yoyoash_spawn(alloc: Global, handle: &mut Handle, pid: u32) -> i32
     ensures { HandleSteps handle.old.pointer.store (Enrol pid) result handle.new.pointer.store }
@@ -68,7 +69,7 @@ pub extern "C" fn yoyoash_spawn(alloc: Global, handle: &mut Handle, pid: u32) ->
     step(alloc, handle, &Step::Enrol(pid))
 }
 
-/// Ends the process of this number. Its tables go to their heirs, and those without an heir are deleted.
+/// Ends the process with this number. Its tables go to their heirs, and those without an heir are deleted.
 #[unsafe(no_mangle)]
 pub extern "C" fn yoyoash_exit(alloc: Global, handle: &mut Handle, pid: u32) -> i32
     ensures { HandleSteps handle.old.pointer.store (End pid) result handle.new.pointer.store }
@@ -76,7 +77,7 @@ pub extern "C" fn yoyoash_exit(alloc: Global, handle: &mut Handle, pid: u32) -> 
     step(alloc, handle, &Step::End(pid))
 }
 
-/// Does one step on the store of a handle, and returns its status.
+/// Runs one step on the store of a handle, and returns its status.
 fn step(alloc: Global, handle: &mut Handle, event: &Step) -> i32
     ensures { HandleSteps handle.old.pointer.store event.now result handle.new.pointer.store }
 {
@@ -88,9 +89,9 @@ fn step(alloc: Global, handle: &mut Handle, event: &Step) -> i32
     status
 }
 
-/// Does the call of a text for the process of this number. The text is a tuple of the call's name and its arguments,
-/// such as `{lookup,t,a}`. Writes the whole length of the reply's text to `len`, and as much of the text as fits to
-/// `out`; after `SYNTAX` it writes the offset of the fault to `len`.
+/// Makes the call that a text spells, for the process with this number. The text is a tuple of the call's name and its
+/// arguments, such as `{lookup,t,a}`. Writes as much of the reply's text as fits to `out`, and its full length to
+/// `len`. After `SYNTAX`, `len` is the offset of the syntax error.
 #[unsafe(no_mangle)]
 pub extern "C" fn yoyoash_call(
     alloc: Global,
@@ -131,9 +132,10 @@ pub extern "C" fn yoyoash_reply(
     status
 }
 
-/// Does the call of a term in Erlang's External Term Format for the process of this number. The term is a tuple of the
-/// call's name and the list of its arguments, such as `{lookup,[t,a]}`. Writes the number of the reply's bytes in this
-/// format to `len`, and as many of them as fit to `out`; after `SYNTAX` it writes the offset of the fault to `len`.
+/// Makes the call that a term in Erlang's External Term Format spells, for the process with this number. The term is a
+/// tuple of the call's name and the list of its arguments, such as `{lookup,[t,a]}`. Writes as many of the reply's
+/// bytes in this format as fit to `out`, and their total number to `len`. After `SYNTAX`, `len` is the offset of the
+/// fault.
 #[unsafe(no_mangle)]
 pub extern "C" fn yoyoash_call_external(
     alloc: Global,
@@ -202,7 +204,7 @@ pub extern "C" fn yoyoash_close(alloc: Global, handle: &mut Handle)
     let _ended = handle.take(alloc);
 }
 
-/// Shows that a handle may move to another thread, since `is_send` takes its type.
+/// Proves that a handle may move to another thread: `is_send` accepts its type.
 pub fn handles_are_send() {
     is_send::<Handle>();
 }

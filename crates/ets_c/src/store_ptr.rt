@@ -1,4 +1,4 @@
-//! A store that C keeps by a pointer.
+//! The pointer to a store that C keeps.
 ghost use Rattle.std.specs.Prelude.{◌≡◌, Option, None, Some, IsSome};
 ghost use Rattle.std.specs.Coded.{coded_option};
 ghost use Rattle.std_alloc.specs.Box.Ownership.{box_owns};
@@ -9,7 +9,7 @@ use node_text::Store;
 use std::alloc::{Allocator, Global};
 use std::marker::Model;
 
-/// A box, as its pointer.
+/// A box, as its pointer and its allocator.
 pub(crate) struct RawBox<T, A: Allocator> {
     at: *mut T,
     alloc: A,
@@ -54,7 +54,7 @@ impl Model for StorePtr {
     ghost also_owns = { λ h. holds the_row h.alloc h.at h.store };
 }
 
-// It owns the store alone, and `free` gives memory back on any thread.
+// The pointer is the only owner of the store, and `free` may run on any thread.
 unsafe impl Send for StorePtr {}
 
 impl StorePtr {
@@ -81,7 +81,7 @@ impl StorePtr {
         }
     }
 
-    /// Makes a null pointer, which leads to no store.
+    /// Makes a null pointer, which owns no store.
     pub(crate) fn empty(alloc: Global) -> StorePtr
         ensures { result.store ≡ None }
     {

@@ -9,7 +9,7 @@ pub record Exchange : Type 0 where
   pub body : List ℕ
   pub reply : PacketReply
 
--- a request is answered, and the lengths of both bodies fit their packets
+-- a request is answered, and each body is short enough for a packet
 pub record IsExchange (old : StoreState) (e : Exchange) (new : StoreState) : Type 0 where
   pub answers : Answers e.body old e.reply new
   pub few : length e.body ≤ max_packet

@@ -1,7 +1,7 @@
 -- Packets: a length of four bytes, the high byte first, and a body of this length.
 use Rattle.std.specs.Prelude.{◌≡◌, ◌⊎◌, ℕ, ◌+◌, ◌*◌, ◌/◌, ◌%◌, ◌^◌, ◌≤◌, ◌<◌, List, [], ◌∷◌, ◌++◌, length, slice_index}
 
--- the greatest length of a body
+-- the greatest length of the body of a packet
 abbrev pub max_packet : ℕ
 max_packet = 16777216
 
@@ -9,7 +9,7 @@ max_packet = 16777216
 abbrev pub big4 : ℕ → List ℕ
 big4 n = n / 2 ^ 24 % 256 ∷ n / 2 ^ 16 % 256 ∷ n / 2 ^ 8 % 256 ∷ n % 256 ∷ []
 
--- the number that the four bytes at an offset spell
+-- the number that the four bytes at an offset encode
 abbrev pub number_at : List ℕ → ℕ → ℕ
 number_at bytes at =
     slice_index bytes at * 2 ^ 24 + slice_index bytes (at + 1) * 2 ^ 16
@@ -19,7 +19,7 @@ number_at bytes at =
 abbrev pub packet : List ℕ → List ℕ
 packet body = big4 (length body) ++ body
 
--- bytes in which a packet does not end: fewer than four, or a length and fewer bytes than it says
+-- a part of a packet: fewer than four bytes, or a length and fewer bytes than that
 abbrev pub IsPart : List ℕ → Type 0
 IsPart part =
     (length part < 4)

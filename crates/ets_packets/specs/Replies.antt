@@ -28,7 +28,7 @@ packet_reply status rest = record { status = status; rest = rest }
 abbrev pub reply_body : PacketReply → List ℕ
 reply_body r = r.status ∷ r.rest
 
--- this status and this text, or no text if there is no memory for it
+-- a reply with this status and this text, or without the text if there is no memory for it
 abbrev pub IsTextReply : ℕ → List ℕ → PacketReply → Type 0
 IsTextReply status text r = (r.status ≡ status) × ((r.rest ≡ text) ⊎ (r.rest ≡ []))
 
@@ -36,36 +36,36 @@ abbrev pub reason_text : Option LastRefusal → List ℕ
 reason_text None = []
 reason_text (Some refusal) = refusal_text refusal
 
--- The reply of a step and why it was refused: the term in the external format, or 7 if it has no memory or too many
--- bytes; or the reason.
+-- The reply to a step. For a value, it has the term in the external format; or the status is 7, if memory ran out or
+-- the term has too many bytes. For a refusal, it has the reason.
 abbrev pub IsReplyOf : Reply → Option LastRefusal → PacketReply → Type 0
 IsReplyOf (Value t) why r = (r ≡ packet_reply 0 (written t)) ⊎ (r ≡ packet_reply 7 [])
 IsReplyOf Badarg why r = IsTextReply 1 (reason_text why) r
 IsReplyOf SystemLimit why r = IsTextReply 2 (reason_text why) r
 IsReplyOf NoProcess why r = IsTextReply 3 (reason_text why) r
 
--- memory ran out, and nothing else changes
+-- memory ran out, and only the reason of the refusal changes
 abbrev pub RunsOut : StoreState → PacketReply → StoreState → Type 0
 RunsOut old r new = (new ≡ with_refusal NoMemory old) × IsTextReply 4 (codes "out of memory") r
 
--- a step is done, and its reply is returned
+-- a step is run, and its reply is returned
 abbrev pub Steps : Step → StoreState → PacketReply → StoreState → Type 0
 Steps event old r new = (RunsStep old event new × IsReplyOf new.reply new.refusal r) ⊎ RunsOut old r new
 
--- what is no call is refused in this way and changes nothing else
+-- bytes that are not a call are refused with this reason, which is all that changes
 abbrev pub RefusesCall : LastRefusal → StoreState → PacketReply → StoreState → Type 0
 RefusesCall why old r new = ((new ≡ with_refusal why old) × IsTextReply 5 (refusal_text why) r) ⊎ RunsOut old r new
 
--- a call is done, or refused
+-- a call is made; or bytes that are not a call are refused
 abbrev pub Calls : ParsedCall → ℕ → StoreState → PacketReply → StoreState → Type 0
 Calls (parsed.Call name args) pid = Steps (Ask pid (record { name = name; args = args }))
 Calls (parsed.Faulty problem at) pid = RefusesCall (External problem)
 
--- what is no request changes nothing
+-- a body that is not a request is refused, and changes nothing
 abbrev pub RefusesRequest : StoreState → PacketReply → StoreState → Type 0
 RefusesRequest old r new = (new ≡ old) × IsTextReply 5 (codes "not a request") r
 
--- the answer to a request with these bytes of a call
+-- the answer to a request; a call has these bytes
 abbrev pub AnswersRequest : Request → List ℕ → StoreState → PacketReply → StoreState → Type 0
 AnswersRequest (request.Spawn pid) bytes = Steps (Enrol pid)
 AnswersRequest (request.Exit pid) bytes = Steps (End pid)

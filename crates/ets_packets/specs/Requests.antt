@@ -4,7 +4,7 @@ use Rattle.ets_packets.specs.Packets.{number_at}
 use Rattle.ets_packets.specs.declared.request.Request.{Request}
 use Rattle.ets_packets.specs.declared.request.Request.TheVariants.{Spawn, Exit, Call, NotARequest}
 
--- kinds 0 and 1 have no rest: the body has five bytes
+-- the request of a kind and a process number; kinds 0 and 1 have no rest, so that the body has five bytes
 abbrev pub request_of : ℕ → ℕ → Bool → Request
 request_of kind pid is_short =
     if kind == 2 then Call pid

@@ -10,7 +10,8 @@ use Rattle.ets_packets.specs.Traffic.{Traffic}
 use Rattle.ets_packets.specs.declared.fault.PacketFault.{PacketFault}
 use Rattle.ets_packets.specs.declared.fault.PacketFault.TheVariants.{Read, Write, Memory, Truncated, TooLong}
 
--- packets were read and then this, all of them were answered in a run of the store, and all replies were written
+-- whole packets were read, and then these further bytes; all packets were answered in a run of the store, and all
+-- replies were written
 pub record Answered (start : StoreState) (t : Traffic) (rest : List ℕ) : Type 0 where
   pub exchanges : List Exchange
   pub end : StoreState
@@ -30,13 +31,13 @@ pub record Unwritten (start : StoreState) (t : Traffic) : Type 0 where
   pub written : Appends t.writer.before t.writer.after sent
   pub parts : replies exchanges ≡ sent ++ unsent
 
--- the input is packets to its end, and all were answered
+-- the whole input is packets, and all of them were answered
 abbrev pub Completes : StoreState → Traffic → Type 0
 Completes start t = Answered start t [] × IsAtEnd t.reader.after
 
--- At a read fault or out of memory all whole packets that were read are answered, and all replies are written. A part of
--- a packet, or what there was no memory for, is not answered. At a write fault a prefix of the replies is written, and
--- packets that were read may be left without an answer.
+-- At a read fault or out of memory all whole packets that were read are answered, and all replies are written. A part
+-- of a packet, or what there was no memory for, is not answered. At a write fault a prefix of the replies is written,
+-- and packets that were read may be left without an answer.
 abbrev pub Stops : StoreState → Traffic → PacketFault → Type 0
 Stops start t Read = (part : List ℕ) × Answered start t part × IsPart part
 Stops start t Write = Unwritten start t
@@ -45,7 +46,7 @@ Stops start t Truncated =
     (part : List ℕ) × Answered start t part × IsPart part × (0 < length part) × IsAtEnd t.reader.after
 Stops start t TooLong = (part : List ℕ) × Answered start t part × IsTooLong part
 
--- a new store's run, and the status: 0 at the end of the input, and else 1
+-- the program's status after a run of a new store: 0 if it reached the end of the input, else 1
 abbrev pub PacketsEnd : Limits → Traffic → ℕ → Type 0
 PacketsEnd limits t status =
     ((status ≡ 0) × Completes (new_store limits) t)

@@ -1,12 +1,12 @@
 -- What passes through a reader and a writer.
 use Rattle.std.specs.Prelude.{ℕ, List, Option}
 
--- its bytes before and after: those that a reader has left, or those that a writer holds
+-- the bytes before and after: those that a reader still has to give, or those that a writer has taken
 pub record Flow : Type 0 where
   pub before : Option (List ℕ)
   pub after : Option (List ℕ)
 
--- from one state of it to another, by the word for its bytes in each
+-- the flow of a reader or writer from one state to another, by the function that gives its bytes
 abbrev pub flow : {S : Type 0} → (S → Option (List ℕ)) → S → S → Flow
 flow known old new = record { before = known old; after = known new }
 

@@ -60,7 +60,7 @@ impl Buffer {
         &self.input[self.start..self.input.len()]
     }
 
-    /// Takes the first `count` bytes, which were answered.
+    /// Removes the first `count` bytes, which were answered.
     pub(crate) fn consume(&mut self, count: usize)
         requires { count ≤ length self.old }
         ensures { self.new ≡ drop count self.old }

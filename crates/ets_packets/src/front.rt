@@ -1,10 +1,10 @@
-//! What the buffered bytes begin with.
+//! The packet, or the part of one, that the buffered bytes begin with.
 ghost use Rattle.std.specs.Prelude.{◌≡◌};
 ghost use Rattle.ets_packets.specs.inside.Buffer.{IsFront};
 
 use crate::number::number_at;
 
-/// The greatest length of a body.
+/// The greatest length of the body of a packet.
 pub const MAX_PACKET: usize = 16_777_216;
 
 /// What the buffered bytes begin with.
@@ -18,7 +18,7 @@ pub(crate) enum Front {
     Packet(usize),
 }
 
-/// Returns what bytes begin with.
+/// Returns what the bytes begin with: a packet, a part of one, or a packet that is too long.
 pub(crate) fn first_packet(bytes: &[u8]) -> Front
     ensures { IsFront bytes.now result }
 {

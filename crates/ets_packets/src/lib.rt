@@ -1,9 +1,9 @@
 //! Answers calls of a store in packets, as Erlang's ports send them with `{packet, 4}`: bytes in, bytes out.
 //!
-//! *Guarantee.* From the bytes read to the bytes written: each packet is answered as specs/Replies.antt says, by a store
-//! that starts empty, and the replies are in the order of the requests. All replies to packets that were read are written
-//! before the next read. A run that stops early has answered all whole packets before, or has written a prefix of their
-//! replies if a write failed. A packet that is too long, and an input that ends inside a packet, are faults.
+//! *Guarantee.* From the bytes read to the bytes written: each packet is answered as specs/Replies.antt says, by a
+//! store that starts empty, and the replies are in the order of the requests. All replies to packets that were read are
+//! written before the next read. A run that stops early has answered all whole packets before, or has written a prefix
+//! of their replies if a write failed. A packet that is too long, and an input that ends inside a packet, are faults.
 //!
 //! *Weakness.* Only tests show that replies are flushed before each read. No contract says when memory is available.
 //!
@@ -11,8 +11,8 @@
 //! which is written before the next read, and when it has 65,536 bytes. This buffer with its writer is `Output`, which
 //! also takes the answers of scripts.
 //!
-//! *Limits.* The body of a packet has at most 16,777,216 bytes. A reader is called at most 2^64 - 1 times. A term whose
-//! reply would have 2^32 bytes or more is left out, with status 7.
+//! *Limits.* The body of a packet has at most 16,777,216 bytes. A reader is called at most 2^64 - 1 times. A reply
+//! whose body would have 2^32 bytes or more has status 7, without its term.
 #![tactic(auto)]
 
 mod buffer;

@@ -2,7 +2,7 @@
 ghost use Rattle.std.specs.Prelude.{◌≡◌, ◌+◌, ◌/◌, ◌%◌, ◌≤◌, length, slice_range};
 ghost use Rattle.ets_packets.specs.Packets.{big4, number_at};
 
-/// Returns the number that the four bytes at the offset spell.
+/// Returns the number that the four bytes at the offset encode.
 pub(crate) fn number_at(bytes: &[u8], at: usize) -> u32
     requires { at + 4 ≤ length bytes.now }
     ensures value { result ≡ number_at bytes.now at }
@@ -24,7 +24,7 @@ pub(crate) fn bytes_of(n: u32) -> [u8; 4]
     ]
 }
 
-/// Returns the byte of a number that counts `unit`s.
+/// Returns the byte of a number whose place value is `unit`, a power of 256.
 fn byte_of(n: u32, unit: u32) -> u8
     requires { 1 ≤ unit }
     ensures { result ≡ n / unit % 256 }

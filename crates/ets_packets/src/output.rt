@@ -17,7 +17,7 @@ const BLOCK_SIZE: usize = 65_536;
 #[derive(Debug, Drop)]
 pub struct WriteFault;
 
-/// A writer, and before it a buffer with the bytes that are not written yet.
+/// A writer, and a buffer with the bytes that are not written yet.
 #[derive(Drop)]
 pub struct Output<'a, W> {
     bytes: &'a mut Vec<u8>,
@@ -32,7 +32,7 @@ pub fn output_buffer(alloc: Global) -> Result<Vec<u8>, AllocError>
 }
 
 impl<'a, W: Write> Output<'a, W> {
-    /// Puts a buffer before a writer.
+    /// Makes the output with this buffer and this writer.
     pub fn new(bytes: &'a mut Vec<u8>, writer: &'a mut W) -> Output<'a, W>
         ensures bytes { result.bytes.now ≡ bytes.old }
         ensures writer { result.writer.now ≡ writer.old }
@@ -57,7 +57,7 @@ impl<'a, W: Write> Output<'a, W> {
         }
     }
 
-    /// Writes the buffered bytes.
+    /// Writes the buffered bytes, and empties the buffer.
     #[inline(never)]
     fn send(&mut self) -> Result<(), WriteFault>
         ensures same_writer { HasWriterOf self.old self.new }
@@ -72,7 +72,7 @@ impl<'a, W: Write> Output<'a, W> {
         Ok(())
     }
 
-    /// Adds bytes, and writes the buffer if it has a block.
+    /// Adds bytes, and writes the buffer if it then has a whole block.
     #[inline(always)]
     pub fn add(&mut self, bytes: &[u8]) -> Result<(), WriteFault>
         ensures same_writer { HasWriterOf self.old self.new }
@@ -89,7 +89,7 @@ impl<'a, W: Write> Output<'a, W> {
         Ok(())
     }
 
-    /// Adds the text of a term and an LF, and writes the buffer if it has a block.
+    /// Adds the text of a term and an LF, and writes the buffer if it then has a whole block.
     pub fn add_term_line(&mut self, term: &Term) -> Result<(), WriteFault>
         ensures same_writer { HasWriterOf self.old self.new }
         ensures ok { OnOk result (Adds W.contents self.old self.new
@@ -119,7 +119,7 @@ impl<'a, W: Write> Output<'a, W> {
     }
 }
 
-/// Writes all of the bytes, or a prefix of them and then returns a fault.
+/// Writes all of the bytes, or writes a prefix of them and returns a fault.
 fn write_whole<W: Write>(writer: &mut W, bytes: &[u8]) -> Result<(), WriteFault>
     ensures ok { OnOk result (Appends (W.contents writer.old) (W.contents writer.new) bytes.now) }
     ensures err { OnErr result (Breaks (flow W.contents writer.old writer.new) bytes.now) }

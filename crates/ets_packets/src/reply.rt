@@ -11,10 +11,10 @@ use node_core::{Reply, Step};
 use node_text::{CallFault, LastRefusal, Store};
 use std::alloc::Global;
 
-/// A reply's body has a status and at most this many bytes.
+/// A reply's body has a status byte, and then at most this many bytes.
 const MAX_PAYLOAD: usize = 0xFFFF_FFFE;
 
-/// The statuses of replies, the numbers that `node_text` gives them.
+/// The statuses of replies, which are the numbers of `node_text`.
 const VALUE: u8 = 0;
 
 const BADARG: u8 = 1;
@@ -29,8 +29,8 @@ const SYNTAX: u8 = 5;
 
 const UNTOLD: u8 = 7;
 
-/// Answers the body of a packet, and returns the status. Puts the bytes of the reply's body after the status into
-/// `payload`.
+/// Answers the request in the body of a packet. Returns the status of the reply, and puts the rest of the reply's body
+/// into `payload`.
 pub(crate) fn answer(alloc: Global, store: &mut Store, body: &[u8], payload: &mut Vec<u8>) -> u8
     requires { payload.old.items ≡ [] }
     ensures answers { Answers body.now store.old (packet_reply result payload.new.items) store.new }
@@ -47,7 +47,7 @@ pub(crate) fn answer(alloc: Global, store: &mut Store, body: &[u8], payload: &mu
     }
 }
 
-/// Does a step, and puts what its reply says into `payload`.
+/// Runs a step, puts its term or the reason of its refusal into `payload`, and returns the status.
 fn step(alloc: Global, store: &mut Store, event: &Step, payload: &mut Vec<u8>) -> u8
     requires { payload.old.items ≡ [] }
     ensures answers { Steps event.now store.old (packet_reply result payload.new.items) store.new }
@@ -60,7 +60,7 @@ fn step(alloc: Global, store: &mut Store, event: &Step, payload: &mut Vec<u8>) -
     put_reply(alloc, store, payload)
 }
 
-/// Makes the call of these bytes, and puts what its reply says into `payload`.
+/// Makes the call of these bytes, puts its term or the reason of its refusal into `payload`, and returns the status.
 fn call(alloc: Global, store: &mut Store, pid: u32, bytes: &[u8], payload: &mut Vec<u8>) -> u8
     requires { payload.old.items ≡ [] }
     ensures answers { Calls (parse_call bytes.now) pid store.old (packet_reply result payload.new.items) store.new }
@@ -79,7 +79,7 @@ fn call(alloc: Global, store: &mut Store, pid: u32, bytes: &[u8], payload: &mut 
     }
 }
 
-/// Puts what the last reply says into `payload`, and returns its status.
+/// Puts the term of the last reply, or the reason of its refusal, into `payload`, and returns its status.
 fn put_reply(alloc: Global, store: &Store, payload: &mut Vec<u8>) -> u8
     requires { payload.old.items ≡ [] }
     ensures bytes { IsReplyOf store.now.reply store.now.refusal (packet_reply result payload.new.items) }

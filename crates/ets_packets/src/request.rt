@@ -9,15 +9,15 @@ use crate::number::number_at;
 pub(crate) enum Request {
     /// Spawns the process with this number.
     Spawn(u32),
-    /// Ends it.
+    /// Ends the process with this number.
     Exit(u32),
-    /// Makes a call of this process. Its bytes follow the number in the body.
+    /// Makes a call for the process with this number. The bytes of the call follow the number in the body.
     Call(u32),
-    /// The body is no request.
+    /// The body is not a request.
     NotARequest,
 }
 
-/// The number of bytes before those of a call.
+/// The number of bytes in the body before those of a call: the kind and the process number.
 pub(crate) const CALL_START: usize = 5;
 
 /// Parses the body of a packet.
@@ -30,7 +30,7 @@ pub(crate) fn parse_request(body: &[u8]) -> Request
     request_of(body[0], number_at(body, 1), body.len() == CALL_START)
 }
 
-/// Returns the request of this kind and process, whose body is short if nothing follows the process.
+/// Returns the request of this kind for this process. `is_short` says that nothing follows the process number.
 fn request_of(kind: u8, pid: u32, is_short: bool) -> Request
     ensures { result ≡ spec.request_of kind pid is_short }
 {

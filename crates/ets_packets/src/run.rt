@@ -1,4 +1,4 @@
-//! Packets from the first to the last.
+//! Answers packets, from the first to the last.
 ghost use Rattle.std.specs.Prelude.{◌≡◌, ◌+◌, ◌<◌, ◌-◌, ◌^◌, [], ◌∷◌, ◌++◌, length, IfErr, IfOk, OnOk, OnErr};
 ghost use Rattle.node_text.specs.Calls.{new_store};
 ghost use Rattle.ets_packets.specs.Packets.{big4, max_packet, packet};
@@ -18,7 +18,7 @@ use node_text::Store;
 use std::alloc::Global;
 use std::io::{Read, Write};
 
-/// Memory for a reply of more bytes is freed after the reply.
+/// The memory of a reply is kept for the next reply if it has at most this many bytes.
 const MAX_KEPT: usize = 65_536;
 
 /// A store that answers packets.
@@ -84,7 +84,7 @@ fn answer_all<R: Read, W: Write>(
     Err(PacketFault::Read)
 }
 
-/// Returns what the end of the input means after a part of a packet.
+/// Returns the result of a run whose input ends after this part of a packet: a fault, unless the part is empty.
 fn end_after(part: &[u8]) -> Result<(), PacketFault>
     ensures { EndsAfter part.now result }
 {
@@ -136,7 +136,7 @@ fn answer_packet<W: Write>(
     add_reply(status, &server.payload, output)
 }
 
-/// Removes all bytes, and frees the memory if it is large.
+/// Removes all bytes, and frees the memory if it is more than `MAX_KEPT`.
 fn clear(alloc: Global, bytes: &mut Vec<u8>)
     ensures { bytes.new.items ≡ [] }
 {

@@ -1,4 +1,4 @@
--- The command line, by the crate that reads it: its matches are a function of the words.
+-- The command line. The matched options are a function of the words, which the crate clap defines.
 use Rattle.std.specs.Prelude.{◌≡◌, ℕ, Bool, true, false, List, [], ◌∷◌, Option, Some, None, Result, IfOk, map, codes, pos, ◌&&◌, ◌||◌, if◌then◌else◌}
 use Rattle.std.specs.Option.{option_map_or}
 use Rattle.std.specs.Str.{bytes_eq}
@@ -16,11 +16,12 @@ use Rattle.node_core.specs.declared.limits.Limits.{Limits}
 use Rattle.ets_script.specs.declared.options.Settings.{Settings}
 use Rattle.ets_script.specs.declared.options.Request.{Request}
 
--- the parser takes these names, and nothing else
+-- the parser accepts these names, and nothing else
 abbrev pub TakesNames : List Text → ValueParser → Type 0
 TakesNames names (Names taken) = map (λ name. name.now) taken.now ≡ names
 TakesNames names _ = ⊥
 
+-- the values of `--hash`
 abbrev pub hash_names : List Text
 hash_names = codes "fnv" ∷ codes "same" ∷ []
 
@@ -28,7 +29,7 @@ hash_names = codes "fnv" ∷ codes "same" ∷ []
 abbrev pub flag_option : Text → Rule
 flag_option name = record (new_rule name) { long = Some name; action = Some SetTrue }
 
--- `--hash`, whose values a parser takes, and without which it is fnv
+-- the option `--hash`, whose values this parser accepts; its default is fnv
 abbrev pub hash_option : ValueParser → Rule
 hash_option hashes = record (new_rule (codes "hash")) {
   long = Some (codes "hash");
@@ -37,7 +38,7 @@ hash_option hashes = record (new_rule (codes "hash")) {
   defaults = codes "fnv" ∷ [];
 }
 
--- an option of this name, a number below 2^32, and without it this one
+-- an option of this name, whose value is a number below 2^32, with this default
 abbrev pub number_option : Text → Text → Rule
 number_option name default = record (new_rule name) {
   long = Some name;
@@ -46,10 +47,11 @@ number_option name default = record (new_rule name) {
   defaults = default ∷ [];
 }
 
--- `--max-objects`, which is 1000000 where it is not given
+-- the option `--max-objects`, whose default is 1000000
 abbrev pub objects_option : Rule
 objects_option = number_option (codes "max-objects") (codes "1000000")
 
+-- the command line with the options of `Settings`
 abbrev pub command_line : ValueParser → App
 command_line hashes =
     with_rule (with_rule (with_rule (new_app (codes "ets_script"))
@@ -66,41 +68,41 @@ Spells None n = ⊥
 abbrev pub is_named : Text → Option Text → Bool
 is_named name text = option_map_or (λ t. bytes_eq t name) text false
 
--- a flag is given: its value is true then, and else false
+-- whether a flag is given: its value is then true, and else false
 abbrev pub is_set : Text → List Row → Bool
 is_set flag rows = is_named (codes "true") (first_of flag rows)
 
--- the settings of the matches
+-- these are the settings of the matched options
 pub record Asks (rows : List Row) (settings : Settings) : Type 0 where
   pub threads : settings.threads ≡ is_set (codes "threads") rows
   pub same : settings.same ≡ is_named (codes "same") (first_of (codes "hash") rows)
   pub objects : Spells (one_of (codes "max-objects") rows) settings.objects
 
--- The words are refused if the command has a fault in them, and then for that fault; otherwise the settings are those
--- of its matches. Memory aside.
+-- If the command line finds a fault in the words, they are refused with that fault. Otherwise the settings are those of
+-- the matched options. In both cases memory may run out instead.
 pub record Settles (words : List Text) (result : Result Settings Error) : Type 0 where
   pub hashes : ValueParser
   pub names : TakesNames hash_names hashes
   pub faults : FailsBy (fault_of (command_line hashes) words) result
   pub settings : IfOk result (Asks (matches_of (command_line hashes) words))
 
--- `--version`
+-- the same command line with `--version`
 abbrev pub with_version : App → App
 with_version = on_top (λ s. record s { has_version = true })
 
--- the limits of processes, which are 4096 without it, and of tables, 65536
+-- the command line with the limits of processes, by default 4096, and of tables, by default 65536
 abbrev pub limited_line : ValueParser → App
 limited_line hashes =
     with_rule (with_rule (command_line hashes)
     (number_option (codes "max-processes") (codes "4096")))
     (number_option (codes "max-tables") (codes "65536"))
 
--- the same command line, with more options: these limits, reasons, packets, and the version
+-- the command line with all options: also these limits, `--why`, `--external` and `--version`
 abbrev pub request_line : ValueParser → App
 request_line hashes =
     with_version (with_rule (with_rule (limited_line hashes) (flag_option (codes "why"))) (flag_option (codes "external")))
 
--- the options of its matches
+-- this is the request of the matched options
 pub record AsksAll (rows : List Row) (request : Request) : Type 0 where
   pub settings : Asks rows request.settings
   pub processes : Spells (one_of (codes "max-processes") rows) request.processes
@@ -108,33 +110,35 @@ pub record AsksAll (rows : List Row) (request : Request) : Type 0 where
   pub why : request.why ≡ is_set (codes "why") rows
   pub external : request.external ≡ is_set (codes "external") rows
 
--- as `Settles`, each option by itself
+-- the same as Settles, for all options; options that exclude each other are not refused
 pub record Parses (words : List Text) (result : Result Request Error) : Type 0 where
   pub hashes : ValueParser
   pub names : TakesNames hash_names hashes
   pub faults : FailsBy (fault_of (request_line hashes) words) result
   pub request : IfOk result (AsksAll (matches_of (request_line hashes) words))
 
--- Reasons are not reported for processes in threads. Packets are answered without threads and reasons, and with the
--- usual hash.
+-- Whether options exclude each other: reasons are not reported for processes in threads, and packets are answered
+-- without threads, without reasons, and with the usual hash.
 abbrev pub excluded : Bool → Bool → Bool → Bool → Bool
 excluded external why threads same = if external then why || threads || same else why && threads
 
+-- whether options of the request exclude each other
 abbrev pub excludes : Request → Bool
 excludes request = excluded request.external request.why request.settings.threads request.settings.same
 
+-- the fault of matched options that exclude each other, if some do
 abbrev pub conflict_of : List Row → Kinds
 conflict_of rows =
     if excluded (is_set (codes "external") rows) (is_set (codes "why") rows) (is_set (codes "threads") rows)
     (is_named (codes "same") (first_of (codes "hash") rows))
     then ArgumentConflict ∷ [] else []
 
--- the faults of the words; if there are none, options that exclude each other
+-- the fault of the words; if there is none, that of options that exclude each other
 abbrev pub request_faults : ValueParser → List Text → Kinds
 request_faults hashes words =
     or_else (fault_of (request_line hashes) words) (conflict_of (matches_of (request_line hashes) words))
 
--- the same, and options that exclude each other are refused if there is no other fault
+-- the same as Parses, but options that exclude each other are refused if there is no other fault
 pub record Requests (words : List Text) (result : Result Request Error) : Type 0 where
   pub hashes : ValueParser
   pub names : TakesNames hash_names hashes
@@ -146,7 +150,7 @@ abbrev pub limits_of : Request → Limits
 limits_of request =
     record { processes = request.processes; tables = request.tables; objects = request.settings.objects }
 
--- the program's status if its command line gives no settings
+-- the program's status after this error of the command line
 abbrev pub refused_status : ErrorKind → ℕ
 refused_status DisplayHelp = 0
 refused_status DisplayVersion = 0

@@ -1,4 +1,4 @@
--- The forms of lines, as the table of docs/script.md has them.
+-- The forms of lines, as in the table of docs/script.md.
 use Rattle.std.specs.Prelude.{◌≡◌, ℕ, ◌<◌, ◌≤◌, ◌-◌, ◌^◌, ◌||◌, ◌⊎◌, Bool, true, false, List, [], ◌∷◌, ◌++◌, length, codes}
 use Rattle.std.specs.Str.{bytes_eq}
 use Rattle.std.specs.List.{list_all}
@@ -37,18 +37,18 @@ IsSilentLine line =
 abbrev pub Means : List ℕ → Command → Type 0
 Means line c = (is_silent line ≡ false) × (command line ≡ c)
 
--- a word and a name: blanks, the word, a gap, the name, blanks
+-- a line with a word and a name: blanks, the word, a gap, the name, blanks
 abbrev pub IsNameLine : List ℕ → List ℕ → List ℕ → Type 0
 IsNameLine word name line =
     (before : List ℕ) × (gap : List ℕ) × (after : List ℕ)
     × AreBlanks before × IsGap gap × AreBlanks after × IsName name
     × (line ≡ before ++ (word ++ (gap ++ (name ++ after))))
 
--- a text that the grammar spells a term with, before this rest of the line; blanks may come before the term
+-- this text spells the term, by the grammar of terms, before this rest of the line; it may begin with blanks
 abbrev pub IsTerm : List ℕ → Term → List ℕ → Type 0
 IsTerm text t rest = Front (text ++ rest) t (length text)
 
--- digits, of a number below 2^32
+-- these digits spell the number of a bucket, which is below 2^32
 pub record IsBucket (digits : List ℕ) (bucket : ℕ) : Type 0 where
   pub first : begins is_digit digits ≡ true
   pub each : list_all is_digit digits ≡ true
@@ -70,7 +70,7 @@ IsReadyLine t bucket line =
     × IsTerm text t (space ++ (digits ++ after)) × IsGap space × IsBucket digits bucket × AreBlanks after
     × (line ≡ before ++ (codes "ready" ++ (gap ++ (text ++ (space ++ (digits ++ after))))))
 
--- terms with a comma between each two, up to and with the closing parenthesis, before this rest of the line
+-- this text spells the terms, with commas between them and the closing parenthesis, before this rest of the line
 abbrev pub AreTerms : List Term → List ℕ → List ℕ → Type 0
 AreTerms [] text rest = ⊥
 AreTerms (t ∷ []) text rest =
@@ -81,14 +81,15 @@ AreTerms (t ∷ (u ∷ us)) text rest =
     × AreBlanks blanks × IsTerm s t (blanks ++ (codes "," ++ (more ++ rest)))
     × (text ≡ s ++ (blanks ++ (codes "," ++ more))) × AreTerms (u ∷ us) more rest
 
--- The arguments of a call, with their closing parenthesis. No term begins with one.
+-- This text spells the arguments of a call, with the closing parenthesis, before this rest of the line. No term begins
+-- with a closing parenthesis.
 abbrev pub AreArguments : List Term → List ℕ → List ℕ → Type 0
 AreArguments [] text rest = (blanks : List ℕ) × AreBlanks blanks × (text ≡ blanks ++ codes ")")
 AreArguments (t ∷ ts) text rest =
     (blanks : List ℕ) × (row : List ℕ) × AreBlanks blanks × (begins is_line_blank (row ++ rest) ≡ false)
     × (begins (is_sign (codes ")")) (row ++ rest) ≡ false) × AreTerms (t ∷ ts) row rest × (text ≡ blanks ++ row)
 
--- a first word that is always a command
+-- a first word that is always a command, and never the name of a process that makes a call
 abbrev pub is_command : List ℕ → Bool
 is_command name =
     bytes_eq name (codes "spawn") || bytes_eq name (codes "exit")

@@ -9,21 +9,22 @@ use Rattle.ets_script.specs.Script.{ScriptState, at_start, IsScript, AreWholeLin
 use Rattle.ets_script.specs.declared.fault.ScriptFault.{ScriptFault}
 use Rattle.ets_script.specs.declared.fault.ScriptFault.TheVariants.{Read, Write, Memory, Differs, Missing}
 
--- the reader had all of a script, which was read to its end, and all answers to its lines were written
+-- a whole script was read, to the end of the input, and all answers to its lines were written
 abbrev pub Completes : ScriptState → ScriptState → Traffic → Type 0
 Completes start end streams =
     (input : List ℕ) × (output : List ℕ)
     × Consumes streams.reader.before streams.reader.after input × IsAtEnd streams.reader.after
     × Appends streams.writer.before streams.writer.after output × IsScript start input output end
 
--- the same, and this node is left at the end
+-- the same as Completes, and this is the state of the node at the end
 abbrev pub LeavesNode : ScriptState → State → Traffic → Type 0
 LeavesNode start node streams = (end : ScriptState) × (end.node ≡ node) × Completes start end streams
 
--- From what the reader had to what it has left. At a read fault these were whole lines, each with its LF, all of whose
--- answers were written, and a part of a line, which was not answered. At a write fault a prefix of the answers was
--- written: answers to whole lines, and to a last one without an LF if all of the input was read; some of what was read
--- may not have been parsed. Without memory at the start, nothing was read or written. It stops for no other reason.
+-- What was read and written when a script stopped. At a read fault: whole lines, each with its LF, were read, and then
+-- a part of a line. All answers to the whole lines were written, and the part was not answered. At a write fault: a
+-- prefix of the answers was written. They are the answers to whole lines, and to a last line without an LF if all of
+-- the input was read. Some of what was read may not have been answered. Without memory at the start: nothing was read
+-- or written. A script stops for no other reason.
 abbrev pub Stops : ScriptState → Traffic → ScriptFault → Type 0
 Stops start streams Read =
     (lines : List ℕ) × (part : List ℕ) × (output : List ℕ) × (end : ScriptState)
@@ -39,16 +40,16 @@ Stops start streams Memory =
 Stops start streams (Differs p) = ⊥
 Stops start streams (Missing p) = ⊥
 
--- a node's limits, and the program's status: 0 after a whole script, else 1
+-- the program's status with these limits of the node: 0 after a whole script, else 1
 abbrev pub EndsWithin : Limits → Traffic → ℕ → Type 0
 EndsWithin limits streams status =
     ((status ≡ 0) × (end : ScriptState) × Completes (at_start limits) end streams)
     ⊎ ((status ≡ 1) × (fault : ScriptFault) × Stops (at_start limits) streams fault)
 
--- the usual limits, with this number of objects in one table
+-- the usual limits, but this limit of objects in one table
 abbrev pub usual : ℕ → Limits
 usual objects = record { processes = 4096; tables = 65536; objects = objects }
 
--- the same with these limits
+-- the same as EndsWithin, with these limits
 abbrev pub ProgramEnds : ℕ → Traffic → ℕ → Type 0
 ProgramEnds objects = EndsWithin (usual objects)

@@ -13,19 +13,19 @@ use std::io::Write;
 /// The answer to a line.
 #[derive(Drop)]
 pub enum Answer {
-    /// Nothing is printed.
+    /// The line was blank or a comment; nothing is printed.
     Silent,
-    /// A reply of the node, or one that the script itself gives in the node's words.
+    /// A reply of the node, or one that the script gives itself, such as `NoProcess` for an unknown name.
     Replied(Reply),
     /// Out of memory, and nothing has changed.
     NoMemory,
-    /// The line is no command; the offset of its first fault.
+    /// The line is not a command; the offset of its first syntax error.
     Syntax(usize),
     TooLong,
 }
 
 impl Answer {
-    /// Writes out of memory over the answer.
+    /// Sets the answer to out of memory.
     #[inline(never)]
     pub fn set_no_memory(&mut self)
         ensures { self.new ≡ Answer.NoMemory }
@@ -33,7 +33,7 @@ impl Answer {
         *self = Answer::NoMemory;
     }
 
-    /// Writes that there is no such process over the answer.
+    /// Sets the answer to the reply that there is no such process.
     #[inline(never)]
     pub fn set_no_process(&mut self)
         ensures { self.new ≡ Answer.Replied Reply.NoProcess }
@@ -76,7 +76,7 @@ pub fn print_reply<W: Write>(reply: &Reply, output: &mut Output<'_, W>) -> Resul
     }
 }
 
-/// Returns whether the term is `true`, the reply to most calls.
+/// Checks whether the term is `true`, which is the reply to most calls.
 #[inline(always)]
 fn is_true(term: &Term) -> bool
     ensures { result ≡ true → text.printed term.now ≡ codes "true" }

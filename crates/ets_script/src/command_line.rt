@@ -34,8 +34,8 @@ const EXAMPLE: &str = "Example:
 /// The hashes that `--hash` names.
 const HASHES: [&str; 2] = ["fnv", "same"];
 
-/// Returns the settings of a command line, whose first word is the program's name. Refuses words that the program does
-/// not know, with clap's text; a call for help returns the help as an error too.
+/// Parses a command line, whose first word is the program's name, into settings. Refuses words that the program does
+/// not know, with clap's text. `--help` returns the help as an error too.
 pub fn settings<S: AsStr>(alloc: Global, words: &[S]) -> Result<Settings, Error>
     ensures { Settles (map S.text words.entry.now) result }
 {
@@ -56,7 +56,7 @@ pub fn request<S: AsStr>(alloc: Global, words: &[S]) -> Result<Request, Error>
     Ok(request)
 }
 
-/// Returns whether options exclude each other.
+/// Checks whether two of the options exclude each other.
 fn is_conflict(request: &Request) -> bool
     ensures { result ≡ spec.excludes request.now }
 {
@@ -80,7 +80,7 @@ fn conflict_words(request: &Request) -> &'static str {
     }
 }
 
-/// Parses a command line, each option by itself.
+/// Parses a command line as `request` does, but does not check whether options exclude each other.
 fn parse_request<S: AsStr>(alloc: Global, words: &[S]) -> Result<Request, Error>
     ensures { Parses (map S.text words.entry.now) result }
 {
@@ -124,7 +124,7 @@ fn conflict(alloc: Global, words: &str) -> Result<Error, AllocError>
     settings_command(alloc)?.error(ErrorKind::ArgumentConflict, words)
 }
 
-/// Returns the command whose options are those of the settings.
+/// Returns the parser of the command line with the options of `Settings`.
 fn settings_command<'a>(alloc: Global) -> Result<Command<'a>, AllocError>
     ensures { (hashes : _) × TakesNames spec.hash_names hashes
         × IfOk result (λ command. app_of command ≡ spec.command_line hashes) }
@@ -142,7 +142,7 @@ fn settings_command<'a>(alloc: Global) -> Result<Command<'a>, AllocError>
         .arg(objects)
 }
 
-/// Gives a command the texts of its help, which change nothing of what it parses.
+/// Adds the texts of the help to a parser. They change nothing in what it parses.
 fn with_help<'a>(command: Command<'a>) -> Command<'a>
     ensures { app_of result ≡ app_of command.entry }
 {
@@ -187,7 +187,7 @@ fn number_option<'a>(alloc: Global, name: &'a str, default: &'a str, help: &'a s
         .default_value(default)
 }
 
-/// Returns the settings among what was matched, which has a number of objects.
+/// Returns the settings of the matched options, which include a number of objects.
 fn settings_of(matches: &ArgMatches) -> Settings
     ensures { HasNumber (found_of matches.now) (codes "max-objects")
         → Asks (rows_of (found_of matches.now)) result }
@@ -199,7 +199,7 @@ fn settings_of(matches: &ArgMatches) -> Settings
     }
 }
 
-/// Returns the number of the option of this name, which has one.
+/// Returns the number that was matched for the option of this name, which has one.
 fn matched_number(matches: &ArgMatches, name: &str) -> u32
     ensures { HasNumber (found_of matches.now) name.now
         → Spells (one_text (found_of matches.now) name.now) result }
@@ -207,7 +207,7 @@ fn matched_number(matches: &ArgMatches, name: &str) -> u32
     matches.get_one(name).unwrap_or(0)
 }
 
-/// Returns whether there is a value, and it is this name.
+/// Checks whether there is a value, and it is this name.
 fn is_named(name: &str, value: Option<&str>) -> bool
     ensures { result ≡ spec.is_named name.now (option_map (λ text. text.now) value.entry) }
 {
@@ -217,8 +217,8 @@ fn is_named(name: &str, value: Option<&str>) -> bool
     }
 }
 
-/// Prints the parser's text of a command line that has no settings, and returns the program's status: 0 after the help
-/// or the version, 2 if the words were refused, and 1 if memory ran out.
+/// Prints the text of the parser's error, and returns the program's status: 0 after the help or the version, 2 if the
+/// command line was refused, and 1 if memory ran out.
 pub fn refuse<R: Print + Eprint>(rt: &R, error: &Error) -> io::Result<u8>
     ensures { IfOk result (λ status. status ≡ spec.refused_status (kind_of error.now)) }
 {

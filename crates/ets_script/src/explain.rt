@@ -11,8 +11,8 @@ use node_reasons::why;
 use script_reasons::{Diagnostic, diagnose_at};
 use std::alloc::AllocError;
 
-/// Explains why a line was refused, or returns nothing if it was not. The script must not have changed since its
-/// answer. A refused line is parsed again.
+/// Explains why a line was refused, or returns `None` if it was not. The script must not have changed since it answered
+/// the line. A refused line is parsed again.
 pub fn explain<'a, H: KeyHash + Copy + Drop>(
     script: &Script<H>,
     line: &'a [u8],

@@ -7,15 +7,15 @@ use thiserror::Error;
 /// Why a script stops before its end.
 #[derive(Debug, Drop, Error)]
 pub enum ScriptFault {
-    /// The reader failed, or there was no end of input in a billion reads. The answers to all whole lines before are
-    /// written.
+    /// The reader failed, or there was no end of input in a billion reads. The answers to all whole lines that were
+    /// read are written.
     #[error("read fault")]
     Read,
     /// The writer failed, or took no byte. What was written is a prefix of the answers.
     #[error("write fault")]
     Write,
-    /// There was no memory at the start, and nothing was read; or a script whose processes run in threads could not go
-    /// on, and nothing was written.
+    /// There was no memory at the start, and nothing was read; or a script whose processes run in threads ran out of
+    /// memory, and nothing was written.
     #[error("** nomem")]
     Memory,
     /// The record of this process's client is not the process's part of the journal. Nothing was written.

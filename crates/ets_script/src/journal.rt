@@ -1,4 +1,4 @@
-//! How a script is printed whose processes ran in threads of their own.
+//! Prints the results of a script whose processes ran in threads of their own.
 ghost use Rattle.std.specs.Prelude.{◌≡◌, ◌≤◌, ◌++◌, flat_map, codes, length, [], OnOk, OnErr};
 ghost use Rattle.std.specs.Io.KnownBytes.{Appends};
 ghost use Rattle.ets_packets.specs.Output.{Breaks, Adds, Fails, HasWriterOf, buffered_bytes, writer_flow};
@@ -98,7 +98,7 @@ fn print_entries<W: Write>(
     Ok(())
 }
 
-/// Prints the line of an entry; an entry of no process has none.
+/// Prints the line of an entry, or nothing if it is not an entry of a process.
 fn print_entry<W: Write>(
     names: &Names,
     entry: &Entry,
@@ -129,7 +129,7 @@ fn print_name<W: Write>(name: &[u8], output: &mut Output<'_, W>) -> Result<(), W
     output.add(b" ")
 }
 
-/// Prints a line for each process with jobs left.
+/// Prints a line for each process that did not run all its jobs.
 fn print_stopped<W: Write>(
     names: &Names,
     left: &[usize],
@@ -148,7 +148,7 @@ fn print_stopped<W: Write>(
     Ok(())
 }
 
-/// Prints the line of a process that stopped with `left` jobs; nothing if it has none left.
+/// Prints the line of a process that stopped before its last `left` jobs, or nothing if it ran all its jobs.
 fn print_stop<W: Write>(
     name: &[u8],
     left: usize,

@@ -10,25 +10,26 @@ use std::alloc::{AllocError, Global};
 use std::io::Read;
 use std::marker::Model;
 
-/// Twice a line, so that a line that is not too long always leaves capacity for more.
+/// Twice the greatest length of a line, so that a part of such a line leaves capacity for the next read.
 const CAPACITY: usize = 2 * MAX_LINE;
 
-/// A read failed, or there were too many.
+/// A read failed, or there were too many reads.
 #[derive(Debug, Drop)]
 pub struct ReadFault;
 
-/// The bytes that were read and not yet taken.
+/// The bytes that were read and not yet consumed.
 #[derive(Drop)]
 pub struct LineBuffer {
     buffer: Vec<u8>,
     start: usize,
     end: usize,
-    /// Whether the line began before these bytes and is too long.
+    /// Whether the bytes continue a line that is too long, whose start was discarded.
     is_skipping: bool,
     /// The number of reads that are still allowed.
     reads: u32,
 }
 
+// The value that contracts see of this type (`view`), and what is true of its fields between calls (`invariant`).
 impl Model for LineBuffer {
     ghost use Rattle.std.specs.Prelude.{◌≤◌, ◌≡◌, vec_len, slice_range};
     ghost use Rattle.ets_script.specs.inside.LineBuffers.{LineBufferState};
@@ -59,7 +60,7 @@ impl LineBuffer {
         })
     }
 
-    /// Returns the bytes that were read and not yet taken.
+    /// Returns the bytes that were read and not yet consumed.
     pub fn bytes(&self) -> &[u8]
         ensures { result.now ≡ self.now.bytes }
     {
@@ -73,7 +74,7 @@ impl LineBuffer {
         self.is_skipping
     }
 
-    /// Takes the first `count` bytes, which end a line.
+    /// Removes the first `count` bytes, which end with a line.
     pub fn consume(&mut self, count: usize)
         requires { count ≤ length self.old.bytes }
         ensures bytes { self.new.bytes ≡ drop count self.old.bytes }
@@ -84,7 +85,7 @@ impl LineBuffer {
         self.is_skipping = false;
     }
 
-    /// Returns the next line. A part of a line is searched again after each read.
+    /// Returns the next line, if it is whole. A part of a line is searched for its LF again after each read.
     pub fn next_line(&self) -> NextLine
         ensures { Finds self.now result }
     {
@@ -102,8 +103,8 @@ impl LineBuffer {
         }
     }
 
-    /// Reads more bytes after those buffered, and returns their number: 0 only at the end of the input. The
-    /// 1,000,000,000th read without an end of the input is a fault.
+    /// Reads more bytes after those buffered, and returns their number: 0 only at the end of the input. When no more
+    /// reads are allowed, that is a fault, so that an endless input ends.
     pub fn refill<R: Read>(&mut self, reader: &mut R) -> Result<usize, ReadFault>
         requires { length self.old.bytes ≤ MAX_LINE }
         ensures ok { IfOk result (Refills self.old self.new

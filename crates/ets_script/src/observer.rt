@@ -3,9 +3,9 @@ use crate::answer::Answer;
 use crate::script::Script;
 use ets_term::KeyHash;
 
-/// An observer of each answered line, in order. It changes nothing of the script.
+/// An observer of each answered line, in order. It does not change the script.
 pub trait Observer {
-    /// Called when a line was answered; a line that is too long is passed as nothing.
+    /// Called when a line was answered. A line that is too long is passed as an empty text.
     fn line_answered<H: KeyHash + Copy + Drop>(
         &mut self,
         script: &Script<H>,
@@ -13,7 +13,7 @@ pub trait Observer {
         answer: &Answer,
     );
 
-    /// Called when the answers were written.
+    /// Called when the answers so far were written.
     fn flush(&mut self);
 }
 

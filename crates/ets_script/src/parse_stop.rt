@@ -3,7 +3,7 @@
 /// Why the parsing of a line stops.
 #[derive(Debug, Drop)]
 pub enum ParseStop<'a> {
-    /// At a fault: the text from it on.
+    /// At a syntax error: the text from there on.
     Fault(&'a [u8]),
     /// Out of memory.
     Memory,

@@ -17,23 +17,23 @@ use node_shared::Job;
 use std::alloc::{AllocError, Global};
 use std::marker::Model;
 
-/// What is known before any step is run: the answers that come first, and the names of the processes.
+/// What is known before any step is run: the planned answers, which are printed first, and the names of the processes.
 #[derive(Drop)]
 pub struct PlannedAnswers {
     pub answers: Items<Answer>,
     pub names: Names,
 }
 
-/// The work: the jobs of each process, in the order of the processes, and the turns: the greatest number of pending
-/// growth steps, one for each line.
+/// The work: the jobs of each process, in the order of the processes, and `turns`, the greatest number of pending
+/// growth steps, which is the number of lines.
 #[derive(Drop)]
 pub struct ProcessJobs {
     pub jobs: Items<Items<Job>>,
     pub turns: u32,
 }
 
-/// The plan of the lines so far: the planned answers, the names that are spawned, and the jobs of each. A contract sees
-/// these, and the greatest number of names.
+/// The plan of the lines so far: the answers that are known already, the names that are spawned, and the jobs of each.
+/// A contract sees these, and the greatest number of names.
 #[derive(Drop)]
 pub struct Plan {
     alloc: Global,
@@ -63,7 +63,7 @@ impl Model for Plan {
 }
 
 impl Plan {
-    /// Creates an empty plan, for a greatest number of names.
+    /// Creates an empty plan, for at most `max_names` names.
     pub fn new(alloc: Global, max_names: u32) -> Plan
         ensures { result ≡ no_lines max_names }
     {
@@ -77,7 +77,7 @@ impl Plan {
         }
     }
 
-    /// Returns the planned answers and the work, with a turn for each line.
+    /// Returns the planned answers and the work, with one growth step for each line.
     pub fn into_parts(self) -> (PlannedAnswers, ProcessJobs)
         ensures parts { AreParts result.0 result.1 self.plan }
         ensures named { length result.0.names ≡ length result.1.jobs }
@@ -198,7 +198,7 @@ fn add_name(names: &mut IndexSet<Vec<u8>>, name: Vec<u8>)
     let _ = names.insert(name);
 }
 
-/// Adds a job after those of a process.
+/// Adds a job after the other jobs of a process.
 fn add_job(
     alloc: Global,
     jobs: &mut Items<Items<Job>>,

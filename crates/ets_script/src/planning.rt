@@ -11,7 +11,7 @@ use crate::run::MAX_READS;
 use std::alloc::{AllocError, Global};
 use std::io::Read;
 
-/// Reads a script to its end, and plans its lines, with a greatest number of names.
+/// Reads a script to its end, and plans its lines, with at most this many names.
 pub fn plan_input<R: Read>(
     alloc: Global,
     reader: &mut R,
@@ -51,7 +51,7 @@ fn plan_lines<R: Read>(
     }
 }
 
-/// Plans the next line, if its end is buffered, and returns the number of buffered bytes that it takes.
+/// Plans the next line, if its LF is buffered, and returns the number of its bytes.
 fn plan_next(buffer: &LineBuffer, plan: &mut Plan) -> Result<Option<usize>, AllocError>
     ensures { IfOk result (PlansNext buffer.now plan.old plan.new) }
 {
@@ -68,7 +68,7 @@ fn plan_next(buffer: &LineBuffer, plan: &mut Plan) -> Result<Option<usize>, Allo
     }
 }
 
-/// Plans the rest of the buffer as the last line, which has no LF. An empty one has no answer, and does not count.
+/// Plans the rest of the buffer as the last line, which has no LF. An empty rest is not a line.
 fn plan_last(buffer: &LineBuffer, plan: &mut Plan) -> Result<(), AllocError>
     ensures { IfOk result (λ _. plan.new
         ≡ with_line (last_line buffer.now.is_skipping buffer.now.bytes) plan.old) }

@@ -1,22 +1,22 @@
-//! Clean bytes: those that are allowed on a line that is no comment.
+//! Printable bytes: those that are allowed on a line outside comments, the tab and printable ASCII.
 ghost use Rattle.std.specs.Prelude.{◌≡◌, ◌≤◌, length};
 ghost use Rattle.std.specs.List.{list_all, prefix_len};
 ghost use Rattle.ets_script.specs.Classes as spec;
 
 use term_text::is_character_byte;
 
-/// Checks whether a byte may be on a line outside comments.
+/// Checks whether a byte is allowed on a line outside comments.
 fn is_printable(byte: u8) -> bool
     ensures { result ≡ spec.is_printable byte }
 {
     byte == b'\t' || is_character_byte(byte)
 }
 
-/// The number of bytes that are checked at once.
+/// The number of bytes that are checked together.
 const GROUP: usize = 8;
 
-/// Returns whether all of these are clean. Nearly all lines are. Groups of bytes are checked at once, and the last group
-/// may overlap the one before.
+/// Checks whether all bytes are printable, as on nearly all lines. Groups of bytes are checked together. The last group
+/// may overlap the previous group.
 pub fn are_printable(text: &[u8]) -> bool
     ensures { result ≡ list_all spec.is_printable text.now }
 {
@@ -28,7 +28,7 @@ pub fn are_printable(text: &[u8]) -> bool
     are_each_printable(groups) && are_each_printable(last)
 }
 
-/// Returns whether each of these is clean. A scan without an early exit handles many bytes at once.
+/// Checks whether each byte is printable. The scan has no early exit, so that it can be vectorised.
 #[inline(always)]
 fn are_each_printable(text: &[u8]) -> bool
     ensures { result ≡ list_all spec.is_printable text.now }
@@ -40,7 +40,7 @@ fn are_each_printable(text: &[u8]) -> bool
     are
 }
 
-/// Returns the number of clean bytes at the front.
+/// Returns the number of printable bytes at the front.
 pub fn printable_len(text: &[u8]) -> usize
     ensures len { result ≡ prefix_len spec.is_printable text.now }
     ensures within { result ≤ length text.now }

@@ -20,7 +20,8 @@ use std::sync::ledger::{Blank, Ledger};
 use std::thread;
 use std::thread::Threads;
 
-/// The results of the processes: the journal, and for each the number of jobs that were left because memory ran out.
+/// The results of the processes: the journal, and of each process the number of jobs that it did not run because memory
+/// ran out.
 #[derive(Drop)]
 pub struct RunResult {
     pub entries: Vec<Entry>,
@@ -52,7 +53,7 @@ pub fn run_jobs<T: Threads + Wait + Sync, H: KeyHash + Copy + Drop + Send + Sync
     run_with_ledger::<Brand, T, H>(rt, alloc, blank, settings, work)
 }
 
-/// Does the same with the blank of the ledger that counts the entries.
+/// Runs the jobs as `run_jobs` does. `blank` is the ledger that counts the journal's entries.
 fn run_with_ledger<
     L: Ledger + Send + Sync,
     T: Threads + Wait + Sync,
@@ -86,7 +87,8 @@ fn run_with_ledger<
     }
 }
 
-/// Enrols the processes, runs their jobs, and returns their clients, each with the number of its jobs that were left.
+/// Enrols the processes, runs their jobs, and returns their clients and, for each, the number of jobs that it did not
+/// run.
 fn run_shared<
     L: Ledger + Send + Sync,
     T: Threads + Wait + Sync,
@@ -122,7 +124,7 @@ fn enrol_all<L: Ledger, T: Wait, H: KeyHash + Copy + Drop>(
     enrol_each(rt, shared, &pids, seats, jobs)
 }
 
-/// Enrols a process for each list of jobs, by the numbers that the seats draw.
+/// Enrols a process for each list of jobs, with the numbers that the seats draw.
 fn enrol_each<L: Ledger, T: Wait, H: KeyHash + Copy + Drop>(
     rt: &T,
     shared: &Shared<L, H>,
@@ -153,8 +155,8 @@ fn draw(pids: &Pids, seats: &mut Vec<Seat>) -> Option<Drawn>
     }
 }
 
-/// Returns the client of the process with this number, which was drawn. Numbers are drawn in order and within the
-/// limit, so the branches for another number or a refusal are unreachable; they return `AllocError`.
+/// Enrols the drawn number, which is the given process number, and returns its client. Numbers are drawn in order and
+/// within the limit, so the branches for another number or a refusal are unreachable; they return `AllocError`.
 fn enrol<L: Ledger, T: Wait, H: KeyHash + Copy + Drop>(
     rt: &T,
     shared: &Shared<L, H>,
@@ -200,7 +202,7 @@ fn run_and_keep<
     workers
 }
 
-/// Separates the clients from the numbers of jobs that were left.
+/// Separates the clients from the numbers of jobs that they did not run.
 fn unzip<L: Ledger>(
     alloc: Global,
     workers: Vec<Worked<L>>,

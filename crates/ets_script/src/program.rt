@@ -1,4 +1,4 @@
-//! The program, from its options to its status.
+//! Runs the program with its options, and returns its status.
 ghost use Rattle.std.specs.Prelude.{◌≡◌, false, true, IfOk, OnOk, OnErr, IfErr};
 ghost use Rattle.ets_packets.specs.Stops.{PacketsEnd};
 ghost use Rattle.ets_script.specs.CommandLine.{limits_of};
@@ -24,8 +24,8 @@ use std::thread::Threads;
 /// The status after a fault.
 const FAILED: u8 = 1;
 
-/// Answers a script by the settings, in threads or alone, and returns the program's status: 0 at the end of the input;
-/// otherwise 1, with one line on standard error. In threads it may wait.
+/// Answers a script with these settings, in threads or line by line, and returns the program's status: 0 at the end of
+/// the input; otherwise 1, with one line on standard error. In threads it may wait.
 pub fn answer_input<T: Threads + Wait + Sync, R: Read, W: Write, E: Write>(
     rt: &T,
     alloc: Global,
@@ -42,8 +42,8 @@ pub fn answer_input<T: Threads + Wait + Sync, R: Read, W: Write, E: Write>(
     answer_request(rt, alloc, &request, streams, errors)
 }
 
-/// Answers a script line by line, each when it was read, with the usual limits except for that of the settings, and
-/// returns the program's status.
+/// Answers a script line by line, each when it was read, with the usual limits and the settings' limit of objects.
+/// Returns the program's status.
 pub fn answer_alone<R: Read, W: Write, E: Write>(
     alloc: Global,
     settings: &Settings,
@@ -72,7 +72,7 @@ fn usual_request(settings: &Settings) -> Request
     }
 }
 
-/// Does what `answer_input` does, with the limits of the options; or answers packets, if an option says so.
+/// Answers a script as `answer_input` does, with the limits of the options. Answers packets if an option says so.
 pub fn answer_request<T: Threads + Wait + Sync, R: Read, W: Write, E: Write>(
     rt: &T,
     alloc: Global,
@@ -193,7 +193,7 @@ fn answer_in_threads<T: Threads + Wait + Sync, R: Read, W: Write, E: Write>(
     report(end, errors)
 }
 
-/// Returns the status of a run that ends so. Prints its fault, if it has one, on a line of standard error.
+/// Returns the status of a run with this result. Prints its fault, if it has one, on a line of standard error.
 fn report<T: Drop, E: Write>(end: Result<T, ScriptFault>, errors: &mut E) -> io::Result<u8>
     ensures ok { OnOk end (IfOk result (λ status. status ≡ 0)) }
     ensures err { OnErr end (IfOk result (λ status. status ≡ 1)) }

@@ -1,4 +1,4 @@
-//! A script from its first line to its last.
+//! Runs a script line by line, from its first line to its last.
 ghost use Rattle.std.specs.Prelude.{◌≡◌, [], false, IfOk, IfErr, OnOk, OnErr};
 ghost use Rattle.node_core.specs.Observable.{observable};
 ghost use Rattle.ets_packets.specs.Traffic.{flow, traffic};
@@ -24,7 +24,7 @@ use node_core::Node;
 use std::alloc::Global;
 use std::io::{Read, Write};
 
-/// The greatest number of reads that a script takes.
+/// The greatest number of times that a script reads its input.
 pub const MAX_READS: u32 = 1_000_000_000;
 
 /// Answers each line of a script, from an empty node with these settings to the node that it returns. All answers so
@@ -43,7 +43,7 @@ pub fn run_script<R: Read, W: Write, H: KeyHash + Copy + Drop>(
     run_within(alloc, streams, settings, MAX_READS)
 }
 
-/// Does what `run_script` does, with at most this many reads.
+/// Runs a script as `run_script` does, with at most this many reads.
 pub fn run_within<R: Read, W: Write, H: KeyHash + Copy + Drop>(
     alloc: Global,
     streams: &mut Streams<R, W>,
@@ -59,8 +59,8 @@ pub fn run_within<R: Read, W: Write, H: KeyHash + Copy + Drop>(
     run_with(streams, script, reads, &mut NoObserver)
 }
 
-/// Does what `run_script` does, and reports why lines were refused: a line for each, after the answers to the lines
-/// that were read with it. If that fails, no more reasons are reported, and the answers go on.
+/// Runs a script as `run_script` does, and reports why lines were refused: a line for each, after the answers to the
+/// lines that were read with it. If writing a reason fails, no more reasons are reported, but lines are still answered.
 pub fn run_script_with_reasons<R: Read, W: Write, E: Write, H: KeyHash + Copy + Drop>(
     alloc: Global,
     streams: &mut Streams<R, W>,
@@ -162,8 +162,8 @@ fn answer_all<R: Read, W: Write, H: KeyHash + Copy + Drop, L: Observer>(
     }
 }
 
-/// Answers the next line, if its end is buffered, and returns the number of buffered bytes that it takes. The answer is
-/// written over another.
+/// Answers the next line, if its LF is buffered, and returns the number of its bytes. The answer is written over the
+/// previous answer.
 fn answer_next<H: KeyHash + Copy + Drop, L: Observer>(
     buffer: &LineBuffer,
     script: &mut Script<H>,
@@ -207,7 +207,7 @@ fn answer_last<W: Write, H: KeyHash + Copy + Drop, L: Observer>(
     output.flush()
 }
 
-/// Answers a part of a line as a line. An empty part has no answer.
+/// Answers the buffered bytes as a line without an LF. An empty line prints nothing.
 fn answer_part<H: KeyHash + Copy + Drop>(buffer: &LineBuffer, script: &mut Script<H>) -> Answer
     ensures { AnswersPart buffer.now.is_skipping script.old buffer.now.bytes result script.new }
 {

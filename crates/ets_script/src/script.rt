@@ -1,4 +1,4 @@
-//! A script: the names that it spawned, and its node.
+//! The state of a script: the names that it spawned, and its node.
 ghost use Rattle.std.specs.Prelude.{◌≡◌, ◌-◌, ◌^◌, ◌⊎◌, length, min};
 ghost use Rattle.node_core.specs.Observable.{observable};
 ghost use Rattle.ets_script.specs.Commands as spec;
@@ -23,9 +23,9 @@ use std::marker::Model;
 pub struct Script<H: KeyHash + Copy + Drop> {
     names: IndexSet<Vec<u8>>,
     node: Node<H>,
-    /// The process of the call before.
+    /// The process of the previous call.
     last_caller: u32,
-    /// An empty list with the memory of the arguments of a call before.
+    /// An empty list, if any, with the memory of the arguments of an earlier call.
     arguments: Option<Vec<Term>>,
 }
 
@@ -77,7 +77,7 @@ impl<H: KeyHash + Copy + Drop> Script<H> {
         *self.names.allocator()
     }
 
-    /// Executes a line. Its answer is written over an earlier one, and uses that one's memory again.
+    /// Executes a line. Writes its answer over an earlier answer, and uses the memory of that again.
     pub fn answer(&mut self, line: &[u8], answer: &mut Answer)
         ensures { AnswersLine self.old (text line.now) answer.new self.new }
     {
@@ -103,7 +103,7 @@ impl<H: KeyHash + Copy + Drop> Script<H> {
         }
     }
 
-    /// Executes a line of any form.
+    /// Executes a line of any form. The rare case of `answer`, not inlined, because most lines are calls.
     #[inline(never)]
     fn answer_other(&mut self, alloc: Global, line: &[u8], answer: &mut Answer)
         ensures { AnswersLine self.old (text line.now) answer.new self.new }
@@ -133,7 +133,7 @@ impl<H: KeyHash + Copy + Drop> Script<H> {
         }
     }
 
-    /// Ends the process of a name.
+    /// Ends the process with this name.
     #[inline(never)]
     fn exit(&mut self, name: &[u8], answer: &mut Answer)
         ensures { Executes (spec.exit name.now) self.old answer.new self.new
@@ -145,7 +145,7 @@ impl<H: KeyHash + Copy + Drop> Script<H> {
         }
     }
 
-    /// Grows the table that a term names.
+    /// Doubles the buckets of the table that a term names.
     #[inline(never)]
     fn grow(&mut self, table: &Term, answer: &mut Answer)
         ensures { Executes (spec.grow table.now) self.old answer.new self.new
@@ -165,7 +165,7 @@ impl<H: KeyHash + Copy + Drop> Script<H> {
         self.step(&mut Step::Ready(table, bucket), answer);
     }
 
-    /// Returns the process of a name.
+    /// Returns the process with this name.
     pub fn pid(&self, name: &[u8]) -> Option<u32>
         ensures { result ≡ pid_of self.now name.now }
     {
@@ -182,7 +182,7 @@ impl<H: KeyHash + Copy + Drop> Script<H> {
         u32::try_from(self.names.len()).unwrap_or(u32::MAX)
     }
 
-    /// Returns the table that a term names, or else the next identifier.
+    /// Returns the table that a term names, or, if there is none, the next identifier, which no table has.
     pub fn table(&self, term: &Term) -> u32
         ensures { result ≡ table_of self.now term.now }
     {

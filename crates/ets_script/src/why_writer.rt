@@ -1,4 +1,4 @@
-//! Reasons of refused lines, for a second writer.
+//! Writes the reasons of refused lines to a second writer.
 ghost use Rattle.std.specs.Prelude.{◌≡◌, ◌+◌, ◌-◌, ◌<◌, ◌^◌, ◌⊎◌, false, OnOk, OnErr};
 ghost use Rattle.script_reasons.specs.Diagnostics.{diagnostic_text};
 ghost use Rattle.ets_packets.specs.Output.{HasWriterOf};
@@ -15,7 +15,8 @@ use script_reasons::Diagnostic;
 use std::alloc::{AllocError, Global};
 use std::io::Write;
 
-/// Writes for each refused line, by its number, why it was refused. Once the writer has failed, it writes no more.
+/// An observer that writes for each refused line its number and why it was refused. After its writer failed, it writes
+/// no more.
 #[derive(Drop)]
 pub struct WhyWriter<'a, E> {
     alloc: Global,
@@ -26,7 +27,7 @@ pub struct WhyWriter<'a, E> {
 }
 
 impl<'a, E: Write> WhyWriter<'a, E> {
-    /// Creates the observer, before any line.
+    /// Creates the observer, before the first line.
     pub fn new(alloc: Global, output: Output<'a, E>) -> WhyWriter<'a, E>
         ensures lines { result.lines ≡ 0 }
         ensures output { result.output ≡ output.entry }
@@ -51,7 +52,7 @@ impl<'a, E: Write> WhyWriter<'a, E> {
         self.lines
     }
 
-    /// Writes the reason of this line. Without memory for its text, nothing changes.
+    /// Writes the reason of this line. Without memory for its text, it writes nothing.
     fn write_reason(&mut self, number: u64, diagnostic: &Diagnostic<'_>) -> Result<(), AllocError>
         ensures same_lines { self.new.lines ≡ self.old.lines }
         ensures same_writer { HasWriterOf self.old.output self.new.output }
@@ -75,7 +76,7 @@ impl<'a, E: Write> WhyWriter<'a, E> {
         }
     }
 
-    /// Writes why this line was refused, or nothing if it was not. Without memory for that, nothing changes.
+    /// Writes why this line was refused, or nothing if it was not. Without memory for the text, it writes nothing.
     fn write_why<H: KeyHash + Copy + Drop>(
         &mut self,
         number: u64,

@@ -37,8 +37,8 @@ fn main(rt: HostRuntime) -> io::Result<ExitCode> {
     Ok(ExitCode::from(status))
 }
 
-/// Makes glibc's allocator keep freed memory for later blocks: once a block of this size was freed, it returns only
-/// larger ones to the system. Nothing else changes, also if there is no memory for the block.
+/// Makes glibc's allocator keep freed memory for later blocks: after a block of `KEPT_BLOCK` bytes was freed, it
+/// returns only larger blocks to the system. Nothing else changes, even if there is no memory for the block.
 fn keep_freed_memory(alloc: Global) {
     if let Ok(block) = Vec::<u8>::with_capacity(alloc, KEPT_BLOCK) {
         drop(block);

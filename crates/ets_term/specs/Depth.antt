@@ -8,12 +8,14 @@ abbrev pub largest : List ℕ → ℕ
 largest [] = 0
 largest (n ∷ ns) = max n (largest ns)
 
--- 1 for a term that holds no terms, `{}` and `[]` too, else one more than the depth of the deepest element
+-- the depth, from the depths of the elements: 1 for a term that holds no terms, `{}` and `[]` too, else one more than
+-- the depth of the deepest element
 abbrev pub depth_form : Term-F ℕ → ℕ
 depth_form (Term-F.Tuple ds) = largest ds + 1
 depth_form (Term-F.List ds) = largest ds + 1
 depth_form _ = 1
 
+-- the depth of a term: its number of levels
 abbrev pub depth : Term → ℕ
 depth = fold-Term ℕ depth_form
 
@@ -25,14 +27,15 @@ max_depth = 128
 abbrev pub is_too_deep : Term → Bool
 is_too_deep term = nat_lt max_depth (depth term)
 
--- the elements of a tuple, or no elements for any other term
+-- the elements of a tuple, from the first level of the term
 abbrev pub elements_form : Term-F Term → List Term
 elements_form (Term-F.Tuple ts) = ts
 elements_form _ = []
 
+-- the elements of a tuple, or no elements for any other term
 abbrev pub elements : Term → List Term
 elements t = elements_form (out-Term t)
 
--- element n of a tuple, counted from 1
+-- element n of a tuple, counted from 1, None if there is no such element
 abbrev pub element_at : ℕ → Term → Option Term
 element_at n t = if n == 0 then None else slice_get (elements t) (n - 1)

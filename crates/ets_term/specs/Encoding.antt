@@ -5,11 +5,13 @@ use Rattle.ets_term.specs.declared.term.Term.{Term, fold-Term}
 use Rattle.ets_term.specs.declared.term.Term.TheOpen.{Term-F}
 use Rattle.ets_term.specs.Integers.{integer_bytes}
 
+-- the lists, joined to one list
 abbrev pub joined : {A : Type 0} → List (List A) → List A
 joined [] = []
 joined (x ∷ xs) = x ++ joined xs
 
--- a byte for the kind; then a number with its high byte first, or the count and then the parts
+-- the bytes of a term, from the bytes of its elements: a byte for the kind; then a number with its high byte first, or
+-- the count and then the parts
 abbrev pub encoding_form : Term-F (List ℕ) → List ℕ
 encoding_form (Term-F.Int n) = 1 ∷ integer_bytes n
 encoding_form (Term-F.Atom s) = 2 ∷ length s ∷ s
@@ -19,6 +21,7 @@ encoding_form (Term-F.Tuple es) = 5 ∷ (to_be_bytes w64 (length es) ++ joined e
 encoding_form (Term-F.List es) = 6 ∷ (to_be_bytes w64 (length es) ++ joined es)
 encoding_form (Term-F.Binary s) = 7 ∷ (to_be_bytes w64 (length s) ++ s)
 
+-- the bytes of a term
 abbrev pub encoding : Term → List ℕ
 encoding = fold-Term (List ℕ) encoding_form
 
@@ -26,5 +29,6 @@ encoding = fold-Term (List ℕ) encoding_form
 abbrev pub fnv_step : ℕ → ℕ → ℕ
 fnv_step h b = (bit_xor h b * 16777619) % 2 ^ 32
 
+-- the FNV-1a hash of bytes
 abbrev pub fnv : List ℕ → ℕ
 fnv bytes = fold fnv_step 2166136261 bytes

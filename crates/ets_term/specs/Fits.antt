@@ -17,9 +17,11 @@ abbrev mutual
   DataFits (list ds) = DataListFits ds
   DataFits (binary bs) = AllByRecursion (λ b. b < 256) bs
 
+  -- each tree of the list is in range
   pub DataListFits : DataList → Type 0
   DataListFits no_terms = Unit {0}
   DataListFits (term d ds) = DataFits d × DataListFits ds
 
+-- the term is in range, with all terms inside
 abbrev pub Fits : Term → Type 0
 Fits t = DataFits (data_of t)

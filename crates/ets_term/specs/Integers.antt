@@ -2,13 +2,15 @@
 use Rattle.std.specs.Prelude.{ℕ, ℤ, ◌^◌, ◌-◌, ◌&&◌, if◌then◌else◌, int_le, pos, negsuc, List, Option, Some, None}
 use Rattle.std.specs.Int.{cast_unsigned, to_be_bytes, w128}
 
+-- the least integer of a term
 abbrev pub least : ℤ
 least = negsuc (2 ^ 127 - 1)
 
+-- the greatest integer of a term
 abbrev pub greatest : ℤ
 greatest = pos (2 ^ 127 - 1)
 
--- None if an integer is out of range
+-- the integer itself, None if it is out of range
 abbrev pub in_range : ℤ → Option ℤ
 in_range n = if int_le least n && int_le n greatest then Some n else None
 

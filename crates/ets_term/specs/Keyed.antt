@@ -9,7 +9,8 @@ use Rattle.ets_term.specs.Encoding.{joined}
 abbrev pub integer_words : ℤ → List ℕ
 integer_words n = cast_unsigned w128 n / 2 ^ 64 ∷ cast_unsigned w128 n % 2 ^ 64 ∷ []
 
--- a word for the kind; then an integer or a number, or the count and then the parts
+-- the words of a term, from the words of its elements: a word for the kind; then an integer or a number, or the count
+-- and then the parts
 abbrev pub words_form : Term-F (List ℕ) → List ℕ
 words_form (Term-F.Int n) = 1 ∷ integer_words n
 words_form (Term-F.Atom s) = 2 ∷ length s ∷ s
@@ -19,6 +20,7 @@ words_form (Term-F.Tuple es) = 5 ∷ length es ∷ joined es
 words_form (Term-F.List es) = 6 ∷ length es ∷ joined es
 words_form (Term-F.Binary s) = 7 ∷ length s ∷ s
 
+-- the words of a term, which its hash with a seed reads
 abbrev pub words : Term → List ℕ
 words = fold-Term (List ℕ) words_form
 
@@ -30,10 +32,11 @@ folded a b = bit_xor ((a * b) % 2 ^ 64) ((a * b) / 2 ^ 64)
 abbrev pub factor : ℕ → ℕ
 factor seed = bit_or (folded (bit_xor seed 11400714819323198485) 15111065706836454659) 1
 
--- exclusive or with the word, then a folded product
+-- the hash after one more word: exclusive or with the word, then a folded product with the factor `by`
 abbrev pub keyed_step : ℕ → ℕ → ℕ → ℕ
 keyed_step by h word = folded (bit_xor h word) by
 
--- starts with the factor, takes all words, and keeps the low 32 bits of one more folded product
+-- the hash of words with a seed: starts with the factor, takes all words, and keeps the low 32 bits of one more folded
+-- product
 abbrev pub keyed : ℕ → List ℕ → ℕ
 keyed seed ws = folded (fold (keyed_step (factor seed)) (factor seed) ws) (factor seed) % 2 ^ 32

@@ -7,7 +7,7 @@ use Rattle.std.specs.Cmp.Lexicographic.{slice_cmp}
 use Rattle.ets_term.specs.declared.term.Term.{Term}
 use Rattle.ets_term.specs.Data.{Data, int, atom, pid, tid, tuple, list, binary, DataList, no_terms, term, data_of}
 
--- integer < atom < table identifier < pid < tuple < list < binary
+-- the rank of a term's kind: integer < atom < table identifier < pid < tuple < list < binary
 abbrev pub rank : Data → ℕ
 rank (int n) = 0
 rank (atom s) = 1
@@ -17,6 +17,7 @@ rank (tuple ds) = 4
 rank (list ds) = 5
 rank (binary s) = 6
 
+-- the number of trees in the list
 abbrev pub data_list_len : DataList → ℕ
 data_list_len no_terms = 0
 data_list_len (term d ds) = suc (data_list_len ds)
@@ -41,9 +42,10 @@ abbrev mutual
   data_list_order (term d ds) no_terms = Greater
   data_list_order (term d ds) (term e es) = ordering_then (data_order d e) (data_list_order ds es)
 
+-- the order of terms
 abbrev pub order : Term → Term → Ordering
 order = on data_of data_order
 
--- whether two terms are equal: built alike
+-- whether two terms are equal: of the same kind, with equal parts
 abbrev pub same : Term → Term → Bool
 same = eq_by_cmp order

@@ -6,6 +6,7 @@ use Rattle.ets_term.specs.declared.term.Term.TheOpen.{Term-F}
 use Rattle.ets_term.specs.Encoding.{joined}
 use Rattle.ets_term.specs.Integers.{integer_bytes}
 
+-- the writes of a term, from the writes of its elements
 abbrev pub writes_form : Term-F (List (List ℕ)) → List (List ℕ)
 writes_form (Term-F.Int n) = (1 ∷ []) ∷ integer_bytes n ∷ []
 writes_form (Term-F.Atom s) = (2 ∷ length s ∷ []) ∷ s ∷ []
@@ -15,5 +16,6 @@ writes_form (Term-F.Tuple es) = (5 ∷ []) ∷ to_be_bytes w64 (length es) ∷ j
 writes_form (Term-F.List es) = (6 ∷ []) ∷ to_be_bytes w64 (length es) ∷ joined es
 writes_form (Term-F.Binary s) = (7 ∷ []) ∷ to_be_bytes w64 (length s) ∷ s ∷ []
 
+-- the writes of a term, each a list of bytes
 abbrev pub writes : Term → List (List ℕ)
 writes = fold-Term (List (List ℕ)) writes_form

@@ -15,6 +15,7 @@ pub struct Atom {
     text: AtomText,
 }
 
+// The value that contracts see of this type (`view`), and what is true of its fields between calls (`invariant`).
 impl Model for Atom {
     ghost use Rattle.std.specs.Prelude.{List, ℕ};
     ghost use Rattle.ets_term.specs.Character.{IsAtomText};
@@ -51,9 +52,9 @@ impl From<AllocError> for AtomFault {
 
 #[tactic(auto, using(crate::proofs::Texts::atom_is_utf8))]
 impl Atom {
-    /// Returns the atom with a text, which may be empty. A text of up to 22 characters takes no memory.
+    /// Returns the atom with this text, which may be empty. A text of up to 22 characters takes no memory.
     ///
-    /// Returns `TooLong` for any text of more than 255 characters, whatever they are.
+    /// If the text has more than 255 characters, returns `TooLong`, even if a character is not printable.
     pub fn new(alloc: Global, text: &str) -> Result<Atom, AtomFault>
         ensures made { IfOk result (λ a. a ≡ text.now) }
         ensures fits { IfOk result (λ _. IsAtomText text.now) }
@@ -73,8 +74,8 @@ impl Atom {
         })
     }
 
-    /// Returns the atom with these characters, without a check that they are an atom's text. Up to 22 characters take
-    /// no memory.
+    /// Returns the atom with these characters, and does not check that they are the text of an atom. Up to 22
+    /// characters take no memory.
     pub fn of_bytes(alloc: Global, bytes: &[u8]) -> Result<Atom, AllocError>
         requires { IsAtomText bytes.now }
         ensures same { IfOk result (λ a. a ≡ bytes.now) }

@@ -1,4 +1,4 @@
-//! The characters of an atom: a few inline, more in memory of their own.
+//! The characters of an atom: up to 22 inline, more in an allocation.
 ghost use Rattle.std.specs.Prelude.{◌≡◌, ◌≤◌, length, IfOk, IsOk};
 ghost use Rattle.std.specs.Str.{IsUtf8};
 ghost use Rattle.ets_term.specs.Character.{max_inline};
@@ -6,10 +6,10 @@ ghost use Rattle.ets_term.specs.inside.AtomTexts.{characters, EndsInline};
 
 use std::alloc::{AllocError, Global};
 
-/// The greatest number of characters that are kept inline.
+/// The greatest number of characters that are stored inline.
 pub(crate) const MAX_INLINE: usize = 22;
 
-/// The characters of an atom. With its tag a value takes 24 bytes, no more than a `String`.
+/// The characters of an atom. A value takes 24 bytes with its tag, as many as a `String`.
 #[derive(Drop)]
 pub(crate) enum AtomText {
     Inline { len: u8, bytes: [u8; MAX_INLINE] },

@@ -15,9 +15,9 @@ impl Term {
     /// Compares the term with another. Returns `Equal` exactly if the terms are equal (`=:=`).
     ///
     /// The kinds are in the order integer < atom < table identifier < pid < tuple < list < binary (Erlang Reference
-    /// Manual, Expressions, Term Comparisons). Tuples compare by size first, then element by element. Other terms of one
-    /// kind compare part by part, and a proper prefix is less. Identifiers and pids compare by their numbers, which is
-    /// this project's choice.
+    /// Manual, Expressions, Term Comparisons). Tuples compare by size first, then element by element. Other terms of
+    /// one kind compare part by part, and a proper prefix is less. Identifiers and pids compare by their numbers, which
+    /// is this project's choice.
     pub fn cmp_terms(&self, other: &Term) -> Ordering
         ensures order { result ≡ order self.now other.now }
         ensures equal { result ≡ Ordering.Equal ↔ self.now ≡ other.now }
@@ -89,7 +89,7 @@ fn compare(a: &Term, b: &Term) -> Ordering
     }
 }
 
-/// Compares two lists of terms, element by element.
+/// Compares two lists of terms, element by element. A proper prefix is less.
 #[cycle(compare)]
 fn compare_items(xs: &[Term], ys: &[Term]) -> Ordering
     ensures { result ≡ data_list_order (data_list (map data_of xs.now)) (data_list (map data_of ys.now)) }

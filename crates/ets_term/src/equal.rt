@@ -1,4 +1,4 @@
-//! The equality of terms, without their order.
+//! The equality of terms, computed without their order.
 ghost use Rattle.std.specs.Prelude.{◌≡◌, true, false, map};
 ghost use Rattle.std.specs.Ordering.{is_eq};
 ghost use Rattle.ets_term.specs.Data.{data_list, data_of};
@@ -6,7 +6,7 @@ ghost use Rattle.ets_term.specs.Order.{same, data_list_order};
 
 use crate::term::Term;
 
-/// Returns whether two terms are equal (`=:=`): built alike.
+/// Returns whether two terms are equal (`=:=`): of the same kind, with equal parts.
 #[cycle(equal)]
 #[tactic(auto)]
 pub fn equal_terms(a: &Term, b: &Term) -> bool
@@ -24,7 +24,8 @@ pub fn equal_terms(a: &Term, b: &Term) -> bool
     }
 }
 
-/// Returns whether two lists of terms are equal. Compares from the end, because objects with one key differ after it.
+/// Returns whether two lists of terms are equal. Compares from the end, because two objects with the same key often
+/// differ in later elements only.
 #[cycle(equal)]
 #[tactic(auto, using(crate::proofs::DataListLaws::last_differs))]
 fn equal_items(xs: &[Term], ys: &[Term]) -> bool
@@ -45,7 +46,7 @@ fn equal_items(xs: &[Term], ys: &[Term]) -> bool
     true
 }
 
-/// Returns whether two terms are different integers, without a call.
+/// Returns whether two terms are different integers. Tested first, because it takes no recursive call.
 fn integers_differ(a: &Term, b: &Term) -> bool
     ensures { result ≡ true → same a.now b.now ≡ false }
 {

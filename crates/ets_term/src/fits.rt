@@ -7,8 +7,8 @@ ghost use Rattle.ets_term.specs.Fits.{Fits, DataListFits};
 use crate::term::Term;
 
 impl Term {
-    /// Returns nothing; its contract promises that the term is in range. Integers, pids, identifiers and bytes are in
-    /// their ranges, and each atom has at most `MAX_CHARACTERS` characters, all printable ASCII.
+    /// Has no effect. Its contract says that the term is in range: integers, pids, table identifiers and bytes are in
+    /// the ranges of their types, and each atom has at most `MAX_CHARACTERS` characters, all printable ASCII.
     pub fn fits(&self)
         ensures { Fits self.now }
     {
@@ -16,7 +16,7 @@ impl Term {
     }
 }
 
-/// Promises that a term is in range.
+/// Has no effect. Its contract says that a term is in range, which the prover learns where a value is read.
 #[cycle(fits)]
 fn fits_term(term: &Term)
     ensures { Fits term.now }
@@ -40,12 +40,12 @@ fn fits_term(term: &Term)
     }
 }
 
-/// Promises that each byte is below 256.
+/// Has no effect. Its contract says that each byte is below 256.
 fn fits_bytes(bytes: &[u8])
     ensures { AllByRecursion (λ b. b < 256) bytes.now }
 {}
 
-/// Promises that each item is in range.
+/// Has no effect. Its contract says that each item is in range.
 #[cycle(fits)]
 fn fits_items(items: &[Term])
     ensures { DataListFits (data_list (map data_of items.now)) }

@@ -8,15 +8,16 @@ use crate::integer::{Integer, integer_bytes};
 use crate::key_hash::KeyHash;
 use crate::term::Term;
 
-/// The prime of FNV-1a to the twelfth power, modulo 2^32: the factor of twelve zero bytes.
+/// The prime of FNV-1a to the twelfth power, modulo 2^32. Hashing twelve zero bytes multiplies the hash by it.
 const TWELVE_ZEROS: u32 = 3549196337;
 
-/// The same to the eighth power: the factor of eight zero bytes.
+/// The prime of FNV-1a to the eighth power, modulo 2^32. Hashing eight zero bytes multiplies the hash by it.
 const EIGHT_ZEROS: u32 = 1566662433;
 
 /// The hasher FNV-1a of 32 bits over the encoding of a term. The encoding starts with a byte for the kind: integer 1,
-/// atom 2, pid 3, table identifier 4, tuple 5, list 6, binary 7. Then come 16 bytes of an integer, 8 of a count, 1 of an
-/// atom's length, or 4 of a number, each with the high byte first. Characters, elements or bytes end it.
+/// atom 2, pid 3, table identifier 4, tuple 5, list 6, binary 7. Then come 16 bytes of an integer, 8 of a count, 1 of
+/// an atom's length, or 4 of a pid or table identifier, each with the high byte first. Characters, elements or bytes
+/// end it. The hash starts with 2166136261 (the offset basis), and the prime is 16777619.
 #[derive(Clone, Copy)]
 pub struct Fnv;
 
@@ -37,7 +38,7 @@ impl KeyHash for Fnv {
     }
 }
 
-/// Continues a hash over the encoding of a term.
+/// Continues the hash `start` with the encoding of a term.
 #[cycle(fnv)]
 fn fnv_term(start: u32, term: &Term) -> u32
     ensures { result ≡ fold fnv_step start (encoding term.now) }
@@ -56,7 +57,7 @@ fn fnv_term(start: u32, term: &Term) -> u32
     }
 }
 
-/// Continues a hash over the encodings of some terms.
+/// Continues the hash `start` with the encodings of some terms.
 #[cycle(fnv)]
 fn fnv_items(start: u32, items: &[Term]) -> u32
     ensures { result ≡ fold fnv_step start (joined (map encoding items.now)) }
@@ -68,7 +69,8 @@ fn fnv_items(start: u32, items: &[Term]) -> u32
     hash
 }
 
-/// Continues a hash over the bytes of an integer. The leading zeros of a small integer take one product.
+/// Continues the hash `start` with the bytes of an integer. The leading zero bytes of an integer from 0 to 2^64-1 take
+/// one multiplication.
 fn fnv_integer(start: u32, n: Integer) -> u32
     ensures { result ≡ fold fnv_step start (bytes_of n) }
 {
@@ -81,14 +83,14 @@ fn fnv_integer(start: u32, n: Integer) -> u32
     fnv_bytes(start, &integer_bytes(n))
 }
 
-/// Continues a hash over a kind and a count.
+/// Continues the hash `start` with the byte of a kind and the eight bytes of a count.
 fn fnv_count(start: u32, kind: u8, count: usize) -> u32
     ensures { result ≡ fold fnv_step start (kind ∷ to_be_bytes w64 count) }
 {
     fnv_bytes(fnv_bytes(start, &[kind]), &(count as u64).to_be_bytes())
 }
 
-/// Continues a hash over bytes.
+/// Continues the hash `start` with bytes: for each byte an exclusive or, then a product with the prime.
 fn fnv_bytes(start: u32, bytes: &[u8]) -> u32
     ensures { result ≡ fold fnv_step start bytes.now }
 {

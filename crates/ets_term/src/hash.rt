@@ -19,7 +19,7 @@ impl Hash for Term {
     }
 }
 
-/// Writes a term to a hasher.
+/// Writes a term to a hasher. The bytes are those of the encoding that `Fnv` describes.
 #[cycle(feed)]
 fn feed<H: Hasher>(term: &Term, state: &mut H)
     ensures { state.new ≡ fold H.write state.old (writes term.now) }
@@ -67,7 +67,7 @@ fn feed_items<H: Hasher>(items: &[Term], state: &mut H)
     }
 }
 
-/// Writes a kind and a count to a hasher.
+/// Writes the byte of a kind and the eight bytes of a count to a hasher.
 fn feed_count<H: Hasher>(kind: u8, count: usize, state: &mut H)
     ensures { state.new ≡ fold H.write state.old ((kind ∷ []) ∷ to_be_bytes w64 count ∷ []) }
 {

@@ -15,6 +15,7 @@ pub struct Items<T> {
     pub(crate) items: Vec<T>,
 }
 
+// The value that contracts see of this type (`view`).
 impl<T> Model for Items<T> {
     ghost use Rattle.std.specs.Prelude.{List};
     ghost use Rattle.std.specs.Coded.{coded_list};
@@ -27,7 +28,7 @@ impl<T> Model for Items<T> {
 }
 
 impl<T> Items<T> {
-    /// Returns no items. Takes no memory.
+    /// Returns an empty list of items. Takes no memory.
     pub fn new(alloc: Global) -> Items<T>
         ensures { result ≡ [] }
     {
@@ -65,14 +66,14 @@ impl<T> Items<T> {
         self.items.len()
     }
 
-    /// Returns whether the number of items is 0.
+    /// Returns whether there are no items.
     pub fn is_empty(&self) -> bool
         ensures { result ≡ (length self.now == 0) }
     {
         self.items.is_empty()
     }
 
-    /// Returns the item at an index, counted from 0, or None past the end.
+    /// Returns the item at an index, counted from 0, or `None` past the end.
     pub fn get(&self, at: usize) -> Option<&T>
         ensures { option_copied result ≡ slice_get self.now at }
     {
@@ -88,7 +89,7 @@ impl<T> Items<T> {
         mem::replace(&mut self.items[at], item)
     }
 
-    /// Removes the last item and returns it, or returns None if the number of items is 0.
+    /// Removes the last item and returns it, or returns `None` if there are no items.
     pub fn pop(&mut self) -> Option<T>
         ensures { MatchOption result ((self.old ≡ []) × (self.new ≡ [])) (λ last. self.old ≡ self.new ++ last ∷ []) }
     {

@@ -4,7 +4,7 @@ ghost use Rattle.ets_term.specs.declared.term.Term as declared;
 
 use crate::term::Term;
 
-/// A hasher of terms. It gives equal terms equal hashes, all below 2^32.
+/// A hasher of terms. Equal terms have equal hashes, and all hashes are below 2^32.
 pub trait KeyHash {
     ghost hash: { Self → declared.Term → ℕ };
 
@@ -15,7 +15,7 @@ pub trait KeyHash {
     ghost below: { (hasher : Self) (term : declared.Term) → hash hasher term < 2 ^ 32 };
 }
 
-/// The hasher that gives each term the hash 0, so that every key is in one bucket.
+/// The hasher that returns the hash 0 for each term, so that all keys are in one bucket.
 #[derive(Clone, Copy)]
 pub struct AllSame;
 

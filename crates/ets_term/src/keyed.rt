@@ -7,10 +7,11 @@ use crate::integer::Integer;
 use crate::key_hash::KeyHash;
 use crate::term::Term;
 
-/// The hasher with this seed. It mixes in words of 64 bits: by an exclusive or, then a product of 128 bits whose halves
-/// it folds. The first word of a term is its kind, as in `Fnv`. The others are the two words of an integer, the high one
-/// first; or a number; or the count, then the characters, elements or bytes. The factor depends on the seed, so that
-/// keys of one bucket are hard to choose without the seed.
+/// The hasher with this seed. It mixes 64-bit words into a hash: the exclusive or of both is multiplied by a factor,
+/// and the halves of the 128-bit product are combined by exclusive or. The first word of a term is its kind, as in
+/// `Fnv`. Then come the two words of an integer, the high one first; or the number of a pid or table identifier; or the
+/// count, then the characters, elements or bytes. The factor depends on the seed, so that keys of one bucket are hard
+/// to choose for a user without the seed.
 #[derive(Clone, Copy)]
 pub struct Keyed(pub u64);
 
@@ -29,14 +30,14 @@ impl KeyHash for Keyed {
     }
 }
 
-/// Returns the factor of a seed, an odd number.
+/// Returns the factor for a seed, an odd number. The two constants are fixed odd numbers.
 fn factor_of(seed: u64) -> u64
     ensures { result ≡ factor seed }
 {
     fold_product(seed ^ 11400714819323198485, 15111065706836454659) | 1
 }
 
-/// Mixes in the words of a term.
+/// Mixes the words of a term into the hash `start`.
 #[cycle(mix)]
 fn mix_term(factor: u64, start: u64, term: &Term) -> u64
     ensures { result ≡ fold (keyed_step factor) start (words term.now) }
@@ -68,7 +69,7 @@ fn mix_term(factor: u64, start: u64, term: &Term) -> u64
     }
 }
 
-/// Mixes in the words of some terms, one term after another.
+/// Mixes the words of some terms into the hash `start`, one term after another.
 #[cycle(mix)]
 fn mix_items(factor: u64, start: u64, items: &[Term]) -> u64
     ensures { result ≡ fold (keyed_step factor) start (joined (map words items.now)) }
@@ -80,7 +81,7 @@ fn mix_items(factor: u64, start: u64, items: &[Term]) -> u64
     hash
 }
 
-/// Mixes in a word for each byte.
+/// Mixes a word for each byte into the hash `start`.
 fn mix_bytes(factor: u64, start: u64, bytes: &[u8]) -> u64
     ensures { result ≡ fold (keyed_step factor) start bytes.now }
 {
@@ -91,31 +92,32 @@ fn mix_bytes(factor: u64, start: u64, bytes: &[u8]) -> u64
     hash
 }
 
-/// Mixes in the two words of an integer.
+/// Mixes the two words of an integer into the hash `start`.
 fn mix_integer(factor: u64, start: u64, n: Integer) -> u64
     ensures { result ≡ fold (keyed_step factor) start (integer_words n) }
 {
+    // The number of values of a word: 2^64.
     const WORD: u128 = 1 << 64;
     let bits = n.cast_unsigned();
     let high = mix(factor, start, (bits / WORD) as u64);
     mix(factor, high, (bits % WORD) as u64)
 }
 
-/// Mixes in a kind, and a number or a count.
+/// Mixes a kind, and then a number or a count, into the hash `start`.
 fn mix_number(factor: u64, start: u64, kind: u64, number: u64) -> u64
     ensures { result ≡ keyed_step factor (keyed_step factor start kind) number }
 {
     mix(factor, mix(factor, start, kind), number)
 }
 
-/// Mixes in one word.
+/// Mixes one word into a hash.
 fn mix(factor: u64, hash: u64, word: u64) -> u64
     ensures { result ≡ keyed_step factor hash word }
 {
     fold_product(hash ^ word, factor)
 }
 
-/// Multiplies, and returns the exclusive or of the product's halves.
+/// Multiplies to a 128-bit product, and returns the exclusive or of its halves.
 fn fold_product(a: u64, b: u64) -> u64
     ensures { result ≡ folded a b }
 {

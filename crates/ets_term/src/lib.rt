@@ -1,10 +1,10 @@
-//! Two terms are equal exactly if they are built alike, they have one total order, and equal terms have equal hashes.
+//! Terms of Erlang: equal exactly if built alike (same kind, equal parts), with a total order and hashes.
 //!
 //! *Guarantee.* Contracts see a term as the enum `Term` itself, with lists in place of `Items` and of the characters of
 //! an `Atom`. So `≡` says that two terms are built alike. Every term is in range: its numbers fit their types, and its
 //! atoms have valid text.
 //!
-//! *Weakness.* Each level of a term takes stack when it is copied, compared, hashed or dropped. A copy copies all parts
+//! *Weakness.* To copy, compare, hash or drop a term takes stack for each level of the term. A copy copies all parts
 //! and shares none.
 //!
 //! *Mechanism.* A term owns its parts. An atom keeps up to 22 characters inline and allocates memory for more.
@@ -13,6 +13,10 @@
 //! `Term::is_too_deep` tests for more than 128 levels.
 #![tactic(auto)]
 
+// The modules of terms: the enum (`term`), its integers (`integer`), atoms (`atom`, `atom_text`) and lists (`items`),
+// the range of its values (`fits`), order and equality (`compare`, `equal`), and copies that `reuse` memory. The
+// modules of hashes: the writes to a hasher (`hash`), the trait of hashers (`key_hash`), the hashers `fnv` and `keyed`,
+// and `laws`.
 mod atom;
 mod atom_text;
 mod compare;

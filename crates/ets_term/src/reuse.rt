@@ -6,9 +6,10 @@ use crate::term::Term;
 use std::alloc::{AllocError, Global};
 
 impl Term {
-    /// Makes `target` equal to this term. A tuple or list in the place of one with the same length reuses its memory.
+    /// Makes `target` equal to this term. A tuple of `target` is reused for a tuple of the same length, and a list for
+    /// a list: their memory is not allocated again.
     ///
-    /// If memory is refused, `target` holds some term, in which parts may be replaced already.
+    /// If memory is refused, `target` is still a term, but some of its parts may be replaced already.
     pub fn clone_into(&self, alloc: Global, target: &mut Term) -> Result<(), AllocError>
         ensures { OnOk result (target.new ≡ self.now) }
     {
@@ -19,7 +20,7 @@ impl Term {
 impl Items<Term> {
     /// Makes each item equal to the term at its index, and reuses memory as `Term::clone_into` does.
     ///
-    /// If memory is refused, the number of items stays, but some may be replaced already.
+    /// If memory is refused, the number of items is as before, but some items may be replaced already.
     pub fn write_copies(&mut self, alloc: Global, terms: &[Term]) -> Result<(), AllocError>
         requires { length self.old ≡ length terms.now }
         ensures { OnOk result (self.new ≡ terms.now) }
@@ -28,7 +29,7 @@ impl Items<Term> {
     }
 }
 
-/// Makes `target` equal to a term. An integer takes no further call.
+/// Makes `target` equal to a term. If the term is an integer, it calls no other function.
 #[cycle(reuse)]
 #[inline(always)]
 fn write_term(alloc: Global, term: &Term, target: &mut Term) -> Result<(), AllocError>

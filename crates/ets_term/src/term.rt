@@ -11,7 +11,7 @@ use std::alloc::{AllocError, Global};
 pub const MAX_DEPTH: usize = 128;
 
 /// A term of Erlang (Erlang Reference Manual, Data Types), of one of seven kinds. Two terms are equal exactly if they
-/// are built alike: of one kind, with equal parts. This is `=:=` of Erlang.
+/// are built alike: of the same kind, with equal parts. This is `=:=` of Erlang.
 #[derive(Drop)]
 pub enum Term {
     Int(Integer),
@@ -23,7 +23,7 @@ pub enum Term {
     Tuple(Items<Term>),
     /// A proper list.
     List(Items<Term>),
-    /// Whole bytes.
+    /// A binary of whole bytes.
     Binary(Items<u8>),
 }
 
@@ -55,7 +55,7 @@ impl Term {
         depth_of(self)
     }
 
-    /// Returns whether the term is deeper than `MAX_DEPTH`. Reads at most one level further.
+    /// Returns whether the term is deeper than `MAX_DEPTH`. Reads at most one level below `MAX_DEPTH`.
     pub fn is_too_deep(&self) -> bool
         ensures { result ≡ is_too_deep self.now }
     {
@@ -72,7 +72,7 @@ impl Term {
         }
     }
 
-    /// Returns element `n` of a tuple, counted from 1, or None if the term is no tuple or has no such element.
+    /// Returns element `n` of a tuple, counted from 1, or `None` if the term is not a tuple or has no such element.
     pub fn element(&self, n: Position) -> Option<&Term>
         ensures { option_copied result ≡ element_at n self.now }
     {
@@ -105,8 +105,8 @@ fn copy(alloc: Global, term: &Term) -> Result<Term, AllocError>
     }
 }
 
-/// Copies the items one after another. Integers and tuples have arms of their own, so a flat tuple takes no call per
-/// element.
+/// Copies items one after another. Integers and tuples are copied in this function, so a tuple of integers takes no
+/// call per element.
 #[cycle(copy)]
 fn copy_items(alloc: Global, items: &[Term]) -> Result<Items<Term>, AllocError>
     ensures { IfOk result (λ v. v ≡ items.now) }

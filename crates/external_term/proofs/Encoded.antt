@@ -28,7 +28,7 @@ encode-List ts = search (rules, the_lemmas)
 pub encode-Binary : (bs : List ℕ) → encode (Binary bs) ≡ binary_bytes bs
 encode-Binary bs = search (rules, the_lemmas)
 
--- a tuple or list is no small integer
+-- a tuple or list is not a small integer
 tuple_if : (b : Bool) (n : ℕ) (xs : List ℕ) → is_small ((if b then 104 ∷ n ∷ [] else 105 ∷ big4 n) ++ xs) ≡ false
 tuple_if true n xs = refl
 tuple_if false n xs = refl

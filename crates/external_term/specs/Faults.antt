@@ -1,9 +1,9 @@
--- Faults, and results up to a lack of memory.
+-- Faults, and results of calls that may run out of memory.
 use Rattle.std.specs.Prelude.{◌≡◌, ℕ, Option, Some, None, Result, Ok, Err}
 use Rattle.external_term.specs.declared.fault.ExternalFault.{ExternalFault}
 use Rattle.external_term.specs.declared.fault.ExternalFault.TheVariants.{Truncated, BadVersion, UnknownTag, TooDeep, ImproperList, BadAtom, BadInteger, ForeignIdentifier, Memory}
 
--- the offset of a fault, which Memory has not
+-- the offset of a fault, None for Memory
 abbrev pub offset : ExternalFault → Option ℕ
 offset (Truncated at) = Some at
 offset (BadVersion at) = Some at
@@ -15,12 +15,12 @@ offset (BadInteger at) = Some at
 offset (ForeignIdentifier at) = Some at
 offset Memory = None
 
--- a call fails with this fault where it should, or memory ran out
+-- a call fails with this fault: it is the expected fault, or memory ran out
 abbrev pub Fails : {A : Type 0} → Result A ExternalFault → ExternalFault → Type 0
 Fails expected Memory = Unit {0}
 Fails expected f = expected ≡ Err f
 
--- a call returns what it should, or memory ran out
+-- a call returns the expected result, or memory ran out
 abbrev pub Returns : {A : Type 0} → Result A ExternalFault → Result A ExternalFault → Type 0
 Returns expected (Ok x) = expected ≡ Ok x
 Returns expected (Err f) = Fails expected f

@@ -5,46 +5,49 @@ use Rattle.external_term.specs.declared.field.Width.TheVariants.{One, Two, Four}
 use Rattle.external_term.specs.declared.fault.ExternalFault.{ExternalFault}
 use Rattle.external_term.specs.declared.fault.ExternalFault.TheVariants.{Truncated}
 
--- what is read at an offset: a value and the offset after it, or a fault
+-- the result of reading at an offset: a value and the offset after it, or a fault
 abbrev pub Read : Type 0 → Type 0
 Read A = Result (A × ℕ) ExternalFault
 
--- then reads on after it
+-- reads on after a value, by a function of the value and the offset after it; a fault stays
 abbrev pub after : {A B : Type 0} → Read A → (A → ℕ → Read B) → Read B
 after (Ok x) more = more x.0 x.1
 after (Err f) more = Err f
 
--- two or four bytes, the high byte first
+-- the number in the two bytes at an offset, the high byte first
 abbrev pub big16 : List ℕ → ℕ → ℕ
 big16 bytes at = slice_index bytes at * 256 + slice_index bytes (at + 1)
 
+-- the number in the four bytes at an offset, the high byte first
 abbrev pub big32 : List ℕ → ℕ → ℕ
 big32 bytes at = big16 bytes at * 65536 + big16 bytes (at + 2)
 
--- the number of bytes of a number
+-- the number of bytes of a number with this width
 abbrev pub size : Width → ℕ
 size One = 1
 size Two = 2
 size Four = 4
 
--- an unsigned number at an offset
+-- the unsigned number with this width at an offset
 abbrev pub number : Width → List ℕ → ℕ → ℕ
 number One bytes at = slice_index bytes at
 number Two bytes at = big16 bytes at
 number Four bytes at = big32 bytes at
 
--- whether n bytes are left
+-- whether at least n bytes are left at an offset
 abbrev pub has : ℕ → List ℕ → ℕ → Bool
 has n bytes at = nat_le (at + n) (length bytes)
 
+-- the number at an offset if there are enough bytes, else the fault
 abbrev pub number_if : Bool → Width → List ℕ → ℕ → Read ℕ
 number_if true w bytes at = Ok (number w bytes at, at + size w)
 number_if false w bytes at = Err (Truncated at)
 
--- reads an unsigned number
+-- reads an unsigned number with this width
 abbrev pub number_at : Width → List ℕ → ℕ → Read ℕ
 number_at w bytes at = number_if (has (size w) bytes at) w bytes at
 
+-- the offsets of a piece of n bytes if there are enough bytes, else the fault
 abbrev pub piece_if : Bool → ℕ → ℕ → Read ℕ
 piece_if true n at = Ok (at, at + n)
 piece_if false n at = Err (Truncated at)

@@ -14,37 +14,40 @@ use Rattle.external_term.specs.Integers.{small_integer_at, integer_at, big_at}
 use Rattle.external_term.specs.Texts.{atom_at, binary_at, string_at}
 use Rattle.external_term.specs.Tags.{tag_of}
 
--- reads n more items, after those that are done, by the reader of one
+-- reads n more items after the items in `done`, each by `one`, the reader of one term
 abbrev pub items : (ℕ → Read Term) → List Term → ℕ → ℕ → Read (List Term)
 items one done zero at = Ok (done, at)
 items one done (suc n) at = elim (one at) [ Ok x ↦ items one (done ++ x.0 ∷ []) n x.1 | Err f ↦ Err f ]
 
+-- reads n items if there are enough bytes, else gives the fault
 abbrev pub items_if : Bool → (ℕ → Read Term) → ℕ → ℕ → Read (List Term)
 items_if true one n at = items one [] n at
 items_if false one n at = Err (Truncated at)
 
--- n items, each of at least one byte
+-- reads n items; a fault if fewer than n bytes are left, because each item has at least one byte
 abbrev pub items_at : List ℕ → (ℕ → Read Term) → ℕ → ℕ → Read (List Term)
 items_at bytes one n at = items_if (has n bytes at) one n at
 
--- the number of items, and the items
+-- reads a tuple: the number of items, and the items
 abbrev pub tuple_at : Width → List ℕ → (ℕ → Read Term) → ℕ → Read Term
 tuple_at w bytes one at =
     after (number_at w bytes (at + 1)) (λ n next.
     after (items_at bytes one n next) (λ ts end. Ok (TupleOf ts, end)))
 
+-- the list if its tail is the empty list, else the fault
 abbrev pub tail_if : Bool → List Term → ℕ → ℕ → Read Term
 tail_if true ts at end = Ok (ListOf ts, end)
 tail_if false ts at end = Err (ImproperList at)
 
--- the number of items, the items, and NIL_EXT as the tail
+-- reads a LIST_EXT: the number of items, the items, and NIL_EXT as the tail
 abbrev pub list_at : List ℕ → (ℕ → Read Term) → ℕ → Read Term
 list_at bytes one at =
     after (number_at Four bytes (at + 1)) (λ n next.
     after (items_at bytes one n next) (λ ts last.
     after (number_at One bytes last) (λ tail end. tail_if (tail == 106) ts last end)))
 
--- the form of a tag at an offset, where levels are left inside, and `one` reads an item
+-- reads the term whose tag is at an offset; the terms inside may have at most `levels` levels, and `one` reads one of
+-- them
 abbrev pub form : List ℕ → ℕ → (ℕ → Read Term) → ℕ → Tag → Read Term
 form bytes levels one at SmallInteger = small_integer_at bytes at
 form bytes levels one at Integer = integer_at bytes at
@@ -62,15 +65,17 @@ form bytes levels one at NewReference = reference_at bytes at 1
 form bytes levels one at Reference = old_reference_at bytes at
 form bytes levels one at Unknown = Err (UnknownTag at)
 
+-- reads a term if there is a byte for its tag, else gives the fault
 abbrev pub form_if : Bool → List ℕ → ℕ → (ℕ → Read Term) → ℕ → Read Term
 form_if true bytes levels one at = form bytes levels one at (tag_of (slice_index bytes at))
 form_if false bytes levels one at = Err (Truncated at)
 
--- reads a term with some levels left
+-- reads a term of at most this number of levels
 unfoldable pub term_at : List ℕ → ℕ → ℕ → Read Term
 term_at bytes zero at = Err (TooDeep at)
 term_at bytes (suc levels) at = form_if (nat_lt at (length bytes)) bytes levels (term_at bytes levels) at
 
+-- reads a term if the version is right, else gives the fault
 abbrev pub version_if : Bool → List ℕ → ℕ → Read Term
 version_if true bytes at = term_at bytes max_depth at
 version_if false bytes at = Err (BadVersion 0)

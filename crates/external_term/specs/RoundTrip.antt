@@ -6,8 +6,8 @@ use Rattle.ets_term.specs.declared.term.Term.{Term}
 use Rattle.external_term.specs.Encoding.{written}
 use Rattle.external_term.specs.Reader.{read}
 
--- What is written for a term of at most max_depth levels, in less than 2 ^ 32 bytes, is read as this term, to its last
--- byte, whatever follows.
+-- If a term has at most max_depth levels, and its written bytes are less than 2 ^ 32, then these bytes are read as this
+-- term, to the last byte, whatever follows.
 abbrev pub ReadsBack : Term → List ℕ → Type 0
 ReadsBack t rest =
     Fits t → depth t ≤ max_depth → length (written t) < 2 ^ 32

@@ -4,7 +4,7 @@ use Rattle.external_term.specs.declared.field.Width.TheVariants.{One, Two, Four}
 use Rattle.external_term.specs.declared.tag.Tag.{Tag}
 use Rattle.external_term.specs.declared.tag.Tag.TheVariants.{SmallInteger, Integer, SmallBig, Atom, Tuple, Nil, String, List, Binary, NewPid, Pid, NewerReference, NewReference, Reference, Unknown}
 
--- what a byte says as a tag; the width is that of the length that follows
+-- the meaning of a byte as a tag; the width is that of the length that follows the tag
 abbrev pub tag_of : ℕ → Tag
 tag_of b =
     if b == 97 then SmallInteger

@@ -1,4 +1,4 @@
-//! Appends the forms that hold no terms to a vector that has room for them.
+//! Appends terms that contain no other terms, and headers, to a vector that has room for them.
 ghost use Rattle.std.specs.Prelude.{◌≡◌, ◌+◌, ◌≤◌, ◌<◌, ◌^◌, ◌++◌, length, vec_len, vec_capacity, pos, negsuc};
 ghost use Rattle.external_term.specs.Encoding.{integer_bytes, atom_bytes, pid_bytes, reference_bytes, node_bytes, tuple_header, binary_bytes, big_bytes};
 
@@ -7,7 +7,7 @@ use crate::integer::Magnitude;
 use crate::put::{digit_count, put, put_digits, put_tag_and_u8, put_tag_and_u32, put_u32};
 use ets_term::{Atom, Integer};
 
-/// Appends a magnitude with its sign, as SMALL_BIG_EXT.
+/// Appends a magnitude with its sign (0 for positive, 1 for negative), as SMALL_BIG_EXT.
 fn append_big(sign: u8, n: Magnitude, out: &mut Vec<u8>)
     requires { vec_len out.old + length (big_bytes sign n) ≤ vec_capacity out.old }
     ensures items { out.new.items ≡ out.old.items ++ big_bytes sign n }
@@ -18,7 +18,7 @@ fn append_big(sign: u8, n: Magnitude, out: &mut Vec<u8>)
     put_digits(n, out);
 }
 
-/// Appends the integer `n`.
+/// Appends the integer `n`, which is not negative.
 #[tactic(auto, using(crate::proofs::SmallIntegers::byte_bytes, crate::proofs::SmallIntegers::word_bytes, crate::proofs::SmallIntegers::wide_bytes))]
 fn append_positive(n: Magnitude, out: &mut Vec<u8>)
     requires { vec_len out.old + length (integer_bytes (pos n)) ≤ vec_capacity out.old }
@@ -62,7 +62,7 @@ pub(crate) fn append_integer(n: Integer, out: &mut Vec<u8>)
     }
 }
 
-/// Appends characters as SMALL_ATOM_UTF8_EXT.
+/// Appends characters as an atom, in the form SMALL_ATOM_UTF8_EXT.
 pub(crate) fn append_name(text: &[u8], out: &mut Vec<u8>)
     requires few { length text.now < 256 }
     requires room { vec_len out.old + length (atom_bytes text.now) ≤ vec_capacity out.old }
@@ -82,7 +82,7 @@ pub(crate) fn append_atom(name: &Atom, out: &mut Vec<u8>)
     append_name(name.text().as_bytes(), out);
 }
 
-/// Appends the name of the node as SMALL_ATOM_UTF8_EXT.
+/// Appends the name of the node, `NODE`, as SMALL_ATOM_UTF8_EXT.
 fn append_node(out: &mut Vec<u8>)
     requires { vec_len out.old + 15 ≤ vec_capacity out.old }
     ensures items { out.new.items ≡ out.old.items ++ node_bytes }

@@ -7,17 +7,19 @@ use std::io::Error;
 /// Why bytes do not begin with a term. Offsets are in bytes, from 0.
 #[derive(Debug, Clone, Copy, PartialEq, Eq)]
 pub enum ExternalFault {
-    /// The bytes end inside the field that begins at this offset, or before the items that are counted there.
+    /// The bytes end inside the field that begins at this offset, or there are fewer bytes than items that must begin
+    /// there.
     Truncated(usize),
     /// The first byte is not the version, 131.
     BadVersion(usize),
     /// No tag has the value of the byte at this offset.
     UnknownTag(usize),
-    /// A term, or a character of a string, is at level 129.
+    /// At this offset a term, or a character of a string, is at level 129.
     TooDeep(usize),
     /// The tail of a list, at this offset, is not the empty list.
     ImproperList(usize),
-    /// The atom at this offset has more than 255 characters, or one that is not printable ASCII; or no atom is there.
+    /// The atom at this offset has more than 255 characters, or a character that is not printable ASCII. Or the name of
+    /// a node must be here, but there is no atom.
     BadAtom(usize),
     /// The integer at this offset does not fit 128 bits.
     BadInteger(usize),
@@ -30,22 +32,22 @@ pub enum ExternalFault {
 /// Why a term was not written.
 #[derive(Debug, Clone, Copy, PartialEq, Eq)]
 pub enum ExternalWriteFault {
-    /// The bytes are more than `MAX_BYTES`.
+    /// The term takes more than `MAX_BYTES`.
     TooLarge,
     /// An allocation failed.
     Memory,
 }
 
-/// Why a term was not written into a writer.
+/// Why a term was not written completely into a writer.
 #[derive(Debug, Drop)]
 pub enum ExternalSendFault {
-    /// The bytes are more than `MAX_BYTES`. The writer got none.
+    /// The term takes more than `MAX_BYTES`. The writer took no bytes.
     TooLarge,
-    /// An allocation failed. The writer got no bytes.
+    /// An allocation failed. The writer took no bytes.
     Memory,
-    /// The writer took no bytes, after a prefix that may be empty.
+    /// The writer returned that it took 0 bytes, after it took a prefix, which may be empty.
     Zero,
-    /// The writer returned this error, after a prefix that may be empty.
+    /// The writer returned this error, after it took a prefix, which may be empty.
     Io(Error),
 }
 

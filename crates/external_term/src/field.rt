@@ -1,11 +1,11 @@
-//! Reads fields: unsigned numbers, the high byte first, and pieces of a known length.
+//! Reads fields: unsigned numbers, with the high byte first, and pieces of a known length.
 ghost use Rattle.std.specs.Prelude.{◌≡◌, ◌+◌, ◌*◌, ◌≤◌, ◌<◌, ◌^◌, length, IfOk};
 ghost use Rattle.external_term.specs.Faults.{Returns};
 ghost use Rattle.external_term.specs.Fields.{big16, big32, size, number_at as read_number, piece_at as read_piece};
 
 use crate::fault::ExternalFault;
 
-/// The number of bytes of a number.
+/// The width of an unsigned number: its number of bytes.
 #[derive(Clone, Copy)]
 pub(crate) enum Width {
     One,
@@ -69,7 +69,7 @@ pub(crate) fn number_at(
     }
 }
 
-/// Reads `n` bytes, and returns the offset where they begin with the offset after them.
+/// Checks that there are `n` bytes at the offset. Returns the offset where they begin and the offset after them.
 pub(crate) fn piece_at(bytes: &[u8], at: usize, n: usize) -> Result<(usize, usize), ExternalFault>
     requires { at ≤ length bytes.now }
     ensures within { IfOk result (λ x. (x.0 + n ≡ x.1) × (x.1 ≤ length bytes.now)) }

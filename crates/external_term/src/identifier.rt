@@ -34,15 +34,15 @@ fn are_all_zero(bytes: &[u8]) -> bool
     bytes.iter().all(|b| *b == 0)
 }
 
-/// Returns whether the node is ours, and the other fields are 0.
+/// Returns whether the name of the node is `NODE`, and all bytes before and after the number are 0.
 fn is_ours(node: &[u8], before: &[u8], behind: &[u8]) -> bool
     ensures { result ≡ is_own node.now before.now behind.now }
 {
     node == NODE && are_all_zero(before) && are_all_zero(behind)
 }
 
-/// Reads the number of an identifier that begins at `start`, whose node is at `at`. It has some bytes before the number
-/// and some after it.
+/// Reads the number of a pid or reference. The form begins at `start`, and the name of the node is at `at`. Then come
+/// `before` bytes, the number (4 bytes) and `behind` bytes.
 fn identifier_at(
     bytes: &[u8],
     start: usize,
@@ -64,7 +64,7 @@ fn identifier_at(
     Ok((number32(bytes, n) as u32, end))
 }
 
-/// Reads the pid whose tag is at the offset, with a serial and a creation of `behind` bytes.
+/// Reads the pid whose tag is at the offset. Its serial and creation have `behind` bytes in all.
 pub(crate) fn pid_at(bytes: &[u8], at: usize, behind: usize) -> Result<(Term, usize), ExternalFault>
     requires within { at < length bytes.now }
     requires short { behind < 2 ^ 32 }
@@ -75,7 +75,7 @@ pub(crate) fn pid_at(bytes: &[u8], at: usize, behind: usize) -> Result<(Term, us
     Ok((Term::Pid(n), end))
 }
 
-/// Reads the REFERENCE_EXT whose tag is at the offset.
+/// Reads the reference in the old form REFERENCE_EXT whose tag is at the offset.
 pub(crate) fn old_reference_at(bytes: &[u8], at: usize) -> Result<(Term, usize), ExternalFault>
     requires { at < length bytes.now }
     ensures within { IfOk result (λ x. x.1 ≤ length bytes.now) }
@@ -85,7 +85,8 @@ pub(crate) fn old_reference_at(bytes: &[u8], at: usize) -> Result<(Term, usize),
     Ok((Term::Tid(n), end))
 }
 
-/// Reads the reference of some words whose tag is at the offset, with a creation of `creation` bytes.
+/// Reads the reference whose tag is at the offset, with a creation of `creation` bytes and a number of words of 4
+/// bytes. The first word is the number of the table identifier.
 pub(crate) fn reference_at(
     bytes: &[u8],
     at: usize,

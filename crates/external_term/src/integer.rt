@@ -23,7 +23,7 @@ pub(crate) fn small_integer_at(bytes: &[u8], at: usize) -> Result<(Term, usize),
     Ok((Term::Int(n as Integer), end))
 }
 
-/// Returns the integer of 32 bits in two's complement.
+/// Returns the integer whose 32 bits in two's complement are `n`.
 fn signed32_value(n: usize) -> Integer
     requires { n < 2 ^ 32 }
     ensures { result ≡ signed32 n }
@@ -45,7 +45,7 @@ pub(crate) fn integer_at(bytes: &[u8], at: usize) -> Result<(Term, usize), Exter
     Ok((Term::Int(signed32_value(n)), end))
 }
 
-/// Returns the greatest magnitude of a negative or other integer.
+/// Returns the greatest magnitude of a negative integer, or of an integer that is not negative.
 fn integer_limit(negative: bool) -> Magnitude
     ensures { result ≡ max_magnitude negative }
 {
@@ -67,7 +67,7 @@ fn signed_value(negative: bool, n: Magnitude) -> Integer
     }
 }
 
-/// Returns the number whose low byte comes first.
+/// Returns the number with these bytes, of which the low byte comes first.
 #[tactic(auto, using(crate::proofs::Digits::little_more, crate::proofs::Digits::rest_small))]
 fn little_value(digits: &[u8]) -> Magnitude
     requires { length digits.now ≤ max_digits }

@@ -13,7 +13,7 @@ pub(crate) fn put(bytes: &[u8], out: &mut Vec<u8>)
     let _ = out.extend_from_slice(bytes);
 }
 
-/// Returns the byte of a number that counts `unit`s.
+/// Returns the byte of `n` that has the place value `unit`, a power of 256.
 #[inline(always)]
 fn byte_of(n: usize, unit: usize) -> u8
     requires { 0 < unit }
@@ -22,7 +22,7 @@ fn byte_of(n: usize, unit: usize) -> u8
     (n / unit % 256) as u8
 }
 
-/// Appends a tag and a length of one byte.
+/// Appends a tag and a number of one byte.
 pub(crate) fn put_tag_and_u8(tag: u8, n: u8, out: &mut Vec<u8>)
     requires { vec_len out.old + 2 ≤ vec_capacity out.old }
     ensures items { out.new.items ≡ out.old.items ++ tag ∷ n ∷ [] }

@@ -1,4 +1,4 @@
-//! Reads terms by recursive descent, and counts the levels left.
+//! Reads terms by recursive descent. `levels_left` is the number of levels that may still be opened.
 ghost use Rattle.std.specs.Prelude.{◌≡◌, ◌+◌, ◌≤◌, ◌<◌, ◌^◌, length, IfOk, IfSome, Ok, [], ◌∷◌};
 ghost use Rattle.ets_term.specs.declared.term.Term.TheVariants.{Tuple as TupleOf};
 ghost use Rattle.external_term.specs.Faults.{Returns};
@@ -13,11 +13,11 @@ use crate::text::{atom_at, binary_at, string_at};
 use ets_term::{Items, MAX_DEPTH, Term};
 use std::alloc::Global;
 
-/// The greatest number of items for which memory is taken before they are read.
+/// The greatest number of items for which memory is reserved before the first is read.
 const MAX_RESERVED: usize = 64;
 
-/// Reads the version and the term at the front of the bytes. Returns the term with the number of bytes that it and the
-/// version take, or the first fault. Returns `Memory` if memory runs out.
+/// Reads the version and the term at the start of the bytes. Returns the term and the number of bytes of both, or the
+/// first fault. Returns `Memory` if memory runs out.
 pub fn read_external(alloc: Global, bytes: &[u8]) -> Result<(Term, usize), ExternalFault>
     ensures { Returns (read bytes.now) result }
 {
@@ -28,15 +28,15 @@ pub fn read_external(alloc: Global, bytes: &[u8]) -> Result<(Term, usize), Exter
     term_at(alloc, bytes, next, MAX_DEPTH)
 }
 
-/// Reads the version and a SMALL_TUPLE_EXT of two elements at the front of the bytes. Returns the elements with the
-/// number of bytes that the tuple and the version take. Returns `None` if the bytes begin with anything else, if
-/// they have a fault, or if memory runs out: `read_external` says which.
+/// Reads the version and a SMALL_TUPLE_EXT of two elements at the start of the bytes. Returns the elements and the
+/// number of bytes of the version and the tuple. Returns `None` if the bytes begin with anything else, if they have a
+/// fault, or if memory runs out. `read_external` then returns the reason.
 #[tactic(auto, using(crate::proofs::Pairs::pair_read))]
 pub fn read_pair(alloc: Global, bytes: &[u8]) -> Option<(Term, Term, usize)>
     ensures { IfSome result (λ x. read bytes.now ≡ Ok (TupleOf (x.0 ∷ x.1 ∷ []), x.2)) }
 {
-    // The version, the tag SMALL_TUPLE_EXT and its number of elements. The first element is at offset 3, and both have
-    // a byte at least.
+    // The bytes are the version, the tag SMALL_TUPLE_EXT and the number of elements. The first element is at offset 3,
+    // and both elements have at least one byte.
     if bytes.len() < 5 || bytes[0] != 131 || bytes[1] != 104 || bytes[2] != 2 {
         return None;
     }
@@ -49,7 +49,7 @@ pub fn read_pair(alloc: Global, bytes: &[u8]) -> Option<(Term, Term, usize)>
     Some((first, second, end))
 }
 
-/// Reads the term whose tag is at the offset, with `levels_left` levels left.
+/// Reads the term whose tag is at the offset. It may have at most `levels_left` levels.
 #[cycle(term)]
 fn term_at(
     alloc: Global,
@@ -70,7 +70,7 @@ fn term_at(
     form_at(alloc, bytes, at, tag_of(bytes[at]), levels_left - 1)
 }
 
-/// Reads the form of the tag at the offset, with `levels_left` levels left inside.
+/// Reads the term whose tag, `tag`, is at the offset. The terms inside may have at most `levels_left` levels.
 #[cycle(term)]
 fn form_at(
     alloc: Global,
@@ -93,7 +93,8 @@ fn form_at(
         Tag::String => string_at(alloc, bytes, at, levels_left),
         Tag::List => list_at(alloc, bytes, at, levels_left),
         Tag::Binary => binary_at(alloc, bytes, at),
-        // A serial of 4 bytes, then a creation of 4 or 1. A reference has a creation of 4 or 1.
+        // A pid has a serial of 4 bytes, and then a creation of 4 bytes or 1 byte. The creation of a reference has 4
+        // bytes or 1 byte.
         Tag::NewPid => pid_at(bytes, at, 8),
         Tag::Pid => pid_at(bytes, at, 5),
         Tag::NewerReference => reference_at(bytes, at, 4),
@@ -103,7 +104,7 @@ fn form_at(
     }
 }
 
-/// Reads the tuple whose tag is at the offset, with `levels_left` levels left inside.
+/// Reads the tuple whose tag is at the offset. Its elements may have at most `levels_left` levels.
 #[cycle(term)]
 fn tuple_at(
     alloc: Global,
@@ -123,7 +124,7 @@ fn tuple_at(
     }
 }
 
-/// Reads the list whose tag is at the offset, with `levels_left` levels left inside.
+/// Reads the list whose tag is at the offset. Its elements may have at most `levels_left` levels.
 #[cycle(term)]
 fn list_at(
     alloc: Global,
@@ -147,7 +148,7 @@ fn list_at(
     Ok((Term::List(items), end))
 }
 
-/// Reads some items, with `levels_left` levels left.
+/// Reads `count` terms, one after another. Each may have at most `levels_left` levels.
 #[cycle(term)]
 fn items_at(
     alloc: Global,

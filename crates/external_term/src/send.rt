@@ -1,4 +1,5 @@
-//! Sends bytes and the forms that hold no terms to writers.
+//! Writes bytes, and terms that contain no other terms, to a writer in the External Term Format. Each term is encoded in
+//! a buffer, the block, and then sent.
 ghost use Rattle.std.specs.Prelude.{◌≤◌, vec_capacity};
 ghost use Rattle.external_term.specs.Encoding.{integer_bytes, atom_bytes, pid_bytes, reference_bytes, binary_bytes};
 ghost use Rattle.external_term.specs.Sent.{AppendsOrPrefix};
@@ -12,7 +13,7 @@ use std::io::{Error, Write};
 /// Why a writer did not take all bytes.
 #[derive(Drop)]
 pub(crate) enum WriterFault {
-    /// The writer took no bytes.
+    /// The writer returned that it took 0 bytes.
     Zero,
     /// The writer returned this error.
     Io(Error),
@@ -33,7 +34,7 @@ pub(crate) fn send_bytes<W: Write>(bytes: &[u8], out: &mut W) -> Result<(), Writ
     Ok(())
 }
 
-/// Sends an integer.
+/// Sends an integer to the writer `out`.
 #[tactic(auto, using(crate::proofs::SentPieces::integer_short))]
 pub(crate) fn send_integer<W: Write>(
     n: Integer,

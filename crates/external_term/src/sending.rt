@@ -1,4 +1,4 @@
-//! Writes terms into writers, piece by piece.
+//! Sends terms to writers, piece by piece.
 ghost use Rattle.std.specs.Prelude.{◌≡◌, ◌≤◌, ◌↔◌, ◌^◌, length, map, vec_capacity, IsErrOf};
 ghost use Rattle.ets_term.specs.Encoding.{joined};
 ghost use Rattle.external_term.specs.Encoding.{encode, tuple_bytes, list_bytes, string_bytes, long_list_bytes, char_of, written};
@@ -18,7 +18,7 @@ use ets_term::Term;
 use std::alloc::Global;
 use std::io::Write;
 
-/// The number of bytes of the block in which a form is made before it is sent.
+/// The number of bytes of the block in which a form is built before it is sent.
 const BLOCK_BYTES: usize = 320;
 
 /// Writes the version and the term into a writer, in many small pieces. Takes a block of 320 bytes and no other memory.
@@ -104,7 +104,7 @@ fn send_list<W: Write>(items: &[Term], block: &mut Vec<u8>, out: &mut W) -> Resu
     send_long_list(items, block, out)
 }
 
-/// Sends the elements and the empty list as the tail.
+/// Sends a list as LIST_EXT: the elements, and then the empty list as the tail.
 #[cycle(send)]
 fn send_long_list<W: Write>(
     items: &[Term],
@@ -135,7 +135,7 @@ fn send_items<W: Write>(items: &[Term], block: &mut Vec<u8>, out: &mut W) -> Res
     Ok(())
 }
 
-/// Sends the elements as a string.
+/// Sends a list of bytes as STRING_EXT.
 fn send_string<W: Write>(
     items: &[Term],
     block: &mut Vec<u8>,
@@ -151,7 +151,7 @@ fn send_string<W: Write>(
     send_chars(items, block, out)
 }
 
-/// Sends the characters of a string, a block at a time.
+/// Sends the characters of a string, at most one block at a time.
 fn send_chars<W: Write>(items: &[Term], block: &mut Vec<u8>, out: &mut W) -> Result<(), WriterFault>
     requires { block_bytes ≤ vec_capacity block.old }
     ensures room { block_bytes ≤ vec_capacity block.new }
@@ -166,7 +166,7 @@ fn send_chars<W: Write>(items: &[Term], block: &mut Vec<u8>, out: &mut W) -> Res
     Ok(())
 }
 
-/// Sends the characters of a part of a string.
+/// Sends a part of the characters of a string, which fit in the block.
 fn send_block<W: Write>(items: &[Term], block: &mut Vec<u8>, out: &mut W) -> Result<(), WriterFault>
     requires room { block_bytes ≤ vec_capacity block.old }
     requires few { length items.now ≤ block_bytes }

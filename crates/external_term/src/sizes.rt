@@ -1,4 +1,4 @@
-//! The numbers of bytes that are written.
+//! Computes the numbers of bytes of written terms.
 ghost use Rattle.std.specs.Prelude.{◌≡◌, ◌≤◌, ◌<◌, ◌^◌, length, map, min, pos, negsuc};
 ghost use Rattle.ets_term.specs.Encoding.{joined};
 ghost use Rattle.external_term.specs.Encoding.{encode, integer_bytes, tuple_header, tuple_bytes, list_bytes};
@@ -8,7 +8,7 @@ use crate::put::digit_count;
 use crate::small::is_string;
 use ets_term::{Integer, Term};
 
-/// Returns the number of bytes of the integer `n`.
+/// Returns the number of bytes of the integer `n`, which is not negative.
 #[tactic(auto, using(crate::proofs::SmallIntegers::byte_bytes, crate::proofs::SmallIntegers::word_bytes, crate::proofs::SmallIntegers::wide_bytes))]
 fn positive_size(n: Magnitude) -> usize
     ensures size { result ≡ length (integer_bytes (pos n)) }

@@ -1,13 +1,13 @@
-//! Elements that are bytes, of lists that are written as strings.
+//! Tests of lists that are written as strings: short lists whose elements are all bytes, the integers from 0 to 255.
 ghost use Rattle.std.specs.Prelude.{◌≡◌, map};
 ghost use Rattle.external_term.specs.Encoding.{encode, integer_bytes, is_small, is_string as is_written_short, char_of};
 
 use ets_term::{Integer, Term};
 
-/// The greatest number of elements of a string.
+/// The greatest number of elements of a list that is written as a string.
 const MAX_STRING: usize = 0xFFFF;
 
-/// Returns whether the integer is a byte.
+/// Returns whether the integer is a byte: from 0 to 255.
 #[tactic(auto, using(crate::proofs::SmallIntegers::byte_is_small, crate::proofs::SmallIntegers::negative_not_small, crate::proofs::SmallIntegers::large_not_small))]
 fn is_byte(n: Integer) -> bool
     ensures { result ≡ is_small (integer_bytes n) }
@@ -21,7 +21,7 @@ fn is_byte(n: Integer) -> bool
     true
 }
 
-/// Returns the integer if it is a byte, else 0.
+/// Returns the integer as a byte if it is from 0 to 255, else 0.
 #[tactic(auto, using(crate::proofs::SmallIntegers::byte_char, crate::proofs::SmallIntegers::negative_char, crate::proofs::SmallIntegers::large_char))]
 fn byte_or_zero(n: Integer) -> u8
     ensures { result ≡ char_of (integer_bytes n) }
@@ -35,7 +35,7 @@ fn byte_or_zero(n: Integer) -> u8
     n as u8
 }
 
-/// Returns whether the term is a byte.
+/// Returns whether the term is an integer from 0 to 255.
 #[tactic(auto, using(crate::proofs::Encoded::tuple_not_small, crate::proofs::Encoded::list_not_small))]
 fn is_byte_term(term: &Term) -> bool
     ensures { result ≡ is_small (encode term.now) }
@@ -51,7 +51,7 @@ fn is_byte_term(term: &Term) -> bool
     }
 }
 
-/// Returns the term if it is a byte, else 0.
+/// Returns the term as a byte if it is an integer from 0 to 255, else 0.
 #[tactic(auto, using(crate::proofs::Encoded::tuple_not_small, crate::proofs::Encoded::list_not_small))]
 pub(crate) fn byte_of_term(term: &Term) -> u8
     ensures { result ≡ char_of (encode term.now) }

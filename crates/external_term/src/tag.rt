@@ -1,4 +1,4 @@
-//! Tags: the first byte of each form of term.
+//! Tags: the first byte of each encoded term. The names in capitals are those of the External Term Format.
 ghost use Rattle.std.specs.Prelude.{◌≡◌};
 ghost use Rattle.external_term.specs.Tags.{tag_of as meaning};
 
@@ -16,7 +16,7 @@ pub(crate) const STRING_EXT: u8 = 107;
 /// LIST_EXT, the tag of any other list.
 pub(crate) const LIST_EXT: u8 = 108;
 
-/// What a tag says of the bytes after it. A width is that of a length.
+/// The meaning of a tag: the form of the bytes after it. A width is that of the length that follows the tag.
 #[derive(Clone, Copy)]
 pub(crate) enum Tag {
     /// SMALL_INTEGER_EXT.
@@ -51,7 +51,7 @@ pub(crate) enum Tag {
     Unknown,
 }
 
-/// Returns what the byte says as a tag.
+/// Returns the meaning of a byte as a tag.
 pub(crate) fn tag_of(b: u8) -> Tag
     ensures { result ≡ meaning b }
 {

@@ -24,7 +24,7 @@ fn is_atom(text: &[u8]) -> bool
     text.len() <= MAX_CHARACTERS && is_printable(text)
 }
 
-/// Reads the length and the characters of an atom, and returns where the characters begin and end.
+/// Reads the length and the characters of an atom. Returns the offsets where the characters begin and end.
 pub(crate) fn name_at(
     bytes: &[u8],
     at: usize,
@@ -84,7 +84,8 @@ fn codes_of(alloc: Global, chars: &[u8]) -> Result<Items<Term>, AllocError>
     Ok(Items::from_vec(codes))
 }
 
-/// Reads the string whose tag is at the offset, with `levels_left` levels left for its characters.
+/// Reads the string whose tag is at the offset, as a list of integers. Fails if `levels_left` is 0, because the
+/// characters are one level deeper, unless there are none.
 pub(crate) fn string_at(
     alloc: Global,
     bytes: &[u8],

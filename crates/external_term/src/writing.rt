@@ -1,4 +1,4 @@
-//! Writes terms.
+//! Appends terms to bytes in memory.
 ghost use Rattle.std.specs.Prelude.{◌≡◌, ◌+◌, ◌≤◌, ◌++◌, ◌↔◌, ◌^◌, length, map, min, vec_len, vec_capacity, OnOk, OnErr, IsErrOf};
 ghost use Rattle.ets_term.specs.Encoding.{joined};
 ghost use Rattle.external_term.specs.Encoding.{encode, tuple_bytes, list_bytes, string_bytes, long_list_bytes, char_of, written};
@@ -23,8 +23,8 @@ pub fn external_size(term: &Term) -> usize
     size_of_term(term).saturating_add(1)
 }
 
-/// Appends the version and the term. Takes memory for all of it first, and changes nothing if that is refused, or if
-/// it is more than `MAX_BYTES`.
+/// Appends the version and the term. First reserves memory for all bytes. Changes nothing if memory is refused, or if
+/// the bytes are more than `MAX_BYTES`.
 pub fn write_external(term: &Term, out: &mut Vec<u8>) -> Result<(), ExternalWriteFault>
     ensures ok { OnOk result (out.new.items ≡ out.old.items ++ written term.now) }
     ensures err { OnErr result (out.new.items ≡ out.old.items) }
@@ -88,7 +88,7 @@ fn append_list(items: &[Term], out: &mut Vec<u8>)
     }
 }
 
-/// Appends the elements as a string.
+/// Appends a list of bytes as STRING_EXT.
 fn append_string(items: &[Term], out: &mut Vec<u8>)
     requires { vec_len out.old + length (string_bytes (map encode items.now)) ≤ vec_capacity out.old }
     ensures items { out.new.items ≡ out.old.items ++ string_bytes (map encode items.now) }
@@ -109,7 +109,7 @@ pub(crate) fn append_chars(items: &[Term], out: &mut Vec<u8>)
     }
 }
 
-/// Appends the elements and the empty list as the tail.
+/// Appends a list as LIST_EXT: the elements, and then the empty list as the tail.
 #[cycle(append)]
 fn append_long_list(items: &[Term], out: &mut Vec<u8>)
     requires { vec_len out.old + length (long_list_bytes (map encode items.now)) ≤ vec_capacity out.old }

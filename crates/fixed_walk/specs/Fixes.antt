@@ -3,7 +3,7 @@ use Rattle.std.specs.Prelude.{◌≢◌, ◌↔◌, ◌≡◌, ◌<◌, ℕ, zer
 use Rattle.std.specs.Ordering.{nat_cmp}
 use Rattle.std.specs.FinMap as map
 
--- the number of fixes by process; a process without an entry has no fixes
+-- for each process the number of its fixes; a process without an entry has no fixes
 abbrev pub FixCounts : Type 0
 FixCounts = map.FinMap nat_cmp ℕ
 
@@ -11,22 +11,23 @@ FixCounts = map.FinMap nat_cmp ℕ
 abbrev pub max_fixes : ℕ
 max_fixes = 4294967295
 
+-- the number of fixes of a process
 abbrev pub fix_count : FixCounts → ℕ → ℕ
 fix_count fixes pid = unwrap_or (map.get fixes pid) 0
 
--- whether a process has a fix
+-- whether some process has a fix
 abbrev pub is_fixed : FixCounts → Bool
 is_fixed fixes = nat_lt 0 (map.len fixes)
 
--- the fixes with this number for a process
+-- the fixes after the number of a process is set to this one
 abbrev pub with_count : FixCounts → ℕ → ℕ → FixCounts
 with_count fixes pid zero = map.remove fixes pid
 with_count fixes pid (suc n) = map.insert fixes pid (suc n)
 
--- no entry is zero
+-- each entry is above zero
 abbrev pub AreCounted : FixCounts → Type 0
 AreCounted fixes = (pid : ℕ) → map.get fixes pid ≢ Some 0
 
--- the table is fixed exactly if the number of a process is above zero
+-- the table is fixed exactly if some process has a number of fixes above zero
 abbrev pub IsFixedBySome : FixCounts → Type 0
 IsFixedBySome fixes = (is_fixed fixes ≡ true) ↔ ((pid : ℕ) × (0 < fix_count fixes pid))

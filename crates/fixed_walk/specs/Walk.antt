@@ -1,4 +1,5 @@
--- The steps of a traversal (stdlib manual, module ets, first/1, next/2, first_lookup/1 and next_lookup/2).
+-- The results of the calls of a traversal (stdlib manual, module ets, first/1, next/2, first_lookup/1 and
+-- next_lookup/2).
 use Rattle.std.specs.Prelude.{List, [], ◌∷◌, Option, Some, None, option_map, if◌then◌else◌}
 use Rattle.ets_term.specs.declared.term.Term.{Term}
 use Rattle.bucket_table.specs.Slots.{Slot, has_objects, slots_behind}

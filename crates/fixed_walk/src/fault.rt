@@ -4,7 +4,7 @@ use table_ops::Refusal;
 /// Why a fix is refused. A refused fix changes nothing.
 #[derive(Debug, Drop, PartialEq, Eq)]
 pub enum FixFault {
-    /// The process has 4,294,967,295 fixes of the table.
+    /// The process already has 4,294,967,295 fixes of the table.
     SystemLimit,
     /// An allocation failed.
     Memory,
@@ -21,7 +21,7 @@ impl From<AllocError> for FixFault {
     }
 }
 
-/// The key given to a step of a traversal has no slot.
+/// The key passed to `next` has no slot.
 #[derive(Debug, Clone, Copy, PartialEq, Eq)]
 pub struct Badarg;
 

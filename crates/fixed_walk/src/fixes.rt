@@ -6,12 +6,13 @@ use indexmap::IndexMap;
 use std::alloc::{AllocError, Global};
 use std::marker::Model;
 
-/// The number of fixes of each process. A process without fixes is not in it.
+/// The fixes of one table: for each process the number of its fixes. A process without fixes has no entry in the map.
 #[derive(Drop)]
 pub struct Fixes {
     counts: IndexMap<u32, u32>,
 }
 
+// The value that contracts see of this type (`view`), and what is true of its fields between calls (`invariant`).
 impl Model for Fixes {
     ghost use Rattle.std.specs.Coded.{coded_ℕ};
     ghost use Rattle.std.specs.FinMap as map;
@@ -27,7 +28,7 @@ impl Model for Fixes {
 }
 
 impl Fixes {
-    /// Returns counts without a fix.
+    /// Returns the fixes of a table that no process fixes.
     pub fn new(alloc: Global) -> Fixes
         ensures { result ≡ map.empty }
     {
@@ -43,7 +44,7 @@ impl Fixes {
         self.counts.get(&pid).copied().unwrap_or(0)
     }
 
-    /// Returns whether a process has a fix.
+    /// Returns whether some process has a fix.
     #[tactic(auto, using(crate::proofs::CountLaws::first_entries))]
     pub fn is_fixed(&self) -> bool
         ensures { result ≡ is_fixed self.now }
@@ -54,10 +55,12 @@ impl Fixes {
         }
     }
 
-    /// Gives a proof the invariant: a table is fixed exactly if the count of a process is above zero. Does nothing.
+    /// Gives a proof the invariant: a table is fixed exactly if some process has a count above zero. It does nothing at
+    /// run time.
     pub fn reveal_invariant(&self)
         ensures { IsFixedBySome self.now }
     {
+        // The call changes nothing. It gives the proof the invariant of the map.
         let _ = self.counts.len();
     }
 
@@ -71,7 +74,7 @@ impl Fixes {
         self.set(pid, count + 1)
     }
 
-    /// Sets the number of fixes of a process, at least 1.
+    /// Sets the number of fixes of a process, which must be at least 1.
     pub fn set(&mut self, pid: u32, count: u32) -> Result<(), AllocError>
         requires { 0 < count }
         ensures ok { OnOk result (self.new ≡ with_count self.old pid count) }

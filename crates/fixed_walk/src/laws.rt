@@ -1,4 +1,4 @@
-//! Why traversals are exact. Each law is the contract of a function that does nothing.
+//! The laws by which traversals are exact. Each law is the contract of a function with an empty body.
 
 ghost use Rattle.std.specs.Prelude.{◌≡◌, ℕ, List, Option, Result};
 ghost use Rattle.ets_term.specs.declared.term.Term.{Term};
@@ -14,8 +14,8 @@ ghost use Rattle.fixed_walk.specs.TableState.{TableState, on_content, Increments
 ghost use Rattle.fixed_walk.specs.laws.Kept.{KeepsKeys, AlwaysKeepsKeys};
 ghost use Rattle.fixed_walk.specs.laws.Walks.{SlotWalksAreWhole};
 
-/// No call gives a key two slots. If the table is fixed before and after a call, the keys of its slots before are among
-/// those after, in the same order.
+/// No call gives a key a second slot. If the table is fixed before and after a call, the call keeps all keys that have
+/// slots, tombstones included, and their order.
 pub fn calls_keep_keys()
     ensures insert { (objects : List Term) → AlwaysKeepsKeys (λ hold. Inserts objects) }
     ensures insert_new { (objects : List Term) → AlwaysKeepsKeys (λ hold. InsertsNew objects) }
@@ -33,8 +33,8 @@ pub fn calls_keep_keys()
     ensures rows { (old new : TableState) → new.content ≡ old.content → KeepsKeys old new }
 {}
 
-/// If each moment of a traversal keeps the keys of the moment before, the traversal returns no key twice, and each key
-/// that has objects at all moments.
+/// A traversal is exact if the table keeps its keys, in their order, from each of its calls to the next. It then
+/// returns no key twice, and each key that has objects at all these calls.
 pub fn walks_are_whole()
     ensures { SlotWalksAreWhole }
 {}

@@ -1,23 +1,24 @@
-//! Fixes tables: while a process fixes a table, deleted keys keep their places, and traversals are exact.
+//! Tables with fixes: while a process fixes a table, deleted keys keep their slots, and traversals are exact.
 //!
-//! A slot without objects is *held*: it is a tombstone of a deleted key.
+//! A slot without objects is a tombstone of a deleted key. Public names call it *held*.
 //!
 //! *Guarantee.* A contract sees the table's content, which buckets of its rows are ready, and the number of fixes of
 //! each process. There are tombstones only while a process fixes the table. If the table is fixed before and after a
-//! call, the keys of its slots before are among those after, in the same order. So a traversal by `first` and `next`
+//! call, the call keeps all keys that have slots, and their order. So a traversal by `first` and `next`
 //! returns no key twice, and each key that has objects at each of its calls, however the table changes and grows.
 //!
-//! *Mechanism.* The calls on objects are the table's; they leave tombstones if the table is fixed. Fixes are counted in
-//! a map of the processes that have some. A traversal remembers only the last key, and goes on from its slot in the
-//! order of places.
+//! *Mechanism.* The calls on objects are those of `Table`; they leave tombstones if the table is fixed. A map has the
+//! number of fixes of each process that has some. A traversal remembers only the last key, and continues after its slot
+//! in the order of places.
 //!
-//! *Weakness.* A traversal visits tombstones one by one at each call. The last release removes them with `Rows::purge`,
-//! at its cost.
+//! *Weakness.* Each call of a traversal visits the tombstones before its result. The last release removes all
+//! tombstones with `Rows::purge`, and takes as long as this does.
 //!
-//! *Limits.* A process has at most 4,294,967,295 fixes of a table. A traversal need not end: others may insert keys
-//! ahead of it without limit.
+//! *Limits.* A process has at most 4,294,967,295 fixes of a table. A traversal need not end: other processes may
+//! insert keys ahead of it without limit.
 #![tactic(auto)]
 
+// The modules: a table with its fixes (`walked`), the counts of `fixes`, faults (`fault`) and `laws`.
 mod fault;
 mod fixes;
 pub mod laws;

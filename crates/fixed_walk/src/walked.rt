@@ -12,6 +12,8 @@ use std::alloc::{AllocError, Global};
 use std::marker::Model;
 use table_ops::{Kind, Table};
 
+// The modules, each with methods of `Walked`: `calls` on objects, how to `fix` and release, `queries`, and the `walk`
+// from key to key.
 mod calls;
 mod fix;
 mod queries;
@@ -26,6 +28,7 @@ pub struct Walked<R: Rows> {
     fixes: Fixes,
 }
 
+// The value that contracts see of this type (`view`), and what is true of its fields between calls (`invariant`).
 impl<R: Rows> Model for Walked<R> {
     ghost use Rattle.fixed_walk.specs.TableState.{TableState, TombstonesOnlyWhileFixed, with_fixes};
     ghost use Rattle.fixed_walk.specs.inside.Codes.{state_code};
@@ -40,7 +43,7 @@ impl<R: Rows> Model for Walked<R> {
 }
 
 impl<R: Rows> Walked<R> {
-    /// Makes a table that no process fixes from one without tombstones.
+    /// Wraps a table without tombstones. No process fixes it.
     pub fn new(alloc: Global, table: Table<R>) -> Self
         requires { HasNoTombstones table.content.slots }
         ensures { result ≡ with_fixes table map.empty }
@@ -48,7 +51,7 @@ impl<R: Rows> Walked<R> {
         Walked::from_parts(table, Fixes::new(alloc))
     }
 
-    /// Makes a table with these fixes from one without tombstones.
+    /// Wraps a table without tombstones, with these fixes.
     pub(crate) fn from_parts(table: Table<R>, fixes: Fixes) -> Self
         requires { HasNoTombstones table.content.slots }
         ensures { result ≡ with_fixes table fixes }
@@ -56,7 +59,7 @@ impl<R: Rows> Walked<R> {
         Walked { table, fixes }
     }
 
-    /// Returns the rows, to read what the calls of the table do not show.
+    /// Returns the rows, for reading what the methods of the table do not return.
     pub fn rows(&self) -> &R
         ensures slots { R.content result.now ≡ self.now.content.slots }
         ensures buckets { R.readiness result.now ≡ self.now.buckets }
@@ -100,14 +103,14 @@ impl<R: Rows> Walked<R> {
         self.table.buckets()
     }
 
-    /// Returns the lowest bucket that is not ready; None if all are ready.
+    /// Returns the lowest bucket that is not ready, or `None` if all are ready.
     pub fn first_unready(&self) -> Option<u32>
         ensures { result ≡ position not self.now.buckets }
     {
         self.table.first_unready()
     }
 
-    /// Doubles the number of buckets of the rows. It changes no traversal.
+    /// Doubles the number of buckets of the rows, unless it is already the greatest. Traversals are not affected.
     pub fn grow(&mut self) -> Result<Growth, AllocError>
         ensures content { self.new ≡ record self.old { buckets = self.new.buckets } }
         ensures ok { IfOk result (λ growth.
@@ -117,7 +120,7 @@ impl<R: Rows> Walked<R> {
         self.table.grow()
     }
 
-    /// Makes a bucket of the rows ready. It changes no traversal.
+    /// Makes a bucket of the rows ready. Traversals are not affected.
     pub fn ready(&mut self, bucket: u32) -> Result<Readying, AllocError>
         ensures content { self.new ≡ record self.old { buckets = self.new.buckets } }
         ensures ok { IfOk result (λ readying.
@@ -127,7 +130,7 @@ impl<R: Rows> Walked<R> {
         self.table.ready(bucket)
     }
 
-    /// Gives a proof the invariants of a table. Does nothing.
+    /// Gives a proof the invariants of a table. It does nothing at run time.
     pub fn reveal_invariant(&self)
         ensures content { IsContent self.now.content }
         ensures fixed { IsFixedBySome self.now.fixes }

@@ -209,7 +209,7 @@ one_and = refl
 unequal : call (codes "=/=") (numeral 7 ∷ numeral 8 ∷ []) ≡ Some (w (codes "true"))
 unequal = refl
 
--- names with numbers of arguments that are no functions
+-- names with numbers of arguments that are not functions
 abbrev accepted : List ℕ → List Data → Bool
 accepted f es = is_spec (spec any [] (t (w f ∷ es) ∷ []))
 

@@ -18,23 +18,26 @@ abbrev mutual
   is_ground (list ps) = are_ground ps
   is_ground p = true
 
+  -- whether no part of a list has a variable or `'_'`
   pub are_ground : DataList → Bool
   are_ground no_terms = true
   are_ground (term p ps) = is_ground p && are_ground ps
 
--- the element at keypos of a pattern, if it has neither a variable nor `'_'`
+-- the bound key of a pattern: its element at keypos, if that has neither a variable nor `'_'`
 abbrev pub bound_key : ℕ → Data → Option Data
 bound_key keypos pattern =
     option_and_then (λ key. if is_ground key then Some key else None) (tuple_element keypos pattern)
 
+-- the key that the pattern of a clause binds
 abbrev pub clause_key : ℕ → Data → Option Data
 clause_key keypos clause = option_and_then (λ parts. bound_key keypos parts.head) (clause_parts clause)
 
+-- whether the patterns of all clauses bind this key
 abbrev pub all_bind : ℕ → Data → DataList → Bool
 all_bind keypos key no_terms = true
 all_bind keypos key (term c cs) = option_map_or (equal_terms key) (clause_key keypos c) false && all_bind keypos key cs
 
--- the key that the heads of all clauses bind
+-- the bound key of a match specification: the key that the patterns of all clauses bind
 abbrev pub spec_key : ℕ → Data → Option Data
 spec_key keypos (list (term c cs)) =
     option_and_then (λ key. if all_bind keypos key cs then Some key else None) (clause_key keypos c)

@@ -17,33 +17,34 @@ name_value b object a None =
     else if bytes_eq a (codes "$$") then Some (list (data_list (values b)))
     else Some (atom a)
 
--- the truth that decides a connective that evaluates all arguments
+-- the truth value that decides `and` or `or`, which evaluate all arguments; None for any other name
 abbrev pub strict_connective : List ℕ → Option Bool
 strict_connective f =
     if bytes_eq f (codes "and") then Some false else if bytes_eq f (codes "or") then Some true else None
 
--- the truth that decides a connective that stops at the first argument that decides
+-- the truth value that decides `andalso` or `orelse`, which stop at the first argument that decides; None for any other
+-- name
 abbrev pub short_circuit_connective : List ℕ → Option Bool
 short_circuit_connective f =
     if bytes_eq f (codes "andalso") then Some false else if bytes_eq f (codes "orelse") then Some true else None
 
--- whether an argument of the second truth decides a connective that the first truth decides
+-- whether the second truth value decides a connective that the first truth value decides: both are equal
 abbrev pub decides : Bool → Bool → Bool
 decides true x = x
 decides false x = not x
 
--- joins two booleans by the connective that this truth decides: `or` by true, `and` by false
+-- joins two booleans by the connective that the first truth value decides: true decides `or`, false decides `and`
 abbrev pub join : Bool → Bool → Bool → Bool
 join true x y = x || y
 join false x y = x && y
 
--- `{const,T}` is T, which is not evaluated
+-- the value of `{const,T}` is T, which is not evaluated; any other call has the value `otherwise`
 abbrev pub constant_or : List ℕ → DataList → Option Data → Option Data
 constant_or f (term e no_terms) otherwise = if bytes_eq f (codes "const") then Some e else otherwise
 constant_or f es otherwise = otherwise
 
 abbrev mutual
-  -- the value of an expression, or None if it fails
+  -- the value of an expression for bindings and an object, or None if it fails
   pub value : Bindings → Data → Data → Option Data
   value b object (atom a) = name_value b object a (variable a)
   value b object (list es) = option_map (λ ds. list (data_list ds)) (all_values b object es)
@@ -81,6 +82,7 @@ abbrev mutual
       (λ x. if decides decisive x then Some d else short_circuit_value b object decisive es) (boolean d))
       (value b object e)
 
+-- whether this name with this number of arguments is `{const,T}`
 abbrev pub is_constant : List ℕ → ℕ → Bool
 is_constant f n = (n == 1) && bytes_eq f (codes "const")
 
@@ -90,12 +92,13 @@ is_function f n =
     ((is_some (short_circuit_connective f) || is_some (strict_connective f)) && nat_lt 0 n)
     || (if n == 1 then is_some (unary_function_of f) else ((n == 2) && is_some (binary_function_of f)))
 
+-- whether a variable is among these variables; None is a name that is not a variable
 abbrev pub is_bound : List ℕ → Option ℕ → Bool
 is_bound ns None = true
 is_bound ns (Some n) = list_any (λ m. n == m) ns
 
 abbrev mutual
-  -- whether a term is an expression, if the head binds these variables
+  -- whether a term is an expression, if the pattern of the clause binds these variables
   pub is_expression : List ℕ → Data → Bool
   is_expression ns (atom a) = is_bound ns (variable a)
   is_expression ns (list es) = are_expressions ns es
@@ -105,6 +108,7 @@ abbrev mutual
   is_expression ns (tuple es) = false
   is_expression ns d = true
 
+  -- whether each term of a list is an expression
   pub are_expressions : List ℕ → DataList → Bool
   are_expressions ns no_terms = true
   are_expressions ns (term e es) = is_expression ns e && are_expressions ns es

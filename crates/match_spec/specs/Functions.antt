@@ -8,17 +8,18 @@ use Rattle.ets_term.specs.Data.{Data, int, atom, pid, tid, tuple, list, binary, 
 use Rattle.ets_term.specs.Integers.{in_range}
 use Rattle.ets_term.specs.Order.{data_order, data_list_len}
 
+-- a boolean as an atom
 abbrev pub truth : Bool → Data
 truth true = atom (codes "true")
 truth false = atom (codes "false")
 
--- only the atoms `true` and `false` are booleans
+-- the boolean of a term: only the atoms `true` and `false` are booleans
 abbrev pub boolean : Data → Option Bool
 boolean (atom a) =
     if bytes_eq a (codes "true") then Some true else if bytes_eq a (codes "false") then Some false else None
 boolean d = None
 
--- the type of a term; a table identifier is a reference
+-- the name of a term's type; a table identifier is a reference
 abbrev pub type_name : Data → List ℕ
 type_name (atom a) = codes "atom"
 type_name (int n) = codes "integer"
@@ -28,24 +29,30 @@ type_name (binary s) = codes "binary"
 type_name (pid n) = codes "pid"
 type_name (tid n) = codes "reference"
 
+-- whether a term is of the type with this name, as an atom
 abbrev pub is_type : List ℕ → Data → Option Data
 is_type name d = Some (truth (bytes_eq (type_name d) name))
 
+-- the absolute value of an integer
 abbrev pub absolute : Data → Option Data
 absolute (int n) = option_map int (in_range (pos (unsigned_abs n)))
 absolute d = None
 
+-- the first element of a list
 abbrev pub head : Data → Option Data
 head (list (term d ds)) = Some d
 head d = None
 
+-- the list without its first element
 abbrev pub tail : Data → Option Data
 tail (list (term d ds)) = Some (list ds)
 tail d = None
 
+-- a number of elements as an integer
 abbrev pub count : ℕ → Option Data
 count n = option_map int (in_range (pos n))
 
+-- the number of elements of a list
 abbrev pub list_length : Data → Option Data
 list_length (list ds) = count (data_list_len ds)
 list_length d = None
@@ -74,7 +81,7 @@ unary_function_of f =
     else if bytes_eq f (codes "size") then Some size
     else None
 
--- whether a comparison holds by the order of terms
+-- whether a comparison holds of two terms by their order, as an atom
 abbrev pub comparison : (Ordering → Bool) → Data → Data → Option Data
 comparison holds d e = Some (truth (holds (data_order d e)))
 
@@ -83,17 +90,21 @@ abbrev pub on_integers : (ℤ → ℤ → Option ℤ) → Data → Data → Opti
 on_integers f (int m) (int n) = option_map int (f m n)
 on_integers f d e = None
 
--- a quotient is cut toward zero, and a remainder has the sign of the left operand; division by zero fails
+-- a quotient or remainder, which fails if the divisor is zero; a quotient is cut toward zero, and a remainder has the
+-- sign of the left operand
 abbrev pub divided : (ℤ → ℤ → ℤ) → ℤ → ℤ → Option ℤ
 divided f m n = if is_eq (int_cmp n (pos 0)) then None else in_range (f m n)
 
+-- whether exactly one of two booleans is true
 abbrev pub xor : Bool → Bool → Bool
 xor true b = not b
 xor false b = b
 
+-- the same, if both are booleans
 abbrev pub exclusive : Option Bool → Option Bool → Option Bool
 exclusive a b = option_and_then (λ x. option_map (xor x) b) a
 
+-- element i of a list of trees, counted from 0
 abbrev pub data_list_element : DataList → ℕ → Option Data
 data_list_element no_terms i = None
 data_list_element (term d ds) zero = Some d
@@ -104,6 +115,7 @@ abbrev pub tuple_element : ℕ → Data → Option Data
 tuple_element (suc i) (tuple ds) = data_list_element ds i
 tuple_element n d = None
 
+-- element n of a tuple, where n is a term
 abbrev pub element : Data → Data → Option Data
 element (int (pos n)) d = tuple_element n d
 element n d = None
@@ -126,7 +138,7 @@ binary_function_of f =
     else if bytes_eq f (codes "element") then Some element
     else None
 
--- the value of a function at the values of its arguments
+-- the value of the function with this name for these arguments
 abbrev pub call : List ℕ → List Data → Option Data
 call f (d ∷ []) = option_and_then (λ g. g d) (unary_function_of f)
 call f (d ∷ e ∷ []) = option_and_then (λ g. g d e) (binary_function_of f)

@@ -1,4 +1,4 @@
-// The keys that patterns and match specifications bind.
+// The bound key of a pattern or match specification: the key that every matching object has.
 ghost use Rattle.std.specs.Prelude.{◌≡◌, if◌then◌else◌, Some, None, map, drop, option_copied};
 ghost use Rattle.std.specs.Option.{option_map};
 ghost use Rattle.ets_term.specs.Data.{atom, list, data_of, data_list};
@@ -19,7 +19,7 @@ pub(crate) fn bound_part(pattern: &Term, keypos: Position) -> Option<&Term>
     }
 }
 
-/// Returns the part if it is ground: it has neither a variable nor `'_'`.
+/// Returns the part if it is ground, that is, has neither a variable nor `'_'`.
 fn key_if_ground(key: &Term) -> Option<&Term>
     ensures { option_map data_of (option_copied result)
         ≡ (if is_ground (data_of key.now) then Some (data_of key.now) else None) }
@@ -27,7 +27,7 @@ fn key_if_ground(key: &Term) -> Option<&Term>
     if is_ground(key) { Some(key) } else { None }
 }
 
-/// Returns the key that the heads of all clauses bind.
+/// Returns the key that the patterns of all clauses bind, if they bind the same key.
 #[tactic(auto, using(crate::proofs::KeyLaws::key_of_first, crate::proofs::KeyLaws::key_of_no_first, crate::proofs::KeyLaws::key_of_nothing))]
 pub(crate) fn common_bound_key(clauses: &[Term], keypos: Position) -> Option<&Term>
     ensures { option_map data_of (option_copied result) ≡ spec_key keypos (list (data_list (map data_of clauses.now))) }
@@ -41,7 +41,7 @@ pub(crate) fn common_bound_key(clauses: &[Term], keypos: Position) -> Option<&Te
     }
 }
 
-/// Returns the key if all clauses after the first bind it.
+/// Returns the key of the first clause if all later clauses bind the same key.
 fn key_if_all_bind<'a>(clauses: &[Term], keypos: Position, key: &'a Term) -> Option<&'a Term>
     ensures { option_map data_of (option_copied result)
         ≡ (if all_bind keypos (data_of key.now) (data_list (map data_of (drop 1 clauses.now)))
@@ -54,7 +54,7 @@ fn key_if_all_bind<'a>(clauses: &[Term], keypos: Position, key: &'a Term) -> Opt
     }
 }
 
-/// Checks whether all clauses after the first bind this key.
+/// Checks whether the patterns of all clauses after the first bind this key.
 fn all_bind(clauses: &[Term], keypos: Position, key: &Term) -> bool
     ensures { result ≡ all_bind keypos (data_of key.now) (data_list (map data_of (drop 1 clauses.now))) }
 {
@@ -67,7 +67,7 @@ fn all_bind(clauses: &[Term], keypos: Position, key: &Term) -> bool
     true
 }
 
-/// Returns the key that the head of a clause binds.
+/// Returns the key that the pattern of a clause binds.
 fn clause_key(clause: &Term, keypos: Position) -> Option<&Term>
     ensures { option_map data_of (option_copied result) ≡ clause_key keypos (data_of clause.now) }
 {

@@ -1,4 +1,7 @@
 // Compiled expressions.
+// The modules: `check` whether a term is an expression, `compile` it and `evaluate` it. The functions: their names
+// (`function`), how to `apply` them, `arithmetic`, `comparison`, `connectives`, type tests (`guards`), and elements and
+// sizes (`lists`).
 pub(crate) mod apply;
 pub(crate) mod arithmetic;
 pub(crate) mod check;
@@ -13,27 +16,32 @@ pub(crate) mod lists;
 use crate::expression::function::Function;
 use ets_term::{Items, Term};
 
-/// A connective of booleans. One `false` decides `And`, and one `true` decides `Or`.
+/// A connective of booleans. One `false` decides the value of `And`, and one `true` that of `Or`.
 #[derive(Clone, Copy)]
 pub(crate) enum Connective {
     And,
     Or,
 }
 
-/// A compiled expression. A variable is compiled to a path into the object.
+/// A compiled expression. A variable is compiled to the path of its value in the object.
 #[derive(Drop)]
 pub(crate) enum Expression {
+    /// A term that is its own value.
     Constant(Term),
-    /// `'$_'`.
+    /// `'$_'`: the whole object.
     Object,
-    /// `'$$'`.
+    /// `'$$'`: the list of all bindings.
     Bindings,
+    /// `'$N'`: the path of its value in the object.
     Variable(Items<usize>),
+    /// `{{..}}`: a tuple of the values.
     Tuple(Items<Expression>),
+    /// A list of the values.
     List(Items<Expression>),
+    /// A call of a function with its arguments.
     Apply(Function, Items<Expression>),
-    /// `and` and `or`, which evaluate all arguments.
+    /// `and` or `or`, which evaluate all arguments.
     Strict(Connective, Items<Expression>),
-    /// `andalso` and `orelse`, which stop at the first argument that decides.
+    /// `andalso` or `orelse`, which stop at the first argument that decides their value.
     ShortCircuit(Connective, Items<Expression>),
 }

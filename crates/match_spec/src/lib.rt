@@ -3,14 +3,15 @@
 //!
 //! *Guarantee.* `compile` refuses a term exactly if it is not a pattern or match specification. `Pattern::bindings`
 //! returns the only bindings by which a term matches, or `None` if it does not match. `Spec::result` returns the result
-//! of the first clause that applies. If `bound_key` returns a key, every object that matches has it.
+//! of the first clause that matches the object and whose conditions hold. If `bound_key` returns a key, every object
+//! that matches has it.
 //!
 //! *Weakness.* Each result is a new term, and `'$$'` copies all bindings.
 //!
-//! *Mechanism.* A compiled pattern or match specification keeps its raw term, and contracts see that term alone. A
+//! *Mechanism.* A compiled pattern or match specification keeps its raw term, and contracts see only that term. A
 //! variable is compiled to the path of its first occurrence in the pattern. Bindings are read in the object by these
-//! paths. Matching an object writes nothing and takes no memory until a value is made. A match specification of one
-//! clause keeps a quick test of one element, which rejects most objects before the clause is tried.
+//! paths. Matching an object takes no memory, except where an expression makes a new value. A match specification of
+//! one clause may keep a quick test of one element, which rejects most objects before the clause is tried.
 //!
 //! *Limits.* Variables have numbers up to 100,000,000.
 //!
@@ -18,6 +19,8 @@
 //! has an example of each function.
 #![tactic(auto)]
 
+// The modules: a `pattern`, its variables (`variable`), an `expression`, a match specification (`spec`), the key that
+// every match has (`bound_key`), faults (`fault`) and `laws`.
 mod bound_key;
 mod expression;
 mod fault;

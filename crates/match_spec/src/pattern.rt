@@ -5,6 +5,7 @@ ghost use Rattle.match_spec.specs.BoundKeys.{bound_key, IsKeyOfMatches};
 ghost use Rattle.match_spec.specs.Patterns.{bindings_of, values, IsBindings};
 ghost use Rattle.match_spec.specs.Specifications.{is_pattern};
 
+// The modules: how to `compile` a pattern, a `part` of a compiled pattern, and the `path` from a term to a subterm.
 pub(crate) mod compile;
 pub(crate) mod part;
 pub(crate) mod path;
@@ -18,7 +19,8 @@ use ets_term::{Items, Position, Term};
 use std::alloc::{AllocError, Global};
 use std::marker::Model;
 
-/// A compiled pattern. Contracts see it as its term.
+/// A compiled pattern. Contracts see it as its raw term, `source`. `part` is its compiled form, and `paths` has the
+/// first path of each variable, in order of their numbers.
 #[derive(Drop)]
 pub struct Pattern {
     source: Term,
@@ -26,6 +28,7 @@ pub struct Pattern {
     paths: Items<Items<usize>>,
 }
 
+// The value that contracts see of this type (`view`), and what is true of its fields between calls (`invariant`).
 impl Model for Pattern {
     ghost use Rattle.ets_term.specs.contracts.term.Term as term;
     ghost use Rattle.ets_term.specs.declared.term.Term as declared;
@@ -60,8 +63,8 @@ impl Pattern {
         })
     }
 
-    /// Returns the values of the variables by which the term matches, in order of their numbers, or `None` if it does
-    /// not match. Fails if an allocation fails.
+    /// Returns the values of the variables if the term matches, in order of the variables' numbers, or `None` if it
+    /// does not match. Fails if an allocation fails.
     pub fn bindings(&self, alloc: Global, term: &Term) -> Result<Option<Vec<Term>>, AllocError>
         ensures values { IfOk result (λ found. option_map (λ v. map data_of v.items) found
             ≡ option_map values (bindings_of (data_of self.now) (data_of term.now))) }
@@ -71,7 +74,7 @@ impl Pattern {
         self.find_bindings(alloc, term)
     }
 
-    /// Checks whether the term matches. Takes no memory.
+    /// Checks whether the term matches the pattern. Takes no memory.
     pub fn fits(&self, term: &Term) -> bool
         ensures { result ≡ is_some (bindings_of (data_of self.now) (data_of term.now)) }
     {
@@ -88,7 +91,7 @@ impl Pattern {
         clone_subterms(alloc, self.paths.as_slice(), term)
     }
 
-    /// Returns the values of the variables, or `None` if the term does not match.
+    /// Does what `bindings` does, with a weaker contract.
     fn find_bindings(&self, alloc: Global, term: &Term) -> Result<Option<Vec<Term>>, AllocError>
         ensures { IfOk result (λ found. option_map (λ v. map data_of v.items) found
             ≡ option_map values (bindings_of (data_of self.now) (data_of term.now))) }

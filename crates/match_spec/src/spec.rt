@@ -6,6 +6,7 @@ ghost use Rattle.match_spec.specs.Specifications.{is_true, is_spec, is_clause, a
 ghost use Rattle.match_spec.specs.inside.CompiledClauses.{clauses_of, clauses_from, clause_of, clause_with, raw_clause_of};
 ghost use Rattle.match_spec.specs.inside.FirstPaths.{first_paths_of};
 
+// The modules: the `check` of a clause, a compiled `clause`, its `conditions`, and the `quick` test of a clause.
 pub(crate) mod check;
 pub(crate) mod clause;
 pub(crate) mod conditions;
@@ -23,7 +24,7 @@ use ets_term::{Items, Position, Term};
 use std::alloc::{AllocError, Global};
 use std::marker::Model;
 
-/// A compiled match specification. Contracts see it as its term.
+/// A compiled match specification. Contracts see it as its raw term, `source`.
 #[derive(Drop)]
 pub struct Spec {
     source: Term,
@@ -31,6 +32,7 @@ pub struct Spec {
     quick: Option<QuickTest>,
 }
 
+// The value that contracts see of this type (`view`), and what is true of its fields between calls (`invariant`).
 impl Model for Spec {
     ghost use Rattle.ets_term.specs.contracts.term.Term as term;
     ghost use Rattle.ets_term.specs.declared.term.Term as declared;
@@ -47,8 +49,8 @@ impl Model for Spec {
 }
 
 impl Spec {
-    /// Compiles a match specification. Any other term is `Badarg`, also if only its last clause is at fault. Fails
-    /// with `Memory` if an allocation fails.
+    /// Compiles a match specification. Fails with `Badarg` for any other term, also if only its last clause is faulty.
+    /// Fails with `Memory` if an allocation fails.
     pub fn compile(alloc: Global, term: &Term) -> Result<Spec, SpecFault>
         ensures same { IfOk result (λ s. s ≡ term.now) }
         ensures good { OnOk result (is_spec (data_of term.now) ≡ true) }
@@ -69,8 +71,8 @@ impl Spec {
         })
     }
 
-    /// Returns the result for an object, or `None` if no clause applies. A failing body gives `'EXIT'`. Fails if an
-    /// allocation fails.
+    /// Returns the result for an object, or `None` if no clause applies. The result is `'EXIT'` if the body of the
+    /// clause fails. Fails if an allocation fails.
     pub fn result(&self, alloc: Global, object: &Term) -> Result<Option<Term>, AllocError>
         ensures { IfOk result (λ given. option_map data_of given ≡ result_of (data_of self.now) (data_of object.now)) }
     {
@@ -102,8 +104,8 @@ impl Spec {
         }
     }
 
-    /// Returns the element at `keypos`, from 1, of the heads of all clauses, if it is the same in all and has neither a
-    /// variable nor `'_'`. Every object with a result has this key.
+    /// Returns the element at `keypos`, counted from 1, of the patterns of all clauses, if it is the same in all and
+    /// has neither a variable nor `'_'`. Every object with a result has this key.
     pub fn bound_key(&self, keypos: Position) -> Option<&Term>
         ensures key { option_map data_of (option_copied result) ≡ spec_key keypos (data_of self.now) }
         ensures every { IfSome result (λ key. IsKeyOfResults keypos (data_of self.now) key.now) }
@@ -115,7 +117,7 @@ impl Spec {
     }
 }
 
-/// Compiles the clauses. Fails with `Badarg` if a term is no clause.
+/// Compiles the clauses. Fails with `Badarg` if a term is not a clause.
 fn clauses_of(alloc: Global, terms: &[Term]) -> Result<Items<Clause>, SpecFault>
     ensures made { IfOk result (λ cs. cs ≡ clauses_from (data_list (map data_of terms.now))) }
     ensures good { OnOk result (are_clauses (data_list (map data_of terms.now)) ≡ true) }
@@ -129,7 +131,7 @@ fn clauses_of(alloc: Global, terms: &[Term]) -> Result<Items<Clause>, SpecFault>
     Ok(Items::from_vec(clauses))
 }
 
-/// Compiles a clause. Fails with `Badarg` if the term is no clause.
+/// Compiles a clause. Fails with `Badarg` if the term is not a clause.
 fn clause_of(alloc: Global, term: &Term) -> Result<Clause, SpecFault>
     ensures made { IfOk result (λ c. c ∷ [] ≡ clauses_from (data_list (data_of term.now ∷ []))) }
     ensures good { OnOk result (is_clause (data_of term.now) ≡ true) }
@@ -145,7 +147,8 @@ fn clause_of(alloc: Global, term: &Term) -> Result<Clause, SpecFault>
     Ok(compile_clause(alloc, parts, &first)?)
 }
 
-/// Compiles the parts of a clause, which were checked. `first` has the paths of the variables that its head binds.
+/// Compiles the parts of a clause, which were checked. `first` has the first paths of the variables of its pattern,
+/// `parts.head`.
 fn compile_clause(
     alloc: Global,
     parts: ClauseParts,
@@ -162,7 +165,7 @@ fn compile_clause(
     })
 }
 
-/// Appends a clause.
+/// Appends a clause to the list.
 fn add(clauses: &mut Vec<Clause>, clause: Clause) -> Result<(), AllocError>
     ensures { OnOk result (clauses.new.items ≡ clauses.old.items ++ clause ∷ []) }
 {

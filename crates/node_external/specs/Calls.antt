@@ -12,26 +12,26 @@ use Rattle.node_external.specs.declared.call_problem.CallProblem.TheVariants as 
 use Rattle.node_external.specs.declared.parsed_call.ParsedCall.{ParsedCall}
 use Rattle.node_external.specs.declared.parsed_call.ParsedCall.TheVariants.{Call, Faulty}
 
--- a whole term that is no call
+-- the problem of a whole term that is not a call
 abbrev pub no_call : ParsedCall
 no_call = Faulty problem.NotACall 0
 
--- a name and arguments, if there are both
+-- the call of a name and arguments, if there are both
 abbrev pub call_with : Option (List ℕ) → Option (List Term) → ParsedCall
 call_with (Some name) (Some args) = Call name args
 call_with (Some name) None = no_call
 call_with None args = no_call
 
--- a name, which is an atom, and a list of arguments
+-- the call of a tuple with these elements: a name, which is an atom, and a list of arguments
 abbrev pub call_from_elements : List Term → ParsedCall
 call_from_elements (name ∷ args ∷ []) = call_with (as_atom name) (as_list args)
 call_from_elements _ = no_call
 
--- a tuple of a name and a list is a call
+-- the call that a term represents: a tuple of a name and a list
 abbrev pub call_from_term : Term → ParsedCall
 call_from_term term = unwrap_or (option_map call_from_elements (as_tuple term)) no_call
 
--- what is wrong at a fault of the reader, which never finds that memory ran out
+-- the problem of a call by the fault of the reader; in a specification the reader never runs out of memory
 abbrev pub problem_of : ExternalFault → CallProblem
 problem_of (fault.Truncated at) = problem.Truncated
 problem_of (fault.BadVersion at) = problem.BadVersion
@@ -43,10 +43,11 @@ problem_of (fault.BadInteger at) = problem.BadInteger
 problem_of (fault.ForeignIdentifier at) = problem.ForeignIdentifier
 problem_of fault.Memory = problem.Truncated
 
--- what is read from this number of bytes: a term that takes them all is read as a call
+-- the call, by the result of reading a term from `len` bytes, all of which the term must take
 abbrev pub call_from_reading : ℕ → Read Term → ParsedCall
 call_from_reading len (Ok (term, n)) = if n == len then call_from_term term else Faulty problem.TrailingBytes n
 call_from_reading len (Err f) = Faulty (problem_of f) (unwrap_or (offset f) 0)
 
+-- the call that bytes spell, or what is wrong with them
 abbrev pub parse_call : List ℕ → ParsedCall
 parse_call bytes = call_from_reading (length bytes) (read bytes)

@@ -1,4 +1,4 @@
--- The words of what is wrong with bytes that are no call.
+-- The words of what is wrong with bytes that are not a call.
 use Rattle.std.specs.Prelude.{ℕ, List, codes}
 use Rattle.node_external.specs.declared.call_problem.CallProblem.{CallProblem}
 use Rattle.node_external.specs.declared.call_problem.CallProblem.TheVariants as problem

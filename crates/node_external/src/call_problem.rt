@@ -1,27 +1,27 @@
-//! What is wrong with bytes that are no call.
+//! What is wrong with bytes that are not a call.
 ghost use Rattle.std.specs.Prelude.{◌≡◌};
 ghost use Rattle.node_external.specs.Words.{words_of};
 
-/// What is wrong with bytes that are no call.
+/// What is wrong with bytes that are not a call.
 #[derive(Clone, Copy, Debug, PartialEq, Eq)]
 pub enum CallProblem {
     /// The bytes end inside a term.
     Truncated,
     /// The first byte is not the version, 131.
     BadVersion,
-    /// No tag has the value of the byte.
+    /// A byte where a tag is expected is not a known tag.
     UnknownTag,
     /// A term, or a character of a string, is at level 129.
     TooDeep,
     /// The tail of a list is not the empty list.
     ImproperList,
-    /// An atom has more than 255 characters, or one that is not printable ASCII; or no atom is where one must be.
+    /// An atom has more than 255 characters, or one that is not printable ASCII; or an atom is missing.
     BadAtom,
     /// An integer does not fit 128 bits.
     BadInteger,
     /// A pid or reference is of another node, or a part of it other than its number is not 0.
     ForeignIdentifier,
-    /// A whole term that is no tuple of an atom and a list.
+    /// A whole term that is not a tuple of an atom and a list.
     NotACall,
     /// More bytes after the term.
     TrailingBytes,

@@ -22,6 +22,8 @@ pub enum ParsedCall {
 pub fn read_call(alloc: Global, bytes: &[u8]) -> Result<ParsedCall, AllocError>
     ensures { IfOk result (λ c. c ≡ spec.parse_call bytes.now) }
 {
+    // The usual form is read without building the tuple. Anything else is read as one term, which gives the problem and
+    // its offset.
     if let Some((name, args, taken)) = read_pair(alloc, bytes)
         && taken == bytes.len()
     {
@@ -30,7 +32,7 @@ pub fn read_call(alloc: Global, bytes: &[u8]) -> Result<ParsedCall, AllocError>
     read_any(alloc, bytes)
 }
 
-/// Reads the bytes of a call by way of the term that they spell.
+/// Reads one term from the bytes, and then the call from the term.
 fn read_any(alloc: Global, bytes: &[u8]) -> Result<ParsedCall, AllocError>
     ensures { IfOk result (λ c. c ≡ spec.parse_call bytes.now) }
 {
@@ -39,12 +41,13 @@ fn read_any(alloc: Global, bytes: &[u8]) -> Result<ParsedCall, AllocError>
         Ok((_, taken)) => Ok(ParsedCall::Faulty(CallProblem::TrailingBytes, taken)),
         Err(fault) => match fault.at() {
             Some(at) => Ok(ParsedCall::Faulty(problem_of(fault), at)),
+            // Only out of memory has no offset.
             None => Err(AllocError),
         },
     }
 }
 
-/// Returns the call that a term is.
+/// Returns the call that a term represents, if it is a tuple of a name and arguments.
 fn call_from_term(term: Term) -> ParsedCall
     ensures { result ≡ spec.call_from_term term }
 {
@@ -54,7 +57,7 @@ fn call_from_term(term: Term) -> ParsedCall
     }
 }
 
-/// Returns the call that the elements of a tuple are.
+/// Returns the call that a tuple with these elements represents.
 fn call_from_elements(mut terms: Vec<Term>) -> ParsedCall
     ensures { result ≡ spec.call_from_elements terms.items }
 {
@@ -68,7 +71,7 @@ fn call_from_elements(mut terms: Vec<Term>) -> ParsedCall
     }
 }
 
-/// Returns the call of a name and arguments.
+/// Returns the call with this name and these arguments, if they are an atom and a list.
 fn call_with(name: Term, args: Term) -> ParsedCall
     ensures { result ≡ spec.call_with (as_atom name) (as_list args) }
 {
@@ -81,18 +84,19 @@ fn call_with(name: Term, args: Term) -> ParsedCall
     }
 }
 
-/// Returns that a whole term is no call.
+/// Returns the problem that a whole term is not a call, at offset 0.
 fn no_call() -> ParsedCall
     ensures { result ≡ spec.no_call }
 {
     ParsedCall::Faulty(CallProblem::NotACall, 0)
 }
 
-/// Returns what is wrong at a fault of the reader.
+/// Converts a fault of the reader of terms into the problem of a call.
 fn problem_of(fault: ExternalFault) -> CallProblem
     ensures { result ≡ spec.problem_of fault }
 {
     match fault {
+        // `Memory` does not occur here: it has no offset, so `read_any` has returned `AllocError`.
         ExternalFault::Truncated(_) | ExternalFault::Memory => CallProblem::Truncated,
         ExternalFault::BadVersion(_) => CallProblem::BadVersion,
         ExternalFault::UnknownTag(_) => CallProblem::UnknownTag,

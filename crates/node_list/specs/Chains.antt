@@ -9,11 +9,13 @@ use Rattle.ets_term.specs.Order.{same}
 abbrev pub all_but : Term → List Term → List Term
 all_but term ts = filter (λ t. not (same t term)) ts
 
+-- the term with another element at an index, by the term's first level
 abbrev pub with_element_form : ℕ → Term → Term → Term-F Term → Term
 with_element_form index value term (Term-F.Tuple elements) = Tuple (slice_set elements index value)
 with_element_form index value term _ = term
 
--- a tuple with another element at an index, counted from 0; the term as it is if it is no tuple or has no such element
+-- a tuple with another element at an index, counted from 0; the term as it is if it is not a tuple or has no such
+-- element
 abbrev pub with_element : ℕ → Term → Term → Term
 with_element index value term = with_element_form index value term (out-Term term)
 

@@ -14,7 +14,7 @@ pub record ListState : Type 0 where
 abbrev pub HasRoom : ListState → ℕ → Type 0
 HasRoom l more = length l.cells + more ≤ l.capacity
 
--- the codes of a node and of a list, as tuples of their fields
+-- the code of a node, as a tuple of its fields
 abbrev pub cell_code : Coded Cell
 cell_code =
     code_by
@@ -24,6 +24,7 @@ cell_code =
     (λ p. record { at = p.0; key = p.1.0; item = p.1.1 })
     (λ _. refl)
 
+-- the code of a list, as a tuple of its fields
 abbrev pub list_state_code : Coded ListState
 list_state_code =
     code_by

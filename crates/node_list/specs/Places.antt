@@ -24,7 +24,7 @@ pub record IsPlaceOf (at : ℕ) (cells : List Cell) : Type 0 where
   pub later : List Cell
   pub is : from at cells ≡ cell ∷ later
 
--- the node at this place has at most this key
+-- a node has this place, and its split key is at most `key`
 pub record HasKeyAtMost (key at : ℕ) (cells : List Cell) : Type 0 where
   pub cell : Cell
   pub later : List Cell
@@ -50,6 +50,7 @@ abbrev pub IsNextItem : ℕ → Option ℕ → List Cell → Type 0
 IsNextItem start None cells = (other : ℕ) → HasItem other cells → other < start
 IsNextItem start (Some at) cells = IsLeastItem start at cells
 
+-- the nodes without the first one
 abbrev pub all_but_first : List Cell → List Cell
 all_but_first [] = []
 all_but_first (c ∷ cs) = cs
@@ -58,22 +59,26 @@ all_but_first (c ∷ cs) = cs
 abbrev pub cells_after : ℕ → List Cell → List Cell
 cells_after at cells = all_but_first (from at cells)
 
+-- the place of the first node, None if there are no nodes
 abbrev pub first_place : List Cell → Option ℕ
 first_place [] = None
 first_place (c ∷ cs) = Some c.at
 
+-- the place of the node after the node at a place, None if there is none
 abbrev pub place_after : ℕ → List Cell → Option ℕ
 place_after at cells = first_place (cells_after at cells)
 
+-- the item of the first node, None for a dummy or if there are no nodes
 abbrev pub first_item : List Cell → Option Item
 first_item [] = None
 first_item (c ∷ cs) = c.item
 
+-- the split key of the first node, None if there are no nodes
 abbrev pub first_key : List Cell → Option ℕ
 first_key [] = None
 first_key (c ∷ cs) = Some c.key
 
--- the key of the node at a place
+-- the split key of the node at a place, None if no node has the place
 abbrev pub key_at : ℕ → List Cell → Option ℕ
 key_at at cells = first_key (from at cells)
 

@@ -1,10 +1,10 @@
 -- Counting up to the greatest number of 64 bits.
 use Rattle.std.specs.Prelude.{ℕ, ◌+◌, ◌-◌, ◌^◌, min}
 
--- one more, unless the number is the greatest
+-- the count after one more node, unless it is the greatest number
 abbrev pub tick : ℕ → ℕ
 tick n = min (n + 1) (2 ^ 64 - 1)
 
--- `more` ticks: the sum, at most the greatest number
+-- the count `n` after `more` ticks: their sum, at most the greatest number
 abbrev pub ticks : ℕ → ℕ → ℕ
 ticks more n = min (n + more) (2 ^ 64 - 1)

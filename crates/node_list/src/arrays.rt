@@ -11,8 +11,8 @@ use std::mem;
 /// The least number of nodes by which the slab grows.
 const MIN_EXTRA_CAPACITY: usize = 4;
 
-/// Returns the number of nodes by which to grow: at least `additional`, and at least as many as there are. So growth
-/// costs a constant per node.
+/// Returns the number of nodes by which to grow: at least `additional`, and at least the present number `len`. So the
+/// cost of growth is constant per node, on average.
 fn extra_capacity(len: usize, additional: usize) -> usize
     ensures { additional ≤ result }
 {
@@ -49,7 +49,7 @@ pub fn reserve_both(
     Ok(())
 }
 
-/// Replaces the header at a place and returns the old one.
+/// Replaces the header at a place and returns the old header.
 #[inline(always)]
 pub fn replace_at(nodes: &mut Slab<PackedHeader>, at: usize, header: PackedHeader) -> PackedHeader
     requires { ContainsKey nodes.old at }
@@ -59,8 +59,8 @@ pub fn replace_at(nodes: &mut Slab<PackedHeader>, at: usize, header: PackedHeade
     mem::replace(&mut nodes[at], header)
 }
 
-/// Writes a slot at a place. The slab gives out consecutive places but does not promise it, so placeholders fill a
-/// gap.
+/// Writes a slot at a place. If the place is past the end of the array, placeholders fill the gap. The slab gives out
+/// consecutive places, so there is no gap in fact, but its contract does not promise this.
 #[inline(always)]
 pub fn write_item(items: &mut Vec<Item>, at: usize, slot: Item)
     requires { at < vec_capacity items.old }

@@ -14,6 +14,7 @@ pub struct Chain {
     terms: SmallVec<Term, 1>,
 }
 
+// The value that contracts see of this type (`view`).
 impl Model for Chain {
     ghost use Rattle.std.specs.Prelude.{List};
     ghost use Rattle.std.specs.Coded.{coded_list};
@@ -60,18 +61,19 @@ impl Chain {
         self.terms.len()
     }
 
-    /// Appends a term. If memory is refused, the term is dropped. An empty chain has capacity for one.
+    /// Appends a term. If memory is refused, the term is dropped. An empty chain has capacity for one term.
     pub fn push(&mut self, term: Term) -> Result<(), AllocError>
         ensures ok { OnOk result (self.new ≡ self.old ++ term ∷ []) }
         ensures err { OnErr result (self.new ≡ self.old) }
         ensures succeeds { self.old ≡ [] → IsOk result }
     {
+        // The call gives the proof a bound of the length. It changes nothing.
         let _room = self.terms.capacity();
         self.terms.push(term)?;
         Ok(())
     }
 
-    /// Replaces the term at `index` and returns the old one.
+    /// Replaces the term at `index` and returns the old term.
     pub fn replace(&mut self, index: usize, term: Term) -> Term
         requires { index < length self.old }
         ensures old { slice_get self.old index ≡ Some result }
@@ -81,7 +83,7 @@ impl Chain {
     }
 
     /// Sets an element of the first term, counted from 0, and drops the old element. Changes nothing if the chain is
-    /// empty, the term is no tuple or the tuple has no such element; `value` is then dropped.
+    /// empty, the term is not a tuple or the tuple has no such element; `value` is then dropped.
     #[inline]
     pub fn set_element(&mut self, index: usize, value: Term)
         ensures { self.new ≡ with_element_in_first index value self.old }
@@ -139,7 +141,7 @@ fn set_element(term: &mut Term, index: usize, value: Term)
     set_item(elements, index, value);
 }
 
-/// Sets the item at an index, counted from 0, and drops the old one. Changes nothing past the end.
+/// Sets the item at an index, counted from 0, and drops the old item. If the index is past the end, changes nothing.
 #[inline]
 fn set_item(items: &mut Items<Term>, index: usize, item: Term)
     ensures { items.new ≡ slice_set items.old index item }

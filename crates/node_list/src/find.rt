@@ -8,7 +8,8 @@ use crate::reader::CountingReader;
 use crate::steps::Steps;
 use ets_term::Term;
 
-/// Returns the place of the first node from `start` on with this key and term. Counts each node that it reads.
+/// Returns the place of the first node from `start` on whose split key is `key` and whose item has the key `term`.
+/// Counts each node that it reads. Ends at the first node with a greater split key.
 pub fn find_from(
     nodes: CountingReader<'_>,
     start: usize,

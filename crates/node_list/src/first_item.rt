@@ -5,10 +5,10 @@ ghost use Rattle.node_list.specs.inside.Slots.{HasNoItemBetween, has_item_at};
 use crate::packed::PackedHeader;
 use slab::Slab;
 
-/// The greatest number of places that one removal scans, so that none takes long.
+/// The greatest number of places that one removal scans for the next item, so that no removal takes long.
 const MAX_SCAN: usize = 64;
 
-/// Returns the first-item bound after a node is inserted at `at`. Below this place there is no item.
+/// Returns the first-item bound after a node is inserted at the place `at`. No place below the bound has an item.
 pub fn bound_after_insert(first_item_bound: usize, at: usize, is_item: bool) -> usize
     ensures below { result ≤ first_item_bound }
     ensures item { is_item ≡ true → result ≤ at }

@@ -1,6 +1,7 @@
 use crate::link::Link;
 
-/// What a search reads of each node that it passes: split key and link. The items are in another array.
+/// The header of a node: its split key `key` and the link `next` to the next node. A search reads only this of each
+/// node that it passes; the items are in another array.
 #[derive(Clone, Copy)]
 pub struct NodeHeader {
     pub key: u64,

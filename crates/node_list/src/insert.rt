@@ -9,7 +9,7 @@ use crate::link::Link;
 use crate::node::{Item, ListNode};
 use crate::nodes::Nodes;
 
-/// Returns the last node from `start` on whose key is at most `key`.
+/// Returns the place of the last node from `start` on whose split key is at most the split key `key`.
 fn last_not_above(nodes: &Nodes, start: usize, key: u64) -> usize
     requires linked { IsLinked nodes.now (Some start) }
     requires up_to { NodeHasKeyAtMost nodes.now start key }
@@ -25,7 +25,8 @@ fn last_not_above(nodes: &Nodes, start: usize, key: u64) -> usize
     last
 }
 
-/// Inserts a node at its sorted place, after all nodes with an equal key, and returns its place.
+/// Inserts a node with the split key `key` after all nodes whose split keys are at most `key`, and returns its place.
+/// `start` is the place of a node whose split key is at most `key`.
 #[inline(always)]
 pub fn insert_from(nodes: &mut Nodes, start: usize, key: u64, item: Option<Item>) -> usize
     requires room { HasRoomFor nodes.old 1 }

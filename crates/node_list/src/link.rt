@@ -2,12 +2,14 @@ ghost use Rattle.std.specs.Prelude.{◌≡◌, ◌<◌, ◌-◌, ◌^◌, Some, 
 
 use std::marker::Model;
 
-/// The place of the next node, or none, in one word; an `Option<usize>` takes two. A contract sees an option.
+/// The place of the next node, or none, in one word, whereas an `Option<usize>` takes two words. A contract sees an
+/// option.
 #[derive(Clone, Copy)]
 pub struct Link {
     place: usize,
 }
 
+// The value that contracts see of this type (`view`), and what is true of its fields between calls (`invariant`).
 impl Model for Link {
     ghost use Rattle.std.specs.Prelude.{Option, ℕ, ◌<◌, ◌^◌};
     ghost use Rattle.node_list.specs.inside.Words.{link_in, word_of};
@@ -32,7 +34,7 @@ impl Link {
         Link { place: usize::MAX }
     }
 
-    /// Returns a link to `place`. The greatest `usize` encodes no place, so it is not allowed.
+    /// Returns a link to `place`. The greatest `usize` encodes 'no place', so it is not allowed.
     pub fn to(place: usize) -> Link
         requires { place < 2 ^ 64 - 1 }
         ensures { result ≡ Some place }

@@ -14,19 +14,20 @@ use ets_term::Term;
 use std::alloc::{AllocError, Global};
 use std::marker::Model;
 
-/// The place of a node. It belongs to the node until the node is unlinked.
+/// The place of a node: its index in the slab. The node keeps it until the node is removed.
 pub type At = usize;
 
 /// The place of the first node of every list.
 const HEAD: At = 0;
 
-/// A sorted list of nodes. A contract sees its `cells`, from first to last, and its `capacity`: how many nodes fit
-/// without allocation.
+/// A list of nodes, sorted by split keys. A contract sees its `cells`, the nodes from first to last, and its
+/// `capacity`: how many nodes fit without allocation.
 #[derive(Drop)]
 pub struct NodeList {
     nodes: Nodes,
 }
 
+// The value that contracts see of this type (`view`), and what is true of its fields between calls (`invariant`).
 impl Model for NodeList {
     ghost use Rattle.std.specs.Prelude.{Some};
     ghost use Rattle.node_list.specs.ListState.{ListState, list_state_code};
@@ -51,7 +52,7 @@ impl NodeList {
     ghost use Rattle.node_list.specs.Lending.{LendsChainAt};
     ghost use Rattle.node_list.specs.Ticks.{ticks};
 
-    /// Creates a list of one node, the dummy of key 0.
+    /// Creates a list of one node, the dummy with split key 0.
     pub fn new(alloc: Global) -> Result<NodeList, AllocError>
         ensures { IfOk result (λ l. l.cells ≡ new_cell 0 0 None ∷ []) }
     {
@@ -65,8 +66,8 @@ impl NodeList {
         Ok(NodeList { nodes })
     }
 
-    /// Returns the place of the first node, a dummy of key 0. The contract also says that the list is sorted and that
-    /// no place occurs twice.
+    /// Returns the place of the first node, the dummy with split key 0. The contract also says that the list is sorted
+    /// and that no place occurs twice.
     #[inline]
     pub fn head(&self) -> At
         ensures first { first_place self.now.cells ≡ Some result }
@@ -75,6 +76,7 @@ impl NodeList {
         ensures sorted { Sorted self.now.cells }
         ensures apart { HasDistinctPlaces self.now.cells }
     {
+        // The borrow gives the proof the invariant of the nodes.
         let _nodes = &self.nodes;
         HEAD
     }
@@ -88,12 +90,13 @@ impl NodeList {
         ensures few { length self.now.cells < 2 ^ 64 - 1 }
         ensures places { (at : ℕ) → IsPlaceOf at self.now.cells → at < 2 ^ 64 - 1 }
     {
+        // These calls change nothing. Their contracts give the proof the invariant.
         let _head = self.head();
         let _len = self.len();
         self.nodes.reveal_invariant();
     }
 
-    /// Returns the number of nodes, dummies and items.
+    /// Returns the number of nodes: dummies and items.
     #[inline]
     pub fn len(&self) -> usize
         ensures value { result ≡ length self.now.cells }
@@ -112,8 +115,8 @@ impl NodeList {
         self.nodes.reserve(additional)
     }
 
-    /// Inserts a dummy at its sorted place, after all nodes with an equal key, and returns its place. `start` must be
-    /// the place of a node whose key is at most `key`.
+    /// Inserts a dummy with the split key `key`, after all nodes with an equal split key, and returns its place.
+    /// `start` must be the place of a node whose split key is at most `key`.
     #[inline(always)]
     pub fn insert_dummy(&mut self, start: At, key: u64) -> At
         requires room { HasRoom self.old 1 }
@@ -127,8 +130,8 @@ impl NodeList {
         insert_from(&mut self.nodes, start, key, None)
     }
 
-    /// Inserts an item at its sorted place, after all nodes with an equal key, and returns its place. `start` must be
-    /// the place of a node whose key is at most `key`.
+    /// Inserts an item with the split key `key`, after all nodes with an equal split key, and returns its place. `term`
+    /// is the item's key, and `start` must be the place of a node whose split key is at most `key`.
     #[inline(always)]
     pub fn insert_item(&mut self, start: At, key: u64, term: Term, chain: Chain) -> At
         requires room { HasRoom self.old 1 }
@@ -142,8 +145,9 @@ impl NodeList {
         insert_from(&mut self.nodes, start, key, Some(Item { term, chain }))
     }
 
-    /// Returns the place of the first item from `start` on with this key and term. Adds the number of nodes that it
-    /// reads to `steps`. It reads up to the item found or the first node with a greater key, or else to the end.
+    /// Returns the place of the first item from `start` on with the split key `key` and the key `term`. Adds the number
+    /// of nodes that it reads to `steps`. It reads up to the item found or the first node with a greater split key, or
+    /// else to the end.
     pub fn find(&self, start: At, key: u64, term: &Term, steps: &mut Steps) -> Option<At>
         requires { IsPlaceOf start self.now.cells }
         ensures found { result ≡ place_of key term.now (from start self.now.cells) }
@@ -152,7 +156,7 @@ impl NodeList {
         find_from(CountingReader::new(&self.nodes), start, key, term, steps)
     }
 
-    /// Removes an item and returns its term and chain. `start` must be a node before it.
+    /// Removes an item and returns its key and chain. `start` must be the place of a node before it.
     pub fn unlink(&mut self, start: At, at: At) -> (Term, Chain)
         requires { HasItem at (cells_after start self.old.cells) }
         ensures item { item_at at self.old.cells ≡ Some (new_item result.0 result.1) }
@@ -171,7 +175,8 @@ impl NodeList {
         }
     }
 
-    /// Removes an item in place and returns the number of terms in its chain. `start` must be a node before it.
+    /// Drops an item without moving it and returns the number of terms in its chain. `start` must be the place of a
+    /// node before it.
     pub fn delete_item(&mut self, start: At, at: At) -> usize
         requires { HasItem at (cells_after start self.old.cells) }
         ensures count { option_map (λ item. length item.chain) (item_at at self.old.cells) ≡ Some result }
@@ -182,7 +187,7 @@ impl NodeList {
         delete_from(&mut self.nodes, start, at)
     }
 
-    /// Returns the place of the next node, or `None` for the last.
+    /// Returns the place of the next node, or `None` after the last node.
     pub fn after(&self, at: At) -> Option<At>
         requires { IsPlaceOf at self.now.cells }
         ensures { result ≡ place_after at self.now.cells }
@@ -198,7 +203,7 @@ impl NodeList {
         self.nodes.header(at).key
     }
 
-    /// Returns the term and the chain of an item, or `None` for a dummy.
+    /// Returns the key (a term) and the chain of an item, or `None` for a dummy.
     #[inline]
     pub fn item(&self, at: At) -> Option<(&Term, &Chain)>
         requires { IsPlaceOf at self.now.cells }
@@ -211,7 +216,7 @@ impl NodeList {
         }
     }
 
-    /// Returns the first place at or after `start` that has an item. The order is that of places, not of keys.
+    /// Returns the first place at or after `start` that has an item. The order is that of places, not of split keys.
     #[inline]
     pub fn next_item_at(&self, start: At) -> Option<At>
         ensures { IsNextItem start result self.now.cells }

@@ -6,7 +6,7 @@ use crate::link::Link;
 use ets_term::Term;
 use std::alloc::Global;
 
-/// A term and its chain: a key and its objects.
+/// A key, `term`, and its objects, `chain`.
 #[derive(Drop)]
 pub struct Item {
     pub term: Term,
@@ -36,7 +36,8 @@ impl Item {
     }
 }
 
-/// A list node as it is inserted and removed: an item, or a dummy that marks the start of a bucket.
+/// A list node as it is inserted and removed: its split key `key`, the link to the next node, and its item. A dummy has
+/// no item; it marks the start of a bucket.
 #[derive(Drop)]
 pub struct ListNode {
     pub key: u64,

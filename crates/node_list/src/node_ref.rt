@@ -16,7 +16,7 @@ pub struct NodeRef<'a> {
 }
 
 impl<'a> NodeRef<'a> {
-    /// Checks whether the node is the item of this term.
+    /// Checks whether the node is an item whose key is `term`.
     pub fn holds(&self, term: &Term) -> bool
         ensures { result ≡ holds term.now (node_of_ref self.now).item }
     {

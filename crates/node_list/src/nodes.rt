@@ -19,17 +19,17 @@ use std::alloc::{AllocError, Global};
 use std::marker::Model;
 use std::mem;
 
-/// Nodes by place: a slab of headers and an array of items. A search that passes a node reads its header alone. A
-/// contract sees one slab of nodes. A place is added to the slab only after there is capacity for its item, and never
-/// goes back. Places without a node form the *free list*: each leads to the next. The slab's
-/// `vacant_key` is the first free place. A header packs a place with a tag of two bits, so a place has 62 bits at most.
+/// Nodes by place: a slab of headers and an array of items. A search that passes a node reads only its header. A
+/// contract sees one slab of nodes, whose `vacant_key` is the first free place. A place is added to the slab only after
+/// there is capacity for its item, and never goes back. Places without a node form the *free list*: each leads to the
+/// next. A header packs a place with a tag of two bits, so a place has 62 bits at most.
 #[derive(Drop)]
 pub struct Nodes {
     nodes: Slab<PackedHeader>,
     /// The slots, with capacity for one at each place of the slab. A place without an item has a placeholder, or is
     /// past their end.
     items: Vec<Item>,
-    /// The first-item bound: below this place there is no item.
+    /// The first-item bound: no place below it has an item.
     first_item_bound: usize,
     /// The first free place; each free place leads to the next.
     free_head: Link,
@@ -37,6 +37,7 @@ pub struct Nodes {
     len: usize,
 }
 
+// The value that contracts see of this type (`view`), and what is true of its fields between calls (`invariant`).
 impl Model for Nodes {
     ghost use Rattle.slab.specs.Slab.{Slab as Slots, slab_code, slab_len};
     ghost use Rattle.node_list.specs.declared.node.ListNode.{ListNode};
@@ -59,7 +60,7 @@ impl Model for Nodes {
 }
 
 impl Nodes {
-    /// Makes a list of no nodes, which takes no memory.
+    /// Returns empty arrays without nodes. This takes no memory.
     pub fn new(alloc: Global) -> Nodes
         ensures empty { result.slots ≡ [] }
         ensures first { result.vacant_key ≡ 0 }
@@ -96,8 +97,8 @@ impl Nodes {
         self.nodes.len() - self.len
     }
 
-    /// Adds a place to the slab and to the front of the free list. If an array is full, it grows; the slab then by at
-    /// least `more` nodes.
+    /// Adds a place to the slab and to the front of the free list. If an array is full, it grows, and the
+    /// slab grows by at least `more` nodes.
     pub fn add_free_place(&mut self, more: usize) -> Result<(), AllocError>
         requires { 0 < more }
         ensures room { OnOk result (self.new.capacity ≡ self.old.capacity + 1) }
@@ -141,7 +142,7 @@ impl Nodes {
         at
     }
 
-    /// Removes the node at a place and returns it. The place becomes the first free one.
+    /// Removes the node at a place and returns it. The place becomes the first of the free list.
     pub fn remove(&mut self, at: usize) -> ListNode
         requires { ContainsKey self.old at }
         ensures value { get self.old at ≡ Some result }
@@ -168,8 +169,8 @@ impl Nodes {
         }
     }
 
-    /// Drops the item at a place and returns the number of terms in its chain. The item is not moved: the placeholder
-    /// is written over it. The place becomes the first free one.
+    /// Drops the item at a place and returns the number of terms in its chain. The item is not moved: a placeholder is
+    /// written over it. The place becomes the first of the free list.
     pub fn discard(&mut self, at: usize) -> usize
         requires { HasItemIn self.old at }
         ensures count { HasChainLength self.old at result }
@@ -200,7 +201,7 @@ impl Nodes {
         self.nodes[at].header()
     }
 
-    /// Returns a reference for a search, which reads the item only if it must.
+    /// Returns a reference to the node at a place. A search reads its item only if split keys are equal.
     pub fn node_ref(&self, at: usize) -> NodeRef<'_>
         requires { ContainsKey self.now at }
         ensures { get self.now at ≡ Some (node_of_ref result) }
@@ -213,7 +214,7 @@ impl Nodes {
         }
     }
 
-    /// Returns the item at a place, or `None` for a dummy. For a dummy it reads the header alone.
+    /// Returns the item at a place, or `None` for a dummy. For a dummy it reads only the header.
     #[inline]
     pub fn item(&self, at: usize) -> Option<&Item>
         requires { ContainsKey self.now at }
@@ -254,6 +255,7 @@ impl Nodes {
     pub fn reveal_invariant(&self)
         ensures { (at : ℕ) → ContainsKey self.now at → at < 2 ^ 64 - 1 }
     {
+        // The call changes nothing. It gives the proof the bound of the places.
         let _places = self.items.len();
     }
 

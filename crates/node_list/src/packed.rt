@@ -6,11 +6,11 @@ use crate::header::NodeHeader;
 use crate::link::Link;
 use crate::node::Item;
 
-/// The place number that encodes no place.
+/// The place number that encodes 'no place'. A place in a header has 62 bits.
 pub const NO_PLACE: usize = usize::MAX / 4;
 
-/// A header as it is stored. One word is four times the place of the next node, plus a tag. The tag is 1 for an item,
-/// 2 for a free place and 0 for a dummy.
+/// A header as it is stored: the split key `key`, and a word that is four times the place of the next node, plus a tag.
+/// The tag is 1 for an item, 2 for a free place and 0 for a dummy.
 #[derive(Clone, Copy)]
 pub struct PackedHeader {
     key: u64,
@@ -18,7 +18,7 @@ pub struct PackedHeader {
 }
 
 impl PackedHeader {
-    /// Packs a header, with the tag that says whether the node is an item.
+    /// Packs a header, with the tag of an item or of a dummy.
     #[inline(always)]
     pub fn new(header: NodeHeader, has_item: bool) -> PackedHeader
         requires { Fits header.next }
@@ -41,6 +41,7 @@ impl PackedHeader {
         PackedHeader::with_tag(0, next, 2)
     }
 
+    /// Packs a split key, a link and a tag.
     #[inline(always)]
     fn with_tag(key: u64, next: Link, tag: usize) -> PackedHeader
         requires fits { Fits next }

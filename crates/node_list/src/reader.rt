@@ -7,19 +7,21 @@ use crate::node_ref::NodeRef;
 use crate::nodes::Nodes;
 use crate::steps::Steps;
 
-/// The nodes of a list for a search. Its only call reads one node and counts it.
+/// The nodes of a list, for a search. Its only way to read a node is `read`, which counts it.
 #[derive(Clone, Copy)]
 pub struct CountingReader<'a> {
     nodes: &'a Nodes,
 }
 
 impl<'a> CountingReader<'a> {
+    /// Returns a reader of these nodes.
     pub fn new(nodes: &'a Nodes) -> CountingReader<'a>
         ensures { result.nodes.now ≡ nodes.now }
     {
         CountingReader { nodes }
     }
 
+    /// Returns a reference to the node at a place, and adds 1 to `steps`.
     pub fn read(self, at: usize, steps: &mut Steps) -> NodeRef<'a>
         requires { ContainsKey self.nodes.now at }
         ensures node { get self.entry.nodes.now at ≡ Some (node_of_ref result) }

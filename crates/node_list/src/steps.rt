@@ -3,12 +3,13 @@ ghost use Rattle.node_list.specs.Ticks.{tick};
 
 use std::marker::Model;
 
-/// A counter of visited nodes. It only rises, one at a time, and stays at the greatest `u64`.
+/// A counter of visited nodes. It only rises, by 1 at a time. At the greatest `u64` it stays.
 #[derive(Drop)]
 pub struct Steps {
     count: u64,
 }
 
+// The value that contracts see of this type (`view`).
 impl Model for Steps {
     ghost use Rattle.std.specs.Prelude.{ℕ};
     ghost use Rattle.std.specs.Coded.{coded_ℕ};

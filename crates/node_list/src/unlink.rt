@@ -8,7 +8,7 @@ ghost use Rattle.node_list.specs.inside.Slots.{HasItemIn, HasChainLength};
 use crate::node::ListNode;
 use crate::nodes::Nodes;
 
-/// Returns the node from `start` on whose link leads to `at`.
+/// Returns the place of the predecessor of the node at `at`: the node, from `start` on, whose link leads to it.
 fn predecessor(nodes: &Nodes, start: usize, at: usize) -> usize
     requires linked { IsLinked nodes.now (Some start) }
     requires after { HasPlace at (all_but_first (cells_from nodes.now (Some start))) }
@@ -40,7 +40,7 @@ pub fn unlink_from(nodes: &mut Nodes, start: usize, at: usize) -> ListNode
     node
 }
 
-/// Removes the item at `at`, which must be after `start`, in place. Returns the number of terms in its chain.
+/// Drops the item at `at`, which must be after `start`, without moving it. Returns the number of terms in its chain.
 pub fn delete_from(nodes: &mut Nodes, start: usize, at: usize) -> usize
     requires linked { IsLinked nodes.old (Some 0) }
     requires after { HasPlace at (cells_after start (cells_from nodes.old (Some 0))) }

@@ -14,15 +14,15 @@ use Rattle.node_reasons.specs.Updates.{why_update_counter, why_update_element}
 use Rattle.node_reasons.specs.Tables.{why_whereis, why_new, why_info, why_safe_fixtable, why_setopts, why_give_away}
 
 module _ (w : World) (p : ℕ) where
-  -- a call that reads the table that a term names
+  -- a call that reads the table that a term names: first the access to it, then these rules on its content
   abbrev pub why_reads : Term → (Content → Option Reason) → Option Reason
   why_reads term rest = on_table Read p (table_of_term w.tables term) rest
 
-  -- a call that writes to it
+  -- a call that writes to the table that a term names: first the access to it, then these rules on its content
   abbrev pub why_writes : Term → (Content → Option Reason) → Option Reason
   why_writes term rest = on_table Write p (table_of_term w.tables term) rest
 
-  -- a name with any other number of arguments breaks the rule on their number
+  -- the first rule that a call breaks; a name with any other number of arguments breaks the rule on their number
   abbrev pub why_call : CallName → List Term → Option Reason
   why_call name.Receive [] = None
   why_call name.Tab2list (x ∷ []) = why_reads x no_further_rule

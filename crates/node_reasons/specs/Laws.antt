@@ -9,10 +9,11 @@ use Rattle.node_reasons.specs.declared.reason.Reason.{Reason}
 use Rattle.node_reasons.specs.Reasons.{refusal_of}
 use Rattle.node_reasons.specs.Why.{why}
 
--- no reason, and an answer; or a reason, and the refusal of its rule
+-- there is no reason, and the reply is a value; or there is a reason, and the reply is the refusal of its rule
 abbrev pub Explains : Option Reason → Reply → Type 0
 Explains None reply = is_value reply ≡ true
 Explains (Some reason) reply = reply ≡ refusal_of reason.rule
 
+-- this holds of each step and each reply that the machine may give to it
 abbrev pub ReasonsAreExact : Type 0
 ReasonsAreExact = (old new : State) (s : Step) (reply : Reply) → step old s reply new → Explains (why old s reply) reply

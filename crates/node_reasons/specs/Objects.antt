@@ -14,16 +14,16 @@ use Rattle.node_reasons.specs.declared.reason.Rule.TheVariants as rule
 use Rattle.node_reasons.specs.declared.reason.Reason.{Reason}
 use Rattle.node_reasons.specs.Reasons.{argument}
 
--- a call that no rule refuses once the table may be used
+-- there are no rules but the access to the table
 abbrev pub no_further_rule : Content → Option Reason
 no_further_rule content = None
 
--- insert, insert_new: each is an object
+-- insert, insert_new: each term to insert is an object
 abbrev pub why_insert : Term → Content → Option Reason
 why_insert objects content =
     if list_all (is_object content.keypos) (objects_in objects) then None else Some (argument 2 rule.NotAnObject)
 
--- delete_object: it is an object
+-- delete_object: the second argument is an object
 abbrev pub why_delete_object : Term → Content → Option Reason
 why_delete_object object content = if is_object content.keypos object then None else Some (argument 2 rule.NotAnObject)
 
@@ -31,24 +31,25 @@ why_delete_object object content = if is_object content.keypos object then None 
 abbrev pub why_next : Term → Content → Option Reason
 why_next key content = if is_some (next_key content.slots key) then None else Some (argument 2 rule.NoKey)
 
--- match, match_object, match_delete: it is a pattern
+-- match, match_object, match_delete: the second argument is a pattern
 abbrev pub why_match : Term → Content → Option Reason
 why_match pattern content = if is_pattern (data_of pattern) then None else Some (argument 2 rule.NotAPattern)
 
--- select, select_count, select_delete: it is a specification
+-- select, select_count, select_delete: the second argument is a match specification
 abbrev pub why_select : Term → Content → Option Reason
 why_select spec content = if is_spec (data_of spec) then None else Some (argument 2 rule.NotASpecification)
 
--- the element of each object of a key exists; of a set, of its one object
+-- each object of a key has the element at this position
 abbrev pub element : Kind → ℕ → List Term → Option Reason
 element kind position objects =
     if is_some (lookup_element kind position objects) then None else Some (argument 3 rule.NoElement)
 
+-- the same, where `missing` is the result if the key has no object
 abbrev pub why_element_of_key : Option Reason → Kind → ℕ → List Term → Option Reason
 why_element_of_key missing kind position [] = missing
 why_element_of_key missing kind position (object ∷ objects) = element kind position (object ∷ objects)
 
--- a position is at least 1
+-- the position is one: an integer of at least 1; then as why_element_of_key
 abbrev pub why_element_at : Option Reason → List Term → Kind → Option ℕ → Option Reason
 why_element_at missing objects kind None = Some (argument 3 rule.NotAPosition)
 why_element_at missing objects kind (Some position) =

@@ -13,7 +13,7 @@ use Rattle.node_reasons.specs.declared.reason.Rule.{Rule}
 use Rattle.node_reasons.specs.declared.reason.Rule.TheVariants as rule
 use Rattle.node_reasons.specs.declared.reason.Reason.{Reason}
 
--- the refusal that a step gets by a rule
+-- the refusal of a step that breaks this rule
 abbrev pub refusal_of : Rule → Reply
 refusal_of rule.NoProcess = NoProcess
 refusal_of rule.TooDeep = SystemLimit
@@ -24,11 +24,11 @@ refusal_of rule.TooManyFixes = SystemLimit
 refusal_of rule.LimitExceeded = SystemLimit
 refusal_of _ = Badarg
 
--- a rule on the step, or on its call as a whole
+-- the reason of a rule on the step, or on its call as a whole
 abbrev pub about_whole_call : Rule → Reason
 about_whole_call broken = record { rule = broken; argument = None }
 
--- a rule on an argument, counted from 1
+-- the reason of a rule on an argument, counted from 1
 abbrev pub argument : ℕ → Rule → Reason
 argument n broken = record { rule = broken; argument = Some n }
 
@@ -36,12 +36,13 @@ argument n broken = record { rule = broken; argument = Some n }
 abbrev pub table_of_term : Tables → Term → Option Table
 table_of_term tables term = option_and_then (table_at tables) (resolve tables term)
 
+-- the rule that is broken if a process does not have this access to a table
 abbrev pub rule_of_access : Access → Rule
 rule_of_access Read = rule.NotReadable
 rule_of_access Write = rule.NotWritable
 
--- a call that uses, in this way, the table that its first argument names: the first rule that is broken; if the process
--- may use it, that of the rules on the content
+-- the first broken rule of a call that needs this access to the table that its first argument names: the table exists;
+-- then the process has the access; then these rules on the content
 abbrev pub on_table : Access → ℕ → Option Table → (Content → Option Reason) → Option Reason
 on_table access p None rest = Some (argument 1 rule.NoTable)
 on_table access p (Some table) rest =

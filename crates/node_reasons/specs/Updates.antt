@@ -17,21 +17,21 @@ use Rattle.node_reasons.specs.declared.reason.Rule.TheVariants as rule
 use Rattle.node_reasons.specs.declared.reason.Reason.{Reason}
 use Rattle.node_reasons.specs.Reasons.{argument}
 
--- an update that the object refuses, by this rule on the third argument; limits come after it
+-- this rule on the third argument is broken if the result of the update is badarg; a limit is not a rule here
 abbrev pub if_badarg : {X : Type 0} → Rule → Result X CounterFault → Option Reason
 if_badarg broken (Err fault.Badarg) = Some (argument 3 broken)
 if_badarg broken (Err fault.SystemLimit) = None
 if_badarg broken (Err fault.Memory) = None
 if_badarg broken (Ok done) = None
 
--- the table is a set, and the default, if there is one, is an object once it has the key
+-- the table is a set, and the default, if there is one, is an object with the key in it; then these rules
 abbrev pub on_set : Term → Option Term → Content → Option Reason → Option Reason
 on_set key default content rest =
     if is_set content.kind
     then (if default_is_object content.keypos key default then rest else Some (argument 4 rule.NotAnObject))
     else Some (argument 1 rule.NotASet)
 
--- the key has an object, or there is a default; and that has an integer at each position
+-- the key has an object, or there is a default; and that object or default has an integer at each position
 abbrev pub why_counter_of_key : Term → Ops → Option Term → Content → List Term → Option Reason
 why_counter_of_key key ops default content [] =
     option_map_or (λ d. if_badarg rule.NotACounter (start_counter ops (with_key content.keypos key d))) default
@@ -39,7 +39,8 @@ why_counter_of_key key ops default content [] =
 why_counter_of_key key ops default content (object ∷ objects) =
     if_badarg rule.NotACounter (apply_ops ops object)
 
--- update_counter: the updates have the form, and none names the key's position; then the table; then the object
+-- update_counter: the updates have the form, and none names the key's position; then the rules on the table, and then
+-- on the object
 abbrev pub why_update_counter : Term → Term → Option Term → Content → Option Reason
 why_update_counter key updates default content =
     option_map_or
@@ -54,7 +55,8 @@ why_elements_of_key key specs default content [] =
 why_elements_of_key key specs default content (object ∷ objects) =
     if_badarg rule.NoElement (apply_elements specs object)
 
--- update_element: the values have the form, and none names the key's position; then the table; then the object
+-- update_element: the values have the form, and none names the key's position; then the rules on the table, and then on
+-- the object
 abbrev pub why_update_element : Term → Term → Option Term → Content → Option Reason
 why_update_element key values default content =
     option_map_or

@@ -26,28 +26,29 @@ limit_of name.New = rule.TooManyTables
 limit_of name.SafeFixtable = rule.TooManyFixes
 limit_of _ = rule.LimitExceeded
 
--- the rule that is broken; if none is, the limit, if the step is refused all the same
+-- the reason that was found; if there is none and the step was refused, the reason is this limit
 abbrev pub or_limit : Rule → Option Reason → Reply → Option Reason
 or_limit limit (Some reason) reply = Some reason
 or_limit limit None reply = if is_value reply then None else Some (about_whole_call limit)
 
--- a call of a process that lives: the first argument that is too deep, then the name, then the rules of the call, then
--- its limit
+-- why a call of a process that lives is refused, in this order: an argument is too deep, the name is unknown, a rule of
+-- the call is broken, its limit is exceeded
 abbrev pub why_ask : World → ℕ → Call → Reply → Option Reason
 why_ask w p asked reply =
     option_map_or (λ index. Some (argument (index + 1) rule.TooDeep)) (position is_too_deep asked.args) (
     option_map_or (λ name. or_limit (limit_of name) (why_call w p name asked.args) reply) (call_name asked.name) (
     Some (about_whole_call rule.NoCall)))
 
--- a process that is already known
+-- why an enrolment is badarg: a process with this number was enrolled before
 abbrev pub why_enrol : World → ℕ → Option Reason
 why_enrol w p = if is_some (process_at w.processes p) then Some (about_whole_call rule.AlreadyEnrolled) else None
 
+-- why a growth step is badarg: the table does not exist
 abbrev pub why_growth : World → ℕ → Option Reason
 why_growth w t = if is_some (table_at w.tables t) then None else Some (about_whole_call rule.NoTable)
 
--- why a step in this state has this reply; None if it is a value. Of the reply only whether it is a refusal matters,
--- and only if only a limit can be the reason.
+-- Why a step in this state has this reply: the first rule that it breaks, or None if the reply is a value. The state
+-- decides. The reply is needed only where no rule but a limit can be broken: then a limit is the reason of a refusal.
 abbrev pub why : State → Step → Reply → Option Reason
 why s (Enrol p) reply = or_limit rule.TooManyProcesses (why_enrol s.world p) reply
 why s (End p) reply = if lives s.world.processes p then None else Some (about_whole_call rule.NoProcess)

@@ -1,4 +1,4 @@
-// The table that a call names, and the process that uses it.
+// Finds the table that a call names, and the reason why the process may not use it.
 ghost use Rattle.std.specs.Prelude.{◌≡◌, option_copied};
 ghost use Rattle.ownership.specs.World.{metadata_of};
 ghost use Rattle.node_core.specs.declared.node.access.Access.TheVariants.{Read, Write};
@@ -45,7 +45,7 @@ impl<'a, R: Rows> TableUse<'a, R> {
         }
     }
 
-    /// Checks that the table exists, and that the process may read it, and then this.
+    /// Returns the reason if the table does not exist, or the process may not read it; else returns `rest`.
     pub fn needs_read(&self, rest: Reason) -> Reason
         ensures { result ≡ needs_access Read self.now.pid (option_copied self.now.metadata) rest }
     {
@@ -56,7 +56,7 @@ impl<'a, R: Rows> TableUse<'a, R> {
         }
     }
 
-    /// Checks that the table exists, and that the process may write to it, and then this.
+    /// Returns the reason if the table does not exist, or the process may not write to it; else returns `rest`.
     pub fn needs_write(&self, rest: Reason) -> Reason
         ensures { result ≡ needs_access Write self.now.pid (option_copied self.now.metadata) rest }
     {
@@ -67,21 +67,21 @@ impl<'a, R: Rows> TableUse<'a, R> {
         }
     }
 
-    /// Checks that the process may read the table. This is the last rule.
+    /// Returns the reason of a refused call whose last rule is that the process may read the table.
     pub fn last_rule_of_read(&self) -> Reason
         ensures { result ≡ last_rule_of_use Read self.now.pid (option_copied self.now.metadata) }
     {
         self.needs_read(Reason::argument(1, Rule::NotReadable))
     }
 
-    /// Checks that the process may write to the table. This is the last rule.
+    /// Returns the reason of a refused call whose last rule is that the process may write to the table.
     pub fn last_rule_of_write(&self) -> Reason
         ensures { result ≡ last_rule_of_use Write self.now.pid (option_copied self.now.metadata) }
     {
         self.needs_write(Reason::argument(1, Rule::NotWritable))
     }
 
-    /// Checks that the table is the process's own, and then this.
+    /// Returns the reason if the table does not exist, or the process does not own it; else returns `rest`.
     pub fn needs_owner(&self, rest: Reason) -> Reason
         ensures { result ≡ needs_owner self.now.pid (option_copied self.now.metadata) rest }
     {

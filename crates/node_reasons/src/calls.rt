@@ -1,5 +1,5 @@
-//! The last rule of each call. If a call is refused with badarg, and it breaks none of its earlier rules, it breaks
-//! this one.
+//! The reason of a call that is refused with badarg, by the call's name. All rules of the call but the last are tried.
+//! If the call breaks none of these, it breaks its last rule.
 
 ghost use Rattle.std.specs.Prelude.{◌≡◌, [], ◌∷◌, option_copied};
 ghost use Rattle.node_reasons.specs.Reasons.{argument};
@@ -14,7 +14,7 @@ use ets_term::Term;
 use node_core::CallName;
 use ownership::World;
 
-/// Returns the limit that a call can exceed.
+/// Returns the rule of the limit that a call can exceed.
 pub fn limit_of(name: CallName) -> Rule
     ensures { result ≡ limit_of name }
 {
@@ -26,7 +26,7 @@ pub fn limit_of(name: CallName) -> Rule
     }
 }
 
-/// Returns the reason with the last rule of a call, for a call that is refused with badarg.
+/// Returns the reason of a call that is refused with badarg.
 pub fn last_rule_of_call<R: Rows>(
     world: &World<R>,
     pid: u32,
@@ -50,7 +50,7 @@ pub fn last_rule_of_call<R: Rows>(
     }
 }
 
-/// Returns the last rule of a refused call of one argument.
+/// Returns the reason of a call of one argument that is refused with badarg.
 fn last_rule_of_unary_call<R: Rows>(used: &TableUse<R>, name: CallName) -> Reason
     ensures { result ≡ last_rule_of_known used.now.pid (option_copied used.now.metadata)
         (content_in (option_copied used.now.table)) name (used.now.term.now ∷ []) }
@@ -66,7 +66,7 @@ fn last_rule_of_unary_call<R: Rows>(used: &TableUse<R>, name: CallName) -> Reaso
     }
 }
 
-/// Returns the last rule of a refused call of two arguments.
+/// Returns the reason of a call of two arguments that is refused with badarg.
 fn last_rule_of_binary_call<R: Rows>(used: &TableUse<R>, name: CallName, y: &Term) -> Reason
     ensures { result ≡ last_rule_of_known used.now.pid (option_copied used.now.metadata)
         (content_in (option_copied used.now.table)) name (used.now.term.now ∷ y.now ∷ []) }
@@ -95,7 +95,7 @@ fn last_rule_of_binary_call<R: Rows>(used: &TableUse<R>, name: CallName, y: &Ter
     }
 }
 
-/// Returns the last rule of a refused call of three arguments.
+/// Returns the reason of a call of three arguments that is refused with badarg.
 fn last_rule_of_ternary_call<R: Rows>(
     used: &TableUse<R>,
     name: CallName,
@@ -114,7 +114,7 @@ fn last_rule_of_ternary_call<R: Rows>(
     }
 }
 
-/// Returns the last rule of a refused call of four arguments, of which the last is a default.
+/// Returns the reason of a call of four arguments, the last a default, that is refused with badarg.
 fn last_rule_of_quaternary_call<R: Rows>(
     used: &TableUse<R>,
     name: CallName,

@@ -1,4 +1,4 @@
-// Whether updates have their form, without a copy.
+// Checks of the form of updates, which copy nothing.
 ghost use Rattle.std.specs.Prelude.{◌≡◌, is_some};
 ghost use Rattle.std.specs.List.{list_all};
 ghost use Rattle.ets_term.specs.Depth.{elements};
@@ -8,7 +8,7 @@ ghost use Rattle.counters.specs.Elements.{spec_of_parts, specs_of};
 
 use ets_term::{Position, Term};
 
-/// Returns whether a term is an update of counters.
+/// Checks whether a term is an update of counters: an integer, an operation or a list of operations.
 #[tactic(auto, using(crate::proofs::FormLaws::update_forms))]
 pub fn are_ops(keypos: u32, term: &Term) -> bool
     ensures { result ≡ is_some (ops_of keypos term.now) }
@@ -21,7 +21,7 @@ pub fn are_ops(keypos: u32, term: &Term) -> bool
     }
 }
 
-/// Returns whether a term is an update of elements.
+/// Checks whether a term is an update of elements: an element value or a list of them.
 #[tactic(auto, using(crate::proofs::FormLaws::update_forms))]
 pub fn are_specs(keypos: u32, term: &Term) -> bool
     ensures { result ≡ is_some (specs_of keypos term.now) }
@@ -47,7 +47,7 @@ fn are_all_specs(keypos: u32, terms: &[Term]) -> bool
     terms.iter().all(|term| is_spec(keypos, parts_of(term)))
 }
 
-/// Returns the elements of a tuple; none of another term.
+/// Returns the elements of a tuple, or an empty slice for any other term.
 fn parts_of(term: &Term) -> &[Term]
     ensures { result.now ≡ elements term.now }
 {

@@ -1,4 +1,4 @@
-// Whether options of a new table have their form, without a copy.
+// Checks of the form of the options of a new table, which copy nothing.
 ghost use Rattle.std.specs.Prelude.{◌≡◌, is_some};
 ghost use Rattle.std.specs.List.{list_all};
 ghost use Rattle.ets_term.specs.declared.term.Term.{out-Term};
@@ -7,7 +7,7 @@ ghost use Rattle.node_reasons.specs.inside.Forms.{is_access_word, is_word, is_ke
 
 use ets_term::Term;
 
-/// Returns whether a term is a list of options.
+/// Checks whether a term is a list of options of `new`.
 pub fn are_options(term: &Term) -> bool
     ensures { result ≡ are_options term.now }
 {
@@ -35,14 +35,14 @@ fn is_option(term: &Term) -> bool
     }
 }
 
-/// Checks whether a word is an option of `new`: a kind, or a word of access.
+/// Checks whether a word is an option of `new`: a kind of table, or an option of `is_access_word`.
 fn is_word(word: &str) -> bool
     ensures { result ≡ is_word word.now }
 {
     word == "set" || word == "bag" || word == "duplicate_bag" || is_access_word(word)
 }
 
-/// Checks whether a word is an option of access, `named_table` or `compressed`.
+/// Checks whether a word is an access right, `named_table` or `compressed`.
 fn is_access_word(word: &str) -> bool
     ensures { result ≡ is_access_word word.now }
 {
@@ -65,7 +65,7 @@ fn is_heir(elements: &[Term]) -> bool
     }
 }
 
-/// Checks whether the elements form an option that is a pair.
+/// Checks whether the elements are those of an option `{Name,Value}`.
 fn is_plain(elements: &[Term]) -> bool
     ensures { result ≡ is_plain elements.now }
 {
@@ -75,7 +75,7 @@ fn is_plain(elements: &[Term]) -> bool
     }
 }
 
-/// Checks whether a name and its value set `keypos`, or only tune speed.
+/// Checks whether a name and its value are the option `keypos`, or an option that only tunes speed.
 fn is_pair(name: &Term, value: &Term) -> bool
     ensures { result ≡ is_pair name.now value.now }
 {

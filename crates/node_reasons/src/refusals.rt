@@ -15,9 +15,9 @@ use ets_term::{KeyHash, Term};
 use node_core::{Call, CallName, Node, Reply, Step};
 use ownership::World;
 
-/// Returns why a step has this reply, which the node gave it, or would give it now: the first rule that the step
-/// breaks, with the argument's number, or `None` if the reply is a value. A refused step changes nothing, so the node
-/// is as the step found it. It takes no memory.
+/// Returns why a step has this reply: the first rule that the step breaks, with the argument's number, or `None` if the
+/// reply is a value. The node gave this reply to the step, or would give it now. A refused step changes nothing, so the
+/// node is as the step found it. It takes no memory.
 pub fn why<H: KeyHash + Copy + Drop>(node: &Node<H>, event: &Step, reply: &Reply) -> Option<Reason>
     ensures exactly { is_some result ≡ not (is_value reply.now) }
     ensures named { (new : State) → step (observable node.now) event.now reply.now new
@@ -26,7 +26,7 @@ pub fn why<H: KeyHash + Copy + Drop>(node: &Node<H>, event: &Step, reply: &Reply
     explain(node, event, reply)
 }
 
-/// Returns the reason by the node's processes and tables.
+/// Returns the reason, found from the node's processes and tables.
 fn explain<H: KeyHash + Copy + Drop>(node: &Node<H>, event: &Step, reply: &Reply) -> Option<Reason>
     ensures { result ≡ reason_for node.now.world event.now reply.now }
 {
@@ -45,7 +45,7 @@ fn reason_for<R: Rows>(world: &World<R>, event: &Step, reply: &Reply) -> Option<
     }
 }
 
-/// Returns the last reason of a refused step, with or without a limit.
+/// Returns the reason of a refused step. `limited` says whether the reply is `SystemLimit`.
 fn last_rule<R: Rows>(world: &World<R>, event: &Step, limited: bool) -> Reason
     ensures { result ≡ last_rule world.now event.now limited }
 {
@@ -59,7 +59,7 @@ fn last_rule<R: Rows>(world: &World<R>, event: &Step, limited: bool) -> Reason
     }
 }
 
-/// Returns the last reason of a refused call: first the process, then depths, then the call itself.
+/// Returns the reason of a refused call: first of its process, then of the depth of its arguments, then of the call.
 fn last_rule_of_ask<R: Rows>(world: &World<R>, pid: u32, call: &Call, limited: bool) -> Reason
     ensures { result ≡ last_rule_of_ask world.now pid call.now limited }
 {
@@ -77,7 +77,7 @@ fn last_rule_of_ask<R: Rows>(world: &World<R>, pid: u32, call: &Call, limited: b
     }
 }
 
-/// Returns the number of the first argument that is too deep.
+/// Returns the index of the first argument that has more than 128 levels.
 fn first_too_deep(args: &[Term]) -> Option<usize>
     ensures { result ≡ position is_too_deep args.now }
 {

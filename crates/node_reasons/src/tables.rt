@@ -1,4 +1,4 @@
-// The rules of calls on tables, their owners and their names.
+// The reasons of refused calls on tables, their owners and their names.
 ghost use Rattle.std.specs.Prelude.{◌≡◌, option_copied};
 ghost use Rattle.node_reasons.specs.inside.LastRules.{last_rule_of_new, last_rule_of_info, last_rule_of_safe_fixtable, last_rule_of_give_away};
 
@@ -9,7 +9,8 @@ use bucket_table::Rows;
 use ets_term::Term;
 use ownership::InfoItem;
 
-/// Checks that the name is an atom, and the options have their form; the last rule is that the name is not taken.
+/// Returns the reason of a refused `new`: the first broken rule of these. The name is an atom. The options are
+/// well-formed. The name is not taken.
 pub fn last_rule_of_new(name: &Term, options: &Term) -> Reason
     ensures { result ≡ last_rule_of_new name.now options.now }
 {
@@ -23,7 +24,7 @@ pub fn last_rule_of_new(name: &Term, options: &Term) -> Reason
     }
 }
 
-/// Checks that the item is one; the last rule is that the term can name a table.
+/// Returns the reason of a refused `info`: argument 2 is not an item, or else argument 1 cannot name a table.
 pub fn last_rule_of_info(item: &Term) -> Reason
     ensures { result ≡ last_rule_of_info item.now }
 {
@@ -33,7 +34,8 @@ pub fn last_rule_of_info(item: &Term) -> Reason
     }
 }
 
-/// Checks that the flag is a boolean; the last rule is that the process may read the table.
+/// Returns the reason of a refused `safe_fixtable`: the flag is not a boolean, or else the process may not read the
+/// table.
 pub fn last_rule_of_safe_fixtable<R: Rows>(used: &TableUse<R>, flag: &Term) -> Reason
     ensures { result ≡ last_rule_of_safe_fixtable used.now.pid (option_copied used.now.metadata) flag.now }
 {
@@ -46,8 +48,8 @@ pub fn last_rule_of_safe_fixtable<R: Rows>(used: &TableUse<R>, flag: &Term) -> R
     }
 }
 
-/// Checks that the table exists, that the other is a pid, and that the table is the process's own; the last rule is
-/// that the other may get it.
+/// Returns the reason of a refused `give_away`: the first broken rule of these. The table exists. Argument 2 is a pid.
+/// The process owns the table. The other process may get it.
 pub fn last_rule_of_give_away<R: Rows>(used: &TableUse<R>, to: &Term) -> Reason
     ensures { result ≡ last_rule_of_give_away used.now.pid (option_copied used.now.metadata) to.now }
 {

@@ -1,4 +1,4 @@
-// The rules of calls that examine the objects of a key.
+// The reasons of refused calls that examine the objects of a key.
 ghost use Rattle.std.specs.Prelude.{◌≡◌, option_copied};
 ghost use Rattle.table_ops.specs.Update.{is_set, default_is_object};
 ghost use Rattle.node_core.specs.Positions.{position_of};
@@ -15,8 +15,8 @@ use ets_term::Term;
 use fixed_walk::Walked;
 use table_ops::Kind;
 
-/// Checks that the process may read the table, and that the position is one. Then the key must have an object, if it
-/// needs one. The last rule is that the object has the element.
+/// Returns the reason of a refused `lookup_element`: the first broken rule of these. The process may read the table.
+/// Argument 3 is a position. If `needed`, the key has an object. The object has the element.
 pub fn last_rule_of_lookup_element<R: Rows>(
     used: &TableUse<R>,
     key: &Term,
@@ -34,9 +34,9 @@ pub fn last_rule_of_lookup_element<R: Rows>(
     used.needs_read(rest)
 }
 
-/// Checks that the process may write to the table, and that the operations have their form. Then the table must be a
-/// set, and a default an object once it has the key. Without a default, the key must have an object. The last rule is
-/// that the object has integers there.
+/// Returns the reason of a refused `update_counter`: the first broken rule of these. The process may write to the
+/// table. The operations are well-formed. The table is a set. The default, with the key in it, is an object. Without a
+/// default, the key has an object. The object has integers at the positions.
 pub fn last_rule_of_update_counter<R: Rows>(
     used: &TableUse<R>,
     key: &Term,
@@ -64,8 +64,9 @@ pub fn last_rule_of_update_counter<R: Rows>(
     used.needs_write(rest)
 }
 
-/// Checks that the process may write to the table, and that the values have their form. Then the table must be a set,
-/// and a default an object once it has the key. The last rule is that the object has the elements.
+/// Returns the reason of a refused `update_element`: the first broken rule of these. The process may write to the
+/// table. The element values are well-formed. The table is a set. The default, with the key in it, is an object. The
+/// object has the elements.
 pub fn last_rule_of_update_element<R: Rows>(
     used: &TableUse<R>,
     key: &Term,
@@ -87,7 +88,7 @@ pub fn last_rule_of_update_element<R: Rows>(
     used.needs_write(rest)
 }
 
-/// Returns the reason that argument 3 is no position, or else `rest`.
+/// Returns the reason if argument 3 is not a position, else `rest`.
 fn needs_position(position: &Term, rest: Reason) -> Reason
     ensures { result ≡ needs_position (position_of position.now) rest }
 {
@@ -97,7 +98,7 @@ fn needs_position(position: &Term, rest: Reason) -> Reason
     }
 }
 
-/// Checks that the key has an object, if it needs one, and then this.
+/// Returns the reason if the key needs an object and has none, else `rest`.
 fn needs_key(needed: bool, rest: Reason, objects: &[Term]) -> Reason
     ensures { result ≡ needs_key needed rest objects.now }
 {
@@ -114,7 +115,7 @@ fn is_set<R: Rows>(table: &Walked<R>) -> bool
     matches!(table.kind(), Kind::Set)
 }
 
-/// Checks that the table is a set, and that a default is an object once it has the key, and then this.
+/// Returns the reason if the table is not a set, or the default, with the key in it, is not an object; else `rest`.
 fn needs_set<R: Rows>(table: &Walked<R>, key: &Term, default: Option<&Term>, rest: Reason) -> Reason
     ensures { result ≡ needs_set key.now (option_copied default.entry) table.now.content rest }
 {
@@ -127,7 +128,7 @@ fn needs_set<R: Rows>(table: &Walked<R>, key: &Term, default: Option<&Term>, res
     }
 }
 
-/// Returns whether a default, if there is one, is an object once it has the key.
+/// Checks whether the default, with the key in it, is an object. Returns `true` if there is no default.
 fn default_is_object(keypos: u32, key: &Term, default: Option<&Term>) -> bool
     ensures { result ≡ default_is_object keypos key.now (option_copied default.entry) }
 {

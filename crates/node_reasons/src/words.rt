@@ -47,7 +47,7 @@ impl Rule {
     }
 }
 
-/// Writes `argument 1: no such table`, or the text alone if the rule is about the whole step.
+/// Writes, for example, `argument 1: no such table`, or only the rule's text if the rule is about the whole step.
 impl fmt::Display for Reason {
     ghost use Rattle.std.specs.Prelude.{Some};
     ghost use Rattle.node_reasons.specs.Words.{reason_text};

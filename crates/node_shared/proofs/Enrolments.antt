@@ -24,7 +24,7 @@ Enrols old new p known full r =
 differs : (answer r : Reply) (a b : Bool) → r ≡ answer → is_value answer ≡ a → is_value r ≡ b → a ≡ b
 differs answer r a b same is was = sym is ∙ sym (ap is_value same) ∙ was
 
--- a reply that is no refusal is the number
+-- a reply that is not a refusal is the number
 pub enrol-granted : (old new : State) (p : ℕ) (r : Reply) → is_value r ≡ true → step old (Enrol p) r new → r ≡ Value (Pid p)
 enrol-granted old new p r granted h = by (is_some (process_at old.world.processes p)) (nat_le old.world.max_processes (length old.world.processes)) h.0 h.1 h.2
   where

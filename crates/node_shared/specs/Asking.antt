@@ -9,7 +9,7 @@ use Rattle.node_shared.specs.Records.{RecordState, with_entry}
 use Rattle.node_shared.specs.contracts.client.Client as client
 
 module _ (L : RattleType) (l : ledger.Ghosts L.Denot) where
-  -- its record has one more entry, the step with the reply that was returned; if memory ran out, it is unchanged
+  -- the client's record has one more entry, the step with the returned reply; if memory ran out, it is unchanged
   abbrev pub Answers : {E : Type 0} → MutBor RecordState → Step → Result (Bor Reply) E → Fml
   Answers c s r =
       follows_so (client.the_row L l) (client.the_row L l) c.ghost_name none (λ _ _. ⊤)

@@ -14,16 +14,19 @@ use Rattle.node_shared.specs.Records.{RecordState}
 abbrev pub IsPart : List Entry → RecordState → Type 0
 IsPart journal client = of client.pid journal ≡ client.entries
 
+-- each record is its client's part of the journal
 abbrev pub AreParts : List Entry → List RecordState → Type 0
 AreParts journal clients = AllByRecursion (IsPart journal) clients
 
+-- whether one of the clients acts for the process p
 abbrev pub has_client : ℕ → List RecordState → Bool
 has_client p clients = list_any (λ client. client.pid == p) clients
 
+-- each process that has entries has a client
 abbrev pub NoneMissing : List Entry → List RecordState → Type 0
 NoneMissing journal clients = (q : ℕ) → has_entries q journal ≡ true → has_client q clients ≡ true
 
--- p is that of the first client whose record is not its part
+-- p is the process of the first client whose record is not its part of the journal
 pub record IsFirstMismatch (journal : List Entry) (clients : List RecordState) (p : ℕ) : Type 0 where
   pub place : ℕ
   pub client : RecordState
@@ -54,7 +57,7 @@ IsDecided (Err (Differs p)) = Unit {0}
 IsDecided (Err (Missing p)) = Unit {0}
 IsDecided (Err Memory) = ⊥
 
--- the same, with a journal that is a run of the node with these limits
+-- the result of closing: that of the comparison with some journal, which is a run of a node with these limits
 abbrev pub Closes : Limits → List RecordState → Result Transcript CloseFault → Type 0
 Closes limits clients result =
     (journal : List Entry) × (state : State) × IsRun limits journal state × Compares journal clients result

@@ -12,7 +12,7 @@ use Rattle.node_shared.specs.declared.pids.Drawn.{Drawn}
 use Rattle.node_shared.specs.declared.shared.JoinFault.{JoinFault}
 use Rattle.node_shared.specs.declared.shared.JoinFault.TheVariants as join
 
--- the machine refuses to enrol p, by this reply
+-- the machine refuses to enrol p, with this reply
 abbrev pub Refuses : State → ℕ → BookFault → Type 0
 Refuses s p (book.Refused r) = (is_value r ≡ false) × step (observable s) (Enrol p) r (observable s)
 Refuses s p book.Memory = Unit {0}
@@ -22,11 +22,12 @@ abbrev pub RefusesWith : (Reply → Type 0) → BookFault → Type 0
 RefusesWith allowed (book.Refused r) = allowed r
 RefusesWith allowed book.Memory = Unit {0}
 
+-- the same for the fault of creating a client
 abbrev pub JoinRefusesWith : (Reply → Type 0) → JoinFault → Type 0
 JoinRefusesWith allowed (join.Refused r back) = allowed r
 JoinRefusesWith allowed (join.Memory back) = Unit {0}
 
--- the fault returns this number
+-- the fault gives this drawn number back
 abbrev pub HandsBack : Drawn → JoinFault → Type 0
 HandsBack drawn (join.Refused r back) = (is_value r ≡ false) × (back ≡ drawn)
 HandsBack drawn (join.Memory back) = back ≡ drawn

@@ -13,19 +13,20 @@ use Rattle.node_core.specs.Woven.{is_step_of}
 use Rattle.node_core.specs.rules.Growth.{step_on_buckets}
 use Rattle.node_shared.specs.declared.entry.Entry.{Entry}
 
+-- the entry of a step with its reply
 abbrev pub entry : Step → Reply → Entry
 entry s r = record { step = s; reply = r }
 
--- the node may do the step with this reply
+-- the node may run this step with this reply
 abbrev pub TakesStep : State → Step → Reply → State → Type 0
 TakesStep old s r new = step (observable old) s r (observable new) × step_on_buckets old s r new
 
--- from the empty state the node may do these steps with these replies, and end in this state
+-- from the empty state, the node may run these steps with these replies, and is then in this state
 abbrev pub IsRun : Limits → List Entry → State → Type 0
 IsRun limits entries state =
     run_on_buckets (empty limits) (map (λ e. e.step) entries) (map (λ e. e.reply) entries) state
 
--- the process whose step it is; growing tables is no step of a process
+-- the process whose step it is; Grow and Ready are not steps of a process
 abbrev pub process_of : Step → Option ℕ
 process_of (Enrol p) = Some p
 process_of (End p) = Some p
@@ -37,6 +38,7 @@ process_of (Ready t bucket) = None
 abbrev pub process_entries : List Entry → ℕ
 process_entries entries = length (filter (λ e. is_some (process_of e.step)) entries)
 
+-- whether the entry is of a step of this process
 abbrev pub is_entry_of : ℕ → Entry → Bool
 is_entry_of p e = is_step_of p e.step
 

@@ -1,4 +1,4 @@
--- The rule of the word, and what its two steps do.
+-- The rule of the word from which process numbers are drawn, and what its two atomic steps do.
 use Rattle.std.specs.Prelude.{◌≡◌, ℕ, ◌+◌, ◌-◌, ◌<◌, ◌≤◌, List, [], ◌∷◌}
 use mathlib.Core.Option.{some}
 use lib.ListN.{get_elem?}
@@ -6,15 +6,19 @@ use Rattle.atomic_table.specs.Table.{State, Me, Step}
 use Rattle.node_shared.specs.declared.pids.rule.View.{View}
 use Rattle.node_shared.specs.declared.pids.rule.View.TheVariants.{Opening, Undrawn, Drawn}
 
+-- the seat that the atomic word was made with, of which n seats can be split off
 abbrev pub opening_view : ℕ → View
 opening_view n = Opening n
 
+-- a seat that has not drawn a number
 abbrev pub undrawn_view : View
 undrawn_view = Undrawn
 
+-- a seat that drew the number x
 abbrev pub drawn_view : ℕ → View
 drawn_view x = Drawn x
 
+-- a seat after another seat was split off it
 abbrev pub one_fewer : View → View
 one_fewer (Opening n) = Opening (n - 1)
 one_fewer Undrawn = Undrawn
@@ -26,6 +30,7 @@ numbers_left (Opening n) = n
 numbers_left Undrawn = 1
 numbers_left (Drawn x) = 0
 
+-- the same for all seats together
 abbrev pub all_numbers_left : List View → ℕ
 all_numbers_left [] = 0
 all_numbers_left (v ∷ vs) = numbers_left v + all_numbers_left vs
@@ -34,8 +39,8 @@ all_numbers_left (v ∷ vs) = numbers_left v + all_numbers_left vs
 abbrev pub HasDrawn : List View → ℕ → ℕ → Type 0
 HasDrawn views i x = get_elem? views i ≡ some (Drawn x)
 
--- At n seats: the numbers drawn are distinct, they are below the word and are all the numbers below it, and the word is
--- at most n
+-- With n seats: the drawn numbers are distinct, and they are all numbers below the word. The word and the numbers that
+-- can still be drawn add up to n.
 pub record IsNumbered (n word : ℕ) (views : List View) : Type 0 where
   pub distinct : (i j x : ℕ) → HasDrawn views i x → HasDrawn views j x → i ≡ j
   pub below : (i x : ℕ) → HasDrawn views i x → x < word
@@ -43,9 +48,10 @@ pub record IsNumbered (n word : ℕ) (views : List View) : Type 0 where
   pub within : word + all_numbers_left views ≡ n
   pub few : n ≤ 4096
 
+-- the rule that always holds of the word and the seats
 abbrev pub Numbered : ℕ → State (Unit {0}) View → Type 0
 Numbered n s = (word : ℕ) × (s.words ≡ word ∷ []) × IsNumbered n word s.views
 
--- a waiting seat then has the number that it found
+-- the seat has drawn the value that the word had
 abbrev pub DrawsNumber : Step (Unit {0}) → Me (Unit {0}) View → ℕ → Me (Unit {0}) View → Type 0
 DrawsNumber st m r m' = (m' ≡ (Drawn r, m.1)) × (r < 4096)

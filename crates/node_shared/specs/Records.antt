@@ -1,4 +1,4 @@
--- What callers observe of a book, of a share and of a client.
+-- The states of a book, of a share and of a client, and how they change.
 use Rattle.std.specs.Prelude.{◌≡◌, ℕ, Bool, true, List, [], ◌∷◌, ◌++◌, None}
 use Rattle.std.specs.Bool.{MatchBool}
 use Rattle.std.specs.Option.{IsSomeAnd}
@@ -17,18 +17,18 @@ pub record BookState : Type 0 where
   pub journal : List Entry
   pub total : ℕ
 
--- the step is done with this reply, and its entry is the last
+-- the node runs the step with this reply, and its entry is the last of the journal
 abbrev pub Enters : BookState → Step → Reply → BookState → Type 0
 Enters old s r new = TakesStep old.state s r new.state × (new.journal ≡ old.journal ++ entry s r ∷ [])
 
--- the pending growth step is run, and has its entry; or none is pending
+-- the pending growth step is run, and its entry is the last of the journal; or none is pending, and nothing changes
 abbrev pub Tends : BookState → BookState → Bool → Type 0
 Tends old new did =
     MatchBool did
     (IsSomeAnd (due old.state) (λ event. (r : Reply) × Enters old event r new))
     ((due old.state ≡ None) × (new ≡ old))
 
--- the pending growth step is run, and has its entry; or nothing changes
+-- the pending growth step is run, and its entry is the last of the journal; or nothing changes
 abbrev pub TriesGrowth : BookState → BookState → Bool → Type 0
 TriesGrowth old new did =
     MatchBool did
@@ -40,7 +40,7 @@ pub record ShareState : Type 0 where
   pub pid : ℕ
   pub amount : ℕ
 
--- a process, and its record: the steps that its client did, with the replies that it got
+-- a process, and its record: the steps that its client ran, with the replies that it got
 pub record RecordState : Type 0 where
   pub pid : ℕ
   pub entries : List Entry
@@ -49,11 +49,11 @@ pub record RecordState : Type 0 where
 abbrev pub enrolled_record : ℕ → Reply → RecordState
 enrolled_record p r = record { pid = p; entries = entry (Enrol p) r ∷ [] }
 
--- a client starts in this way, and was enrolled by a reply that is no refusal
+-- a new client of p: its record has only the enrolment, whose reply is not a refusal
 abbrev pub IsEnrolled : ℕ → RecordState → Type 0
 IsEnrolled p client = (r : Reply) × (is_value r ≡ true) × (client ≡ enrolled_record p r)
 
--- the record has one entry more
+-- the record with one more entry
 abbrev pub with_entry : RecordState → Step → Reply → RecordState
 with_entry client s r = record client { entries = client.entries ++ entry s r ∷ [] }
 

@@ -10,8 +10,8 @@ use Rattle.node_core.specs.State.{State}
 use Rattle.node_shared.specs.declared.entry.Entry.{Entry}
 use Rattle.node_shared.specs.Journal.{entry, IsRun}
 
--- Some run of a node ends with this step and this reply. A ledger with these parts has one for each process of the
--- node, and one more.
+-- Some run of a node ends with this step and this reply. The limit of processes of this node is one less than the
+-- number of parts of a ledger.
 abbrev pub EndsRun : ℕ → Step → Reply → Type 0
 EndsRun parts s r =
     (limits : Limits) × (before : List Entry) × (state : State)
@@ -21,7 +21,7 @@ EndsRun parts s r =
 abbrev pub AllEndRuns : ℕ → List Entry → Type 0
 AllEndRuns parts entries = All (λ e. EndsRun parts e.step e.reply) entries
 
--- the two refusals of an enrolment
+-- the reply is one of the two refusals of an enrolment
 abbrev pub IsEnrolRefusal : Reply → Type 0
 IsEnrolRefusal r = (r ≡ Badarg) ⊎ (r ≡ SystemLimit)
 

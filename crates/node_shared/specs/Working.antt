@@ -20,20 +20,21 @@ job_step p End = step.End p
 abbrev pub DidJob : RecordState → Job → RecordState → Type 0
 DidJob old job new = (r : Reply) × (new ≡ with_entry old (job_step old.pid job) r)
 
--- these entries are those of the jobs of a process in order, but for the last `left` of them
+-- these entries are those of the jobs of a process, in order, without the last `left` jobs
 abbrev pub AreOfJobs : ℕ → List Job → ℕ → List Entry → Type 0
 AreOfJobs p jobs left done = map (λ e. e.step) done ≡ map (job_step p) (take (length jobs - left) jobs)
 
--- the record has these further entries
+-- the record has further entries: those of all jobs but the last `left`
 abbrev pub DidAll : RecordState → List Job → ℕ → RecordState → Type 0
 DidAll old jobs left new =
     (left ≤ length jobs)
     × ((done : List Entry) × (new ≡ record old { entries = old.entries ++ done }) × AreOfJobs old.pid jobs left done)
 
+-- the finished client ran all its jobs but those that are left
 abbrev pub HasWorked : {T : Type 0} → RecordState → List Job → Worked T → Type 0
 HasWorked old jobs worked = DidAll old jobs worked.left worked.client
 
--- each client, in their order, did its jobs
+-- each client, in their order, ran its jobs
 abbrev pub AllWorked : {T : Type 0} → List (RecordState × Vec Job Global) → List (Worked T) → Type 0
 AllWorked [] [] = Unit {0}
 AllWorked (x ∷ xs) (w ∷ ws) = HasWorked x.0 x.1.items w × AllWorked xs ws

@@ -58,8 +58,8 @@ pub enum BookFault {
 }
 
 impl<L: Ledger, H: KeyHash + Copy + Drop> Book<L, H> {
-    /// Creates the opening book: a node without processes and tables, and an empty journal. It takes the blank of `L`,
-    /// which has a part for each process and one more.
+    /// Creates a book with a node without processes and tables, and an empty journal. `blank` is the new ledger `L`,
+    /// which has a part for each process that the limits allow, and one more.
     pub fn new(alloc: Global, blank: Blank, limits: Limits, hasher: H) -> Self
         requires name { blank.name ≡ L.name }
         requires parts { blank.parts ≡ L.parts }
@@ -77,7 +77,8 @@ impl<L: Ledger, H: KeyHash + Copy + Drop> Book<L, H> {
         }
     }
 
-    /// Runs a step of the share's own process, and adds its entry. Running out of memory changes nothing.
+    /// Runs a step of the share's own process, and adds its entry to the journal. Running out of memory changes
+    /// nothing.
     pub fn step(&mut self, share: &mut Share<L>, event: &Step) -> Result<Reply, AllocError>
         requires { is_step_of share.old.pid event.now ≡ true }
         ensures entry { IfOk result (λ r. Enters self.old event.now r self.new) }
@@ -90,7 +91,7 @@ impl<L: Ledger, H: KeyHash + Copy + Drop> Book<L, H> {
         self.enter(share, step)
     }
 
-    /// Does the same for a step that is moved into its entry.
+    /// Like `step`, but moves the step into its entry, and does not copy it.
     pub(crate) fn enter(&mut self, share: &mut Share<L>, step: Step) -> Result<Reply, AllocError>
         requires { is_step_of share.old.pid step ≡ true }
         ensures entry { IfOk result (λ r. Enters self.old step r self.new) }
@@ -106,7 +107,7 @@ impl<L: Ledger, H: KeyHash + Copy + Drop> Book<L, H> {
         Ok(answer)
     }
 
-    /// Enrols a process, adds the entry of that, and gives the process its share. A fault changes nothing.
+    /// Enrols a process, adds the entry to the journal, and returns its share and the reply. A fault changes nothing.
     pub fn join(&mut self, pid: u32) -> Result<(Share<L>, Reply), BookFault>
         ensures entry { IfOk result (λ joined. Enters self.old (Enrol pid) joined.1 self.new) }
         ensures value { IfOk result (λ joined. is_value joined.1 ≡ true) }
@@ -134,8 +135,8 @@ impl<L: Ledger, H: KeyHash + Copy + Drop> Book<L, H> {
         Ok((Share { tokens, pid }, answer))
     }
 
-    /// Runs the pending growth step, if any, and adds its entry. Returns whether it did. Running out of memory changes
-    /// nothing.
+    /// Runs the pending growth step, if any, and adds its entry to the journal. Returns whether it ran one. Running out
+    /// of memory changes nothing.
     pub fn tend(&mut self) -> Result<bool, AllocError>
         ensures growth { IfOk result (Tends self.old self.new) }
         ensures total { self.new.total ≡ self.old.total }
@@ -192,7 +193,7 @@ impl<L: Ledger, H: KeyHash + Copy + Drop> Book<L, H> {
     }
 }
 
-/// Returns the reply and drops the copy.
+/// Makes the fault of a refused enrolment from its reply, and drops the copy of the reply.
 fn refusal(reply: Reply, _again: Reply) -> BookFault
     ensures { result ≡ Refused reply }
 {

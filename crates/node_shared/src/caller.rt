@@ -16,9 +16,9 @@ use std::alloc::{AllocError, Global};
 use std::marker::Model;
 use std::sync::Wait;
 
-/// The caller of one process of a server. A contract sees the process, and its own steps with their replies, which are
-/// in the server's history in this order. The program has no list of them. It has their newest place, `seen`: how many
-/// entries the history had at the last of them.
+/// Makes the calls of one process of a server. A contract sees the process, and its own steps with their replies, which are
+/// in the server's history in this order. These entries exist in proofs only. `seen` is the length of the history after
+/// the last of them.
 #[derive(Drop)]
 pub struct Caller<B: HistoryId> {
     pid: u32,
@@ -38,14 +38,14 @@ impl<B: HistoryId> Model for Caller<B> {
 }
 
 impl<B: HistoryId> Caller<B> {
-    /// Makes the caller of a process, with its part of the history.
+    /// Makes the caller of a process, with the writer of its part of the history.
     pub(crate) fn new(pid: u32, writer: HistoryWriter<B>, seen: u64) -> Self
         ensures { result ≡ record { own = record { pid = pid; entries = writer }; seen = seen } }
     {
         Caller { pid, writer, seen }
     }
 
-    /// Returns the process. It takes no memory.
+    /// Returns the number of the process. It takes no memory.
     pub fn pid(&self) -> u32
         ensures { result ≡ self.now.own.pid }
     {
@@ -70,8 +70,7 @@ impl<B: HistoryId> Caller<B> {
 
     /// Makes these calls in order, with no step of another process between them, and returns their replies. `ask` says
     /// what holds of each. Then runs at most `max_growth_steps` pending growth steps, which no call observes, before it
-    /// releases the lock. If memory runs out, it stops and returns the replies to the calls before. It may wait for the
-    /// lock.
+    /// releases the lock. If memory runs out, it stops and returns the replies so far. It may wait for the lock.
     pub fn ask_all<H: KeyHash + Copy + Drop, R: Wait>(
         &mut self,
         rt: &R,
@@ -93,7 +92,7 @@ impl<B: HistoryId> Caller<B> {
         }
     }
 
-    /// Makes calls under one lock, then runs at most `max_growth_steps` pending steps.
+    /// Makes calls under one hold of the lock, then runs at most `max_growth_steps` pending growth steps.
     fn ask_and_grow<H: KeyHash + Copy + Drop>(
         &mut self,
         word: &HistoryWord,
@@ -120,7 +119,7 @@ impl<B: HistoryId> Caller<B> {
         Ok(asked)
     }
 
-    /// Makes the calls in order, until one is refused memory.
+    /// Makes the calls in order, until one runs out of memory.
     fn ask_each<H: KeyHash + Copy + Drop>(
         &mut self,
         word: &HistoryWord,
@@ -161,7 +160,7 @@ impl<B: HistoryId> Caller<B> {
         self.step(rt, server, event)
     }
 
-    /// Takes the lock of either kind for one step.
+    /// Takes the lock, of whichever kind, and runs one step.
     fn step<H: KeyHash + Copy + Drop, R: Wait>(
         &mut self,
         rt: &R,
@@ -178,7 +177,7 @@ impl<B: HistoryId> Caller<B> {
         }
     }
 
-    /// Runs a step on a node under the lock, and keeps the number of entries of its history.
+    /// Runs a step on the node under the lock, and sets `seen` to the new length of the history.
     fn step_locked<H: KeyHash + Copy + Drop>(
         &mut self,
         word: &HistoryWord,
@@ -197,7 +196,7 @@ impl<B: HistoryId> Caller<B> {
     }
 }
 
-/// Makes the fault of calls that stopped after these replies.
+/// Makes the fault of calls that ran out of memory after these replies.
 fn fault_after(replies: Vec<Reply>) -> RunFault
     ensures { result.replies ≡ replies.items }
 {

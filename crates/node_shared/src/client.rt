@@ -16,8 +16,8 @@ use std::sync::Wait;
 use std::sync::ledger::Ledger;
 
 /// The client of one process: its share, and a record of its steps, each with its reply. A contract sees the process
-/// and the record, which begins with the enrolment and is as long as the share's count. Each entry ends some run: the
-/// machine may give its reply to its step.
+/// and the record, which begins with the enrolment and is as long as the share's count. Each entry is the last of some
+/// run of a node: the machine may give this reply to this step.
 #[derive(Drop)]
 pub struct Client<L: Ledger> {
     alloc: Global,
@@ -75,8 +75,8 @@ impl<L: Ledger> Client<L> {
         self.entries.as_slice()
     }
 
-    /// Makes a call and returns its reply; the record gets both. Running out of memory changes nothing. It may wait for
-    /// the lock.
+    /// Makes a call, adds it to the record with its reply, and returns the reply. Running out of memory changes
+    /// nothing. It may wait for the lock.
     pub fn ask<H: KeyHash + Copy + Drop, R: Wait>(
         &mut self,
         rt: &R,
@@ -90,8 +90,8 @@ impl<L: Ledger> Client<L> {
         Ok(self.last_reply())
     }
 
-    /// Ends the process and returns the reply; the record gets both. The reply to later calls is `NoProcess`. Running
-    /// out of memory changes nothing. It may wait for the lock.
+    /// Ends the process, adds that to the record with the reply, and returns the reply. The reply to later calls is
+    /// `NoProcess`. Running out of memory changes nothing. It may wait for the lock.
     pub fn end<H: KeyHash + Copy + Drop, R: Wait>(
         &mut self,
         rt: &R,
@@ -104,8 +104,8 @@ impl<L: Ledger> Client<L> {
         Ok(self.last_reply())
     }
 
-    /// Runs a step of the process, and records it with its reply. The journal's copy of the step is made before the
-    /// lock is taken.
+    /// Runs a step of the process, and adds it to the record with its reply. The journal's copy of the step is made
+    /// before the lock is taken.
     pub(crate) fn step<H: KeyHash + Copy + Drop, R: Wait>(
         &mut self,
         rt: &R,

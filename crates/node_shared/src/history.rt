@@ -33,7 +33,7 @@ impl HistoryId for Brand {
     ghost limits = { no_limits };
 }
 
-/// The word of a history.
+/// The atomic word of a history, which stays 0.
 pub type HistoryWord = Table<Entry, HistoryView, (), HistoryRule, Global>;
 
 /// An empty history, which no type names yet.
@@ -101,7 +101,7 @@ impl NewHistory {
         Ok(NewHistory { word, seat })
     }
 
-    /// Returns the word of the history, and its owner, under the history's name.
+    /// Gives the history the name `B`, and returns its word and its owner.
     pub(crate) fn into_named<B: HistoryId>(self) -> (HistoryWord, HistoryOwner<B>)
         requires { self.word.shared.table_id ≡ B.table }
         ensures same { result.0 ≡ self.word }
@@ -135,8 +135,8 @@ impl<B: HistoryId> HistoryOwner<B> {
         }
     }
 
-    /// Adds the entry of a step and its reply, as the last of the history and the last that the writer added. Returns
-    /// the reply.
+    /// Adds the entry of a step and its reply, as the last of the history and of the writer's entries. Returns the
+    /// reply.
     pub(crate) fn enter(
         &mut self,
         word: &HistoryWord,

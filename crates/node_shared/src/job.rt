@@ -6,20 +6,20 @@ use crate::client::Client;
 use node_core::{Call, Step};
 use std::sync::ledger::Ledger;
 
-/// A job of a client.
+/// A job of a client: one step that it is to run.
 #[derive(Drop)]
 pub enum Job {
-    /// To make this call.
+    /// Make this call.
     Ask(Call),
-    /// To end its process.
+    /// End the client's process.
     End,
 }
 
-/// A finished client: after its jobs, or after the first that was refused memory.
+/// A client that ran all its jobs, or stopped at the first that ran out of memory.
 #[derive(Drop)]
 pub struct Worked<L: Ledger> {
     pub client: Client<L>,
-    /// The number of its undone jobs, 0 unless memory ran out.
+    /// The number of its jobs that were not run; 0 unless memory ran out.
     pub left: usize,
 }
 

@@ -27,7 +27,7 @@ pub struct Seat {
     ghost is_undrawn: { seat.me ≡ (undrawn_view, []) },
 }
 
-/// A number that nobody else has or gets.
+/// A drawn number, which no other seat has drawn or can draw.
 #[derive(Drop)]
 pub struct Drawn {
     seat: atomic_table::Seat<(), View>,
@@ -45,7 +45,7 @@ pub enum PidsFault {
 }
 
 impl Pids {
-    /// Returns the numbers below `n`, and a seat for each.
+    /// Returns the process numbers below `n`, and a seat to draw each.
     pub fn open(alloc: Global, n: usize) -> Result<(Pids, Vec<Seat>), PidsFault>
         requires { 0 < n }
         ensures seats { IfOk result (λ opened. (vec_len opened.1 ≡ n)
@@ -81,7 +81,7 @@ impl Drawn {
     }
 }
 
-/// Opens numbers below `n`, and as many seats to draw them.
+/// Makes the process numbers below `n`, and as many seats to draw them.
 fn open_seats(alloc: Global, n: usize) -> Result<(Pids, Vec<Seat>), AllocError>
     requires { n ≤ MAX_PIDS }
     ensures seats { IfOk result (λ opened. (vec_len opened.1 ≡ n)

@@ -17,8 +17,9 @@ use node_core::{Call, Limits, Node, Reply, Step};
 use std::alloc::{AllocError, Global};
 use std::marker::Model;
 
-/// What is under the lock of a server: the node, the owner of its history, and the number of its entries. A contract
-/// sees the node's state and the history, which is a run of the node from its empty state. Nothing is stored of a step.
+/// What is under the lock of a server: the node, the owner of its history, and `count`, the length of the history. A
+/// contract sees the node's state and the history, which is a run of the node from its empty state. At run time no step
+/// is stored.
 #[derive(Drop)]
 pub struct ServedNode<B: HistoryId, H: KeyHash + Copy + Drop> {
     node: Node<H>,
@@ -55,14 +56,14 @@ impl<B: HistoryId, H: KeyHash + Copy + Drop> ServedNode<B, H> {
         }
     }
 
-    /// Returns the number of entries of the history, as far as a `u64` goes. It takes no memory.
+    /// Returns the number of entries of the history, at most the greatest `u64`. It takes no memory.
     pub fn count(&self) -> u64
         ensures { result ≡ entry_count self.now.history }
     {
         self.count
     }
 
-    /// Replies to a call that changes nothing, and changes nothing. Returns `None` for any other call.
+    /// Replies to a call that only reads. Returns `None` for any other call. The node does not change.
     pub fn read(&self, pid: u32, call: &Call) -> Result<Option<Reply>, AllocError>
         ensures answer { IfOk result (Reads (observable self.now.state) pid call.now) }
         ensures run { IsRun B.limits self.now.history self.now.state }
@@ -70,8 +71,8 @@ impl<B: HistoryId, H: KeyHash + Copy + Drop> ServedNode<B, H> {
         self.node.read(pid, call)
     }
 
-    /// Like `read`, but writes the reply over another and uses its memory again, as `Node::read_into` does. Returns
-    /// whether it replied.
+    /// Like `read`, but writes over `reply` and uses its memory again, as `Node::read_into` does. Returns whether it
+    /// replied.
     pub fn read_into(&self, pid: u32, call: &Call, reply: &mut Reply) -> Result<bool, AllocError>
         ensures answer { IfOk result (λ replied. Reads (observable self.now.state) pid call.now
             (if replied then Some reply.new else None)) }
@@ -100,7 +101,7 @@ impl<B: HistoryId, H: KeyHash + Copy + Drop> ServedNode<B, H> {
         Ok(replies)
     }
 
-    /// Runs a step, which is then the last of the history and the last of the writer. Running out of memory changes
+    /// Runs a step, and adds its entry to the history and to the writer's entries. Running out of memory changes
     /// nothing.
     pub fn step(
         &mut self,
@@ -121,8 +122,8 @@ impl<B: HistoryId, H: KeyHash + Copy + Drop> ServedNode<B, H> {
         Ok(reply)
     }
 
-    /// Enrols a process, which is then the last step of the history, and creates the writer of its steps. A fault
-    /// changes nothing.
+    /// Enrols a process, adds the entry to the history, and returns the writer of the process's entries and the reply.
+    /// A fault changes nothing.
     pub fn join(
         &mut self,
         word: &HistoryWord,
@@ -152,7 +153,7 @@ impl<B: HistoryId, H: KeyHash + Copy + Drop> ServedNode<B, H> {
         Ok((writer, reply))
     }
 
-    /// Runs the pending growth step, if any, which is then the last of the history. Returns whether it did. Running out
+    /// Runs the pending growth step, if any, and adds its entry to the history. Returns whether it ran one. Running out
     /// of memory changes nothing.
     pub fn tend(&mut self, word: &HistoryWord) -> Result<bool, AllocError>
         requires table { word.now.shared.table_id ≡ B.table }

@@ -18,8 +18,8 @@ use node_core::Limits;
 use std::alloc::{AllocError, Global};
 use std::sync::Wait;
 
-/// A node that threads share for as long as they like: nothing is stored of a call once it has its reply. Readers run in
-/// parallel. `Locking` says which lock it has.
+/// A node that threads share. It stores nothing of a call after the reply, so it can be shared for any time. Readers
+/// run in parallel. `Locking` chooses its lock.
 #[derive(Drop)]
 pub struct Server<B: HistoryId, H: KeyHash + Copy + Drop> {
     pub(crate) word: HistoryWord,
@@ -29,9 +29,9 @@ pub struct Server<B: HistoryId, H: KeyHash + Copy + Drop> {
 }
 
 impl<B: HistoryId, H: KeyHash + Copy + Drop> Server<B, H> {
-    /// Locks a node without processes and tables, as `ServedNode::new` makes it, with the given history. A lock's
-    /// value is known by its type only, so no clause here says more of the node itself. The type says that the history
-    /// is a run of a node with these limits. `Err` is out of memory for the lock.
+    /// Puts a node without processes and tables, as `ServedNode::new` makes it, under a lock, with the given history.
+    /// The contract of a lock says nothing of its value but the invariant of its type: the history is a run of a node
+    /// with these limits. `Err` is out of memory for the lock.
     pub fn new(
         alloc: Global,
         locking: Locking,
@@ -65,7 +65,7 @@ impl<B: HistoryId, H: KeyHash + Copy + Drop> Server<B, H> {
         }
     }
 
-    /// Takes the lock of either kind and enrols a process.
+    /// Takes the lock, of whichever kind, and enrols a process.
     fn join<R: Wait>(&self, rt: &R, pid: u32) -> Result<Caller<B>, BookFault>
         ensures ok { IfOk result (IsEnrolledCaller B.limits pid) }
         ensures start { IfOk result (λ caller. caller.own ≡ enrolled_record pid (Value (Pid pid))) }
@@ -89,8 +89,8 @@ impl<B: HistoryId, H: KeyHash + Copy + Drop> Server<B, H> {
         Ok(Caller::new(pid, writer, served.count()))
     }
 
-    /// Runs pending growth steps, taking the lock anew for each, until none is pending, memory runs out, or `turns`
-    /// were taken. Returns the number of steps that it ran. It may wait for the lock.
+    /// Runs at most `turns` pending growth steps, and takes the lock anew for each. Stops earlier if no step is
+    /// pending, or memory runs out. Returns the number of steps that it ran. It may wait for the lock.
     pub fn keep<R: Wait>(&self, rt: &R, turns: u32) -> u32
         ensures { result ≤ turns }
     {
@@ -104,7 +104,7 @@ impl<B: HistoryId, H: KeyHash + Copy + Drop> Server<B, H> {
         done
     }
 
-    /// Runs the pending growth step under one hold of the lock. Returns false if none is pending or memory runs out.
+    /// Takes the lock and runs the pending growth step. Returns false if none is pending or memory runs out.
     fn try_tend<R: Wait>(&self, rt: &R) -> bool {
         match &self.lock.kind {
             LockKind::Single(lock) => lock.write(rt).try_tend(&self.word),

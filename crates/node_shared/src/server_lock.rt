@@ -6,19 +6,18 @@ use std::alloc::{AllocError, Global};
 use std::marker::Model;
 use std::sync::RwLock;
 
-/// Which lock a server has. The choice is that of `read_concurrency` in `ets`: it changes no reply, only how long calls
-/// wait.
+/// Which lock a server has. As `read_concurrency` in `ets`, the choice changes no reply, only how long calls wait.
 #[derive(Clone, Copy, Debug, PartialEq, Eq)]
 pub enum Locking {
-    /// One lock. Readers run in parallel, but all of them change its words. Take it if more than about one call in
-    /// twenty changes something.
+    /// One lock. Readers run in parallel, but all of them write to the words of the lock. Choose it if more than about
+    /// one call in twenty changes something.
     Single,
-    /// A lock of eight shards. A read takes one of them, so readers in different threads change no common word. A write
-    /// takes all eight.
+    /// A lock of eight shards. A read takes one of them, so readers of different shards write to no common word. A
+    /// write takes all eight.
     Sharded,
 }
 
-/// The lock of a server. A contract sees nothing of it: what it holds is known by its type only.
+/// The lock of a server. A contract says nothing of the value under it but the invariant of its type.
 #[derive(Drop)]
 pub struct ServerLock<B: HistoryId, H: KeyHash + Copy + Drop> {
     pub kind: LockKind<B, H>,

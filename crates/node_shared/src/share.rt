@@ -4,7 +4,7 @@ use std::marker::Model;
 use std::sync::ledger;
 use std::sync::ledger::Ledger;
 
-/// The right of one process to make its steps, which counts its entries. A contract sees the process and the count.
+/// The right to run the steps of one process. It counts their entries. A contract sees the process and the count.
 #[derive(Drop)]
 pub struct Share<L: Ledger> {
     pub(crate) tokens: ledger::Share<L>,

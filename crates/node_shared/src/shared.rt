@@ -16,7 +16,7 @@ use std::alloc::Global;
 use std::sync::ledger::{Blank, Ledger};
 use std::sync::{Mutex, Wait};
 
-/// A node that threads share: its book under one lock.
+/// A node that threads share: its book, with the journal, under one lock.
 #[derive(Drop)]
 pub struct Shared<L: Ledger, H: KeyHash + Copy + Drop> {
     alloc: Global,
@@ -24,7 +24,7 @@ pub struct Shared<L: Ledger, H: KeyHash + Copy + Drop> {
     pub(crate) book: Mutex<Book<L, H>>,
 }
 
-/// Why no client is created. It returns the number that was drawn.
+/// Why no client is created. It gives the drawn number back.
 #[derive(Drop)]
 pub enum JoinFault {
     /// The node refused to enrol the number: `SystemLimit`, or `Badarg` for a number that was enrolled before.
@@ -34,7 +34,7 @@ pub enum JoinFault {
 }
 
 impl<L: Ledger, H: KeyHash + Copy + Drop> Shared<L, H> {
-    /// Locks the opening book, as `Book::new` makes it.
+    /// Puts a new book, as `Book::new` makes it, under a lock.
     pub fn new(alloc: Global, blank: Blank, limits: Limits, hasher: H) -> Self
         requires name { blank.name ≡ L.name }
         requires parts { blank.parts ≡ L.parts }
@@ -71,8 +71,8 @@ impl<L: Ledger, H: KeyHash + Copy + Drop> Shared<L, H> {
         }
     }
 
-    /// Takes the book out of the lock. A lock's value is known by its type only, so the book says once more which limits
-    /// it has; they are never others.
+    /// Takes the book out of the lock. The contract of a lock says nothing of its value, so the limits are checked
+    /// again. No function changes them.
     pub(crate) fn into_book(self) -> Option<Book<L, H>>
         ensures { IfSome result (λ book. book.state.limits ≡ self.limits) }
     {
@@ -90,8 +90,8 @@ impl<L: Ledger, H: KeyHash + Copy + Drop> Shared<L, H> {
     }
 }
 
-/// Runs pending growth steps, taking the lock anew for each, until none is pending, memory runs out, or `turns` were
-/// taken. Returns the number of steps that it ran. It may wait for the lock.
+/// Runs at most `turns` pending growth steps, and takes the lock anew for each. Stops earlier if no step is pending, or
+/// memory runs out. Returns the number of steps that it ran. It may wait for the lock.
 pub fn keep<L: Ledger, H: KeyHash + Copy + Drop, R: Wait>(
     rt: &R,
     shared: &Shared<L, H>,

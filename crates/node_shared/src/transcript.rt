@@ -44,7 +44,7 @@ pub fn close<L: Ledger, H: KeyHash + Copy + Drop>(
 }
 
 impl<L: Ledger, H: KeyHash + Copy + Drop> Book<L, H> {
-    /// Compares the journal with the records of clients, and returns it. `Differs` is the answer only if a record is
+    /// Compares the journal with the records of clients, and returns it. Returns `Differs` only if a client's record is
     /// not its part of this journal, and `Missing` only if a process in it has no client. It takes no memory.
     pub fn close(self, clients: &[Client<L>]) -> Result<Transcript, CloseFault>
         ensures comparison { Compares self.journal clients.now result }
@@ -111,7 +111,7 @@ fn least_without_client<L: Ledger>(journal: &[Entry], clients: &[Client<L>]) -> 
     least
 }
 
-/// Returns the lowest such process after one more entry.
+/// Returns the lowest process without a client, with one more entry. `least` is the result without this entry.
 fn least_after_entry<L: Ledger>(
     least: Option<u32>,
     entry: &Entry,

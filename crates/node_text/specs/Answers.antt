@@ -26,11 +26,11 @@ status_of Badarg = is.BADARG
 status_of SystemLimit = is.SYSTEM_LIMIT
 status_of NoProcess = is.NO_PROCESS
 
--- as much of a text as fits, and after it what was there before
+-- a buffer after as much of a text as fits was copied to its front; the rest is as before
 abbrev pub overwrite_prefix : List ℕ → List ℕ → List ℕ
 overwrite_prefix text out = take (min (length text) (length out)) text ++ drop (min (length text) (length out)) out
 
--- returns a status and a number, and leaves the buffer as it was
+-- a status and a number are returned, and the buffer stays as it was
 abbrev pub WritesNumber : ℤ → ℕ → WrittenReply → Type 0
 WritesNumber status len t = (t.status ≡ status) × (t.len ≡ len) × (t.after ≡ t.before)
 
@@ -38,7 +38,7 @@ WritesNumber status len t = (t.status ≡ status) × (t.len ≡ len) × (t.after
 abbrev pub WritesNothing : ℤ → WrittenReply → Type 0
 WritesNothing status = WritesNumber status 0
 
--- Returns a text: its length, and as much of it as fits. Or memory ran out for the text.
+-- A text is returned: its length, and as much of it as fits. Or memory ran out for the text.
 abbrev pub WritesText : List ℕ → WrittenReply → Type 0
 WritesText text t =
     ((t.status ≡ is.VALUE) × (t.len ≡ length text) × (t.after ≡ overwrite_prefix text t.before)) ⊎ WritesNothing is.UNTOLD t

@@ -28,49 +28,50 @@ use Rattle.node_text.specs.declared.status.TheConstants as is
 abbrev pub new_store : Limits → StoreState
 new_store limits = record { node = empty limits; reply = NoProcess; refusal = None }
 
--- Why a step has the reply that is kept: no reason for a value; for a refusal the rule that the step breaks, if the
--- specification would refuse it in this way once more. A refused step changes nothing.
+-- Why a step has the reply that is kept: no reason for a value; for a refusal, the rule that the step breaks, if the
+-- specification would refuse the step with this reply once more. A refused step changes nothing.
 pub record Explains (event : Step) (new : StoreState) : Type 0 where
   pub exactly : is_some new.refusal ≡ not (is_value new.reply)
   pub named : (after : State) → step new.node event new.reply after
       → new.refusal ≡ option_map Broken (why new.node event new.reply)
 
--- the step of the specification is done, and its reply and the reason of a refusal are kept
+-- a step of the specification is run, and its reply and the reason of a refusal are kept
 abbrev pub RunsStep : StoreState → Step → StoreState → Type 0
 RunsStep old event new = step old.node event new.reply new.node × Explains event new
 
--- a step is done; or memory runs out for it, and nothing else changes
+-- a step is run, and the status of its reply is returned; or memory runs out, and only the reason of the refusal
+-- changes
 abbrev pub StepReturns : Step → ℤ → StoreState → StoreState → Type 0
 StepReturns event status old new =
     (RunsStep old event new × (status ≡ status_of new.reply))
     ⊎ ((status ≡ is.NO_MEMORY) × (new ≡ with_refusal NoMemory old))
 
--- A call is done, and its reply is returned in these bytes of its term; or memory runs out for it, and nothing else
--- changes.
+-- A call is made, and its reply is returned, where a term has these bytes; or memory runs out for the call, and only
+-- the reason of the refusal changes.
 abbrev pub AskReturns : (Term → List ℕ) → ℕ → List ℕ → List Term → WrittenReply → StoreState → StoreState → Type 0
 AskReturns bytes_of pid name args t old new =
     (RunsStep old (Ask pid (record { name = name; args = args })) new × WritesReply bytes_of new.reply t)
     ⊎ ((new ≡ with_refusal NoMemory old) × WritesNothing is.NO_MEMORY t)
 
--- What is not a call is refused in this way and changes nothing else, and the offset of its fault is returned in place
--- of a length. Or memory runs out for it.
+-- A text or bytes that are not a call change only the reason of the refusal. The offset of the fault is returned in
+-- place of a length. Or memory runs out.
 abbrev pub FaultReturns : LastRefusal → ℕ → WrittenReply → StoreState → StoreState → Type 0
 FaultReturns refusal at t old new =
     ((new ≡ with_refusal refusal old) × WritesNumber is.SYNTAX at t)
     ⊎ ((new ≡ with_refusal NoMemory old) × WritesNothing is.NO_MEMORY t)
 
--- the call of a text, whose reply is a text
+-- what a call by a text returns: the reply is a text
 abbrev pub CallReturns : List ℕ → ParsedCall → ℕ → WrittenReply → StoreState → StoreState → Type 0
 CallReturns text (Call name args) pid = AskReturns printed pid name args
 CallReturns text (Faulty at) pid = FaultReturns (Syntax (diagnose_in_call text at)) at
 
--- the call of a term in the external format, whose reply is in this format
+-- what a call by a term in the external format returns: the reply is in this format
 abbrev pub ExternalCallReturns : ExternalCall → ℕ → WrittenReply → StoreState → StoreState → Type 0
 ExternalCallReturns (external_call.Call name args) pid = AskReturns written pid name args
 ExternalCallReturns (external_call.Faulty problem at) pid = FaultReturns (External problem) at
 
--- A rule on the store of a handle before and after, if the handle has one. A closed handle stays closed, and the status
--- says so.
+-- What a call on a handle does. On an open handle, the rule holds of its store before and after. A closed handle stays
+-- closed, and the status is `CLOSED`.
 abbrev pub OnStore : Type 0 → (StoreState → StoreState → Type 0) → Option StoreState → Option StoreState → Type 0
 OnStore closed rule None new = (new ≡ None) × closed
 OnStore closed rule (Some old) new = (stored : StoreState) × (new ≡ Some stored) × rule old stored
@@ -80,20 +81,20 @@ abbrev pub HandleOpens : Limits → Option StoreState → ℤ → Option StoreSt
 HandleOpens limits old status new =
     ((status ≡ is.VALUE) × (new ≡ Some (new_store limits))) ⊎ ((status ≡ is.NO_MEMORY) × (new ≡ old))
 
--- a step on a handle
+-- a step is run on a handle
 abbrev pub HandleSteps : Option StoreState → Step → ℤ → Option StoreState → Type 0
 HandleSteps old event status new = OnStore (status ≡ is.CLOSED) (StepReturns event status) old new
 
--- the call of a text on a handle
+-- a call by a text is made on a handle
 abbrev pub HandleCalls : Option StoreState → ℕ → List ℕ → Option StoreState → WrittenReply → Type 0
 HandleCalls old pid text new t = OnStore (WritesNothing is.CLOSED t) (CallReturns text (parse_call text) pid t) old new
 
--- the call of a term in the external format on a handle
+-- a call by a term in the external format is made on a handle
 abbrev pub HandleCallsExternal : Option StoreState → ℕ → List ℕ → Option StoreState → WrittenReply → Type 0
 HandleCallsExternal old pid bytes new t =
     OnStore (WritesNothing is.CLOSED t) (ExternalCallReturns (external.parse_call bytes) pid t) old new
 
--- the last reply is returned again, in these bytes of its term
+-- the last reply is returned again, where a term has these bytes
 abbrev pub RewritesReply : (Term → List ℕ) → Option StoreState → WrittenReply → Type 0
 RewritesReply bytes_of None = WritesNothing is.CLOSED
 RewritesReply bytes_of (Some stored) = WritesReply bytes_of stored.reply

@@ -7,17 +7,17 @@ use Rattle.term_text.specs.Reading.{Reading, reads_on, found, fails, reading}
 use Rattle.node_text.specs.declared.parsed_call.ParsedCall.{ParsedCall}
 use Rattle.node_text.specs.declared.parsed_call.ParsedCall.TheVariants.{Call, Faulty}
 
--- a name, which is an atom, and arguments after it
+-- the call of a tuple with these elements: a name, which is an atom, and then the arguments
 abbrev pub call_from_elements : List Term → ParsedCall
 call_from_elements (name ∷ args) = unwrap_or (option_map (λ atom. Call atom args) (as_atom name)) (Faulty 0)
 call_from_elements [] = Faulty 0
 
--- a tuple that begins with an atom is a call: its name and its arguments
+-- the call that a term represents: a tuple that begins with an atom, its name, and then has the arguments
 abbrev pub call_from_term : Term → ParsedCall
 call_from_term term = unwrap_or (option_map call_from_elements (as_tuple term)) (Faulty 0)
 
--- The result of the reader of terms for this number of bytes: a term that takes them all is read as a call. At the end
--- of a text the reader has found a term or a fault.
+-- The call, by the result of reading a term from a text of this length, all of which the term must take. At the end of
+-- a text, the reader has found a term or a fault.
 abbrev pub call_from_reading : ℕ → Reading → ParsedCall
 call_from_reading len (found t n) = if n == len then call_from_term t else Faulty n
 call_from_reading len (fails f) = Faulty (unwrap_or (offset f) 0)

@@ -1,21 +1,21 @@
-//! Why no step was done for a call.
+//! Why no step was run for a call.
 ghost use Rattle.std.specs.Prelude.{◌≡◌};
 ghost use Rattle.node_text.specs.inside.WrittenFault.{WritesFault};
 
 use crate::status::{NO_MEMORY, SYNTAX};
 use std::alloc::AllocError;
 
-/// Why no step was done for a call.
+/// Why no step was run for a call.
 #[derive(Drop)]
 pub enum CallFault {
-    /// It is not a call; the offset of its first fault.
+    /// The text or the bytes are not a call; the offset of the first fault.
     Syntax(usize),
     /// Memory ran out.
     Memory,
 }
 
 impl CallFault {
-    /// Returns its status, and writes its offset to `len`.
+    /// Returns the status of the fault. Writes the offset of a syntax error to `len`.
     pub(crate) fn write(self, len: &mut usize) -> i32
         requires { len.old ≡ 0 }
         ensures { WritesFault self result len.new }

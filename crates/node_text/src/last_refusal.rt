@@ -1,4 +1,4 @@
-//! Why a call was refused.
+//! Why the last call of a store was refused.
 ghost use Rattle.std.specs.Prelude.{◌≡◌, not, is_some, option_map, IfOk, string_bytes};
 ghost use Rattle.node_core.specs.Machine.{step};
 ghost use Rattle.node_core.specs.Observable.{observable};
@@ -16,21 +16,21 @@ use script_reasons::SyntaxProblem;
 use std::alloc::{AllocError, Global};
 use std::fmt;
 
-/// Why a call was refused.
+/// Why the last call of a store was refused.
 #[derive(Clone, Copy, Debug, PartialEq, Eq)]
 pub enum LastRefusal {
     /// The step breaks this rule.
     Broken(Reason),
-    /// The text is not a call, and this is wrong where it has its first fault.
+    /// The text is not a call; this is the problem at its first syntax error.
     Syntax(SyntaxProblem),
-    /// The bytes are not a call, and this is wrong with them.
+    /// The bytes are not a call; this is the problem.
     External(CallProblem),
     /// Memory ran out.
     NoMemory,
 }
 
 impl LastRefusal {
-    /// Returns why a step has this reply, which the node gave and after which it did not change. Allocates nothing.
+    /// Returns why a step has this reply. The node gave the reply, and has not changed since. Allocates nothing.
     pub(crate) fn of(node: &Node<Fnv>, event: &Step, reply: &Reply) -> Option<LastRefusal>
         ensures exactly { is_some result ≡ not (is_value reply.now) }
         ensures named { (new : State) → step (observable node.now) event.now reply.now new
@@ -42,7 +42,7 @@ impl LastRefusal {
         }
     }
 
-    /// Returns its text.
+    /// Returns the reason as a text.
     pub fn text(&self, alloc: Global) -> Result<String, AllocError>
         ensures { IfOk result (λ text. string_bytes text ≡ refusal_text self.now) }
     {

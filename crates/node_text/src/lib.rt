@@ -4,16 +4,17 @@
 //! *Guarantee.* A call makes the step that its text or term spells, as the specification says, or it is refused and
 //! changes nothing. The status, the number of the reply's bytes and the bytes in the caller's buffer are those of the
 //! reply. A refused step has the reason that `node_reasons` names. A text that is not a call has the reason that
-//! `script_reasons` finds at its first fault, and bytes that are not a call have the problem that `node_external` finds.
-//! A store may move to another thread.
+//! `script_reasons` finds at its first fault, and bytes that are not a call have the problem that `node_external`
+//! finds. A store may move to another thread.
 //!
-//! *Weakness.* What is found at the fault of a text is a guess at what the author meant.
+//! *Weakness.* The problem that is named at a syntax error is a guess at what the author meant.
 //!
 //! *Mechanism.* A store keeps the last reply, and the reason of the last refusal in a few machine words. It makes the
-//! reason's text on demand. A step writes its reply over the reply before the last, and uses its memory again.
+//! reason's text on demand. It has two replies in turn: a step writes its reply over the older one, and uses its memory
+//! again.
 //!
-//! *Limits.* The tuple of a call counts as one of the 128 levels that a text may have, so an argument may have 127; in a
-//! term the list of the arguments counts too, so an argument may have 126.
+//! *Limits.* The tuple of a call counts as one of the 128 levels that a text may have, so an argument may have 127; in
+//! a term the list of the arguments counts too, so an argument may have 126.
 #![tactic(auto)]
 
 mod call_fault;

@@ -11,7 +11,7 @@ use term_text::read_term_bytes;
 pub enum ParsedCall {
     /// A call: its name and its arguments.
     Call(Atom, Items<Term>),
-    /// The text is not a call; the offset of its first fault.
+    /// The text is not a call; the offset of its first syntax error.
     Faulty(usize),
 }
 
@@ -29,7 +29,7 @@ pub fn read_call(alloc: Global, text: &[u8]) -> Result<ParsedCall, AllocError>
     }
 }
 
-/// Returns the call that a term is.
+/// Returns the call that a term represents, if it is a tuple that begins with an atom.
 fn call_from_term(term: Term) -> ParsedCall
     ensures { result ≡ spec.call_from_term term }
 {
@@ -39,7 +39,7 @@ fn call_from_term(term: Term) -> ParsedCall
     }
 }
 
-/// Returns the call that the elements of a tuple are.
+/// Returns the call that a tuple with these elements represents.
 fn call_from_elements(mut terms: Vec<Term>) -> ParsedCall
     ensures { result ≡ spec.call_from_elements terms.items }
 {

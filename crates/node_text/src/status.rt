@@ -4,7 +4,7 @@ ghost use Rattle.node_text.specs.Answers.{status_of};
 
 use node_core::Reply;
 
-/// The step was done, and its reply is a term.
+/// The step was run, and its reply is a term.
 pub const VALUE: i32 = 0;
 /// The arguments are wrong, the table does not exist, or the process has no access to it.
 pub const BADARG: i32 = 1;
@@ -18,7 +18,7 @@ pub const NO_MEMORY: i32 = 4;
 pub const SYNTAX: i32 = 5;
 /// The handle has no store.
 pub const CLOSED: i32 = 6;
-/// The step was done and its reply is a term, but memory ran out for the reply's text.
+/// The step was run and its reply is a term, but memory ran out for the reply's text or bytes.
 pub const UNTOLD: i32 = 7;
 
 /// Returns the status of a reply.

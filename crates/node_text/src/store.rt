@@ -1,4 +1,4 @@
-//! A node that is called by texts or by terms in the external format, its last reply, and why it refused the last call.
+//! A node that is called by texts or by terms in the external format, with its last reply and its last refusal.
 ghost use Rattle.std.specs.Prelude.{◌≡◌, Err, OnOk, OnErr};
 ghost use Rattle.node_text.specs.Answers.{written_reply};
 ghost use Rattle.node_external.specs.Calls as external;
@@ -23,16 +23,16 @@ use std::alloc::{AllocError, Global};
 use std::marker::Model;
 use std::mem;
 
-/// A node, the reply to the last step that was done, and why the last call was refused, if it was. Contracts see the
+/// A node, the reply to the last step that was run, and why the last call was refused, if it was. Contracts see the
 /// observable state of the node. A store may move to another thread, as `laws` proves.
 #[derive(Drop)]
 pub struct Store {
     node: Node<Fnv>,
     reply: Reply,
     refusal: Option<LastRefusal>,
-    /// The reply before the last, which the next step writes over.
+    /// The previous value of `reply`, over which the next step writes.
     previous: Reply,
-    /// Memory for a reply's bytes.
+    /// The vector in which a reply's bytes are made, kept for its memory.
     bytes: Vec<u8>,
 }
 
@@ -62,7 +62,8 @@ impl Store {
         }
     }
 
-    /// Does one step, and returns the status of its reply. Changes nothing if memory runs out.
+    /// Runs one step, and returns the status of its reply. Running out of memory changes only the reason of the
+    /// refusal.
     pub fn run_step(&mut self, event: &Step) -> i32
         ensures state { StepReturns event.now result self.old self.new }
         ensures statuses { AreTheStatuses }
@@ -73,8 +74,8 @@ impl Store {
         }
     }
 
-    /// Does the call of a text, and returns its status. Writes as much of the reply's text as fits to `out`, and the
-    /// whole length of that text to `len`; after `SYNTAX` that is the offset of the fault.
+    /// Makes the call that a text spells, and returns its status. Writes as much of the reply's text as fits to `out`,
+    /// and the full length of the text to `len`. After `SYNTAX`, `len` is the offset of the syntax error.
     pub fn call(
         &mut self,
         alloc: Global,
@@ -92,8 +93,8 @@ impl Store {
         }
     }
 
-    /// Does the call of a term in the external format, and returns its status. Writes as much of the reply's bytes as
-    /// fits to `out`, and their whole number to `len`; after `SYNTAX` that is the offset of the fault.
+    /// Makes the call that a term in the external format spells, and returns its status. Writes as many of the reply's
+    /// bytes as fit to `out`, and the total number of bytes to `len`. After `SYNTAX`, `len` is the offset of the fault.
     pub fn call_external(
         &mut self,
         alloc: Global,
@@ -111,8 +112,8 @@ impl Store {
         }
     }
 
-    /// Does the call of a term in the external format, and at most two pending growth steps. Writes no reply. After a
-    /// fault, keeps only that.
+    /// Makes the call that a term in the external format spells, and runs at most two pending growth steps. Writes no
+    /// reply. A fault changes nothing but the reason of the last refusal.
     pub fn run_external(&mut self, alloc: Global, pid: u32, bytes: &[u8]) -> Result<(), CallFault>
         ensures { RunsExternalCall (external.parse_call bytes.now) pid self.old result self.new }
     {
@@ -128,7 +129,8 @@ impl Store {
         }
     }
 
-    /// Does the call of a text, and at most two pending growth steps. After a fault, keeps only that.
+    /// Makes the call that a text spells, and runs at most two pending growth steps. A fault changes nothing but the
+    /// reason of the last refusal.
     fn run_text(&mut self, alloc: Global, pid: u32, text: &[u8]) -> Result<(), CallFault>
         ensures { RunsCall text.now (texts.parse_call text.now) pid self.old result self.new }
     {
@@ -144,7 +146,7 @@ impl Store {
         }
     }
 
-    /// Refuses a call because memory ran out, and keeps this as the reason.
+    /// Refuses a call because memory ran out, and sets that as the reason of the last refusal.
     fn refuse_memory(&mut self) -> Result<(), CallFault>
         ensures fault { result ≡ Err Memory }
         ensures keeps { self.new ≡ with_refusal refusal.NoMemory self.old }
@@ -153,7 +155,8 @@ impl Store {
         Err(CallFault::Memory)
     }
 
-    /// Makes a call, and runs at most two pending growth steps. If memory runs out for the call, keeps only that.
+    /// Makes a call, and runs at most two pending growth steps. If memory runs out for the call, changes nothing but
+    /// the reason of the last refusal.
     fn ask(&mut self, pid: u32, name: Atom, args: Items<Term>) -> Result<(), CallFault>
         ensures { RunsAsk pid name args self.old result self.new }
     {
@@ -162,7 +165,8 @@ impl Store {
         Ok(())
     }
 
-    /// Does one step, and keeps its reply and the reason of a refusal. If memory runs out, keeps only that.
+    /// Runs one step, and keeps its reply and the reason of a refusal. If memory runs out, changes nothing but the
+    /// reason of the last refusal.
     fn step(&mut self, event: &Step) -> Result<(), AllocError>
         ensures ok { OnOk result (RunsStep self.old event.now self.new) }
         ensures err { OnErr result (self.new ≡ with_refusal refusal.NoMemory self.old) }

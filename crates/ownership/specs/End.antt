@@ -14,20 +14,21 @@ use Rattle.ownership.specs.Access.{is_owner}
 use Rattle.ownership.specs.Messages.{transfer_message, push_messages}
 use Rattle.ownership.specs.Tables.{with_owner}
 
--- the processes after one has ended: it does not live, and its mailbox is empty
+-- the processes after the end of one of them: it does not live, and its mailbox is empty
 abbrev pub with_ended : Processes → ℕ → Processes
 with_ended processes p = set_value (λ q. p == q) processes (record { lives = false; mailbox = [] })
 
--- the heir of a table, if the heir lives
+-- the heir of a table, None if it has no heir or the heir does not live
 abbrev pub living_heir : Processes → Metadata → Option Heir
 living_heir processes metadata =
     option_and_then (λ heir. if lives processes heir.pid then Some heir else None) metadata.heir
 
--- a table without the fixes of a process, and without tombstones if no other process fixes it
+-- a table after the fixes of a process are released; its tombstones are removed if no other process fixes it
 abbrev pub without_fixes : ℕ → Table → Table
 without_fixes p table = record table { fixed = after_release_all p table.fixed }
 
--- a table after its process ended: one that it owned passes to the living heir or is deleted
+-- a table after the end of a process, whose fixes are released; if the process owned the table, the table passes to its
+-- heir, or is deleted (None) if no heir lives
 abbrev pub table_after_exit : Processes → ℕ → Option Table → Option Table
 table_after_exit processes p None = None
 table_after_exit processes p (Some table) =
@@ -35,12 +36,12 @@ table_after_exit processes p (Some table) =
     then option_map (λ heir. with_owner heir.pid (without_fixes p table)) (living_heir processes table.metadata)
     else Some (without_fixes p table)
 
--- the heir that gets a table of the process
+-- the heir that gets the table when the process ends; None if the process does not own it or no heir lives
 abbrev pub receiver_of : Processes → ℕ → Table → Option Heir
 receiver_of processes p table =
     if is_owner table.metadata p then living_heir processes table.metadata else None
 
--- the transfer message of a table, with its receiver
+-- the transfer message of a table, with the number of its receiver
 abbrev pub message_of : Processes → ℕ → ℕ → Option Table → Option (ℕ × Term)
 message_of processes p t None = None
 message_of processes p t (Some table) =
@@ -54,7 +55,8 @@ messages_from processes p t (table ∷ tables) =
     option_map_or (λ message. message ∷ messages_from processes p (suc t) tables)
     (message_of processes p t table) (messages_from processes p (suc t) tables)
 
--- the world with these processes, after the tables of a process were passed on or deleted
+-- the world after the end of a process: the heirs of its tables get messages, and the tables are passed on or deleted;
+-- `processes` are the processes after the end, before these messages
 abbrev pub after_exit : World → Processes → ℕ → World
 after_exit w processes p =
     record w {
@@ -62,8 +64,8 @@ after_exit w processes p =
       tables = map (table_after_exit processes p) w.tables;
     }
 
--- The process must live. Afterwards it does not live, so it is no heir, and it has no messages and no fixes. Each of its
--- tables passes to its living heir with the message, or is deleted.
+-- The end of a process, which must live. Afterwards it does not live, so no table passes to it, and it has no messages
+-- and no fixes. Each of its tables passes to its heir, which gets the transfer message, or is deleted if no heir lives.
 abbrev pub End : World → ℕ → Outcome (Result (Unit {0}) WorldFault) World
 End old p =
     refuse old (not (lives old.processes p)) (Err NoProcess) (

@@ -16,6 +16,7 @@ use Rattle.ownership.specs.declared.info.InfoItem.{InfoItem}
 use Rattle.ownership.specs.declared.info.InfoItem.TheVariants as item
 use Rattle.ownership.specs.World.{Table}
 
+-- the item of the table itself that a word names
 abbrev pub table_item : List ℕ → Option InfoItem
 table_item word =
     if bytes_eq word (codes "size") then Some item.Size
@@ -24,6 +25,7 @@ table_item word =
     else if bytes_eq word (codes "fixed") then Some item.Fixed
     else None
 
+-- the item that a word names
 abbrev pub word_item : List ℕ → Option InfoItem
 word_item word =
     if bytes_eq word (codes "name") then Some item.Name
@@ -34,25 +36,28 @@ word_item word =
     else if bytes_eq word (codes "id") then Some item.Id
     else table_item word
 
--- the item that a term names, None for any other term
+-- the item that a term names, None if it is not the atom of an item
 abbrev pub item_of : Term → Option InfoItem
 item_of term = option_and_then word_item (text_of term)
 
+-- a boolean as an atom
 abbrev pub truth : Bool → Term
 truth true = Atom (codes "true")
 truth false = Atom (codes "false")
 
+-- the word for a protection
 abbrev pub protection_word : Protection → List ℕ
 protection_word protection.Public = codes "public"
 protection_word protection.Protected = codes "protected"
 protection_word protection.Private = codes "private"
 
+-- the word for a kind of table
 abbrev pub kind_word : Kind → List ℕ
 kind_word Set = codes "set"
 kind_word Bag = codes "bag"
 kind_word DuplicateBag = codes "duplicate_bag"
 
--- the heir that was set, living or not
+-- the pid of the heir that was set, living or not, or the atom `none`
 abbrev pub heir_term : Option Heir → Term
 heir_term None = Atom (codes "none")
 heir_term (Some heir) = Pid heir.pid

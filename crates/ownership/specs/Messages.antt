@@ -12,22 +12,22 @@ use Rattle.ownership.specs.World.{Processes, process_at}
 abbrev pub name_or_identifier : Bool → List ℕ → ℕ → Term
 name_or_identifier named name t = if named then Atom name else Tid t
 
--- the transfer message of a table, from the owner before
+-- the transfer message of a table: its name or identifier, the previous owner, and the gift
 abbrev pub transfer_message : Metadata → ℕ → ℕ → Term → Term
 transfer_message metadata t from gift =
     Tuple (Atom (codes "ETS-TRANSFER") ∷ name_or_identifier metadata.named metadata.name t ∷ Pid from ∷ gift ∷ [])
 
--- the process with one more message, the newest
+-- the process with one more message, which is the newest
 abbrev pub with_message : Process → Term → Process
 with_message process message = record process { mailbox = process.mailbox ++ message ∷ [] }
 
--- the processes after a message to one of them; the same if it was not enrolled
+-- the processes after a message is posted to one of them; nothing changes if it was never enrolled
 abbrev pub push_message : Processes → ℕ → Term → Processes
 push_message processes p message =
     option_map_or (λ process. set_value (λ q. p == q) processes (with_message process message))
     (process_at processes p) processes
 
--- messages in order, each with its receiver
+-- the processes after several messages are posted in order, each with the number of its receiver
 abbrev pub push_messages : Processes → List (ℕ × Term) → Processes
 push_messages processes [] = processes
 push_messages processes (message ∷ messages) = push_messages (push_message processes message.0 message.1) messages

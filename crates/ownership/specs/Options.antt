@@ -1,5 +1,5 @@
 -- The options of `new`, and the heirs that `setopts` sets (stdlib manual, module ets, new/2 and setopts/2). Options
--- are read from the left, a later one overriding an earlier.
+-- are read in their order, and a later option overrides an earlier option.
 use Rattle.std.specs.Prelude.{ℕ, pos, nat_le, ◌&&◌, ◌||◌, Bool, true, false, if◌then◌else◌, List, [], ◌∷◌, Option, Some, None, codes, option_map}
 use Rattle.std.specs.Option.{option_and_then}
 use Rattle.std.specs.Str.{bytes_eq}
@@ -15,27 +15,30 @@ use Rattle.ownership.specs.declared.options.NewOptions.{NewOptions}
 abbrev pub default_options : NewOptions
 default_options = record { kind = Set; keypos = 1; protection = Protected; named = false; heir = None }
 
+-- the value of an integer of at least 0, by the first level of a term
 abbrev pub natural_form : Term-F Term → Option ℕ
 natural_form (Term-F.Int (pos n)) = Some n
 natural_form _ = None
 
+-- the number of a pid, by the first level of a term
 abbrev pub pid_form : Term-F Term → Option ℕ
 pid_form (Term-F.Pid p) = Some p
 pid_form _ = None
 
+-- whether a term is the atom `true` or `false`
 abbrev pub is_boolean : Term → Bool
 is_boolean term = is_atom (codes "true") term || is_atom (codes "false") term
 
--- the option {keypos,N}; None if N is not allowed
+-- the options after {keypos,N}; None if N is not allowed
 abbrev pub keypos_option : ℕ → NewOptions → Option NewOptions
 keypos_option n options =
     if nat_le 1 n && nat_le n 4294967295 then Some (record options { keypos = n }) else None
 
--- words that tune the table; they change nothing
+-- the options after the word `compressed`, which has no effect; None for any other word
 abbrev pub tuning_word : List ℕ → NewOptions → Option NewOptions
 tuning_word word options = if bytes_eq word (codes "compressed") then Some options else None
 
--- words that set name and protection
+-- the options after a word that sets the protection or names the table; None for a word that is not an option
 abbrev pub access_word : List ℕ → NewOptions → Option NewOptions
 access_word word options =
     if bytes_eq word (codes "public") then Some (record options { protection = Public })
@@ -44,7 +47,7 @@ access_word word options =
     else if bytes_eq word (codes "named_table") then Some (record options { named = true })
     else tuning_word word options
 
--- an option that is an atom; None if it does not exist
+-- the options after an option that is an atom; None if there is no such option
 abbrev pub word_option : List ℕ → NewOptions → Option NewOptions
 word_option word options =
     if bytes_eq word (codes "set") then Some (record options { kind = Set })
@@ -52,7 +55,7 @@ word_option word options =
     else if bytes_eq word (codes "duplicate_bag") then Some (record options { kind = DuplicateBag })
     else access_word word options
 
--- {heir,none} or {heir,Pid,Data}; None for any other tuple
+-- the elements of {heir,none}, which name no heir, or of {heir,Pid,Data}, which name an heir; None for any other tuple
 abbrev pub parse_heir : List Term → Option (Option Heir)
 parse_heir (name ∷ none ∷ []) =
     if is_atom (codes "heir") name && is_atom (codes "none") none then Some None else None
@@ -62,7 +65,7 @@ parse_heir (name ∷ pid ∷ gift ∷ []) =
     else None
 parse_heir _ = None
 
--- tuples that tune the table; they change nothing
+-- whether a pair is a tuning option, which has no effect
 abbrev pub is_tuning : Term → Term → Bool
 is_tuning name value =
     if is_atom (codes "read_concurrency") name then is_boolean value
@@ -71,6 +74,7 @@ is_tuning name value =
     then is_boolean value || is_atom (codes "auto") value
     else false
 
+-- the options after a pair: {keypos,N} or a tuning option; None if there is no such option
 abbrev pub pair_option : Term → Term → NewOptions → Option NewOptions
 pair_option name value options =
     if is_atom (codes "keypos") name
@@ -78,30 +82,34 @@ pair_option name value options =
     else if is_tuning name value then Some options
     else None
 
--- an option that is a tuple without an heir; None if it does not exist
+-- the options after an option that is a tuple but does not name an heir; None if there is no such option
 abbrev pub plain_tuple : List Term → NewOptions → Option NewOptions
 plain_tuple (name ∷ value ∷ []) options = pair_option name value options
 plain_tuple _ options = None
 
--- the options after a tuple that names this heir, or no heir
+-- the options after a tuple: if it was read as an heir option, the heir is set or removed; else it must be another
+-- option
 abbrev pub tuple_saying : Option (Option Heir) → List Term → NewOptions → Option NewOptions
 tuple_saying (Some heir) elements options = Some (record options { heir = heir })
 tuple_saying None elements options = plain_tuple elements options
 
--- an option that is a tuple; None if it does not exist
+-- the options after an option that is a tuple; None if there is no such option
 abbrev pub tuple_option : List Term → NewOptions → Option NewOptions
 tuple_option elements options = tuple_saying (parse_heir elements) elements options
 
+-- the options after one more option, by the first level of its term; None if there is no such option
 abbrev pub option_form : Term-F Term → NewOptions → Option NewOptions
 option_form (Term-F.Atom word) options = word_option word options
 option_form (Term-F.Tuple elements) options = tuple_option elements options
 option_form _ options = None
 
+-- the options after all options of a list, in their order; None if one of them does not exist
 abbrev pub options_from : NewOptions → List Term → Option NewOptions
 options_from options [] = Some options
 options_from options (option ∷ rest) =
     option_and_then (λ o. options_from o rest) (option_form (out-Term option) options)
 
+-- the options of a term, by its first level
 abbrev pub options_form : Term-F Term → Option NewOptions
 options_form (Term-F.List terms) = options_from default_options terms
 options_form _ = None
@@ -110,20 +118,23 @@ options_form _ = None
 abbrev pub options_of : Term → Option NewOptions
 options_of term = options_form (out-Term term)
 
--- one option of setopts; None for any other term
+-- the heir, or no heir, that one option of setopts names, by the first level of the term; None for any other term
 abbrev pub heir_form : Term-F Term → Option (Option Heir)
 heir_form (Term-F.Tuple elements) = parse_heir elements
 heir_form _ = None
 
+-- the heir after the options of a list, in their order, from the heir before
 abbrev pub heirs_from : Option Heir → List Term → Option (Option Heir)
 heirs_from heir [] = Some heir
 heirs_from heir (option ∷ rest) =
     option_and_then (λ h. heirs_from h rest) (heir_form (out-Term option))
 
+-- the heir after setopts, by the first level of the term
 abbrev pub heirs_form : Option Heir → Term-F Term → Option (Option Heir)
 heirs_form heir (Term-F.List terms) = heirs_from heir terms
 heirs_form heir form = heir_form form
 
--- the heir after setopts, with the heir before; None if the term is neither an option nor a list of options
+-- the heir of a table after setopts, from the heir before; the outer None if the term is neither an option nor a list
+-- of options
 abbrev pub heir_after : Option Heir → Term → Option (Option Heir)
 heir_after heir term = heirs_form heir (out-Term term)

@@ -5,7 +5,7 @@ use Rattle.ownership.specs.declared.fault.WorldFault.{WorldFault}
 use Rattle.ownership.specs.declared.fault.WorldFault.TheVariants.{Badarg, SystemLimit, NoProcess, Memory}
 use Rattle.ownership.specs.World.{World}
 
--- an answer or a refusal of the outcome, or out of memory with the world unchanged
+-- result and new world are of this outcome, or memory was refused and the world is unchanged
 abbrev pub RefinesWorld : {X : Type 0} → Outcome (Result X WorldFault) World → World
     → Outcome (Result X WorldFault) World
 RefinesWorld outcome old (Ok x) new = outcome (Ok x) new
@@ -14,7 +14,7 @@ RefinesWorld outcome old (Err SystemLimit) new = outcome (Err SystemLimit) new
 RefinesWorld outcome old (Err NoProcess) new = outcome (Err NoProcess) new
 RefinesWorld outcome old (Err Memory) new = new ≡ old
 
--- the result of reading a term: this value, badarg if it is None, or out of memory
+-- the result of reading a term: this value, badarg if the value is None, or memory was refused
 abbrev pub Reads : {X : Type 0} → Option X → Result X WorldFault → Type 0
 Reads wanted (Ok x) = wanted ≡ Some x
 Reads wanted (Err Badarg) = wanted ≡ None

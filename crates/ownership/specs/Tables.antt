@@ -19,14 +19,14 @@ abbrev pub after_enrol : World → ℕ → World
 after_enrol w p =
     record w { processes = w.processes ++ (p, record { lives = true; mailbox = [] }) ∷ [] }
 
--- the number must be new, and the limit not reached
+-- enrolment: badarg if the number was ever enrolled; system limit if the greatest number of processes is reached
 abbrev pub Enrol : World → ℕ → Outcome (Result (Unit {0}) WorldFault) World
 Enrol old p =
     refuse old (is_some (process_at old.processes p)) (Err Badarg) (
     refuse old (nat_le old.max_processes (length old.processes)) (Err SystemLimit) (
     gives (Ok tt) (after_enrol old p)))
 
--- the metadata of a new table of this name with these options
+-- the metadata of a new table of a process, with this name and these options
 abbrev pub new_metadata : ℕ → List ℕ → NewOptions → Metadata
 new_metadata p name options =
     record {
@@ -42,7 +42,8 @@ abbrev pub with_table : World → Metadata → TableState → World
 with_table w metadata fixed =
     record w { tables = w.tables ++ Some (record { metadata = metadata; fixed = fixed }) ∷ [] }
 
--- The answer is the name of a named table, else the identifier. No two named tables have the same name.
+-- new: badarg if the table is to be named and another named table has the name; system limit if the greatest number of
+-- tables is reached; the answer is the name of a named table, else the identifier
 abbrev pub New : World → ℕ → List ℕ → NewOptions → TableState → Outcome (Result Term WorldFault) World
 New old p name options fixed =
     refuse old (options.named && is_some (whereis old.tables name)) (Err Badarg) (
@@ -50,11 +51,11 @@ New old p name options fixed =
     gives (Ok (name_or_identifier options.named name (length old.tables)))
     (with_table old (new_metadata p name options) fixed)))
 
--- the world without a table, its name and its fixes
+-- the world after a table is deleted, with its name and its fixes
 abbrev pub without_table : World → ℕ → World
 without_table w t = record w { tables = slice_set w.tables t None }
 
--- a table with another owner; the heir stays
+-- a table with another owner; its heir stays
 abbrev pub with_owner : ℕ → Table → Table
 with_owner q table = record table { metadata = record table.metadata { owner = q } }
 
@@ -62,16 +63,17 @@ with_owner q table = record table { metadata = record table.metadata { owner = q
 abbrev pub with_heir : Option Heir → Table → Table
 with_heir heir table = record table { metadata = record table.metadata { heir = heir } }
 
--- the tables after a change of one, if it exists
+-- the tables after a change of the table with this identifier, if it exists
 abbrev pub with_changed : (Table → Table) → Tables → ℕ → Tables
 with_changed change tables t = slice_set tables t (option_map change (table_at tables t))
 
--- the world after a table passed to another owner, which gets a message
+-- the world after a table is passed to another owner, which gets a message
 abbrev pub after_transfer : World → ℕ → ℕ → Term → World
 after_transfer w t q message =
     record w { processes = push_message w.processes q message; tables = with_changed (with_owner q) w.tables t }
 
--- The owner gives the table to another living process, which gets the transfer message.
+-- give_away: the owner gives the table to another living process, which gets the transfer message; badarg if the
+-- process is not the owner, or the receiver is the owner or does not live
 abbrev pub GiveAway : World → ℕ → ℕ → ℕ → Term → Outcome (Result (Unit {0}) WorldFault) World
 GiveAway old p t q gift =
     refuse_none old (table_at old.tables t) (Err Badarg) (λ table.
@@ -84,14 +86,15 @@ GiveAway old p t q gift =
 abbrev pub after_set_heir : World → ℕ → Option Heir → World
 after_set_heir w t heir = record w { tables = with_changed (with_heir heir) w.tables t }
 
--- the owner sets or removes the heir
+-- the owner of a table sets or removes its heir; badarg for any other process
 abbrev pub SetHeir : World → ℕ → ℕ → Option Heir → Outcome (Result (Unit {0}) WorldFault) World
 SetHeir old p t heir =
     refuse_none old (table_at old.tables t) (Err Badarg) (λ table.
     refuse old (not (is_owner table.metadata p)) (Err Badarg) (
     gives (Ok tt) (after_set_heir old t heir)))
 
--- the owner sets the heir by options
+-- setopts: the owner of a table sets or removes its heir by options; badarg for any other process, and for a term that
+-- is not an option or list of options
 abbrev pub SetOptions : World → ℕ → ℕ → Term → Outcome (Result (Unit {0}) WorldFault) World
 SetOptions old p t options =
     refuse_none old (table_at old.tables t) (Err Badarg) (λ table.

@@ -9,7 +9,8 @@ use Rattle.fixed_walk.specs.TableState.{TableState}
 use Rattle.ownership.specs.declared.metadata.Metadata.{Metadata}
 use Rattle.ownership.specs.declared.process.Process.{Process}
 
--- a table: its metadata, and its objects with its fixes
+-- a table: its metadata, and `fixed`, the state of the table (content, ready buckets and fixes), whether or not a
+-- process fixes it
 pub record Table : Type 0 where
   pub metadata : Metadata
   pub fixed : TableState
@@ -22,62 +23,68 @@ Tables = List (Option Table)
 abbrev pub Processes : Type 0
 Processes = List (ℕ × Process)
 
--- the limits of processes and tables, and all that were ever made
+-- the greatest numbers of processes and tables that can ever be made, and all that were ever made
 pub record World : Type 0 where
   pub max_processes : ℕ
   pub max_tables : ℕ
   pub processes : Processes
   pub tables : Tables
 
--- no process and no table
+-- the world without processes and tables
 abbrev pub empty : ℕ → ℕ → World
 empty processes tables =
     record { max_processes = processes; max_tables = tables; processes = []; tables = [] }
 
+-- the process with this number, living or ended; None if it was never enrolled
 abbrev pub process_at : Processes → ℕ → Option Process
 process_at processes p = lookup (λ q. p == q) processes
 
+-- whether a process was enrolled and has not ended
 abbrev pub lives : Processes → ℕ → Bool
 lives processes p = option_map_or (λ process. process.lives) (process_at processes p) false
 
+-- the table with this identifier; None if it was never made or is deleted
 abbrev pub table_at : Tables → ℕ → Option Table
 table_at tables t = slice_index_or tables t None
 
--- the objects and fixes of the table with this identifier
+-- the state (content, ready buckets and fixes) of the table with this identifier, whether or not a process fixes it;
+-- None if it does not exist
 abbrev pub fixed_at : Tables → ℕ → Option TableState
 fixed_at tables t = option_map (λ table. table.fixed) (table_at tables t)
 
--- the metadata of a table
+-- the metadata of a table, None if it does not exist
 abbrev pub metadata_of : Option Table → Option Metadata
 metadata_of None = None
 metadata_of (Some table) = Some table.metadata
 
+-- the metadata of all tables, by identifier; None for each deleted table
 abbrev pub all_metadata : Tables → List (Option Metadata)
 all_metadata tables = map metadata_of tables
 
--- a table exists and has this name
+-- whether a table exists, is named and has this name
 abbrev pub is_named : List ℕ → Option Metadata → Bool
 is_named name None = false
 is_named name (Some metadata) = metadata.named && bytes_eq name metadata.name
 
--- the identifier of the table with this name
+-- the identifier of the named table with this name, None if there is none
 abbrev pub whereis : Tables → List ℕ → Option ℕ
 whereis tables name = position (is_named name) (all_metadata tables)
 
--- the identifier of the table that a term names: an identifier, or the name of a named table
+-- the identifier of the table that a term names, by the first level of the term
 abbrev pub resolve_form : Tables → Term-F Term → Option ℕ
 resolve_form tables (Term-F.Tid t) = option_map (λ _. t) (table_at tables t)
 resolve_form tables (Term-F.Atom name) = whereis tables name
 resolve_form tables _ = None
 
+-- the identifier of the table that a term names: the identifier of a table, or the name of a named table
 abbrev pub resolve : Tables → Term → Option ℕ
 resolve tables term = resolve_form tables (out-Term term)
 
--- the table with other objects and fixes and the same metadata
+-- the table with another state (content, ready buckets and fixes) and the same metadata
 abbrev pub fixed_in : Option Table → TableState → Option Table
 fixed_in None fixed = None
 fixed_in (Some table) fixed = Some (record table { fixed = fixed })
 
--- the tables after the objects and fixes of one have changed
+-- the tables after the state of the table with this identifier is changed
 abbrev pub with_fixed : Tables → ℕ → TableState → Tables
 with_fixed tables t fixed = slice_set tables t (fixed_in (table_at tables t) fixed)

@@ -1,11 +1,11 @@
 use std::alloc::AllocError;
 
-/// Why a call fails. The world is then unchanged.
+/// Why a call fails. A failed call changes nothing.
 #[derive(Debug, Drop, PartialEq, Eq)]
 pub enum WorldFault {
-    /// An argument is not allowed, or the process may not make this call.
+    /// An argument is not allowed, or the process has no right to make this call.
     Badarg,
-    /// The greatest number of processes or tables was reached.
+    /// The greatest number of processes or tables ever made is reached.
     SystemLimit,
     /// The process does not live: it was not enrolled, or it has ended.
     NoProcess,

@@ -1,8 +1,10 @@
-//! Indices over the tables: by name, by owner, and the fixed ones.
+//! Indices over the tables: by name, by owner, and the list of fixed tables.
 ghost use Rattle.std.specs.Prelude.{◌+◌, ◌<◌, ◌^◌, ◌++◌, ◌∷◌, [], Some, OnOk, OnErr, length};
 ghost use Rattle.ownership.specs.inside.Names.{IsNameFree};
 ghost use Rattle.ownership.specs.inside.Indices.{IndicesInvariant};
 
+// The modules: the list of `fixed` tables, sorted `identifiers`, the index of `names`, the index of `owners`, and how
+// to `reassign` the tables of a process that ends.
 mod fixed;
 mod identifiers;
 mod names;
@@ -14,9 +16,9 @@ use bucket_table::Rows;
 use indexmap::IndexMap;
 use std::alloc::{AllocError, Global};
 
-/// Identifiers of tables by name, by each process that ever owned them, and of the tables that may be fixed. The
-/// *dirty* table is the one borrowed for a change last. It may be fixed without being listed. Each method preserves
-/// what ties the indices to the tables.
+/// Indices of identifiers of tables: `names` by name, `owned` by each process that ever owned the table, and `fixed`
+/// with the tables that may be fixed. The *dirty* table is the table that was borrowed for a change last. It may be
+/// fixed without being in `fixed`. Each method keeps the indices consistent with the tables.
 #[derive(Drop)]
 pub struct Indices {
     names: IndexMap<String, u32>,
@@ -26,7 +28,7 @@ pub struct Indices {
 }
 
 impl Indices {
-    /// Returns indices of no table. This takes no memory.
+    /// Returns indices without tables. This takes no memory.
     pub fn new(alloc: Global) -> Self
         ensures { IndicesInvariant result [] }
     {
@@ -38,8 +40,8 @@ impl Indices {
         }
     }
 
-    /// Adds the next table under its owner and its name, and reserves capacity for it among the fixed ones. Its name
-    /// must be free. The new table becomes the dirty one.
+    /// Adds a table, whose identifier is the next one, under its owner and its name, and reserves capacity for it in
+    /// the list of fixed tables. If it is named, no other table may have its name. It becomes the dirty table.
     pub fn insert<R: Rows>(
         &mut self,
         alloc: Global,

@@ -8,7 +8,7 @@ use ets_term::{Atom, Term};
 use std::alloc::{AllocError, Global};
 use table_ops::Kind;
 
-/// What `info` returns of a table (stdlib manual, ets:info/2).
+/// An item of information that `info` returns of a table (stdlib manual, ets:info/2).
 #[derive(Clone, Copy, Debug, PartialEq, Eq)]
 pub enum InfoItem {
     /// The name, as given to `new`.
@@ -19,7 +19,7 @@ pub enum InfoItem {
     Owner,
     /// The access of processes other than the owner.
     Protection,
-    /// The pid that was set, living or not, or `none`.
+    /// The pid of the heir that was set, living or not, or `none`.
     Heir,
     /// The identifier.
     Id,
@@ -27,14 +27,14 @@ pub enum InfoItem {
     Size,
     /// The kind of the table: `type` in the manual.
     Kind,
-    /// The position of the key, from 1.
+    /// The position of the key, counted from 1.
     Keypos,
-    /// Whether a process fixes the table.
+    /// Whether some process fixes the table.
     Fixed,
 }
 
 impl InfoItem {
-    /// Returns the item that a term names, or `None`.
+    /// Returns the item that a term names, or `None` if it names no item.
     pub fn read(term: &Term) -> Option<InfoItem>
         ensures { result ≡ item_of term.now }
     {
@@ -44,7 +44,7 @@ impl InfoItem {
         }
     }
 
-    /// Returns the item that a word names: one of the metadata, or one of the table itself.
+    /// Returns the item that a word names: an item of the metadata, or of the table itself.
     fn of_word(word: &str) -> Option<InfoItem>
         ensures { result ≡ word_item word.now }
     {
@@ -83,7 +83,7 @@ impl InfoItem {
     }
 }
 
-/// Makes an atom of a text that is short enough for one.
+/// Makes the atom with this text, which must be that of an atom.
 fn atom(alloc: Global, text: &[u8]) -> Result<Term, AllocError>
     requires { IsAtomText text.now }
     ensures { IfOk result (λ t. t ≡ term.Atom text.now) }

@@ -1,23 +1,25 @@
-//! Processes and the tables that they own: names, access, heirs, and what the end of a process does.
+//! Processes and the tables that they own: names, access, heirs, and the exit of a process.
 //!
-//! *Guarantee.* A contract sees the processes ever enrolled, each with its mailbox, and the tables ever made, each
-//! with its metadata and objects. A process that ends keeps no fix. Each of its tables, in order of creation, passes
-//! to its living heir, who gets the message, or is deleted with its name. No two named tables have the same name. A
-//! call that is refused or runs out of memory changes nothing.
+//! *Guarantee.* A contract sees the processes ever enrolled, each with its mailbox, and the tables ever made, each with
+//! its metadata and objects. When a process ends, its fixes are released. Each of its tables, in order of creation,
+//! passes to its heir, which gets the transfer message, or is deleted if no heir lives. No two named tables have the
+//! same name. A call that is refused or runs out of memory changes nothing.
 //!
-//! *Weakness.* The end of a process visits the tables that it ever owned and those that are fixed. Inserting an
-//! identifier shifts the larger ones. A deleted table leaves an empty place of 16 bytes.
+//! *Weakness.* The end of a process visits the tables that it ever owned and those that are fixed. To insert an
+//! identifier in a sorted list shifts the larger identifiers. A deleted table leaves an empty place of 16 bytes.
 //!
-//! *Mechanism.* Tables are in boxes, which are in an array by identifier. One struct holds an index by name, one by
-//! owner, and a list of the tables that may be fixed. A table that is borrowed for a change becomes the *dirty* one.
-//! When the next table is borrowed, the previous one is listed if it is fixed. A borrowed table cannot change its
-//! metadata, and the other two indices depend on metadata alone. The messages of an end are created and posted one by
-//! one, and removed again if memory is refused.
+//! *Mechanism.* Tables are in boxes, which are in an array by identifier. `Indices` has an index by name, an index by
+//! owner, and a list of the tables that may be fixed. A table that is borrowed for a change becomes the *dirty* table.
+//! When another table is borrowed, the previous dirty table is added to the list if it is fixed. The borrower cannot
+//! change metadata, and the other two indices depend only on metadata. When a process ends, its transfer messages are
+//! posted one by one, and all are removed again if memory is refused.
 //!
 //! *Limits.* The numbers of processes and tables ever made are limited, as given to `new`. Identifiers are never used
 //! again.
 #![tactic(auto)]
 
+// The modules: the `world`, a `process`, a `table` with its `metadata`, the `options` of `new` and `setopts`, the items
+// of `info`, `messages`, the `indices` over the tables, and faults (`fault`).
 mod fault;
 mod indices;
 mod info;

@@ -10,7 +10,7 @@ use ets_term::{Atom, Items, Term};
 use indexmap::IndexMap;
 use std::alloc::{AllocError, Global};
 
-/// Returns the term that names a table, as `new` does: the name of a named table, else the identifier.
+/// Returns the term by which `new` answers and messages name a table: the name of a named table, else the identifier.
 pub fn name_or_identifier(
     alloc: Global,
     named: bool,
@@ -26,7 +26,8 @@ pub fn name_or_identifier(
     }
 }
 
-/// Returns the transfer message for the table with this metadata and identifier.
+/// Returns the transfer message `{'ETS-TRANSFER',Table,FromPid,GiftData}` for the table with this metadata and
+/// identifier.
 pub fn transfer_message(
     alloc: Global,
     metadata: &Metadata,
@@ -70,7 +71,7 @@ pub fn push_message(
     }
 }
 
-/// Removes the message that was posted last to a process. This takes no memory.
+/// Removes the newest message from the mailbox of a process. This takes no memory.
 pub fn pop_message(processes: &mut IndexMap<u32, Process>, pid: u32)
     ensures { (before : List (ℕ × model.Process)) (message : term.Term)
         → processes.old.entries ≡ push_message before pid message → processes.new.entries ≡ before }

@@ -7,22 +7,22 @@ use ets_term::{Atom, Term};
 /// Rights).
 #[derive(Clone, Copy, Debug, PartialEq, Eq)]
 pub enum Protection {
-    /// Others read and write.
+    /// Other processes may read and write.
     Public,
-    /// Others read.
+    /// Other processes may read.
     Protected,
-    /// Others neither read nor write.
+    /// Other processes may neither read nor write.
     Private,
 }
 
-/// The process that gets a table when its owner ends, and the gift in the transfer message.
+/// The heir of a table: the process that gets the table when its owner ends, and the gift in the transfer message.
 #[derive(Drop)]
 pub struct Heir {
     pub pid: u32,
     pub gift: Term,
 }
 
-/// The metadata of a table: name, owner, heir and protection. Only a named table is found by its name.
+/// The metadata of a table: name, owner, heir and protection. Only if `named` is true is the table found by its name.
 #[derive(Drop)]
 pub struct Metadata {
     pub name: Atom,

@@ -2,6 +2,7 @@ ghost use Rattle.std.specs.Prelude.{◌≡◌, ◌≤◌, IfOk};
 ghost use Rattle.ownership.specs.Options.{options_of};
 ghost use Rattle.ownership.specs.Outcomes.{Reads};
 
+// The modules: options that name an `heir`, and how to `read` the options of `new`.
 mod heir;
 mod read;
 
@@ -24,7 +25,7 @@ pub struct NewOptions {
 }
 
 impl NewOptions {
-    /// Reads a list of options (stdlib manual, ets:new/2) from the left; a later option overrides an earlier one.
+    /// Reads a list of options (stdlib manual, ets:new/2) in its order; a later option overrides an earlier option.
     /// Returns `Badarg` if the term is not a list of options.
     pub fn read(alloc: Global, term: &Term) -> Result<NewOptions, WorldFault>
         ensures value { Reads (options_of term.now) result }
@@ -42,7 +43,7 @@ impl NewOptions {
         self.kind
     }
 
-    /// Returns the position of the key. Options that were read have at least 1.
+    /// Returns the position of the key. It is at least 1 if the options were read from a term.
     pub fn keypos(&self) -> u32
         ensures { result ≡ self.now.keypos }
     {

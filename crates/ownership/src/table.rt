@@ -9,18 +9,20 @@ use fixed_walk::Walked;
 use std::alloc::{AllocError, Global};
 use std::marker::Model;
 
-/// A table with its metadata, in a box. So an empty place for a table is small.
+/// A table with its metadata, in a box. So the empty place that a deleted table leaves is small.
 #[derive(Drop)]
 pub struct OwnedTable<R: Rows> {
     parts: Box<Parts<R>>,
 }
 
+/// What the box contains: the metadata, and the table with its fixes.
 #[derive(Drop)]
 struct Parts<R: Rows> {
     metadata: Metadata,
     table: Walked<R>,
 }
 
+// The value that contracts see of this type (`view`).
 impl<R: Rows> Model for OwnedTable<R> {
     ghost use Rattle.ownership.specs.World.{Table};
     ghost use Rattle.ownership.specs.inside.Codes.{table_code};

@@ -1,6 +1,8 @@
 ghost use Rattle.std.specs.Prelude.{◌≡◌};
 ghost use Rattle.ownership.specs.World.{empty};
 
+// The modules, each with methods of `World`: the right of `access` to a table, the `end` of a process, how to `enrol` a
+// process, changes of owners and `heirs`, `info` on a table, the `mailbox` of a process, and `tables`.
 mod access;
 pub(crate) mod end;
 mod enrol;
@@ -17,7 +19,7 @@ use indexmap::IndexMap;
 use std::alloc::Global;
 use std::marker::Model;
 
-/// Processes and the tables that they own (stdlib manual, module ets). A contract sees the limits of both, the
+/// Processes and the tables that they own (stdlib manual, module ets). A contract sees the limits of their numbers, the
 /// processes ever enrolled, and the tables ever made.
 #[derive(Drop)]
 pub struct World<R: Rows> {
@@ -25,11 +27,12 @@ pub struct World<R: Rows> {
     max_processes: u32,
     max_tables: u32,
     processes: IndexMap<u32, Process>,
-    // By identifier. A deleted table leaves an empty place of 16 bytes.
+    // The tables by identifier. A deleted table leaves an empty place of 16 bytes.
     tables: Vec<Option<OwnedTable<R>>>,
     indices: Indices,
 }
 
+// The value that contracts see of this type (`view`), and what is true of its fields between calls (`invariant`).
 impl<R: Rows> Model for World<R> {
     ghost use Rattle.ownership.specs.World.{World};
     ghost use Rattle.ownership.specs.inside.Codes.{world_code};
@@ -50,8 +53,8 @@ impl<R: Rows> Model for World<R> {
 }
 
 impl<R: Rows> World<R> {
-    /// Creates a world without processes and tables. At most `max_processes` and `max_tables` can ever be made. This
-    /// takes no memory.
+    /// Creates a world without processes and tables. At most `max_processes` processes can ever be enrolled, and at
+    /// most `max_tables` tables can ever be made. This takes no memory.
     pub fn new(alloc: Global, max_processes: u32, max_tables: u32) -> Self
         ensures { result ≡ empty max_processes max_tables }
     {

@@ -23,7 +23,7 @@ begins_atom b = is_lowercase b || (b == byte "'")
 abbrev pub begins_number : ℕ → Bool
 begins_number b = is_digit b || (b == byte "-")
 
--- a byte with which a term begins, an identifier of a table aside
+-- a byte with which a term begins, except for `#`, with which an identifier of a table begins
 abbrev pub begins_nested_term : ℕ → Bool
 begins_nested_term b = begins_atom b || begins_number b || among (codes "\"[{<") b
 
@@ -31,7 +31,7 @@ begins_nested_term b = begins_atom b || begins_number b || among (codes "\"[{<")
 abbrev pub begins_variable : ℕ → Bool
 begins_variable b = (nat_le 65 b && nat_le b 90) || (b == byte "_")
 
--- a byte with which a term, or blanks before one, begins
+-- a byte with which a term begins, or blanks before a term
 abbrev pub may_begin_term : ℕ → Bool
 may_begin_term b = begins_term b || is_blank b
 
@@ -43,6 +43,6 @@ last_byte text = slice_index text (length text - 1)
 abbrev pub last_sign : List ℕ → ℕ
 last_sign text = last_byte (filter (λ b. not (is_gap b)) text)
 
--- a term may begin after these signs
+-- a term can come after this text: its last sign is one of these
 abbrev pub expects_term : List ℕ → Bool
 expects_term before = among (codes ",{[<(") (last_sign before)

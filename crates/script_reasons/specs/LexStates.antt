@@ -35,8 +35,8 @@ without_quotes text = without_quotes_from Outside text
 abbrev pub next_levels : ℕ → ℕ → ℕ
 next_levels n b = if among (codes "[{") b then n + 1 else if among (codes "]}") b then n - 1 else n
 
--- the state at the end of a text: in quotes or not; the number of open brackets; and whether the parentheses came, all
--- outside quotes
+-- the state at the end of a text: whether it is in quotes; the number of open brackets; and whether each parenthesis
+-- was read; signs in quotes do not count
 abbrev pub lex_state_of : List ℕ → LexState
 lex_state_of text = record {
   quotes = quote_state_of text;

@@ -1,4 +1,4 @@
--- The problem at the fault of a line. Of several rows that fit, the first decides.
+-- The problem at the syntax error of a line. Of several cases that apply, the first decides.
 use Rattle.std.specs.Prelude.{ℕ, ◌-◌, List, [], ◌∷◌, take, drop, not, ◌&&◌, ◌||◌, ◌==◌, nat_lt, nat_le, if◌then◌else◌}
 use Rattle.std.specs.List.{prefix_len}
 use Rattle.std.specs.Str.{byte}
@@ -13,7 +13,7 @@ use Rattle.script_reasons.specs.declared.lex_state.QuoteState.TheVariants.{Escap
 use Rattle.script_reasons.specs.Classes.{is_line_byte, begins_atom, begins_number, begins_nested_term, begins_variable, may_begin_term, last_byte, expects_term}
 use Rattle.script_reasons.specs.LexStates.{is_quoted, lex_state_of}
 
--- digits enough for a number that can be out of range in any position
+-- a number of this many digits can be out of range, wherever it is: it can exceed 2^32 - 1
 abbrev pub long_number : ℕ
 long_number = 10
 
@@ -43,7 +43,7 @@ diagnose_word b after = if is_lowercase b && nat_lt max_characters (prefix_len i
     else if nat_le long_number (prefix_len is_digit (b ∷ after)) then problem.IntegerOutOfRange
     else problem.Other b
 
--- a sign, whatever is before and after it
+-- a byte by the byte itself, whatever text is before it
 abbrev pub diagnose_sign : ℕ → List ℕ → SyntaxProblem
 diagnose_sign b after = if b == byte "." then problem.FullStop
     else if b == byte "%" then problem.Comment
@@ -58,22 +58,22 @@ diagnose_sign b after = if b == byte "." then problem.FullStop
 abbrev pub diagnose_after_hash : ℕ → SyntaxProblem
 diagnose_after_hash b = if b == byte "{" then problem.Map else problem.UnsupportedReference
 
--- where no term may begin, or none with this byte
+-- where no term may begin, or no term that begins with this byte
 abbrev pub diagnose_unexpected_byte : List ℕ → ℕ → List ℕ → SyntaxProblem
 diagnose_unexpected_byte before b after = if last_byte before == byte "#" then diagnose_after_hash b
     else if (b == byte ".") && is_digit (last_byte before) && begins is_digit after then problem.Float
     else if (b == byte "#") && is_digit (last_byte before) then problem.BasedInteger
     else diagnose_sign b after
 
--- where a term may begin: a level too deep; or a term whose fault is further on, and is reported where
--- it begins
+-- where a term may begin: a term that is a level too deep; or a term with an error further on, which is reported at the
+-- start of the term
 abbrev pub diagnose_term_start : LexState → List ℕ → ℕ → List ℕ → SyntaxProblem
 diagnose_term_start state before b after = if nat_le max_depth state.levels && begins_nested_term b then problem.TooDeep
     else if begins_atom b then problem.LongName
     else if begins_number b then problem.IntegerOutOfRange
     else diagnose_unexpected_byte before b after
 
--- a byte, between this text and that
+-- a byte, by the text before it and the text after it
 abbrev pub diagnose_byte : List ℕ → ℕ → List ℕ → SyntaxProblem
 diagnose_byte before b after = if not (is_line_byte b) then problem.NotPrintable b
     else if is_quoted (lex_state_of before).quotes then diagnose_in_quotes (lex_state_of before) b
@@ -81,7 +81,7 @@ diagnose_byte before b after = if not (is_line_byte b) then problem.NotPrintable
     else if expects_term before then diagnose_term_start (lex_state_of before) before b after
     else diagnose_unexpected_byte before b after
 
--- the rest of a line, after this text
+-- the rest of a line, by the text before it
 abbrev pub diagnose_rest : List ℕ → List ℕ → SyntaxProblem
 diagnose_rest before [] = diagnose_end (lex_state_of before)
 diagnose_rest before (b ∷ after) = diagnose_byte before b after
@@ -90,10 +90,11 @@ diagnose_rest before (b ∷ after) = diagnose_byte before b after
 abbrev pub diagnose_at : List ℕ → ℕ → SyntaxProblem
 diagnose_at line at = diagnose_rest (take at line) (drop at line)
 
--- the problem at an offset of a text that should be a call: at its front usually a term that is no call
+-- the problem of a text that should be a call: at offset 0, usually that it is a term that is not a call
 abbrev pub in_call : ℕ → SyntaxProblem → SyntaxProblem
 in_call at (problem.Other b) = if (at == 0) && may_begin_term b then problem.NotACall else problem.Other b
 in_call at other = other
 
+-- the problem at an offset of a text that should be a call
 abbrev pub diagnose_in_call : List ℕ → ℕ → SyntaxProblem
 diagnose_in_call text at = in_call at (diagnose_at text at)

@@ -1,4 +1,4 @@
--- The text of what is wrong at a fault.
+-- The text of what is wrong at a syntax error.
 use Rattle.std.specs.Prelude.{ℕ, List, ◌++◌, codes, decimal, encode_utf8}
 use Rattle.script_reasons.specs.declared.syntax_problem.SyntaxProblem.{SyntaxProblem}
 use Rattle.script_reasons.specs.declared.syntax_problem.SyntaxProblem.TheVariants as problem

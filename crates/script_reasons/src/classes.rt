@@ -1,4 +1,4 @@
-//! Classes of bytes on a line, and what is at the ends of a text.
+//! Classes of bytes on a line, and what a text begins or ends with.
 ghost use Rattle.std.specs.Prelude.{◌≡◌, ◌≤◌, length, if◌then◌else◌};
 ghost use Rattle.std.specs.List.{prefix_len};
 ghost use Rattle.term_text.specs.Text.{is_blank, is_digit, is_name, begins, begins_term};
@@ -13,14 +13,15 @@ fn is_gap(byte: u8) -> bool
     byte == b' ' || byte == b'\t'
 }
 
-/// Returns whether the byte is allowed on a line.
+/// Checks whether a byte is allowed on a line: a tab or printable ASCII.
 pub fn is_line_byte(byte: u8) -> bool
     ensures { result ≡ spec.is_line_byte byte }
 {
     byte == b'\t' || is_character_byte(byte)
 }
 
-/// Returns whether a term begins with this byte; an identifier of a table does not count.
+/// Checks whether a term begins with this byte, except for `#`, with which an identifier of a table begins:
+/// `diagnose_after_hash` diagnoses the text after a `#`.
 pub fn begins_nested_term(byte: u8) -> bool
     ensures { result ≡ spec.begins_nested_term byte }
 {
@@ -41,21 +42,21 @@ pub fn begins_number(byte: u8) -> bool
     is_digit_byte(byte) || byte == b'-'
 }
 
-/// Checks whether a variable of Erlang begins with this byte.
+/// Checks whether a variable of Erlang begins with this byte: a capital letter or `_`.
 pub fn begins_variable(byte: u8) -> bool
     ensures { result ≡ spec.begins_variable byte }
 {
     matches!(byte, b'A'..=b'Z' | b'_')
 }
 
-/// Returns whether a term, or blanks before one, can begin with this byte.
+/// Checks whether a text that is a term, perhaps after blanks, can begin with this byte.
 pub fn may_begin_term(byte: u8) -> bool
     ensures { result ≡ spec.may_begin_term byte }
 {
     begins_term(byte) || is_blank(byte)
 }
 
-/// Checks whether the grammar of terms allows this byte first.
+/// Checks whether a term can begin with this byte, by the grammar of terms.
 #[tactic(auto, unfolding(term_text::specs::Text::begins_term))]
 fn begins_term(byte: u8) -> bool
     ensures { result ≡ begins_term byte }
@@ -71,7 +72,7 @@ fn begins_term(byte: u8) -> bool
         || is_lowercase_byte(byte)
 }
 
-/// Checks whether the grammar of terms allows this byte between terms.
+/// Checks whether a byte is a blank of the grammar of terms, which may be between terms.
 #[tactic(auto, unfolding(term_text::specs::Text::is_blank))]
 fn is_blank(byte: u8) -> bool
     ensures { result ≡ is_blank byte }
@@ -79,7 +80,7 @@ fn is_blank(byte: u8) -> bool
     byte == b' ' || byte == b'\t' || byte == b'\n' || byte == b'\r'
 }
 
-/// Returns whether a term, or the number of one, must come after this text.
+/// Checks whether a term, or a number of a pid or identifier, can come after this text, by its last sign.
 pub fn expects_term(before: &[u8]) -> bool
     ensures { result ≡ spec.expects_term before.now }
 {

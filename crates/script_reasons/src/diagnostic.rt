@@ -18,7 +18,7 @@ pub enum Diagnostic<'a> {
     CallByUnknownName(&'a [u8], Call),
     /// The line ends a name that was never spawned.
     ExitOfUnknownName(&'a [u8]),
-    /// The line could not be read: the offset of its fault, and what is wrong there.
+    /// The line has a syntax error: its offset, and what is wrong there.
     SyntaxFault(usize, SyntaxProblem),
     /// The line is longer than `MAX_LINE` of `ets_script`, 65,536 bytes.
     TooLong,

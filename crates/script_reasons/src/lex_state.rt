@@ -1,15 +1,15 @@
-//! The lexical state of a line at an offset: its open quotes and brackets.
+//! The lexical state of a line at an offset: which quotes and brackets are open there.
 ghost use Rattle.std.specs.Prelude.{◌≡◌, ◌+◌, ◌^◌, ◌<◌};
 ghost use Rattle.script_reasons.specs.LexStates as spec;
 ghost use Rattle.script_reasons.specs.inside.Advance.{advance};
 
-/// Whether a text ends inside quotes.
+/// Whether a text ends inside quotes, and in which.
 #[derive(Clone, Copy)]
 pub enum QuoteState {
     Outside,
-    /// In quotes, which this sign closes.
+    /// Inside quotes, which this sign closes.
     Inside(u8),
-    /// In quotes, after a backslash.
+    /// Inside quotes, which this sign closes, directly after a backslash.
     Escaped(u8),
 }
 
@@ -45,9 +45,9 @@ pub struct LexState {
     pub quotes: QuoteState,
     /// The number of open brackets of terms.
     pub levels: usize,
-    /// Whether the parenthesis before arguments was read.
+    /// Whether the parenthesis before the call's arguments was read.
     pub is_open: bool,
-    /// Whether the parenthesis after them was read.
+    /// Whether the parenthesis after the call's arguments was read.
     pub is_closed: bool,
 }
 
@@ -68,7 +68,7 @@ impl LexState {
         state
     }
 
-    /// Advances by one byte.
+    /// Updates the state by the next byte.
     fn advance(&mut self, byte: u8)
         requires { self.old.levels + 1 < 2 ^ 64 }
         ensures { self.new ≡ advance self.old byte }

@@ -1,4 +1,4 @@
-//! The problem at the fault of a line.
+//! The problem at the syntax error of a line, found from the bytes around it.
 ghost use Rattle.std.specs.Prelude.{◌≡◌};
 ghost use Rattle.script_reasons.specs.SyntaxProblems as spec;
 
@@ -13,7 +13,7 @@ use term_text::{is_digit_byte, is_lowercase_byte};
 /// A number of ten digits can exceed 2^32 - 1, the greatest number of a pid or table identifier.
 const LONG_NUMBER: usize = 10;
 
-/// The problem at the fault of a line.
+/// The problem at the syntax error of a line.
 #[derive(Clone, Copy, Debug, PartialEq, Eq)]
 pub enum SyntaxProblem {
     /// The line ends, and no parenthesis was opened.
@@ -41,17 +41,17 @@ pub enum SyntaxProblem {
     /// A colon, as between a module and its function.
     Colon,
     PlusSign,
-    /// A backslash before a byte that is neither this quote nor a backslash.
+    /// A backslash inside quotes before a byte that is neither this quote nor a backslash.
     Escape(u8),
     IntegerOutOfRange,
     LongName,
     TooDeep,
-    /// A whole term that is no call.
+    /// A whole term that is not a call.
     NotACall,
     Other(u8),
 }
 
-/// Diagnoses a line that is no command, at the offset of its fault.
+/// Diagnoses a line that is not a command, at the offset of its syntax error.
 pub fn diagnose_at(line: &[u8], at: usize) -> SyntaxProblem
     ensures { result ≡ spec.diagnose_at line.now at }
 {
@@ -62,8 +62,8 @@ pub fn diagnose_at(line: &[u8], at: usize) -> SyntaxProblem
     }
 }
 
-/// Diagnoses a text that is no call as a tuple, such as `{lookup,t,a}`, at the offset of its fault; at offset 0 it is
-/// usually a term that is no call.
+/// Diagnoses a text that is not a call, at the offset of its syntax error. An error at offset 0 usually means that the
+/// text is a term that is not a call, such as the tuple `{lookup,t,a}`.
 pub fn diagnose_in_call(text: &[u8], at: usize) -> SyntaxProblem
     ensures { result ≡ spec.diagnose_in_call text.now at }
 {
@@ -86,7 +86,7 @@ fn diagnose_end(state: &LexState) -> SyntaxProblem
     }
 }
 
-/// Diagnoses a byte, between the text before it and the text after it.
+/// Diagnoses a syntax error at a byte, by the text before it and the text after it.
 fn diagnose_byte(before: &[u8], byte: u8, after: &[u8]) -> SyntaxProblem
     ensures { result ≡ spec.diagnose_byte before.now byte after.now }
 {
@@ -167,7 +167,7 @@ fn diagnose_after_hash(byte: u8) -> SyntaxProblem
     }
 }
 
-/// Diagnoses a sign by itself.
+/// Diagnoses a byte by the byte itself, whatever text is before it.
 fn diagnose_sign(byte: u8, after: &[u8]) -> SyntaxProblem
     ensures { result ≡ spec.diagnose_sign byte after.now }
 {
@@ -183,7 +183,7 @@ fn diagnose_sign(byte: u8, after: &[u8]) -> SyntaxProblem
     }
 }
 
-/// Diagnoses a name or a number where none can come, or that is too long.
+/// Diagnoses the start of a name or a number that is too long, or any other byte that is not allowed here.
 fn diagnose_word(byte: u8, after: &[u8]) -> SyntaxProblem
     ensures { result ≡ spec.diagnose_word byte after.now }
 {

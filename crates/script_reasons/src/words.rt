@@ -1,4 +1,4 @@
-// The text of what is wrong at a fault.
+// The text of what is wrong at a syntax error.
 ghost use Rattle.std.specs.Prelude.{◌≡◌};
 ghost use Rattle.script_reasons.specs.Words.{words_of};
 

@@ -1,7 +1,7 @@
 ghost use Rattle.std.specs.Prelude.{◌≡◌, ◌%◌, ◌<◌};
 ghost use Rattle.split_key.specs.Keys.{IsPowerOfTwo, IsWithoutTopBit};
 
-/// Returns the bucket of a hash among `size` buckets.
+/// Returns the bucket of a hash, if there are `size` buckets.
 pub fn bucket_of(hash: u32, size: u32) -> u32
     requires { IsPowerOfTwo size }
     ensures { result ≡ hash % size }
@@ -9,7 +9,7 @@ pub fn bucket_of(hash: u32, size: u32) -> u32
     hash & (size - 1)
 }
 
-/// Returns the parent of a bucket: the bucket that it was a part of before the doubling that made it. Its number is
+/// Returns the parent of a bucket: the bucket that the doubling which created `bucket` split in two. Its number is
 /// `bucket` without the highest set bit. Bucket 0 has no parent.
 pub fn parent(bucket: u32) -> u32
     requires { 0 < bucket }

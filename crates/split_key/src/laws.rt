@@ -1,22 +1,22 @@
-//! The laws of split keys, each the contract of a function that does nothing.
+//! The laws of split keys. Each law is the contract of a function with an empty body.
 
 ghost use Rattle.std.specs.Prelude.{◌≡◌, ℕ, ◌+◌, ◌*◌, ◌/◌, ◌%◌, ◌^◌, ◌<◌, ◌≤◌, ◌⊎◌, ◌↔◌};
 ghost use Rattle.split_key.specs.Keys.{rev, key_of_item, key_of_dummy, IsPowerOfTwo, IsInBucket, IsWithoutTopBit};
 
-/// Reversing twice changes nothing.
+/// Reversing the bits of a number twice gives the number again.
 pub fn reversal_undoes_itself(number: u32)
     ensures { rev 32 (rev 32 number) ≡ number }
 {}
 
-/// The items of a bucket are those whose split keys are in one interval, which begins at the dummy's key.
+/// The items of a bucket are those whose split keys are in one interval, which begins at the dummy's split key.
 pub fn bucket_is_interval(hash: u32, bucket: u32, size: u32)
     requires size { IsPowerOfTwo size }
     requires bucket { bucket < size }
     ensures { (hash % size ≡ bucket) ↔ IsInBucket (key_of_item hash) bucket size }
 {}
 
-/// Doubling cuts a bucket's interval in two: the first half stays the bucket's, and the second begins
-/// at the new bucket's dummy.
+/// A doubling cuts the interval of a bucket in two: the bucket keeps the first half, and the second half begins
+/// at the dummy of the new bucket.
 pub fn doubling_cuts_in_two(bucket: u32, size: u32)
     requires size { IsPowerOfTwo size }
     requires bucket { bucket < size }
@@ -24,13 +24,13 @@ pub fn doubling_cuts_in_two(bucket: u32, size: u32)
     ensures middle { key_of_dummy (bucket + size) ≡ key_of_dummy bucket + 2 ^ 33 / (2 * size) }
 {}
 
-/// Doubling leaves each item in its bucket or moves it to that bucket's new half.
+/// A doubling leaves each item in its bucket, or assigns it to the new bucket that is the other half.
 pub fn doubling_splits_bucket(hash: u32, bucket: u32, size: u32)
     requires { bucket < size }
     ensures { (hash % size ≡ bucket) ↔ ((hash % (2 * size) ≡ bucket) ⊎ (hash % (2 * size) ≡ bucket + size)) }
 {}
 
-/// A bucket's parent has a smaller number, and its dummy comes first.
+/// The parent of a bucket has a smaller number, and the parent's dummy comes before the bucket's dummy.
 pub fn parent_stands_before(bucket: u32, parent: u32)
     requires { IsWithoutTopBit bucket parent }
     ensures below { parent < bucket }

@@ -1,16 +1,15 @@
-//! The items of a bucket are one interval of keys, which begins at the bucket's dummy, and doubling
+//! The items of a bucket are one interval of split keys, which begins at the bucket's dummy, and doubling
 //! the buckets cuts that interval in two.
 //!
-//! *Guarantee.* One list sorted by these keys serves 2, 4, 8 .. buckets at once: each bucket of each
-//! size is an interval of it, and no node moves when the number of buckets is doubled.
+//! *Guarantee.* One list sorted by split keys serves 2, 4, 8 .. buckets at once: each bucket of each
+//! size is an interval of the list, and no node moves when the number of buckets is doubled.
 //!
-//! *Weakness.* Items of one hash have one key, so a search must also compare terms there. The order
-//! of the list has no meaning for a reader, and a bad hasher makes a bucket long at every size.
+//! *Weakness.* Items with equal hashes have equal split keys, so a search must also compare their keys.
+//! The order of the list has no meaning for a user, and a bad hasher makes a bucket long at every size.
 //!
-//! *Mechanism.* A hash belongs to bucket `hash mod size`: to its low bits. A key is the hash with its
-//! bits reversed, so the bucket's bits come first and the order of keys is the order of buckets. One
-//! further bit at the end is 1 for an item and 0 for the dummy in front of its bucket.
-//! With 8 buckets, in the order of their keys:
+//! *Mechanism.* With `size` buckets, a hash belongs to bucket `hash mod size`: its low bits. A split key is the hash
+//! with its bits reversed, so the bits of the bucket come first, and split keys sort by bucket. One further bit at the
+//! end is 1 for an item and 0 for the dummy at the start of its bucket. With 8 buckets, in the order of their dummies:
 //!
 //! ```text
 //!   bucket      0    4    2    6    1    5    3    7
@@ -20,11 +19,12 @@
 //!   of 2        0                   1
 //! ```
 //!
-//! *Limits.* Hashes and buckets are below 2^32, keys below 2^33.
+//! *Limits.* Hashes and buckets are below 2^32, split keys below 2^33.
 //!
 //! O. Shalev and N. Shavit, "Split-ordered lists: lock-free extensible hash tables", J. ACM 53(3), 2006.
 #![tactic(auto)]
 
+// The modules: the `buckets` of hashes, the split `keys`, and the `laws` of both.
 mod buckets;
 mod keys;
 pub mod laws;

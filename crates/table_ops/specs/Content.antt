@@ -10,7 +10,7 @@ use Rattle.bucket_table.specs.Slots.{Slot, HasDistinctKeys, objects_of, has_obje
 use Rattle.table_ops.specs.declared.kind.Kind.{Kind}
 use Rattle.table_ops.specs.declared.kind.Kind.TheVariants.{Set, Bag, DuplicateBag}
 
--- the settings of a table, with the greatest number of objects, and its slots
+-- the content of a table: its kind, its keypos, `limit`, the greatest number of objects, and its slots
 pub record Content : Type 0 where
   pub kind : Kind
   pub keypos : ℕ
@@ -22,12 +22,14 @@ pub record ContentState : Type 0 where
   pub content : Content
   pub buckets : List Bool
 
--- the key of an object; an object is a tuple whose element at keypos exists and is not '$end_of_table'
+-- the key of an object, None for any other term; an object is a tuple whose element at keypos exists and is not
+-- '$end_of_table'
 abbrev pub key_of : ℕ → Term → Option Term
 key_of keypos object =
     option_and_then (λ key. if is_atom (codes "$end_of_table") key then None else Some key)
     (element_at keypos object)
 
+-- whether a term is an object of a table with this keypos
 abbrev pub is_object : ℕ → Term → Bool
 is_object keypos term = is_some (key_of keypos term)
 
@@ -39,12 +41,12 @@ objects_under slots key = unwrap_or (objects_of slots key) []
 abbrev pub is_present : List Slot → Term → Bool
 is_present slots key = has_objects (objects_under slots key)
 
--- an object has this key, and is not too deep
+-- the object has this key, and is not too deep
 pub record IsObjectOfKey (keypos : ℕ) (key object : Term) : Type 0 where
   pub its_key : key_of keypos object ≡ Some key
   pub shallow : is_too_deep object ≡ false
 
--- a set has at most one object of a key, and a bag has no object twice
+-- a table of this kind may have these objects of one key: a set at most one, and a bag no two equal objects
 abbrev pub FitsKind : Kind → List Term → Type 0
 FitsKind Set objects = length objects ≤ 1
 FitsKind Bag objects = IsDistinct same objects
@@ -56,6 +58,7 @@ pub record IsSlot (kind : Kind) (keypos : ℕ) (slot : Slot) : Type 0 where
   pub stored : AllByRecursion (IsObjectOfKey keypos slot.0) slot.1
   pub kept : FitsKind kind slot.1
 
+-- each slot has the invariant of a slot
 abbrev pub AreSlots : Kind → ℕ → List Slot → Type 0
 AreSlots kind keypos slots = AllByRecursion (IsSlot kind keypos) slots
 

@@ -8,16 +8,16 @@ use Rattle.table_ops.specs.Content.{Content, key_of}
 use Rattle.table_ops.specs.Refusals.{Change}
 use Rattle.table_ops.specs.Outcomes.{gives, refuse_none}
 
--- which objects a deletion removes, by their key and the object itself
+-- which objects a deletion removes: a test of the key and the object, true for each removed object
 abbrev pub Which : Type 0
 Which = Term → Term → Bool
 
--- the objects of a slot that remain
+-- the objects of a slot that the deletion does not remove
 abbrev pub remaining : Which → Slot → List Term
 remaining which slot = filter (λ object. not (which slot.0 object)) slot.1
 
--- the slots after a deletion: a slot that loses its last object stays as a tombstone if `hold`, else it is
--- removed; a tombstone stays
+-- the slots after a deletion: if a slot loses its last object, it stays as a tombstone if `hold` is true, else it is
+-- removed; a slot that was a tombstone before stays; all other slots keep their remaining objects
 abbrev pub after_drop : Bool → Which → List Slot → List Slot
 after_drop hold which [] = []
 after_drop hold which (slot ∷ slots) =
@@ -25,31 +25,31 @@ after_drop hold which (slot ∷ slots) =
     then (slot.0, remaining which slot) ∷ after_drop hold which slots
     else after_drop hold which slots
 
--- removes the objects of a key
+-- delete and take remove all objects with this key
 abbrev pub has_key : Term → Which
 has_key key own object = same key own
 
--- removes the objects that equal this one
+-- delete_object removes all objects that equal this object
 abbrev pub equal_to : Term → Which
 equal_to object own other = same other object
 
--- removes all objects
+-- delete_all_objects removes all objects
 abbrev pub every_object : Which
 every_object own object = true
 
--- the content without these objects
+-- the content of a table after a deletion removed these objects; with `hold`, emptied slots stay as tombstones
 abbrev pub without_those : Bool → Which → Content → Content
 without_those hold which old = record old { slots = after_drop hold which old.slots }
 
--- the content without the chosen objects
+-- the content of a table after a deletion removed the chosen objects, whatever their keys
 abbrev pub without_chosen : Bool → (Term → Bool) → Content → Content
 without_chosen hold choose old = without_those hold (λ own. choose) old
 
--- the content without tombstones
+-- the content of a table after all tombstones are removed
 abbrev pub without_held : Content → Content
 without_held old = record old { slots = purged old.slots }
 
--- delete_object(Table, Object): badarg if the term is no object
+-- delete_object(Table, Object): badarg if the term is not an object
 abbrev pub DeletesObject : Bool → Term → Content → Change (Unit {0}) Content
 DeletesObject hold object old =
     refuse_none old (key_of old.keypos object) (Err Badarg) (λ _.

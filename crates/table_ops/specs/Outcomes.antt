@@ -2,24 +2,25 @@
 use Rattle.std.specs.Prelude.{◌≡◌, Bool, Option, MatchOption, Result, IfOk}
 use Rattle.std.specs.Bool.{MatchBool}
 
--- the pairs of result and new state that a call allows
+-- an outcome of a call: the pairs of result and new state that it allows
 abbrev pub Outcome : Type 0 → Type 0 → Type 1
 Outcome R A = R → A → Type 0
 
--- this result, with this new state
+-- the outcome with exactly this result and this new state
 abbrev pub gives : {R A : Type 0} → R → A → Outcome R A
 gives answer after given new = (given ≡ answer) × (new ≡ after)
 
--- this refusal, which changes nothing, if the test holds; else the other outcome
+-- if the test holds, the call gives this refusal and changes nothing; else it has the other outcome
 abbrev pub refuse : {R A : Type 0} → A → Bool → R → Outcome R A → Outcome R A
 refuse old test refusal otherwise given new =
     MatchBool test (gives refusal old given new) (otherwise given new)
 
--- this refusal, which changes nothing, if the option is None; else the outcome for its value
+-- if the option is None, the call gives this refusal and changes nothing; else it has the outcome for the option's
+-- value
 abbrev pub refuse_none : {X R A : Type 0} → A → Option X → R → (X → Outcome R A) → Outcome R A
 refuse_none old found refusal otherwise given new =
     MatchOption found (gives refusal old given new) (λ x. otherwise x given new)
 
--- the result of a call that is refused memory only
+-- the call returns this value, or is refused memory
 abbrev pub Returns : {X E : Type 0} → Result X E → X → Type 0
 Returns result wanted = IfOk result (λ answer. answer ≡ wanted)

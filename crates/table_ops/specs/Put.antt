@@ -14,19 +14,20 @@ use Rattle.table_ops.specs.Content.{Content, key_of, is_object, objects_under, i
 use Rattle.table_ops.specs.Refusals.{Change}
 use Rattle.table_ops.specs.Outcomes.{gives, refuse}
 
--- the objects of a key after an insertion: a set replaces, a bag keeps an equal object where it is
+-- the objects of a key after an insertion: a set replaces its object; a bag changes nothing if it has an equal object;
+-- else the object is appended
 abbrev pub add : Kind → List Term → Term → List Term
 add Set objects object = object ∷ []
 add Bag objects object = if list_any (same object) objects then objects else objects ++ object ∷ []
 add DuplicateBag objects object = objects ++ object ∷ []
 
--- a key gets these objects: in its slot, tombstone or not, or in a new slot at some place
+-- a key gets these objects: in its slot, which may be a tombstone, or in a new slot at some position
 abbrev pub SetsObjects : List Slot → Term → List Term → List Slot → Type 0
 SetsObjects old key objects new =
     MatchOption (objects_of old key) (Enters old key objects new) (λ _.
     new ≡ with_objects old key objects)
 
--- an object is inserted under its key
+-- an object with this key is inserted
 abbrev pub Puts : Kind → List Slot → Term → Term → List Slot → Type 0
 Puts kind old key object new = SetsObjects old key (add kind (objects_under old key) object) new
 
@@ -45,19 +46,19 @@ InsertsWithinLimit done objects old =
     × refuse old (nat_lt old.limit (object_count slots)) (Err SystemLimit) (
     gives (Ok done) (record old { slots = slots })) r new)
 
--- insert(Table, Objects): badarg if one of them is no object
+-- insert(Table, Objects): badarg if one of them is not an object
 abbrev pub Inserts : List Term → Content → Change (Unit {0}) Content
 Inserts objects old r new =
     MatchBool (list_all (is_object old.keypos) objects)
     (InsertsWithinLimit tt objects old r new)
     (gives (Err Badarg) old r new)
 
--- whether the key of an object has objects
+-- whether the table has objects with the key of this object
 abbrev pub is_taken : ℕ → List Slot → Term → Bool
 is_taken keypos slots object = option_map_or (is_present slots) (key_of keypos object) false
 
--- insert_new(Table, Objects): badarg if one of them is no object; false, and nothing inserted, if a key of theirs has
--- objects
+-- insert_new(Table, Objects): badarg if one of them is not an object; false, and nothing inserted, if the table has
+-- objects with one of their keys
 abbrev pub InsertsNew : List Term → Content → Change Bool Content
 InsertsNew objects old r new =
     MatchBool (list_all (is_object old.keypos) objects)

@@ -13,7 +13,8 @@ use Rattle.match_spec.specs.Specifications.{is_true, result_of}
 use Rattle.table_ops.specs.Content.{Content, objects_under}
 use Rattle.table_ops.specs.Read.{all_objects}
 
--- match: the list of the values of the variables, in order of their numbers, for an object that matches
+-- match: the result for an object is the list of the values of the pattern's variables, in order of their numbers; None
+-- if the object does not match
 abbrev pub bound_in : Term → Term → Option Data
 bound_in pattern object =
     option_map (λ b. list (data_list (values b))) (bindings_of (data_of pattern) (data_of object))
@@ -22,23 +23,24 @@ bound_in pattern object =
 abbrev pub matches : Term → Term → Bool
 matches pattern object = is_some (bindings_of (data_of pattern) (data_of object))
 
--- match_object: the object itself if it matches
+-- match_object: the result for an object is the object itself; None if it does not match
 abbrev pub matched_object : Term → Term → Option Data
 matched_object pattern object = if matches pattern object then Some (data_of object) else None
 
--- select: the result of the match specification for an object
+-- select: the result of the match specification for an object; None if no clause applies
 abbrev pub spec_result : Term → Term → Option Data
 spec_result spec object = result_of (data_of spec) (data_of object)
 
--- select_count, select_delete: whether the result is true
+-- select_count, select_delete: whether the result for an object is true
 abbrev pub is_chosen : Term → Term → Bool
 is_chosen spec object = option_map_or is_true (spec_result spec object) false
 
+-- the results with the result of one more object in front, if it has one
 abbrev pub also : Option Data → List Data → List Data
 also None answers = answers
 also (Some answer) answers = answer ∷ answers
 
--- the results of the objects that have one, in their order
+-- the results of all objects that have a result, in the order of the objects
 abbrev pub answers : (Term → Option Data) → List Term → List Data
 answers give [] = []
 answers give (object ∷ objects) = also (give object) (answers give objects)
@@ -71,23 +73,23 @@ matching_in pattern table = filter (matches pattern) (all_objects table.slots)
 abbrev pub chosen_in : (Term → Bool) → Content → ℕ
 chosen_in choose table = chosen_count choose (all_objects table.slots)
 
--- how many objects a search tests: those of the bound key, else all
+-- the number of objects that a search tests: those of the bound key, or all if there is no bound key
 abbrev pub looks_of : Option Data → List Slot → ℕ
 looks_of (Some key) slots = length (objects_under slots (term_of key))
 looks_of None slots = object_count slots
 
--- how many objects a search tests, with the bound key as a term
+-- the same number, with the bound key as a term
 abbrev pub looks_of_key : Option Term → List Slot → ℕ
 looks_of_key key slots = looks_of (option_map data_of key) slots
 
--- how many objects of a table a pattern is tested on
+-- the number of objects of a table that a search by a pattern tests
 abbrev pub looks_of_pattern : Term → Content → ℕ
 looks_of_pattern pattern table = looks_of (bound_key table.keypos (data_of pattern)) table.slots
 
--- how many objects of a table a match specification is tested on
+-- the number of objects of a table that a search by a match specification tests
 abbrev pub looks_of_spec : Term → Content → ℕ
 looks_of_spec spec table = looks_of (spec_key table.keypos (data_of spec)) table.slots
 
--- a search that is not refused memory adds `count` to the counter, up to the greatest number of 64 bits
+-- if a search is not refused memory, it adds `count` to its counter, which stops at the greatest number of 64 bits
 abbrev pub CountsLooks : {X E : Type 0} → Result X E → ℕ → ℕ → ℕ → Type 0
 CountsLooks result count old new = OnOk result (new ≡ ticks count old)

@@ -21,19 +21,20 @@ elements_at position (object ∷ objects) =
     option_map (λ others. element ∷ others) (elements_at position objects))
     (element_at position object)
 
--- the same elements, as a list term
+-- the same elements, as a term that is a list
 abbrev pub list_at : ℕ → List Term → Option Term
 list_at position objects = option_map list_term (elements_at position objects)
 
--- lookup_element(Table, Key, Position), by the objects of the key: for a set the element, for a bag the list of them;
--- None is badarg
+-- lookup_element(Table, Key, Position), from the objects of the key: for a set the element, for a bag the list of the
+-- elements; None means badarg
 abbrev pub lookup_element : Kind → ℕ → List Term → Option Term
 lookup_element kind position [] = None
 lookup_element Set position (object ∷ objects) = element_at position object
 lookup_element Bag position (object ∷ objects) = list_at position (object ∷ objects)
 lookup_element DuplicateBag position (object ∷ objects) = list_at position (object ∷ objects)
 
--- lookup_element(Table, Key, Position, Default): the Default if the key has no object; position 0 is always badarg
+-- lookup_element(Table, Key, Position, Default): the Default if the key has no object; None means badarg, as for
+-- position 0
 abbrev pub lookup_element_or : Kind → ℕ → Term → List Term → Option Term
 lookup_element_or kind position default [] = if position == 0 then None else Some default
 lookup_element_or kind position default (object ∷ objects) = lookup_element kind position (object ∷ objects)

@@ -6,7 +6,7 @@ use Rattle.match_spec.specs.declared.fault.SpecFault.{SpecFault}
 use Rattle.match_spec.specs.declared.fault.SpecFault.TheVariants as spec_fault
 use Rattle.table_ops.specs.Outcomes.{Outcome}
 
--- the outcomes of a change
+-- a call that may be refused, as an outcome
 abbrev pub Change : Type 0 → Type 0 → Type 1
 Change X A = Outcome (Result X Refusal) A
 
@@ -17,14 +17,14 @@ RefinesChange change old (Err Badarg) new = change (Err Badarg) new
 RefinesChange change old (Err SystemLimit) new = change (Err SystemLimit) new
 RefinesChange change old (Err Memory) new = new ≡ old
 
--- the result of a call that changes nothing: this value; badarg if there is none; or memory was refused
+-- the result of a call that changes nothing: this value, badarg if the value is None, or memory was refused
 abbrev pub ReturnsOrBadarg : {X : Type 0} → Option X → Result X Refusal → Type 0
 ReturnsOrBadarg wanted (Ok x) = wanted ≡ Some x
 ReturnsOrBadarg wanted (Err Badarg) = wanted ≡ None
 ReturnsOrBadarg wanted (Err SystemLimit) = ⊥
 ReturnsOrBadarg wanted (Err Memory) = Unit {0}
 
--- the refusal of a call whose pattern or match specification is faulty
+-- the refusal of a call whose pattern or match specification is not compiled
 abbrev pub refusal_of_spec : SpecFault → Refusal
 refusal_of_spec spec_fault.Badarg = Badarg
 refusal_of_spec spec_fault.Memory = Memory

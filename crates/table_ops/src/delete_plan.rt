@@ -14,7 +14,7 @@ use ets_term::Term;
 use node_list::Chain;
 use std::alloc::{AllocError, Global};
 
-/// A slot that loses objects.
+/// The planned change of one slot that loses objects: its place, and the objects that it keeps.
 #[derive(Drop)]
 pub struct SlotDelete {
     pub place: Place,
@@ -22,7 +22,7 @@ pub struct SlotDelete {
     pub kept: Chain,
 }
 
-/// The slots that lose objects, in their order.
+/// A delete plan: the slots that lose objects, in the order of the table, with the objects that they keep.
 #[derive(Drop)]
 pub struct DeletePlan {
     alloc: Global,
@@ -40,8 +40,8 @@ impl DeletePlan {
         }
     }
 
-    /// Tests the objects of a slot and plans to remove the chosen ones. Returns their number. Copies no object if all
-    /// or none are chosen.
+    /// Tests the objects of a slot and plans to remove the chosen objects. Returns their number. If all objects or none
+    /// are chosen, copies no object.
     pub fn plan_slot<P: Predicate>(
         &mut self,
         query: &Trial<'_, P>,

@@ -1,10 +1,10 @@
 /// Which objects of one key a table keeps (stdlib manual, ets:new/2).
 #[derive(Clone, Copy, PartialEq, Eq)]
 pub enum Kind {
-    /// One object; a new one replaces it.
+    /// One object; a new object replaces it.
     Set,
-    /// Any number of objects, none of them twice.
+    /// Any number of objects, but no two equal objects.
     Bag,
-    /// Any number of objects, equal ones too.
+    /// Any number of objects, also equal objects.
     DuplicateBag,
 }

@@ -3,12 +3,13 @@ ghost use Rattle.node_list.specs.Ticks.{tick};
 
 use std::marker::Model;
 
-/// A counter of the objects that searches test: one for each object and test, up to the greatest `u64`. It never falls.
+/// A counter of the objects that searches test. Each test of an object adds 1, up to the greatest `u64`.
 #[derive(Drop)]
 pub struct Looks {
     count: u64,
 }
 
+// The value that contracts see of this type (`view`).
 impl Model for Looks {
     ghost use Rattle.std.specs.Prelude.{ℕ};
     ghost use Rattle.std.specs.Coded.{coded_ℕ};
@@ -35,7 +36,7 @@ impl Looks {
         self.count
     }
 
-    /// Counts one object more, unless the count is the greatest `u64`.
+    /// Counts one more object, unless the count is the greatest `u64`.
     pub(crate) fn tick(&mut self)
         ensures { self.new ≡ tick self.old }
     {

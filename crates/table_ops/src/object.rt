@@ -7,8 +7,8 @@ ghost use Rattle.table_ops.specs.Content.{key_of, is_object};
 use ets_term::{Position, Term};
 use std::alloc::{AllocError, Global};
 
-/// Returns the key of an object: the element of the tuple at `keypos`, counted from 1. Returns `None` if the term is no
-/// object, that is, if it has no such element or the element is the atom `'$end_of_table'`.
+/// Returns the key of an object: the element of the tuple at `keypos`, counted from 1. Returns `None` if the term is
+/// not an object: it is not a tuple, has no such element, or the element is the atom `'$end_of_table'`.
 pub fn key_of(keypos: u32, object: &Term) -> Option<&Term>
     ensures { option_copied result ≡ key_of keypos object.now }
 {
@@ -20,7 +20,7 @@ pub fn key_of(keypos: u32, object: &Term) -> Option<&Term>
     }
 }
 
-/// Returns a copy of a key. Most keys are integers, which take no call.
+/// Returns a copy of a key. Most keys are integers, which are copied without a further call.
 #[inline(always)]
 pub fn copy_key(alloc: Global, key: &Term) -> Result<Term, AllocError>
     ensures { IfOk result (λ copy. copy ≡ key.now) }

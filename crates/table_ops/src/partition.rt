@@ -10,8 +10,8 @@ use ets_term::Term;
 use node_list::Chain;
 use std::alloc::{AllocError, Global};
 
-/// The objects of one slot, split into removed and kept. Only the number of the removed ones is stored. Kept objects
-/// are stored only once one is removed.
+/// The objects of one slot, split into removed and kept objects. Only the number of the removed objects is stored.
+/// Copies of kept objects are stored only if an object is removed.
 #[derive(Drop)]
 pub struct Partition {
     alloc: Global,
@@ -20,7 +20,7 @@ pub struct Partition {
 }
 
 impl Partition {
-    /// Returns the partition of no objects.
+    /// Returns the partition of a slot before an object is tested.
     pub fn new(alloc: Global) -> Partition
         ensures removed { result.removed ≡ 0 }
         ensures kept { result.kept ≡ [] }
@@ -32,7 +32,7 @@ impl Partition {
         }
     }
 
-    /// Tests all objects of a slot.
+    /// Tests all objects of a slot and adds them to the partition.
     pub fn add_all<P: Predicate>(
         &mut self,
         query: &Trial<'_, P>,
@@ -45,6 +45,7 @@ impl Partition {
         ensures at_most { looks.new ≤ ticks (length objects.now) looks.old }
         ensures at_least { looks.old ≤ looks.new }
     {
+        // The call changes nothing. It gives the proof that the count is a `u64`.
         let _before = looks.count();
         for i in 0..objects.len() {
             self.add(query, objects, i, looks)?;
@@ -52,7 +53,8 @@ impl Partition {
         Ok(())
     }
 
-    /// Tests the object at index `i`. Copies the kept objects before it if it is the first to be removed.
+    /// Tests the object at index `i` and adds it to the partition. If it is the first removed object, copies the
+    /// objects before it, which are all kept.
     fn add<P: Predicate>(
         &mut self,
         query: &Trial<'_, P>,
@@ -83,7 +85,7 @@ impl Partition {
         Ok(())
     }
 
-    /// Appends copies of objects to the kept ones.
+    /// Appends copies of objects to the kept objects.
     fn copy_kept(&mut self, objects: &[Term]) -> Result<(), AllocError>
         ensures { OnOk result (self.new.kept ≡ self.old.kept ++ objects.now) }
     {

@@ -6,7 +6,7 @@ use ets_term::Term;
 use match_spec::{Pattern, Spec};
 use std::alloc::{AllocError, Global};
 
-/// Which objects a query chooses.
+/// The predicate of a query: which objects it chooses.
 pub trait Predicate {
     /// Whether an object is chosen.
     ghost tests: { Self → Term → Bool };
@@ -16,7 +16,7 @@ pub trait Predicate {
         ensures { Returns result (tests self.now object.now) };
 }
 
-/// Chooses the objects that match.
+/// A pattern chooses the objects that match it.
 impl Predicate for Pattern {
     ghost use Rattle.table_ops.specs.Queries.{matches};
 
@@ -27,7 +27,7 @@ impl Predicate for Pattern {
     }
 }
 
-/// Chooses the objects whose result is `true`.
+/// A match specification chooses the objects for which its result is `true`.
 impl Predicate for Spec {
     ghost use Rattle.table_ops.specs.Queries.{is_chosen};
 

@@ -7,17 +7,17 @@ use ets_term::{Items, Term};
 use match_spec::{Pattern, Spec};
 use std::alloc::{AllocError, Global};
 
-/// What a query gives for an object.
+/// The projection of a query: its result for an object.
 pub trait Projection {
-    /// The result for an object, or `None`.
+    /// The result for an object, or `None` if the object has no result.
     ghost projects: { Self → Term → Option Data };
 
-    /// Returns the result for an object, or `None`.
+    /// Returns the result for an object, or `None` if the object has no result.
     fn project(&self, alloc: Global, object: &Term) -> Result<Option<Term>, AllocError>
         ensures { ReturnsData result (projects self.now object.now) };
 }
 
-/// Gives the list of the values of the variables.
+/// The result of a pattern is the list of the values of its variables, if the object matches.
 impl Projection for Pattern {
     ghost use Rattle.table_ops.specs.Queries.{bound_in};
 
@@ -32,7 +32,7 @@ impl Projection for Pattern {
     }
 }
 
-/// Gives the result of the specification.
+/// The result of a match specification is that of its first clause that applies.
 impl Projection for Spec {
     ghost use Rattle.table_ops.specs.Queries.{spec_result};
 
@@ -43,7 +43,7 @@ impl Projection for Spec {
     }
 }
 
-/// Gives the objects that match a pattern.
+/// The projection of `match_object`: the result is a copy of the object itself, if it matches the pattern.
 #[derive(Clone, Copy)]
 pub struct MatchedObject<'a> {
     pub pattern: &'a Pattern,

@@ -5,7 +5,8 @@ use bucket_table::{Place, Rows};
 use ets_term::Term;
 use std::marker::Model;
 
-/// Iterates over the slots of rows, in their order.
+/// An iterator over the slots of rows, in their order. `at` is the place of the next slot, and `passed` the number of
+/// slots that it has returned.
 #[derive(Drop)]
 pub struct Slots<'a, R: Rows> {
     rows: &'a R,
@@ -13,6 +14,7 @@ pub struct Slots<'a, R: Rows> {
     passed: usize,
 }
 
+// The value that contracts see of this type (`view`), and what is true of its fields between calls (`invariant`).
 impl<'a, R: Rows> Model for Slots<'a, R> {
     ghost use Rattle.std.specs.Prelude.{List, drop};
     ghost use Rattle.bucket_table.specs.Slots.{Slot};
@@ -51,6 +53,7 @@ pub fn all_of<R: Rows>(rows: &R) -> Slots<'_, R>
     ensures { result ≡ R.content rows.now }
 {
     rows.reveal_invariant();
+    // The call changes nothing. It gives the proof that the number of slots is a `usize`.
     let _len = rows.len();
     Slots {
         rows,

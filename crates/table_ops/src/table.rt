@@ -9,20 +9,22 @@ use bucket_table::{Growth, Readying, Rows};
 use std::alloc::{AllocError, Global};
 use std::marker::Model;
 
+// The modules, each with methods of `Table`: `insert`, `lookup`, `query`, `remove` and `update`.
 mod insert;
 mod lookup;
 mod query;
 mod remove;
 mod update;
 
-/// One table over its rows (stdlib manual, module ets). A contract sees its `content`, and for each of its `buckets`
-/// whether it is ready.
+/// One table over its rows (stdlib manual, module ets). `count` is the number of objects. A contract sees its
+/// `content`, and for each of its `buckets` whether it is ready.
 #[derive(Drop)]
 pub struct Table<R: Rows> {
     inner: TableRows<R>,
     count: usize,
 }
 
+// The value that contracts see of this type (`view`), and what is true of its fields between calls (`invariant`).
 impl<R: Rows> Model for Table<R> {
     ghost use Rattle.table_ops.specs.Content.{ContentState};
     ghost use Rattle.table_ops.specs.inside.Codes.{content_state_code};
@@ -41,8 +43,8 @@ impl<R: Rows> Model for Table<R> {
 }
 
 impl<R: Rows> Table<R> {
-    /// Makes a table over rows without slots. It takes at most `max_objects` objects. The key of an object is its
-    /// element at `keypos`, counted from 1.
+    /// Makes a table over rows without slots. The table may have at most `max_objects` objects. The key of an object is
+    /// its element at `keypos`, counted from 1.
     pub fn new(alloc: Global, rows: R, kind: Kind, keypos: u32, max_objects: u32) -> Self
         requires empty { R.content rows ≡ [] }
         requires keypos { 1 ≤ keypos }
@@ -104,14 +106,14 @@ impl<R: Rows> Table<R> {
         self.inner.rows.buckets()
     }
 
-    /// Returns the lowest bucket that is not ready.
+    /// Returns the lowest bucket that is not ready, or `None` if all are ready.
     pub fn first_unready(&self) -> Option<u32>
         ensures { result ≡ position not self.now.buckets }
     {
         self.inner.rows.first_unready()
     }
 
-    /// Doubles the number of buckets. The result says if it is the greatest already.
+    /// Doubles the number of buckets, unless it is already the greatest. The result says which.
     pub fn grow(&mut self) -> Result<Growth, AllocError>
         ensures content { self.new.content ≡ self.old.content }
         ensures ok { IfOk result (λ growth.
@@ -121,7 +123,7 @@ impl<R: Rows> Table<R> {
         self.inner.rows.grow()
     }
 
-    /// Makes a bucket ready. The result says if it was ready before or does not exist.
+    /// Makes a bucket ready. The result says whether the bucket was ready before or does not exist.
     pub fn ready(&mut self, bucket: u32) -> Result<Readying, AllocError>
         ensures content { self.new.content ≡ self.old.content }
         ensures ok { IfOk result (λ readying.

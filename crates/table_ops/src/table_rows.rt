@@ -2,6 +2,9 @@ use crate::kind::Kind;
 use bucket_table::Rows;
 use std::alloc::Global;
 
+// The modules, each with methods of `TableRows`: `collect` the results of a query, `count` the chosen objects, delete
+// them (`delete_matching`), insert objects (`put`, `put_all`), remove the objects of a key (`take`), and `update` an
+// object.
 mod collect;
 mod count;
 mod delete_matching;
@@ -10,8 +13,8 @@ mod put_all;
 mod take;
 mod update;
 
-/// The objects of a table over its rows, with all settings of the table. Its calls change the slots only. The number of
-/// objects is counted by `Table`.
+/// The rows of a table, with all settings of the table. `limit` is the greatest number of objects. Its methods change
+/// only the slots. `Table` counts the objects.
 #[derive(Drop)]
 pub struct TableRows<R: Rows> {
     pub(crate) alloc: Global,

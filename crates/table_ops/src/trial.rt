@@ -9,8 +9,8 @@ use crate::projection::Projection;
 use ets_term::Term;
 use std::alloc::{AllocError, Global};
 
-/// A query on trial: objects are tested only by its calls, and each call counts one object. The scans get no bare
-/// pattern or specification.
+/// A wrapper of a query, a pattern or a match specification. A scan can test an object only by its methods, and each
+/// call of these counts one object.
 #[derive(Drop)]
 pub struct Trial<'a, Q> {
     query: &'a Q,
@@ -26,7 +26,7 @@ impl<'a, Q> Trial<'a, Q> {
 }
 
 impl<'a, P: Projection> Trial<'a, P> {
-    /// Returns the result of the query for an object, if it has one.
+    /// Returns the result of the query for an object, if there is one, and counts the object.
     #[inline(always)]
     pub fn result_of(
         &self,
@@ -43,7 +43,7 @@ impl<'a, P: Projection> Trial<'a, P> {
 }
 
 impl<'a, P: Predicate> Trial<'a, P> {
-    /// Returns whether the query chooses an object.
+    /// Returns whether the query chooses an object, and counts the object.
     #[inline(always)]
     pub fn chooses(
         &self,

@@ -3,21 +3,21 @@ ghost use Rattle.table_ops.specs.inside.Undo.{added_objects};
 
 use node_list::Chain;
 
-/// One entry of an undo log: how to undo the insertion of one object without memory.
+/// A part of an undo log: what is needed to undo the insertion of one object, which takes no memory.
 #[derive(Drop)]
 pub enum Undo {
-    /// The key had no slot.
+    /// The key had no slot: remove its slot.
     NewSlot,
-    /// The slot of the key had these objects.
+    /// The slot of the key had these objects: restore them.
     Objects(Chain),
-    /// The object was appended.
+    /// The object was appended to the slot of the key: remove its last object.
     LastObject,
-    /// The object was already there.
+    /// The object was already in the bag: change nothing.
     Nothing,
 }
 
 impl Undo {
-    /// Returns by how many objects the table grew: 0 or 1.
+    /// Returns the number of objects that the insertion added to the table: 0 or 1.
     pub fn added_objects(&self) -> usize
         ensures { result ≡ added_objects self.now }
     {

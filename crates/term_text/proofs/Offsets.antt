@@ -96,7 +96,7 @@ read-passes at start n kind os (b ∷ bs) small h = by-test (is_digit b)
     (λ k. ap (λ (s : Reading). read_from (at + 1) s bs) (if-true _ _ _ d ∙ if-false _ _ _ k) ∙ read-fails (at + 1) (OutOfRange start) bs))
     (λ d. let v : spelled n (b ∷ bs) ≡ n = if-false _ _ _ d in absurd (omega (arith, v, small, h)))
 
--- what follows the digits is no digit
+-- the byte after the digits is not a digit
 pub prefix-ends : (p : ℕ → Bool) (bs : List ℕ) → begins p (drop (prefix_len p bs) bs) ≡ false
 prefix-ends p [] = refl
 prefix-ends p (b ∷ bs) = by-test (p b)

@@ -4,19 +4,19 @@ use Rattle.ets_term.specs.Integers.{least, greatest}
 use Rattle.ets_term.specs.declared.term.Term.{Term}
 use Rattle.ets_term.specs.declared.term.Term.TheVariants.{Int, Tuple, List as ListOf}
 
--- the numbers of a text
+-- the kinds of numbers in a text
 pub data Number : Type 0 where
   integer : Bool → Number  -- an integer, negative if true
   pid : Number
   identifier : Number
   byte : List ℕ → Number  -- a byte of a binary, after these
 
--- an open bracket, square or a brace, and the terms read in it
+-- an open bracket, which is square or a brace, and the terms that were read inside
 pub record OpenBracket : Type 0 where
   pub square : Bool
   pub terms : List Term
 
--- the integer of this magnitude, negative if true
+-- the integer with this magnitude, negative if the first argument is true
 abbrev pub signed : Bool → ℕ → ℤ
 signed true zero = pos 0
 signed true (suc n) = negsuc n
@@ -27,7 +27,7 @@ abbrev pub size : ℤ → ℕ
 size (pos n) = n
 size (negsuc n) = n + 1
 
--- the greatest magnitude of a number
+-- the greatest magnitude of a number of this kind
 abbrev pub max_magnitude : Number → ℕ
 max_magnitude (integer true) = size least
 max_magnitude (integer false) = size greatest
@@ -35,10 +35,10 @@ max_magnitude pid = 2 ^ 32 - 1
 max_magnitude identifier = 2 ^ 32 - 1
 max_magnitude (byte bs) = 2 ^ 8 - 1
 
--- the list or tuple of a bracket
+-- the list or tuple of a bracket: the term with the terms inside as its elements
 abbrev pub bracket : OpenBracket → Term
 bracket o = if o.square then ListOf o.terms else Tuple o.terms
 
--- the integer of a character
+-- a character as an integer term
 abbrev pub code : ℕ → Term
 code c = Int (pos c)

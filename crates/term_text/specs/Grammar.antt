@@ -8,18 +8,19 @@ use Rattle.ets_term.specs.Depth.{max_depth}
 use Rattle.term_text.specs.Forms.{Number, integer, pid, identifier, byte, signed, max_magnitude, code, bracket}
 use Rattle.term_text.specs.Text.{apostrophe, quotation_mark, is_blank, is_digit, is_lowercase, is_name, begins, spelled}
 
--- each byte is blank
+-- all bytes are blank
 abbrev pub AreBlanks : List ℕ → Type 0
 AreBlanks s = IsTrue (list_all is_blank s)
 
--- one digit or more, of the number n, which is in the range of its kind; leading zeros are allowed
+-- the text s has one digit or more, all digits, and they write the number n, which is in the range of its kind; leading
+-- zeros are allowed
 pub record SpellsNumber (kind : Number) (s : List ℕ) (n : ℕ) : Type 0 where
   pub some : IsTrue (begins is_digit s)
   pub each : IsTrue (list_all is_digit s)
   pub value : spelled 0 s ≡ n
   pub fits : n ≤ max_magnitude kind
 
--- characters between quotes of this sign: a `\` precedes the sign and each `\`
+-- the text between two quotes, and the characters that it writes: a `\` comes before each quote and each `\`
 pub data SpellsQuoted (quote : ℕ) : List ℕ → List ℕ → Type 0 where
   none : SpellsQuoted quote [] []
   plain : (s cs : List ℕ) (c : ℕ) → SpellsQuoted quote s cs
@@ -28,7 +29,7 @@ pub data SpellsQuoted (quote : ℕ) : List ℕ → List ℕ → Type 0 where
   escaped : (s cs : List ℕ) (c : ℕ) → SpellsQuoted quote s cs → ((c == quote) || (c == 92)) ≡ true
       → SpellsQuoted quote (s ++ (codes "\\" ++ c ∷ [])) (cs ++ c ∷ [])
 
--- the bytes of a binary, one or more, separated by commas
+-- the text of one or more bytes of a binary, separated by commas, and these bytes
 pub data SpellsBytes : List ℕ → List ℕ → Type 0 where
   first : (before s : List ℕ) (n : ℕ) → AreBlanks before → SpellsNumber (byte []) s n
       → SpellsBytes (before ++ s) (n ∷ [])
@@ -36,15 +37,16 @@ pub data SpellsBytes : List ℕ → List ℕ → Type 0 where
       → AreBlanks before → AreBlanks after → SpellsNumber (byte []) s n
       → SpellsBytes (row ++ (before ++ (codes "," ++ (after ++ s)))) (bs ++ n ∷ [])
 
--- the signs that open and close a list or a tuple
+-- the character that opens a list (true) or a tuple
 abbrev pub opening_sign : Bool → ℕ
 opening_sign square = if square then 91 else 123
 
+-- the character that closes a list (true) or a tuple
 abbrev pub closing_sign : Bool → ℕ
 closing_sign square = if square then 93 else 125
 
 mutual
-  -- the spellings of a term of at most k levels
+  -- a text is a spelling of a term, which has at most k levels
   pub data Spells : ℕ → List ℕ → Term → Type 0 where
     positive : (k : ℕ) (s : List ℕ) (n : ℕ) → SpellsNumber (integer false) s n → Spells (suc k) s (Int (signed false n))
     negative : (k : ℕ) (s : List ℕ) (n : ℕ) → SpellsNumber (integer true) s n
@@ -76,7 +78,7 @@ mutual
         → Spells (suc k) (opening_sign square ∷ (row ++ (after ++ closing_sign square ∷ [])))
         (bracket (record { square = square; terms = ts }))
 
-  -- the terms in a bracket, one or more, separated by commas
+  -- the text of one or more terms in a bracket, separated by commas, and these terms
   pub data SpellsTerms : ℕ → List ℕ → List Term → Type 0 where
     first_term : (k : ℕ) (before s : List ℕ) (t : Term) → AreBlanks before → Spells k s t
         → SpellsTerms k (before ++ s) (t ∷ [])
@@ -84,7 +86,8 @@ mutual
         → AreBlanks before → AreBlanks after → Spells k s t
         → SpellsTerms k (row ++ (before ++ (codes "," ++ (after ++ s)))) (ts ++ t ∷ [])
 
--- an integer or an unquoted atom ends only before a byte that cannot belong to it
+-- the term with the spelling s ends before the text rest: if it is an integer or an atom without quotes, the first byte
+-- of rest cannot belong to it
 abbrev pub Ends : List ℕ → List ℕ → Type 0
 Ends s rest =
     (begins (λ b. is_digit b || (b == 45)) s ≡ true → begins is_digit rest ≡ false)

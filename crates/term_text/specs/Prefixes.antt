@@ -1,9 +1,9 @@
--- What the reader can find after the bytes that it has taken.
+-- The states of the reader after it has read some bytes, and the terms that it can still find.
 use Rattle.std.specs.Prelude.{◌≡◌, ℕ, ◌+◌, List, [], ◌∷◌, ◌++◌, false}
 use Rattle.ets_term.specs.declared.term.Term.{Term}
 use Rattle.term_text.specs.inside.Reader.{wants, Reading, reads_on, found, fails, take_byte, reading}
 
--- the state after some bytes
+-- the state after some bytes, the first of which is at an offset, from the state before
 abbrev pub state : ℕ → Reading → List ℕ → Reading
 state at s [] = s
 state at s (b ∷ bs) = state (at + 1) (take_byte at s b) bs

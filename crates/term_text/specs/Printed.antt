@@ -6,11 +6,11 @@ use Rattle.ets_term.specs.declared.term.Term.{Term, fold-Term}
 use Rattle.ets_term.specs.declared.term.Term.TheOpen.{Term-F}
 use Rattle.term_text.specs.Text.{is_lowercase, is_name, begins}
 
--- a lowercase letter, then letters, digits, `_` and `@`: an atom that needs no quotes
+-- whether an atom needs no quotes: its text is a lowercase letter, then letters, digits, `_` and `@`
 abbrev pub is_plain : List ℕ → Bool
 is_plain s = begins is_lowercase s && list_all is_name s
 
--- a character between single quotes: a `\` precedes a quote and a `\`
+-- the text of a character between single quotes: a `\` comes before a single quote and before a `\`
 abbrev pub escaped : ℕ → List ℕ
 escaped c = if (c == 39) || (c == 92) then codes "\\" ++ c ∷ [] else c ∷ []
 
@@ -18,16 +18,17 @@ escaped c = if (c == 39) || (c == 92) then codes "\\" ++ c ∷ [] else c ∷ []
 abbrev pub atom_text : List ℕ → List ℕ
 atom_text s = if is_plain s then s else codes "'" ++ (flat_map escaped s ++ codes "'")
 
--- a comma, except before the first
+-- a comma before an item that has an earlier one: if `later` is true
 abbrev pub comma_if : Bool → List ℕ
 comma_if later = if later then codes "," else []
 
--- texts separated by commas
+-- the texts, separated by commas; if `later` is true, there is also a comma before the first
 abbrev pub comma_separated : Bool → List (List ℕ) → List ℕ
 comma_separated later [] = []
 comma_separated later (s ∷ ss) = comma_if later ++ (s ++ comma_separated true ss)
 
--- `<0.7.0>`, `#Tid<7>`, `{a,b}`, `[1,2]` and `<<97,98>>`
+-- the printed text of a term, from the texts of its elements: for example `<0.7.0>`, `#Tid<7>`, `{a,b}`, `[1,2]` and
+-- `<<97,98>>`
 abbrev pub printed_form : Term-F (List ℕ) → List ℕ
 printed_form (Term-F.Int n) = signed_decimal n
 printed_form (Term-F.Atom s) = atom_text s

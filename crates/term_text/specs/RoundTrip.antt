@@ -7,8 +7,8 @@ use Rattle.term_text.specs.Grammar.{Ends}
 use Rattle.term_text.specs.inside.Reader.{found, reading}
 use Rattle.term_text.specs.Printed.{printed}
 
--- The printed text of a term of at most max_depth levels is read as this term, to its last byte, if the text after it
--- does not continue its integer or unquoted atom.
+-- If a term has at most max_depth levels, its printed text is read as this term, to its last byte. If the term is an
+-- integer or an atom without quotes, the text after it must not begin with a byte that continues it.
 abbrev pub ReadsBack : Term → List ℕ → Type 0
 ReadsBack t rest =
     Fits t → depth t ≤ max_depth → Ends (printed t) rest

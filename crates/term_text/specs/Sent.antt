@@ -2,11 +2,11 @@
 use Rattle.std.specs.Prelude.{◌≡◌, ℕ, List, ◌++◌, Option, Result, Ok, Err}
 use Rattle.std.specs.Io.KnownBytes.{Appends}
 
--- a prefix of the text was appended
+-- a prefix of the text was appended to the content of a sink
 abbrev pub AppendsFront : Option (List ℕ) → Option (List ℕ) → List ℕ → Type 0
 AppendsFront old new text = (sent rest : List ℕ) × (text ≡ sent ++ rest) × Appends old new sent
 
--- the text was appended or, if the call failed, a prefix of it
+-- the text was appended to the content of a sink or, if the call failed, a prefix of it was
 abbrev pub AppendsOrFront : {A E : Type 0} → Option (List ℕ) → Option (List ℕ) → List ℕ → Result A E → Type 0
 AppendsOrFront old new text (Ok x) = Appends old new text
 AppendsOrFront old new text (Err e) = AppendsFront old new text

@@ -1,45 +1,46 @@
 -- The classes of bytes in a text.
 use Rattle.std.specs.Prelude.{ℕ, ◌+◌, ◌-◌, ◌*◌, List, [], ◌∷◌, Bool, false, ◌&&◌, ◌||◌, ◌==◌, nat_le, if◌then◌else◌}
 
--- space, tab, line feed and carriage return
+-- whether a byte is blank: space, tab, line feed or carriage return
 unfoldable pub is_blank : ℕ → Bool
 is_blank b = (b == 32) || (b == 9) || (b == 10) || (b == 13)
 
--- `0` to `9`
+-- whether a byte is a digit, `0` to `9`
 unfoldable pub is_digit : ℕ → Bool
 is_digit b = nat_le 48 b && nat_le b 57
 
--- `a` to `z`
+-- whether a byte is a lowercase letter, `a` to `z`
 unfoldable pub is_lowercase : ℕ → Bool
 is_lowercase b = nat_le 97 b && nat_le b 122
 
--- the bytes after the first in an unquoted atom: letters, digits, `_` and `@`
+-- whether an atom without quotes may contain a byte: ASCII letters, digits, `_` and `@`
 unfoldable pub is_name : ℕ → Bool
 is_name b = is_lowercase b || (nat_le 65 b && nat_le b 90) || is_digit b || (b == 95) || (b == 64)
 
--- the quotes of an atom and of a string
+-- the quote of an atom
 abbrev pub apostrophe : ℕ
 apostrophe = 39
 
+-- the quote of a string
 abbrev pub quotation_mark : ℕ
 quotation_mark = 34
 
--- the sign that closes a list or a tuple
+-- whether a byte closes a list (true) or a tuple
 unfoldable pub closes : Bool → ℕ → Bool
 closes square b = if square then b == 93 else b == 125
 
--- the bytes that a term can begin with: `{`, `[`, `-`, `'`, `"`, `<`, `#`, digits and lowercase letters
+-- whether a term can begin with a byte: `{`, `[`, `-`, `'`, `"`, `<`, `#`, a digit or a lowercase letter
 unfoldable pub begins_term : ℕ → Bool
 begins_term b =
     (b == 123) || (b == 91) || (b == 45) || (b == 39) || (b == 34) || (b == 60) || (b == 35)
     || is_digit b || is_lowercase b
 
--- the decimal number of the digits at the front, after those of n
+-- the decimal number of the digits at the start of a text, if n is the number of the digits before them
 abbrev pub spelled : ℕ → List ℕ → ℕ
 spelled n [] = n
 spelled n (b ∷ bs) = if is_digit b then spelled (n * 10 + (b - 48)) bs else n
 
--- there is a first byte, and it passes
+-- whether there is a first byte and it passes the test
 abbrev pub begins : (ℕ → Bool) → List ℕ → Bool
 begins p [] = false
 begins p (b ∷ bs) = p b

@@ -12,7 +12,8 @@ use crate::quoted::quoted_at;
 use ets_term::{Items, Term};
 use std::alloc::Global;
 
-/// Reads the bytes of a binary, one or more, and returns them with the offset after them and blanks.
+/// Reads the bytes of a binary: one or more numbers, separated by commas. Returns the bytes, and the offset after them
+/// and after blanks.
 #[tactic(auto, using(crate::proofs::Binaries::bytes_end, crate::proofs::Binaries::comma_byte, crate::proofs::Binaries::wants_digit, crate::proofs::Blanks::after_byte_ignores, crate::proofs::Blanks::wants_byte_ignores, crate::proofs::Offsets::begins_in))]
 fn bytes_at(alloc: Global, text: &[u8], at: usize) -> Result<(Items<u8>, usize), TextFault>
     requires { at ≤ length text.now }
@@ -32,7 +33,7 @@ fn bytes_at(alloc: Global, text: &[u8], at: usize) -> Result<(Items<u8>, usize),
     }
 }
 
-/// Reads a binary of bytes, after its `<<` and blanks.
+/// Reads a binary with bytes, after its `<<` and blanks.
 fn byte_binary_at(alloc: Global, text: &[u8], at: usize) -> Result<(Term, usize), TextFault>
     requires { at ≤ length text.now }
     ensures within { EndsWithin text.now at result }
@@ -43,7 +44,7 @@ fn byte_binary_at(alloc: Global, text: &[u8], at: usize) -> Result<(Term, usize)
     Ok((Term::Binary(bytes), end))
 }
 
-/// Reads a binary of a string, after the opening quote.
+/// Reads a binary with a string, after the opening quote.
 #[tactic(auto, using(crate::proofs::Binaries::string_ends, crate::proofs::Blanks::after_string_ignores))]
 fn string_binary_at(alloc: Global, text: &[u8], at: usize) -> Result<(Term, usize), TextFault>
     requires { at ≤ length text.now }
@@ -56,7 +57,7 @@ fn string_binary_at(alloc: Global, text: &[u8], at: usize) -> Result<(Term, usiz
     Ok((Term::Binary(bytes), end))
 }
 
-/// Reads a binary after its `<<`.
+/// Reads a binary after its `<<`: with a string, with bytes, or empty.
 #[tactic(auto, using(crate::proofs::Binaries::opened_quote, crate::proofs::Binaries::opened_digit, crate::proofs::Binaries::opened_ends, crate::proofs::Blanks::opened_binary_ignores, crate::proofs::Offsets::reads_along, crate::proofs::Offsets::begins_in))]
 fn binary_at(alloc: Global, text: &[u8], at: usize) -> Result<(Term, usize), TextFault>
     requires { at ≤ length text.now }

@@ -6,7 +6,7 @@ ghost use Rattle.term_text.specs.inside.Parts.{is_square};
 
 use ets_term::{Items, Term};
 
-/// A bracket around terms.
+/// A kind of bracket around terms.
 #[derive(Clone, Copy)]
 pub(crate) enum Bracket {
     /// `[` and `]`, of a list.
@@ -27,7 +27,7 @@ impl Bracket {
         }
     }
 
-    /// Returns the list or tuple of the terms.
+    /// Returns the list or tuple with these elements.
     pub(crate) fn enclose(self, terms: Items<Term>) -> Term
         ensures { result ≡ bracket (record { square = is_square self; terms = terms }) }
     {

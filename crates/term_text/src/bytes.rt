@@ -1,4 +1,4 @@
-//! Classes of bytes, and runs of blanks and names.
+//! Classes of bytes, and functions that skip blanks and names.
 ghost use Rattle.std.specs.Prelude.{◌≡◌, ◌+◌, ◌≤◌, ◌==◌, length, drop, false};
 ghost use Rattle.ets_term.specs.Character.{is_character};
 ghost use Rattle.std.specs.List.{prefix_len};
@@ -22,7 +22,7 @@ pub fn is_digit_byte(b: u8) -> bool
     b >= b'0' && b <= b'9'
 }
 
-/// Returns whether the byte is a letter from `a` to `z`, as a name begins with.
+/// Returns whether the byte is a letter from `a` to `z`. Atoms without quotes begin with such a letter.
 #[tactic(auto, unfolding(crate::specs::Text::is_lowercase))]
 pub fn is_lowercase_byte(b: u8) -> bool
     ensures { result ≡ is_lowercase b }
@@ -30,7 +30,7 @@ pub fn is_lowercase_byte(b: u8) -> bool
     b >= b'a' && b <= b'z'
 }
 
-/// Returns whether the byte may follow in a name: an ASCII letter, a digit, `_` or `@`.
+/// Returns whether an atom without quotes may contain the byte: an ASCII letter, a digit, `_` or `@`.
 #[tactic(auto, unfolding(crate::specs::Text::is_name))]
 pub fn is_name_byte(b: u8) -> bool
     ensures { result ≡ is_name b }
@@ -77,7 +77,7 @@ pub(crate) fn digit_at(text: &[u8], at: usize) -> bool
     at < text.len() && is_digit_byte(text[at])
 }
 
-/// Returns the offset of the first byte from `at` on that is not blank.
+/// Returns the offset of the first byte, from `at` on, that is not blank, or the end of the text.
 #[tactic(auto, using(crate::proofs::Blanks::stops_here, crate::proofs::Blanks::stops_end, crate::proofs::Blanks::stays_more))]
 pub(crate) fn past_blanks(text: &[u8], at: usize) -> usize
     requires { at ≤ length text.now }
@@ -92,7 +92,7 @@ pub(crate) fn past_blanks(text: &[u8], at: usize) -> usize
     offset
 }
 
-/// Returns the offset of the first byte from `at` on that no name contains.
+/// Returns the offset of the first byte, from `at` on, that an atom without quotes may not contain.
 pub(crate) fn past_name(text: &[u8], at: usize) -> usize
     requires { at ≤ length text.now }
     ensures end { result ≡ at + prefix_len is_name (drop at text.now) }

@@ -6,13 +6,13 @@ use std::alloc::{AllocError, AllocFailed};
 /// A syntax error: why a text does not begin with a term. Offsets are in bytes, from 0.
 #[derive(Debug, Clone, Copy, PartialEq, Eq)]
 pub enum TextFault {
-    /// No term continues with the byte at this offset.
+    /// No text of a term continues with the byte at this offset.
     Unexpected(usize),
     /// The text ends inside the term; the value is the length of the text.
     Unclosed(usize),
     /// A number is out of its range. It begins at this offset, with its minus sign if it has one.
     OutOfRange(usize),
-    /// A term, or a character of a string, is at level 129.
+    /// At this offset a term, or a character of a string, is at level 129.
     TooDeep(usize),
     /// An atom has more than 255 characters. It begins at this offset.
     AtomTooLong(usize),

@@ -7,7 +7,7 @@ use crate::fault::TextFault;
 use crate::number::{Magnitude, number_at};
 use ets_term::{Integer, Term};
 
-/// Returns the greatest magnitude of a negative or other integer.
+/// Returns the greatest magnitude of a negative integer, or of an integer that is not negative.
 fn integer_limit(negative: bool) -> Magnitude
     ensures { result ≡ max_magnitude (integer negative) }
 {
@@ -30,7 +30,7 @@ fn signed_value(negative: bool, n: Magnitude) -> Integer
     }
 }
 
-/// Reads the integer whose digits begin at `at`. With its sign it begins at `start`.
+/// Reads the integer whose digits begin at `at`. The integer begins at `start`: with its minus sign, if it has one.
 pub(crate) fn integer_at(
     text: &[u8],
     at: usize,

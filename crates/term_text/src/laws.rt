@@ -1,4 +1,5 @@
-//! The laws that tie the reader to the grammar and to the table of faults.
+//! The laws that relate the reader to the grammar and to the table of faults. Each law is the contract of a function
+//! with an empty body.
 ghost use Rattle.std.specs.Prelude.{◌≡◌, ◌++◌, ℕ, List};
 ghost use Rattle.term_text.specs.Faults.{IsFault};
 ghost use Rattle.term_text.specs.Prefixes.{CanReachTerm, HasNoFault, so_far};
@@ -8,7 +9,8 @@ ghost use Rattle.term_text.specs.RoundTrip.{ReadsBack};
 ghost use Rattle.ets_term.specs.declared.term.Term.{Term};
 ghost use Rattle.term_text.specs.declared.fault.TextFault.{TextFault};
 
-/// A fault is noticed at the earliest byte: what comes before it can be completed to a term, and with it nothing can.
+/// The reader notices a fault at the earliest byte: the text before this byte can be completed to a term, and no text
+/// that also contains this byte can.
 pub fn faults_are_noticed_first()
     ensures before { (bs : List ℕ) → HasNoFault (so_far bs) → CanReachTerm bs }
     ensures from { (bs : List ℕ) (f : TextFault) (more : List ℕ) → so_far bs ≡ fails f
@@ -22,14 +24,14 @@ pub fn found_exactly_where_spelled()
     ensures found { (text : List ℕ) (t : Term) (n : ℕ) → Front text t n → reading text ≡ found t n }
 {}
 
-/// A printed term of at most 128 levels is read back as the same term, to its last byte. The text after it must not
-/// continue its last integer or unquoted atom.
+/// If a term has at most 128 levels, its printed text is read as the same term, to the last byte. The text after it
+/// must not continue its last integer or unquoted atom.
 pub fn printed_text_reads_as_itself()
     ensures same { (t : Term) (rest : List ℕ) → ReadsBack t rest }
 {}
 
-/// The reader returns a fault if and only if the fault's row of the table holds for the text. Its offset is the length
-/// of a text that could continue, or else belongs to the first byte with which no text can.
+/// The reader returns a fault if and only if the fault's row in the table of faults holds for the text: the text ends
+/// inside a term, or the fault is that of the first byte with which no text of a term can continue.
 pub fn faults_say_why()
     ensures noticed { (text : List ℕ) (f : TextFault) → reading text ≡ fails f → IsFault text f }
     ensures reported { (text : List ℕ) (f : TextFault) → IsFault text f → reading text ≡ fails f }

@@ -1,21 +1,24 @@
 //! Reads a term from its text or reports the first syntax error, and prints each term in one form.
 //!
 //! *Guarantee.* `read_term` returns a term and a number of bytes only if these bytes are blanks and a spelling of the
-//! term. Otherwise it returns the fault of the first byte with which no text can continue, or of the text's end.
-//! `print_term`, `append_term` and `write_term` print one text per term: into a string, into bytes, into a writer.
-//! `read_term` reads it as the term again if it has at most 128 levels.
+//! term. Otherwise it returns the fault of the first byte with which no text of a term can continue, or of the end of
+//! the text. `print_term`, `append_term` and `write_term` print one text per term: into a string, into bytes, or into a
+//! writer. If the term has at most 128 levels, `read_term` reads this text as the term again.
 //!
-//! *Weakness.* Every function that allocates may run out of memory: no contract says when memory is available. Nor does
-//! one say when `write_term` may fail, only that a prefix of the text was written then.
+//! *Weakness.* Every function that allocates may run out of memory: no contract says when memory is available. No
+//! contract says when `write_term` fails, only that a prefix of the text is then written.
 //!
-//! *Mechanism.* The code is a recursive descent in one pass, without backtracking, that counts the levels left. Digits,
-//! names and blanks are read in runs. The proofs go through a second definition: an automaton that takes one byte after
-//! another and has a fault where no next state exists. Laws tie the automaton to the grammar.
+//! *Mechanism.* The code is a recursive descent in one pass, without backtracking, which counts how many more levels it
+//! may open. Digits, names and blanks are read in loops. The proofs go through a second definition: an automaton that
+//! takes one byte after another and has a fault where no next state exists. Laws relate the automaton to the grammar.
 //!
 //! *Limits.* `read_term` reads at most 128 levels, so its stack is bounded. The printer also prints deeper terms, by a
 //! recursion as deep as the term. An atom has at most 255 characters, an integer 128 bits.
 #![tactic(auto)]
 
+// The modules of the reader: `reading`, classes of `bytes`, a `bracket`, a `number`, an `integer`, an atom without
+// quotes (`name`), a text in quotes (`quoted`, `quote_form`), a `binary`, and faults (`fault`). Of the printer:
+// `print`, `printer` and `sink`. Of both: `laws`.
 mod binary;
 mod bracket;
 mod bytes;

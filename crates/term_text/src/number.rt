@@ -1,4 +1,4 @@
-//! Reads numbers and fixed signs.
+//! Reads decimal numbers and fixed characters.
 ghost use Rattle.std.specs.Prelude.{◌≡◌, ◌+◌, ◌-◌, ◌*◌, ◌≤◌, ◌<◌, ℕ, List, true, false, get_or, length, drop, IfOk, OnErr, MatchOption};
 ghost use Rattle.term_text.specs.inside.Parts.{digits_end, ReadsNumber, ReadsSigns};
 ghost use Rattle.term_text.specs.Text.{is_digit, spelled};
@@ -9,7 +9,7 @@ use crate::fault::TextFault;
 /// The magnitude of a number: its value without the sign.
 pub type Magnitude = u128;
 
-/// A number below this bound has room for one more digit in 64 bits.
+/// If a number is below this bound, it still fits in 64 bits after one more digit.
 const SHORT_BOUND: u64 = u64::MAX / 10;
 
 /// Returns the value of a digit.
@@ -34,8 +34,8 @@ fn with_digit(n: Magnitude, digit: Magnitude, limit: Magnitude) -> Option<Magnit
     Some(n * 10 + digit)
 }
 
-/// Reads digits from this offset on while the number surely fits in 64 bits. Returns the number and the offset after
-/// the digits read.
+/// Reads decimal digits from this offset on, up to a number of at least `SHORT_BOUND`, so that it fits in 64 bits.
+/// Returns the number and the offset after the digits that were read.
 fn short_digits_at(text: &[u8], at: usize) -> (u64, usize)
     requires { at ≤ length text.now }
     ensures value { spelled result.0 (drop result.1 text.now) ≡ spelled 0 (drop at text.now) }
@@ -51,8 +51,8 @@ fn short_digits_at(text: &[u8], at: usize) -> (u64, usize)
     (n, offset)
 }
 
-/// Reads the decimal digits from this offset on. Returns their number, 0 if there are none, and the offset after them.
-/// Returns `None` if the number exceeds the limit.
+/// Reads the decimal digits from this offset on. Returns the number that they write, 0 if there are no digits, and the
+/// offset after them. Returns `None` if the number exceeds the limit.
 #[tactic(auto, using(crate::proofs::Numbers::spelled_grows))]
 pub fn digits_at(text: &[u8], at: usize, limit: Magnitude) -> Option<(Magnitude, usize)>
     requires within { at ≤ length text.now }
@@ -77,8 +77,8 @@ pub fn digits_at(text: &[u8], at: usize, limit: Magnitude) -> Option<(Magnitude,
     Some((n, offset))
 }
 
-/// Reads the number that must begin at this offset, and returns it with the offset after its digits. With its sign it
-/// begins at `start`.
+/// Reads the number whose digits must begin at `at`, and returns it with the offset after its digits. `start` is the
+/// offset of its minus sign, or of its first digit, for the fault if it is out of range.
 pub(crate) fn number_at(
     text: &[u8],
     at: usize,
@@ -102,7 +102,7 @@ pub(crate) fn number_at(
     }
 }
 
-/// Checks that the text has these signs at the offset, and returns the offset after them.
+/// Checks that the text has these characters at the offset, and returns the offset after them.
 pub(crate) fn literal_at(text: &[u8], at: usize, signs: &[u8]) -> Result<usize, TextFault>
     requires { at ≤ length text.now }
     ensures within { IfOk result (λ n. (at ≤ n) × (n ≤ length text.now)) }

@@ -49,7 +49,7 @@ pub fn append_term(term: &Term, out: &mut Vec<u8>) -> Result<(), AllocError>
     Ok(())
 }
 
-/// Writes the text of a term and allocates nothing. If the writer fails, it has taken a prefix of the text.
+/// Writes the text of a term into a writer. Allocates nothing. If the writer fails, it has taken a prefix of the text.
 pub fn write_term<W: Write>(term: &Term, out: &mut W) -> Result<(), WriteFault>
     ensures { AppendsOrFront (W.contents out.old) (W.contents out.new) (printed term.now) result }
 {

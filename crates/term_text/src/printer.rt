@@ -12,7 +12,7 @@ use crate::sink::Sink;
 use ets_term::{Atom, Integer, Term};
 use itoa::Buffer;
 
-/// Appends the text of a term.
+/// Appends the text of a term to a sink.
 #[cycle(append)]
 pub(crate) fn append<S: Sink>(term: &Term, out: &mut S) -> Result<(), S::Fault>
     ensures { AppendsOrFront (S.contents out.old) (S.contents out.new) (printed term.now) result }
@@ -28,7 +28,7 @@ pub(crate) fn append<S: Sink>(term: &Term, out: &mut S) -> Result<(), S::Fault>
     }
 }
 
-/// Appends terms, separated by commas, between two signs.
+/// Appends terms, separated by commas, between the texts `front` and `back`.
 #[cycle(append)]
 fn append_items<S: Sink>(
     front: &str,
@@ -49,7 +49,7 @@ fn append_items<S: Sink>(
     out.write_str(back)
 }
 
-/// Appends bytes, separated by commas, between two signs.
+/// Appends bytes in decimal, separated by commas, between the texts `front` and `back`.
 fn append_bytes<S: Sink>(front: &str, bytes: &[u8], back: &str, out: &mut S) -> Result<(), S::Fault>
     ensures { AppendsOrFront (S.contents out.old) (S.contents out.new)
         (front.now ++ (comma_separated false (map decimal bytes.now) ++ back.now)) result }
@@ -64,14 +64,14 @@ fn append_bytes<S: Sink>(front: &str, bytes: &[u8], back: &str, out: &mut S) -> 
     out.write_str(back)
 }
 
-/// Appends a comma, except before the first item.
+/// Appends a comma before an item that has an earlier one: if `later` is true.
 fn append_comma<S: Sink>(later: bool, out: &mut S) -> Result<(), S::Fault>
     ensures { AppendsOrFront (S.contents out.old) (S.contents out.new) (comma_if later) result }
 {
     if later { out.write_str(",") } else { Ok(()) }
 }
 
-/// Appends a number between two signs.
+/// Appends a number in decimal, between the texts `front` and `back`.
 fn append_number<S: Sink>(front: &str, n: u32, back: &str, out: &mut S) -> Result<(), S::Fault>
     ensures { AppendsOrFront (S.contents out.old) (S.contents out.new) (front.now ++ (decimal n ++ back.now)) result }
 {
@@ -117,14 +117,14 @@ fn is_plain_text(bytes: &[u8]) -> bool
     }
 }
 
-/// Returns whether a name may contain each of the bytes.
+/// Returns whether an atom without quotes may contain each of the bytes.
 fn are_name_bytes(bytes: &[u8]) -> bool
     ensures { result ≡ list_all is_name bytes.now }
 {
     bytes.iter().all(|b| is_name_byte(*b))
 }
 
-/// Appends characters between single quotes.
+/// Appends characters between single quotes, as the text of an atom.
 fn append_quoted<S: Sink>(text: &str, out: &mut S) -> Result<(), S::Fault>
     requires { list_all is_character text.now ≡ true }
     ensures { AppendsOrFront (S.contents out.old) (S.contents out.new)
@@ -157,7 +157,7 @@ fn needs_escape(b: u8) -> bool
     b == b'\'' || b == b'\\'
 }
 
-/// Appends the characters between two offsets, and a `\`.
+/// Appends the characters between two offsets, and then a `\`.
 fn append_piece<S: Sink>(text: &str, start: usize, end: usize, out: &mut S) -> Result<(), S::Fault>
     requires ascii { list_all is_character text.now ≡ true }
     requires within { (start ≤ end) × (end ≤ length text.now) }

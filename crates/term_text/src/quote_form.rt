@@ -5,19 +5,19 @@ ghost use Rattle.term_text.specs.inside.Parts.{IsShort, RefusesNext};
 use crate::fault::TextFault;
 use ets_term::MAX_CHARACTERS;
 
-/// The forms whose text has quotes.
+/// The kind of a text in quotes.
 #[derive(Clone, Copy)]
 pub(crate) enum QuoteForm {
-    /// An atom. Its opening quote is at this offset.
+    /// An atom in single quotes. Its opening quote is at this offset.
     Atom(usize),
-    /// A string, which is a list.
+    /// A string, which is read as a list of integers.
     String,
     /// A string in a binary.
     Binary,
 }
 
 impl QuoteForm {
-    /// Returns the quote of the form.
+    /// Returns the quote character of this kind of text.
     pub(crate) fn quote(self) -> u8
         ensures { result ≡ quote self }
     {
@@ -27,7 +27,8 @@ impl QuoteForm {
         }
     }
 
-    /// Returns the fault of one more character at this offset, after `n` others, or `None` if the form allows it.
+    /// Returns the fault if one more character, after `n` others, is not allowed: the atom is too long, or the string
+    /// is at the last level. Returns `None` if it is allowed. `at` is the offset of the character.
     pub(crate) fn fault_of_next(self, at: usize, n: usize, out_of_levels: bool) -> Option<TextFault>
         ensures refuses { RefusesNext at self n out_of_levels result }
         ensures short { result ≡ None → IsShort self n → IsShort self (n + 1) }

@@ -1,4 +1,4 @@
-//! Reads the forms whose text has quotes.
+//! Reads texts in quotes: atoms, strings, and strings in binaries.
 ghost use Rattle.std.specs.Prelude.{◌≡◌, ◌+◌, ◌≤◌, ◌<◌, ◌==◌, ◌∷◌, [], List, map, true, false, length, IfOk, IsTrue, slice_index};
 ghost use Rattle.std.specs.List.{list_all};
 ghost use Rattle.ets_term.specs.Character.{is_character};
@@ -29,8 +29,8 @@ fn escape_at(text: &[u8], at: usize, quotes: QuoteForm) -> Result<(u8, usize), T
     Ok((b, at + 1))
 }
 
-/// Reads the character at this offset, which is not the closing quote and has `n` before it. Returns it with the offset
-/// after it.
+/// Reads one character at this offset, which is not the closing quote. `n` is the number of characters before it.
+/// Returns the character and the offset after it.
 fn character_at(
     text: &[u8],
     at: usize,
@@ -101,7 +101,7 @@ pub(crate) fn quoted_atom_at(
     Ok((Term::Atom(name), end))
 }
 
-/// Reads a string after its opening quote, as the list of its characters' codes.
+/// Reads a string after its opening quote, as a list of integers, the codes of its characters.
 pub(crate) fn string_at(
     alloc: Global,
     text: &[u8],

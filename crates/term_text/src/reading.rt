@@ -1,4 +1,4 @@
-//! Reads terms by recursive descent, and counts the levels left.
+//! Reads terms by recursive descent. `levels_left` is the number of levels that may still be opened.
 ghost use Rattle.std.specs.Prelude.{◌≡◌, ◌+◌, ◌≤◌, ◌<◌, ◌∷◌, List, true, false, length, IfOk, IfErr, slice_index};
 ghost use Rattle.term_text.specs.inside.Reader.{OpenBracket, wants, reads_on, opening, begin, reading};
 ghost use Rattle.term_text.specs.Faults.{IsFaultOrMemory};
@@ -16,9 +16,9 @@ use crate::quoted::{quoted_atom_at, string_at};
 use ets_term::{Items, MAX_DEPTH, Term};
 use std::alloc::Global;
 
-/// Reads the term at the front of the text. Returns it with the number of bytes that it and the blanks before it take.
-/// Otherwise returns the fault of the first byte with which no term can continue, or of the end of the text. Returns
-/// `Memory` if memory runs out.
+/// Reads the term at the start of the text, after blanks. Returns the term, and the number of bytes of the blanks and
+/// the term. Otherwise returns the fault of the first byte with which no text of a term can continue, or of the end of
+/// the text. Returns `Memory` if memory runs out.
 pub fn read_term(alloc: Global, text: &str) -> Result<(Term, usize), TextFault>
     ensures found { IfOk result (λ x. Front text.now x.0 x.1) }
     ensures fault { IfErr result (λ f. IsFaultOrMemory text.now f) }
@@ -32,13 +32,14 @@ pub fn read_term(alloc: Global, text: &str) -> Result<(Term, usize), TextFault>
 pub fn read_term_bytes(alloc: Global, text: &[u8]) -> Result<(Term, usize), TextFault>
     ensures found { IfOk result (λ x. Front text.now x.0 x.1) }
     ensures fault { IfErr result (λ f. IsFaultOrMemory text.now f) }
-    // Follows from the two clauses above by the laws. Specifications of lines and calls need the result as a function.
+    // This clause follows from the two clauses above, by the laws. Specifications of lines and calls need the result as
+    // a function of the text.
     ensures exactly { ReaderReturns (reading text.now) result }
 {
     term_at(alloc, text, 0, MAX_DEPTH)
 }
 
-/// Reads the term that must begin here, after blanks, with `levels_left` levels left.
+/// Reads the term that must begin at `at` or after blanks there. It may have at most `levels_left` levels.
 #[inline(always)]
 #[cycle(term)]
 fn term_at(
@@ -59,7 +60,8 @@ fn term_at(
     form_at(alloc, text, start, levels_left)
 }
 
-/// Reads the term whose first byte is here. Most terms are atoms without quotes, or integers.
+/// Reads the term whose first byte is at `at`. First tests for an atom without quotes or an integer, because most terms
+/// are such.
 #[inline(always)]
 #[cycle(term)]
 fn form_at(
@@ -84,7 +86,7 @@ fn form_at(
     any_form_at(alloc, text, at, levels_left)
 }
 
-/// Reads the term of any form whose first byte is here.
+/// Reads the term, of any kind, whose first byte is at `at`.
 #[inline(never)]
 #[cycle(term)]
 fn any_form_at(
@@ -123,7 +125,7 @@ fn any_form_at(
     }
 }
 
-/// Reads a tuple or list after its opening sign, with `levels_left` levels left inside.
+/// Reads a tuple or list after its opening bracket. Its elements may have at most `levels_left` levels.
 #[cycle(term)]
 fn bracket_at(
     alloc: Global,

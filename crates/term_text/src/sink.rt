@@ -1,22 +1,22 @@
-//! Sinks: a string or a writer that takes a text piece by piece.
+//! Sinks take a text piece by piece: a string, bytes in memory, or a writer.
 ghost use Rattle.std.specs.Prelude.{◌≡◌, Option, List, ℕ};
 ghost use Rattle.term_text.specs.Sent.{AppendsOrFront};
 
 use std::alloc::AllocError;
 use std::io::{Error, Write};
 
-/// Takes a text piece by piece.
+/// A destination of a text, which takes it piece by piece.
 pub(crate) trait Sink {
     type Fault: Drop;
 
     ghost contents: { Self → Option (List ℕ) };
 
-    /// Appends a piece. If it fails, a prefix of the piece was appended.
+    /// Appends a piece. If this fails, a prefix of the piece is appended.
     fn write_str(&mut self, piece: &str) -> Result<(), Self::Fault>
         ensures { AppendsOrFront (contents self.old) (contents self.new) piece.now result };
 }
 
-/// A sink in memory.
+/// A sink that appends to a string.
 #[derive(Drop)]
 pub(crate) struct StringSink {
     pub(crate) text: String,
@@ -34,7 +34,7 @@ impl Sink for StringSink {
     }
 }
 
-/// A sink of bytes in memory.
+/// A sink that appends to bytes in memory.
 #[derive(Drop)]
 pub(crate) struct BytesSink {
     pub(crate) bytes: Vec<u8>,
@@ -56,7 +56,7 @@ impl Sink for BytesSink {
 /// Why a text was not written completely.
 #[derive(Debug, Drop)]
 pub enum WriteFault {
-    /// The writer took no bytes.
+    /// The writer returned that it took 0 bytes.
     Zero,
     /// The writer returned this error.
     Io(Error),
@@ -72,7 +72,7 @@ impl<W: Write> Sink for W {
     }
 }
 
-/// Writes all bytes. If it fails, a prefix of them was written.
+/// Writes all bytes into a writer. If it fails, a prefix of them is written.
 pub fn write_bytes<W: Write>(bytes: &[u8], out: &mut W) -> Result<(), WriteFault>
     ensures { AppendsOrFront (W.contents out.old) (W.contents out.new) bytes.now result }
 {

@@ -26,7 +26,7 @@ impl<H: KeyHash + Copy + Drop> SplitRows<H> {
         Ok(())
     }
 
-    /// Inserts a slot for a key that has none. Memory must be reserved, and `hash` must be the key's hash.
+    /// Inserts a slot for a key that has no slot. Memory must be reserved, and `hash` must be the key's hash.
     pub(super) fn insert_slot(&mut self, hash: u32, key: Term, objects: Chain)
         requires room { 1 ≤ self.old.room }
         requires new { objects_of self.old.slots key ≡ None }

@@ -5,7 +5,7 @@ use node_list::{At, Link};
 use std::alloc::{AllocError, Global};
 use std::marker::Model;
 
-/// A segment of the directory has the links of at most this many buckets, which are 128 KiB.
+/// The greatest number of links in a segment of the directory, one link per bucket: 128 KiB.
 const LINKS_PER_SEGMENT: usize = 16384;
 
 /// The directory: for each bucket the place of its dummy, or none if the bucket is not ready. It is stored in segments,
@@ -18,6 +18,7 @@ pub struct Directory {
     buckets: usize,
 }
 
+// The value that contracts see of this type (`view`), and what is true of its fields between calls (`invariant`).
 impl Model for Directory {
     ghost use Rattle.std.specs.Prelude.{List, Option, ℕ};
     ghost use Rattle.std.specs.Coded.{coded_list, coded_option, coded_ℕ};
@@ -85,7 +86,7 @@ impl Directory {
         }
     }
 
-    /// Doubles the number of buckets. The new ones are not ready.
+    /// Doubles the number of buckets. The new buckets are not ready.
     pub fn double(&mut self) -> Result<(), AllocError>
         requires { length self.old < 2 ^ 20 }
         ensures ok { OnOk result (self.new ≡ self.old ++ replicate (length self.old) None) }

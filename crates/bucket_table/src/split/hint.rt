@@ -2,12 +2,14 @@ ghost use Rattle.std.specs.Prelude.{◌≡◌, ◌⊎◌, Some, None};
 
 use std::marker::Model;
 
-/// A hint about the first item of an interval, in one word: unknown, empty, or the place of the item.
+/// A hint about the first item of an interval, in a word of 32 bits: unknown (the greatest number), empty (the greatest
+/// but one), or the place of the item.
 #[derive(Clone, Copy)]
 pub struct Hint {
     word: u32,
 }
 
+// The value that contracts see of this type (`view`), and what is true of its fields between calls (`invariant`).
 impl Model for Hint {
     ghost use Rattle.std.specs.Prelude.{Option, ℕ, ◌<◌, ◌^◌};
 
@@ -50,7 +52,7 @@ impl Hint {
         }
     }
 
-    /// Returns the hint of a place if this hint is empty, and else this hint.
+    /// If this hint is empty, returns the hint of a place. Otherwise returns this hint.
     pub fn or_place(self, place: usize) -> Hint
         ensures empty { self ≡ Some None → (result ≡ None) ⊎ (result ≡ Some (Some place)) }
         ensures other { (self ≡ Some None) ⊎ (result ≡ self) }

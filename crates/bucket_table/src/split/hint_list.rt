@@ -7,7 +7,7 @@ use node_list::At;
 use std::alloc::{AllocError, Global};
 use std::marker::Model;
 
-/// A call frees the memory of at most this many hints, which are 16 KiB. So no call takes long.
+/// The greatest number of hints that one call frees, 16 KiB. So no call takes long.
 const MAX_HINTS_FREED: usize = 4096;
 
 /// A list of hints, one for each interval. Past the end of the list hints are unknown.
@@ -16,6 +16,7 @@ pub struct HintList {
     hints: Vec<Hint>,
 }
 
+// The value that contracts see of this type (`view`).
 impl Model for HintList {
     ghost use Rattle.std.specs.Prelude.{List, Option, ℕ};
     ghost use Rattle.std.specs.Coded.{coded_list, coded_option, coded_ℕ};
@@ -46,8 +47,8 @@ impl HintList {
         Ok(HintList { hints })
     }
 
-    /// Replaces the hints by `count` unknown ones, with memory for `intervals`. The memory is new, because growing a
-    /// block would copy it.
+    /// Replaces the hints by `count` unknown hints, and allocates memory for `intervals` hints. The memory is new,
+    /// because growing the old block would copy it.
     pub fn renew(&mut self, intervals: usize, count: usize) -> Result<(), AllocError>
         ensures ok { OnOk result (AreUnknown self.new) }
         ensures err { OnErr result (self.new ≡ self.old) }
@@ -75,7 +76,7 @@ impl HintList {
         self.hints.len()
     }
 
-    /// Adds unknown hints, up to `len` hints in all. Without memory it does nothing.
+    /// Adds unknown hints, up to `len` hints in all. If memory is refused, it does nothing.
     pub fn extend_unknown(&mut self, len: usize)
         ensures { HaveSameHints self.old self.new }
     {
@@ -113,7 +114,7 @@ impl HintList {
         }
     }
 
-    /// Sets the hint of an interval to a place, if `is_first` is set.
+    /// If `is_first` is true, sets the hint of an interval to a place.
     pub fn set_first(&mut self, is_first: bool, interval: usize, at: At)
         ensures { SetsFirst is_first interval at self.old self.new }
     {
@@ -122,7 +123,7 @@ impl HintList {
         }
     }
 
-    /// Replaces the hint of an interval if it is `at`.
+    /// Replaces the hint of an interval by `hint` if it is the place `at`.
     pub fn replace_first(&mut self, interval: usize, at: At, hint: Hint)
         ensures { ReplacesFirst interval at hint self.old self.new }
     {

@@ -1,6 +1,8 @@
 ghost use Rattle.std.specs.Prelude.{◌≡◌, ◌⊎◌, ◌<◌, ◌/◌, ◌^◌, [], Some, None, IfOk, IfSome, replicate};
 ghost use Rattle.bucket_table.specs.inside.Intervals.{IsNearestBelow};
 
+// The modules: the hint of the `first` item of an interval, the hints of one number of buckets (`generation`), the
+// `refresh` of an unknown hint, and the `rehash` of the previous hints.
 mod first;
 mod generation;
 mod refresh;
@@ -10,13 +12,13 @@ use super::hint_list::HintList;
 use node_list::At;
 use std::alloc::{AllocError, Global};
 
-/// A bucket has this many intervals.
+/// The number of intervals of a bucket.
 pub const INTERVALS_PER_BUCKET: usize = 8;
 
-/// A split key has this many bits.
+/// The number of bits of a split key.
 const SPLIT_KEY_BITS: u32 = 33;
 
-/// A search for the nearest known hint reads the hints of at most this many intervals.
+/// The greatest number of intervals whose hints `nearest_below` reads.
 const MAX_INTERVALS_SCANNED: usize = 64;
 
 /// A cache of the first item of each interval of split keys, and the cache from before the last doubling. The
@@ -53,8 +55,8 @@ impl Hints {
         (split_key >> self.interval_bits) as usize
     }
 
-    /// Returns the first item of the nearest lower interval whose hint has one, down to the interval `floor`. It
-    /// reads current and previous hints.
+    /// Returns the place of the first item of the nearest lower interval whose hint has a place. Reads the current and
+    /// previous hints of at most `MAX_INTERVALS_SCANNED` intervals, down to the interval `floor`.
     pub fn nearest_below(&self, floor: usize, interval: usize) -> Option<At>
         ensures { IfSome result (λ at. IsNearestBelow floor interval at self.now.current
             ⊎ IsNearestBelow (floor / 2) (interval / 2) at self.now.previous) }
@@ -74,7 +76,8 @@ impl Hints {
         None
     }
 
-    /// Returns the first item of the nearest lower interval of the same bucket whose current hint has one.
+    /// Returns the place of the first item of the nearest lower interval of the same bucket whose current hint has a
+    /// place.
     #[inline(always)]
     pub fn bucket_hint_below(&self, interval: usize) -> Option<At>
         ensures { IfSome result (λ at. IsNearestBelow 0 interval at self.now.current) }

@@ -3,6 +3,8 @@ ghost use Rattle.node_list.specs.Cells.{new_cell};
 ghost use Rattle.bucket_table.specs.inside.Directory.{IsFirstUnready};
 ghost use Rattle.bucket_table.specs.inside.SplitIndex.{RowsInvariant};
 
+// The modules: ready `buckets`, the operations `find`, `insert`, `remove` and `sweep`, the `start` of a search, and the
+// `rebuild` of hints.
 mod buckets;
 mod find;
 mod insert;
@@ -18,7 +20,7 @@ use ets_term::KeyHash;
 use node_list::NodeList;
 use std::alloc::{AllocError, Global};
 
-/// A split-ordered list, the directory of its dummies and the hints. Each method keeps the three consistent.
+/// A split-ordered list, the directory of its dummies and the hints. Each method keeps these three consistent.
 #[derive(Drop)]
 pub struct SplitIndex<H: KeyHash + Copy + Drop> {
     pub hasher: H,

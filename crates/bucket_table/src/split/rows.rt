@@ -13,6 +13,7 @@ use split_key::dummy_key;
 use std::alloc::AllocError;
 use std::mem;
 
+// The trait `Rows` documents these methods. The place of a slot is that of its item in the list of nodes.
 impl<H: KeyHash + Copy + Drop> Rows for SplitRows<H> {
     ghost content = { λ s. s.slots };
 
@@ -139,6 +140,7 @@ impl<H: KeyHash + Copy + Drop> Rows for SplitRows<H> {
     fn replace_at(&mut self, place: Place, objects: Chain) -> Chain {
         self.index.list.reveal_invariant();
         let hash = item_hash(self.index.list.key(place));
+        // A slot without objects is a tombstone, which the next purge finds by its hash.
         self.log.log_hash(objects.len() == 0, hash);
         let chain = self.index.list.chain_mut(place);
         mem::replace(chain, objects)
@@ -184,6 +186,8 @@ impl<H: KeyHash + Copy + Drop> Rows for SplitRows<H> {
         if buckets >= MAX_BUCKETS {
             return Ok(Growth::AtMost);
         }
+        // Both steps that may run out of memory come first. The new hints are put in `previous`; the swap makes them the
+        // current hints. There are twice as many intervals, so a split key is shifted by one bit less.
         self.index
             .hints
             .start_generation(2 * INTERVALS_PER_BUCKET * buckets)?;

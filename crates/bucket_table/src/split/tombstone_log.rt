@@ -5,10 +5,10 @@ ghost use Rattle.bucket_table.specs.declared.split.sweep.SweepMode.TheVariants.{
 use super::sweep::SweepMode;
 use std::alloc::Global;
 
-/// The log has room for one hash per this many nodes, if memory allows.
+/// The number of nodes for which the log reserves room for one hash, if memory allows.
 const NODES_PER_HASH: usize = 16;
 
-/// The hashes of the slots that became tombstones since the last purge. If the log overflowed, some are missing.
+/// The hashes of the slots that became tombstones since the last purge. If `overflowed` is true, some may be missing.
 #[derive(Drop)]
 pub struct TombstoneLog {
     pub hashes: Vec<u32>,
@@ -39,7 +39,8 @@ impl TombstoneLog {
         }
     }
 
-    /// Logs the hash of a slot if the slot is a tombstone. It allocates no memory: without room the log overflows.
+    /// Adds the hash of a slot to the log if the slot is a tombstone. It allocates no memory: if there is no room, the
+    /// log overflows.
     pub fn log_hash(&mut self, is_tombstone: bool, hash: u32)
         ensures { LogsHash is_tombstone hash self.old.overflowed self.old.hashes.items
             self.new.overflowed self.new.hashes.items }
@@ -54,7 +55,8 @@ impl TombstoneLog {
         }
     }
 
-    /// Resets the log after a sweep of all slots. Only a sweep that removes the tombstones leaves a complete log.
+    /// Empties the log after a sweep of all slots. The empty log is complete only if the sweep removed the tombstones;
+    /// otherwise it counts as overflowed.
     pub fn reset_after(&mut self, mode: SweepMode)
         ensures { self.new.overflowed ≡ false → mode ≡ RemoveTombstones }
     {

@@ -6,8 +6,8 @@ use Rattle.ets_term.specs.Depth.{is_too_deep}
 use Rattle.counters.specs.Elements.{has_all, make_too_deep, with_values}
 use Rattle.counters.specs.declared.elements.ElementSpec.{ElementSpec}
 
--- given an object that is not too deep and has each position, the values make it too deep exactly if the object with
--- them is too deep
+-- for an object that is not too deep and has each position: the test of the values alone says that they are too deep
+-- exactly if the object with these values is too deep
 abbrev pub MakesTooDeep : List ElementSpec → List Term → Type 0
 MakesTooDeep specs elements =
     is_too_deep (Tuple elements) ≡ false → has_all (length elements) specs ≡ true

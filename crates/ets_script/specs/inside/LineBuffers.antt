@@ -56,16 +56,16 @@ FindsIn bytes is_skipping NeedsMore = IsOneLine bytes
 abbrev pub Finds : LineBufferState → NextLine → Type 0
 Finds h next = FindsIn h.bytes h.is_skipping next
 
--- bytes without an LF stay
+-- the buffered bytes have no LF, and stay
 abbrev pub Stays : LineBufferState → LineBufferState → Type 0
 Stays old new = (new.bytes ≡ old.bytes) × (old.is_skipping ≡ false) × (new.is_skipping ≡ false)
 
--- they are discarded with those before them, if they are too many for a line
+-- the buffered bytes are discarded, because their line is too long
 abbrev pub IsPassed : LineBufferState → LineBufferState → Type 0
 IsPassed old new =
     (new.bytes ≡ []) × (new.is_skipping ≡ true) × ((old.is_skipping ≡ true) ⊎ (MAX_LINE < length old.bytes))
 
--- either of these, and the buffered bytes are few then
+-- the buffered bytes stay, or are discarded; then at most MAX_LINE bytes are buffered
 pub record Waits (old new : LineBufferState) : Type 0 where
   pub short : length new.bytes ≤ MAX_LINE
   pub reads : new.reads ≡ old.reads

@@ -12,13 +12,13 @@ use Rattle.ets_script.specs.declared.command.CallLine.TheVariants as lines
 use Rattle.ets_script.specs.declared.command.Command.{Command}
 use Rattle.ets_script.specs.declared.command.Command.TheVariants.{Faulty, Spawn, Exit, Ask, Grow, Ready}
 
--- what was parsed, or the fault; or out of memory, for what takes memory
+-- the result is what the grammar gives, a value or a fault; or memory ran out
 abbrev pub Gives : {R A : Type 0} → (R → Read A) → Result R ParseStop → Read A → Type 0
 Gives view (Ok r) wanted = wanted ≡ view r
 Gives view (Err (Fault rest)) wanted = wanted ≡ fault rest.now
 Gives view (Err Memory) wanted = ⊤
 
--- the same for what takes none
+-- the same for parsing that takes no memory
 abbrev pub GivesExactly : {R A : Type 0} → (R → Read A) → Result R ParseStop → Read A → Type 0
 GivesExactly view (Ok r) wanted = wanted ≡ view r
 GivesExactly view (Err (Fault rest)) wanted = wanted ≡ fault rest.now
@@ -36,8 +36,8 @@ command_view (Ready t b) = spec.ready t b
 abbrev pub IsCaller : List ℕ → Type 0
 IsCaller word = (bs : List ℕ) → spec.by_word word bs ≡ spec.ask_command word bs
 
--- a call with these arguments, whose word is an atom's text; or out of memory, for a line that is not silent; nothing of
--- another line
+-- a call with these arguments, whose name is an atom's text; or out of memory, only for a line that is not silent;
+-- `Other` says nothing of the line
 abbrev pub FindsCall : List ℕ → List Term → CallLine → Type 0
 FindsCall line terms (lines.Call name word) = Means line (spec.ask name.now word.now terms) × IsAtomText word.now
 FindsCall line terms lines.Other = ⊤

@@ -14,27 +14,27 @@ use Rattle.ets_script.specs.declared.fault.ScriptFault.TheVariants.{Read, Memory
 use Rattle.ets_script.specs.inside.LineBuffers.{LineBufferState, EndsLine}
 use Rattle.ets_script.specs.inside.PlanCodes.{LimitedPlanState}
 
--- no line yet, and a greatest number of names
+-- the plan of no lines, with this greatest number of names
 abbrev pub no_lines : ℕ → LimitedPlanState
 no_lines max_names = record { max_names = max_names; plan = empty_plan }
 
--- a planned answer is added
+-- the plan with one more planned answer
 abbrev pub with_answer : Answer → LimitedPlanState → LimitedPlanState
 with_answer answer l = record l { plan = add_answer answer l.plan }
 
--- a job for the process of this number, if there is one
+-- the plan with one more job for the process with this number, if there is one
 abbrev pub with_job : Option ℕ → Job → LimitedPlanState → LimitedPlanState
 with_job number job l = record l { plan = add_job_for number job l.plan }
 
--- a name that is spawned
+-- the plan with one more spawned name
 abbrev pub with_name : List ℕ → LimitedPlanState → LimitedPlanState
 with_name name l = record l { plan = add_spawn l.max_names (index_of l.plan name) name l.plan }
 
--- what a command says
+-- the plan with what a command adds
 abbrev pub with_command : Command → LimitedPlanState → LimitedPlanState
 with_command command l = record l { plan = add_command l.max_names command l.plan }
 
--- a line is added, and lines in order
+-- the plan with what a line adds; and with what lines add, in order
 abbrev pub with_line : Line → LimitedPlanState → LimitedPlanState
 with_line line l = record l { plan = line_plan l.max_names line l.plan }
 

@@ -26,7 +26,7 @@ use Rattle.ets_script.specs.declared.processes.RunResult.{RunResult}
 abbrev pub AreSeatsOf : Pids → List Seat → Type 0
 AreSeatsOf pids seats = All (λ s. s.seat.table_id ≡ pids.table.shared.table_id) seats
 
--- the client of a process that was enrolled, and did nothing yet
+-- a new client of a process: its record has only the enrolment
 abbrev pub IsNew : ℕ → RecordState → Type 0
 IsNew p client = (r : Reply) × (client ≡ record { pid = p; entries = entry (Enrol p) r ∷ [] })
 
@@ -37,12 +37,12 @@ AreEnrolled p (jobs ∷ others) (x ∷ xs) = IsNew p x.0 × (x.1.items ≡ jobs)
 AreEnrolled p [] (x ∷ xs) = ⊥
 AreEnrolled p (jobs ∷ others) [] = ⊥
 
--- a process did its jobs, in order, all but the last n
+-- a process ran its jobs, in order, without the last n
 abbrev pub DidJobs : ℕ → List Job → RecordState → ℕ → Type 0
 DidJobs p jobs client n =
     (client.pid ≡ p) × (n ≤ length jobs) × (map (λ e. e.step) client.entries ≡ steps_done p jobs n)
 
--- from process p on, each did
+-- from process p on, each process ran its jobs in this way
 abbrev pub HaveRun : ℕ → List (List Job) → List RecordState → List ℕ → Type 0
 HaveRun p [] [] [] = Unit {0}
 HaveRun p (jobs ∷ others) (client ∷ clients) (n ∷ left) =
@@ -60,7 +60,7 @@ Stops limits Memory = ⊤
 Stops limits (Differs p) = IsUnclosed limits (close.Differs p)
 Stops limits (Missing p) = IsUnclosed limits (close.Missing p)
 
--- the reader had a whole script, and the jobs of its processes were done
+-- a whole script was read, and the jobs of its processes were run
 pub record RunsInput (limits : Limits) (reader : Flow) (planned : PlannedAnswers) (run : RunResult) : Type 0 where
   pub input : List ℕ
   pub lines : List Line

@@ -52,7 +52,7 @@ pub fn parse_end(text: &[u8]) -> Result<(), ParseStop<'_>>
     }
 }
 
-/// Parses a bucket.
+/// Parses the number of a bucket.
 pub fn parse_bucket(text: &[u8]) -> Result<(u32, &[u8]), ParseStop<'_>>
     ensures { GivesExactly (λ r. read r.0 r.1.now) result (spec.bucket text.now) }
 {
@@ -65,7 +65,7 @@ pub fn parse_bucket(text: &[u8]) -> Result<(u32, &[u8]), ParseStop<'_>>
     }
 }
 
-/// Parses what follows an argument, and returns whether one more must come, and the rest.
+/// Parses what follows an argument: a comma, or the closing parenthesis. Returns whether an argument must follow.
 pub fn parse_separator(text: &[u8]) -> Result<(bool, &[u8]), ParseStop<'_>>
     ensures { GivesExactly (λ r. read r.0 r.1.now) result (spec.separator text.now) }
 {

@@ -1,4 +1,4 @@
-// Calls of a script's processes, and steps of its node.
+// Makes the calls of a script's processes, and runs the steps of its node.
 ghost use Rattle.std.specs.Prelude.{◌≡◌, ◌⊎◌, [], Some, IfSome};
 ghost use Rattle.ets_script.specs.Commands as spec;
 ghost use Rattle.ets_script.specs.declared.answer.Answer.TheVariants.{NoMemory};
@@ -11,7 +11,7 @@ use node_core::{Call, Step};
 use std::alloc::Global;
 
 impl<H: KeyHash + Copy + Drop> Script<H> {
-    /// Makes a call for the process of a name.
+    /// Makes a call for the process with this name.
     #[inline(always)]
     pub(super) fn ask(&mut self, name: &[u8], call: Call, answer: &mut Answer)
         ensures { Executes (spec.ask name.now call.name call.args) self.old answer.new self.new
@@ -28,7 +28,7 @@ impl<H: KeyHash + Copy + Drop> Script<H> {
         }
     }
 
-    /// Returns an empty list for the arguments of a call, with the memory of the call before.
+    /// Returns an empty list for the arguments of a call, with the memory of the previous call's arguments.
     #[inline(always)]
     pub(super) fn take_arguments(&mut self, alloc: Global) -> Items<Term>
         ensures empty { result ≡ [] }
@@ -64,7 +64,7 @@ impl<H: KeyHash + Copy + Drop> Script<H> {
         self.arguments = Some(terms);
     }
 
-    /// Returns the process of a name that makes a call. Most calls are of the process of the call before.
+    /// Returns the process with this name, which makes a call. Most calls have the same process as the previous call.
     #[inline(always)]
     fn caller(&mut self, name: &[u8]) -> Option<u32>
         ensures pid { result ≡ pid_of self.old name.now }
@@ -80,12 +80,12 @@ impl<H: KeyHash + Copy + Drop> Script<H> {
         pid
     }
 
-    /// Returns the process of the call before, if this is its name.
+    /// Returns the process of the previous call, if this is its name.
     #[inline(always)]
     fn last_caller_named(&self, name: &[u8]) -> Option<u32>
         ensures { IfSome result (λ p. pid_of self.now name.now ≡ Some p) }
     {
-        // The clause of `len` says that names differ.
+        // The contract of `len` gives the proof that all names are different.
         let _count = self.names.len();
         match self.names.get_index(self.last_caller as usize) {
             Some(last_name) if name == last_name.as_slice() => Some(self.last_caller),
@@ -93,8 +93,8 @@ impl<H: KeyHash + Copy + Drop> Script<H> {
         }
     }
 
-    /// Runs a step of the node. The reply uses the memory of the one before. An object that is inserted moves out of the
-    /// step.
+    /// Runs a step of the node. The reply uses the memory of the previous reply. A single object that is inserted moves
+    /// out of the step.
     #[inline(always)]
     pub(super) fn step(&mut self, step: &mut Step, answer: &mut Answer)
         ensures { Steps self.old step.old answer.new self.new
@@ -112,7 +112,7 @@ impl<H: KeyHash + Copy + Drop> Script<H> {
         }
     }
 
-    /// Runs a step of the node after an answer that is no reply.
+    /// Runs a step of the node after an answer that is not a reply, so that there is no memory to use again.
     #[inline(never)]
     fn step_anew(&mut self, step: &Step) -> Answer
         ensures { Steps self.old step.now result self.new

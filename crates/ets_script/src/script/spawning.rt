@@ -15,7 +15,7 @@ use node_core::{Node, Reply, Step};
 use std::alloc::Global;
 
 impl<H: KeyHash + Copy + Drop> Script<H> {
-    /// Enrols the next number for a name. Reserves capacity for the name first.
+    /// Enrols a process with the next number, under this name. Reserves capacity for the name first.
     #[inline(never)]
     pub(super) fn spawn(&mut self, alloc: Global, name: &[u8]) -> Answer
         ensures { Spawns (pid_of self.old name.now) self.old name.now result self.new
@@ -38,7 +38,7 @@ impl<H: KeyHash + Copy + Drop> Script<H> {
     }
 }
 
-/// Enrols a number for a new name, for which there is capacity.
+/// Enrols a process with this number, under a new name, for which there is capacity.
 fn enrol<H: KeyHash + Copy + Drop>(
     names: &mut IndexSet<Vec<u8>>,
     node: &mut Node<H>,

@@ -1,4 +1,4 @@
--- A term is the term of its tree.
+-- The tree of a term determines the term.
 use Rattle.std.specs.Prelude.{◌≡◌, List, [], ◌∷◌, map, refl}
 use Rattle.std.proofs.Common.{sym, ap, ◌∙◌, rules, subst}
 use Rattle.ets_term.specs.declared.term.Term.{Term, ind-Term, fold-roll-Term, the_lemmas}

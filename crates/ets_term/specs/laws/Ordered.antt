@@ -117,7 +117,7 @@ both_equal Equal b h = (refl, h)
 both_equal Greater b h = cc
 
 mutual
-  -- terms that compare as equal are one term
+  -- trees that compare as equal are the same tree
   pub order_exact : (d e : Data) → data_order d e ≡ Equal → d ≡ e
   order_exact (int m) (int n) h = ap int (int_exact m n h)
   order_exact (atom s) (atom t) h = ap atom (texts_exact s t h)

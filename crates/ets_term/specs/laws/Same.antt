@@ -1,4 +1,4 @@
--- `same` answers true exactly for terms that are built alike.
+-- `same` is true exactly for terms that are built alike: of the same kind, with equal parts.
 use Rattle.std.specs.Prelude.{◌≡◌, true}
 use Rattle.std.specs.declared.cmp.Ordering.TheVariants.{Equal}
 use Rattle.std.specs.Cmp.{Equal-is}

@@ -9,21 +9,22 @@ use Rattle.table_ops.specs.Refusals.{Change, RefinesChange}
 use Rattle.fixed_walk.specs.Fixes.{is_fixed}
 use Rattle.fixed_walk.specs.TableState.{TableState, on_content}
 
--- the first keys are among the second, in the same order
+-- all keys of the first list are in the second list, in the same order
 abbrev pub IsSubsequence : List Term → List Term → Type 0
 IsSubsequence [] others = Unit {0}
 IsSubsequence (key ∷ keys) [] = ⊥
 IsSubsequence (key ∷ keys) (other ∷ others) =
     ((key ≡ other) × IsSubsequence keys others) ⊎ IsSubsequence (key ∷ keys) others
 
--- if no key has two slots before, none has after; if the table is fixed before and after, the keys of its slots before
--- are among those after, in the same order
+-- a change keeps the keys: if no key has two slots before, no key has two slots after; and if the table is fixed before
+-- and after, all keys that have slots before have slots after, in the same order
 pub record KeepsKeys (old new : TableState) : Type 0 where
   pub distinct : HasDistinctKeys old.content.slots → HasDistinctKeys new.content.slots
   pub order : is_fixed old.fixes ≡ true → is_fixed new.fixes ≡ true
       → IsSubsequence (keys_of old.content.slots) (keys_of new.content.slots)
 
--- each outcome of a change of the content keeps the keys; the change gets whether it leaves tombstones
+-- each outcome of a change of the content keeps the keys; the argument of `change` is true if the table is fixed, that
+-- is, if the change leaves tombstones
 abbrev pub AlwaysKeepsKeys : {X : Type 0} → (Bool → Content → Change X Content) → Type 0
 AlwaysKeepsKeys {X} change =
     (old new : TableState) (r : Result X Refusal)

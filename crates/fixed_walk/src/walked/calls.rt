@@ -18,8 +18,8 @@ use ets_term::{Items, Position, Term};
 use std::alloc::AllocError;
 use table_ops::Refusal;
 
-/// The calls on objects, each with the meaning of the same call of `Table`. A slot that loses its last object stays as
-/// a tombstone while the table is fixed.
+/// The calls on objects. Each does what the same method of `Table` does. If the table is fixed, a slot that loses its
+/// last object stays as a tombstone.
 impl<R: Rows> Walked<R> {
     /// Returns the objects of a key, oldest first (stdlib manual, ets:lookup/2).
     pub fn lookup(&self, key: &Term) -> &[Term]
@@ -35,9 +35,9 @@ impl<R: Rows> Walked<R> {
         self.table.member(key)
     }
 
-    /// Returns a copy of the element at `position`, from 1, of the key's object; in a bag, the list of these elements
-    /// of all its objects. Refuses with `Badarg` if the key has no object, or one of its objects has no such element
-    /// (stdlib manual, ets:lookup_element/3).
+    /// Returns a copy of the element at `position`, counted from 1, of the key's object. In a bag, returns the list of
+    /// these elements of all objects with the key. Refuses with `Badarg` if the key has no object, or one of its
+    /// objects has no such element (stdlib manual, ets:lookup_element/3).
     pub fn lookup_element(&self, key: &Term, position: Position) -> Result<Term, Refusal>
         ensures { ReturnsOrBadarg (lookup_element self.now.content.kind position
             (objects_under self.now.content.slots key.now)) result }
@@ -45,8 +45,8 @@ impl<R: Rows> Walked<R> {
         self.table.lookup_element(key, position)
     }
 
-    /// Returns what `lookup_element` does, but a copy of `default` if the key has no object. Refuses position 0 with
-    /// `Badarg` then too (stdlib manual, ets:lookup_element/4).
+    /// Returns what `lookup_element` returns, but a copy of `default` if the key has no object. Even then it refuses
+    /// position 0 with `Badarg` (stdlib manual, ets:lookup_element/4).
     pub fn lookup_element_or(
         &self,
         key: &Term,
@@ -67,8 +67,8 @@ impl<R: Rows> Walked<R> {
     }
 
     /// Inserts objects one after another, or none of them if one is refused (stdlib manual, ets:insert/2). Refuses with
-    /// `Badarg` if one is no object, and with `SystemLimit` if one is too deep or the table would pass its limit. A key
-    /// that was deleted while the table is fixed comes back at its place.
+    /// `Badarg` if one is not an object, and with `SystemLimit` if one is too deep or the table would pass its limit.
+    /// If the key has a tombstone, the object is inserted in this slot.
     #[tactic(auto, using(crate::proofs::TombstoneLaws::no_tombstones))]
     pub fn insert(&mut self, objects: &[Term]) -> Result<(), Refusal>
         ensures { RefinesChange (on_content (Inserts objects.now) self.old) self.old result self.new }
@@ -85,7 +85,7 @@ impl<R: Rows> Walked<R> {
     }
 
     /// Inserts objects if none of their keys has an object, and returns whether it did (stdlib manual,
-    /// ets:insert_new/2). Refuses what `insert` refuses, but `SystemLimit` only if no key has an object.
+    /// ets:insert_new/2). Refuses what `insert` refuses, but with `SystemLimit` only if no key has an object.
     #[tactic(auto, using(crate::proofs::TombstoneLaws::no_tombstones))]
     pub fn insert_new(&mut self, objects: &[Term]) -> Result<bool, Refusal>
         ensures { RefinesChange (on_content (InsertsNew objects.now) self.old) self.old result self.new }
@@ -94,14 +94,14 @@ impl<R: Rows> Walked<R> {
     }
 
     /// Updates the counters of a key's object in place and returns the new value, or the list of new values for a list
-    /// of operations (stdlib manual, ets:update_counter/3 and /4). If the key has no object, it updates the Default
-    /// with that key and inserts it; a key that was deleted while the table is fixed comes back at its place.
+    /// of operations (stdlib manual, ets:update_counter/3 and /4). If the key has no object, it sets the key in
+    /// the Default, updates the counters of this object and inserts it, in the key's tombstone if there is one.
     ///
     /// Refuses with `Badarg`
-    /// - a bag,
-    /// - an operation on the key's element or on a position without an integer,
-    /// - a Default that is no object, even if it is not needed,
-    /// - a key without object if there is no Default.
+    /// - a table that is not a set,
+    /// - an operation on the element at keypos, or on a position without an integer,
+    /// - a Default that is not an object, even if the key has an object,
+    /// - a key without an object, if there is no Default.
     ///
     /// Refuses with `SystemLimit` a new value that is out of range, and a new object that is too deep or past the
     /// limit.
@@ -131,13 +131,14 @@ impl<R: Rows> Walked<R> {
     }
 
     /// Writes elements of a key's object in place and returns `true` (stdlib manual, ets:update_element/3 and /4). If
-    /// the key has no object, it writes them into the Default with that key and inserts it, also for no values; a key
-    /// that was deleted while the table is fixed comes back at its place. Without a Default it returns `false`.
+    /// the key has no object, it sets the key and the elements in the Default and inserts this object, even if there
+    /// are no values. If the key has a tombstone, the object is inserted in this slot. If there is no Default either,
+    /// it returns `false`.
     ///
     /// Refuses with `Badarg`
-    /// - a bag,
-    /// - a value for the key's element,
-    /// - a Default that is no object, even if it is not needed,
+    /// - a table that is not a set,
+    /// - a value for the element at keypos,
+    /// - a Default that is not an object, even if the key has an object,
     /// - a position that the object does not have.
     ///
     /// Refuses with `SystemLimit` an object that would be too deep or past the limit.
@@ -192,8 +193,8 @@ impl<R: Rows> Walked<R> {
         self.table.take(key, hold)
     }
 
-    /// Deletes every instance of an object (stdlib manual, ets:delete_object/2). Refuses with `Badarg` if the term is
-    /// no object.
+    /// Deletes all objects that equal `object` (stdlib manual, ets:delete_object/2). Refuses with `Badarg` if the term
+    /// is not an object.
     #[tactic(auto, using(crate::proofs::TombstoneLaws::no_tombstones))]
     pub fn delete_object(&mut self, object: &Term) -> Result<(), Refusal>
         ensures { on_content (DeletesObject (is_fixed self.old.fixes) object.now)

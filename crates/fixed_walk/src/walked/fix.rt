@@ -7,15 +7,15 @@ use crate::fault::FixFault;
 use bucket_table::Rows;
 
 impl<R: Rows> Walked<R> {
-    /// Returns whether a process fixes the table.
+    /// Returns whether some process fixes the table.
     pub fn is_fixed(&self) -> bool
         ensures { result ≡ is_fixed self.now.fixes }
     {
         self.fixes.is_fixed()
     }
 
-    /// Adds one fix of a process (stdlib manual, ets:safe_fixtable/2). Refuses with `SystemLimit` if the process has
-    /// 4,294,967,295. Its time does not depend on the number of fixes.
+    /// Adds one fix of a process (stdlib manual, ets:safe_fixtable/2). Refuses with `SystemLimit` if the process
+    /// already has 4,294,967,295. Its time does not depend on the number of fixes.
     #[tactic(auto, using(crate::proofs::TombstoneLaws::no_tombstones))]
     pub fn fix(&mut self, pid: u32) -> Result<(), FixFault>
         ensures { IncrementsFix pid self.old result self.new }
@@ -27,7 +27,7 @@ impl<R: Rows> Walked<R> {
         Ok(())
     }
 
-    /// Removes one fix of a process, if it has one. Removes the tombstones once no process fixes the table.
+    /// Removes one fix of a process, if it has one. If no process fixes the table then, removes all tombstones.
     #[tactic(auto, using(crate::proofs::TombstoneLaws::no_tombstones))]
     pub fn release(&mut self, pid: u32)
         ensures { self.new ≡ after_release pid self.old }
@@ -41,7 +41,7 @@ impl<R: Rows> Walked<R> {
         }
     }
 
-    /// Removes all fixes of a process, as when it exits. Removes the tombstones once no process fixes the table.
+    /// Removes all fixes of a process, as when it exits. If no process fixes the table then, removes all tombstones.
     #[tactic(auto, using(crate::proofs::TombstoneLaws::no_tombstones))]
     pub fn release_all(&mut self, pid: u32)
         ensures { self.new ≡ after_release_all pid self.old }

@@ -9,10 +9,11 @@ use ets_term::{Items, Term};
 use match_spec::{Pattern, Spec};
 use std::alloc::AllocError;
 
-/// The calls on patterns and match specifications, each with the meaning of the same call of `Table`.
+/// The calls with patterns and match specifications. Each does what the same method of `Table` does. If the table is
+/// fixed, a slot that loses its last object stays as a tombstone.
 impl<R: Rows> Walked<R> {
-    /// Returns, for each object that matches, the list of the values of the variables, in order of their numbers. The
-    /// lists come in the order of the slots (stdlib manual, ets:match/2).
+    /// Returns, for each object that matches, the list of the values of the variables, in order of the variables'
+    /// numbers. The lists are in the order of the slots (stdlib manual, ets:match/2).
     pub fn matches(&self, pattern: &Pattern) -> Result<Items<Term>, AllocError>
         ensures { ReturnsAllData result (answers_in (bound_in pattern.now) self.now.content) }
     {
@@ -34,7 +35,7 @@ impl<R: Rows> Walked<R> {
         self.table.select(spec)
     }
 
-    /// Returns the number of objects whose result is `true`, at most 4,294,967,295 (stdlib manual,
+    /// Returns the number of objects for which the result is `true`, at most 4,294,967,295 (stdlib manual,
     /// ets:select_count/2).
     pub fn select_count(&self, spec: &Spec) -> Result<usize, AllocError>
         ensures count { Returns result (chosen_in (is_chosen spec.now) self.now.content) }
@@ -53,8 +54,8 @@ impl<R: Rows> Walked<R> {
         self.table.match_delete(pattern, hold)
     }
 
-    /// Deletes the objects whose result is `true` and returns their number (stdlib manual, ets:select_delete/2). If
-    /// memory runs out, it changes nothing.
+    /// Deletes the objects for which the result is `true` and returns their number (stdlib manual,
+    /// ets:select_delete/2). If memory runs out, it changes nothing.
     #[tactic(auto, using(crate::proofs::TombstoneLaws::no_tombstones))]
     pub fn select_delete(&mut self, spec: &Spec) -> Result<usize, AllocError>
         ensures count { Returns result (chosen_in (is_chosen spec.now) self.old.content) }

@@ -9,7 +9,7 @@ use bucket_table::{Place, Rows};
 use ets_term::Term;
 
 impl<R: Rows> Walked<R> {
-    /// Returns the first key that has objects; None if no key has (stdlib manual, ets:first/1). It visits the
+    /// Returns the first key that has objects, or `None` if no key has (stdlib manual, ets:first/1). It visits the
     /// tombstones before that key.
     pub fn first(&self) -> Option<&Term>
         ensures { option_copied result ≡ first_key self.now.content.slots }
@@ -17,9 +17,9 @@ impl<R: Rows> Walked<R> {
         key_of(self.first_lookup())
     }
 
-    /// Returns the first key that has objects after the slot of this key; None at the end (stdlib manual, ets:next/2).
-    /// Refuses with `Badarg` if the key has no slot: in a fixed table, a deleted key still has one. It searches for the
-    /// key and visits the tombstones after it.
+    /// Returns the first key that has objects after the slot of this key, or `None` at the end (stdlib manual,
+    /// ets:next/2). Refuses with `Badarg` if the key has no slot. A key that was deleted while the table is fixed still
+    /// has a slot. It searches for the key, and then visits the tombstones after it.
     pub fn next(&self, key: &Term) -> Result<Option<&Term>, Badarg>
         ensures ok { IfOk result (λ found.
             next_key self.now.content.slots key.now ≡ Some (option_copied found)) }
@@ -29,7 +29,7 @@ impl<R: Rows> Walked<R> {
         Ok(key_of(found))
     }
 
-    /// Returns the first key that has objects, with its objects, oldest first; None if no key has (stdlib manual,
+    /// Returns the first key that has objects, with its objects, oldest first, or `None` if no key has (stdlib manual,
     /// ets:first_lookup/1). It visits the tombstones before that key.
     pub fn first_lookup(&self) -> Option<(&Term, &[Term])>
         ensures { option_map deref_pair result ≡ first_slot self.now.content.slots }
@@ -38,8 +38,9 @@ impl<R: Rows> Walked<R> {
         first_nonempty(rows, rows.first_place())
     }
 
-    /// Returns the first key that has objects after the slot of this key, with its objects, oldest first; None at the
-    /// end (stdlib manual, ets:next_lookup/2). Refuses with `Badarg` if the key has no slot. It costs what `next` does.
+    /// Returns the first key that has objects after the slot of this key, with its objects, oldest first, or `None` at
+    /// the end (stdlib manual, ets:next_lookup/2). Refuses with `Badarg` if the key has no slot. It takes as long as
+    /// `next`.
     pub fn next_lookup(&self, key: &Term) -> Result<Option<(&Term, &[Term])>, Badarg>
         ensures ok { IfOk result (λ found.
             next_slot self.now.content.slots key.now ≡ Some (option_map deref_pair found)) }
@@ -65,7 +66,7 @@ fn key_of<'a>(slot: Option<(&'a Term, &'a [Term])>) -> Option<&'a Term>
     }
 }
 
-/// Returns the first slot that has objects, from a place on.
+/// Returns the first slot that has objects, from the place `start` on, or `None` if there is none.
 fn first_nonempty<R: Rows>(rows: &R, start: Option<Place>) -> Option<(&Term, &[Term])>
     requires { HasSlotAt (R.key_at rows.now) start }
     ensures { option_map deref_pair result

@@ -1,4 +1,4 @@
--- Compiled match specifications. They are no part of what a match specification means.
+-- Compiled match specifications. They do not define what a match specification means.
 use Rattle.std.specs.Prelude.{◌&&◌, Bool, true, false, if◌then◌else◌, List, [], ◌∷◌, Option, Some, None, map, unwrap_or, codes}
 use Rattle.std.specs.Option.{option_map_or, option_and_then}
 use Rattle.ets_term.specs.Data.{Data, atom, list, DataList, no_terms, term, data_list, data_of}

@@ -1,4 +1,4 @@
--- Compiled expressions. They are no part of what an expression means.
+-- Compiled expressions. They do not define what an expression means.
 use Rattle.std.specs.Prelude.{ℕ, Bool, if◌then◌else◌, List, [], ◌∷◌, Option, Some, None, map, option_map, codes}
 use Rattle.std.specs.Str.{bytes_eq}
 use Rattle.std.specs.Option.{option_and_then}

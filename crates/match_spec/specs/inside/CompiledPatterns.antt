@@ -1,4 +1,4 @@
--- Compiled patterns. They are no part of what a pattern means.
+-- Compiled patterns. They do not define what a pattern means.
 use Rattle.std.specs.Prelude.{◌≡◌, ℕ, suc, ◌&&◌, Bool, true, false, if◌then◌else◌, List, [], ◌∷◌, ◌++◌, Option, Some, None, codes}
 use Rattle.std.specs.Str.{bytes_eq}
 use Rattle.ets_term.specs.declared.term.Term.TheVariants.{Atom}

@@ -1,4 +1,4 @@
--- The functions and connectives as the program names them, by its enums. They are no part of what an expression means.
+-- The functions and connectives as the program names them, by its enums. They do not define what an expression means.
 use Rattle.std.specs.Prelude.{ℕ, ℤ, pos, not, int_div, int_rem, ◌+ℤ◌, ◌-ℤ◌, ◌*ℤ◌, ◌==◌, ◌&&◌, ◌||◌, nat_lt, Bool, true, false, if◌then◌else◌, List, [], ◌∷◌, Option, Some, None, is_some, option_map, codes}
 use Rattle.std.specs.declared.cmp.Ordering.{Ordering}
 use Rattle.std.specs.Ordering.{is_eq, is_ne, is_lt, is_le, is_gt, is_ge, int_cmp}

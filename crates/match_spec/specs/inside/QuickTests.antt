@@ -1,4 +1,4 @@
--- Quick tests. They are no part of what a match specification means.
+-- Quick tests. They do not define what a match specification means.
 use Rattle.std.specs.Prelude.{◌≡◌, ◌==◌, ◌||◌, not, Bool, true, false, map, List, [], ◌∷◌, Option, Some, None, IfSome}
 use Rattle.std.specs.Option.{option_map_or}
 use Rattle.ets_term.specs.Data.{Data, int, tuple}

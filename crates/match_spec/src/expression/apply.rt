@@ -1,4 +1,4 @@
-// The application of functions to values.
+// Calls of functions of one or two values.
 ghost use Rattle.std.specs.Prelude.{◌≡◌, [], ◌∷◌, IfOk};
 ghost use Rattle.std.specs.Option.{option_map};
 ghost use Rattle.ets_term.specs.Data.{data_of};
@@ -22,7 +22,7 @@ fn owned_value<'a>(term: Option<Term>) -> Option<ExprValue<'a>>
     }
 }
 
-/// Applies a function to one value.
+/// Computes a call of a function of one value. Returns `None` if the call fails.
 pub(crate) fn apply_to_one<'a>(
     alloc: Global,
     function: Function,
@@ -36,7 +36,7 @@ pub(crate) fn apply_to_one<'a>(
     Ok(owned_value(eval_unary(alloc, function, x.term())?))
 }
 
-/// Applies a function to two values.
+/// Computes a call of a function of two values. Returns `None` if the call fails.
 pub(crate) fn apply_to_two<'a>(
     alloc: Global,
     function: Function,
@@ -52,7 +52,7 @@ pub(crate) fn apply_to_two<'a>(
     Ok(owned_value(eval_binary(alloc, function, x.term(), y.term())?))
 }
 
-/// Returns the first element of a list, or `None` if there is none.
+/// Computes `hd`: the first element of a list, or `None` if there is none. An element of a borrowed list is borrowed.
 fn eval_hd<'a>(alloc: Global, x: ExprValue<'a>) -> Result<Option<ExprValue<'a>>, AllocError>
     ensures { IfOk result (λ v. option_map value_data v ≡ head (value_data x.entry)) }
 {
@@ -68,7 +68,8 @@ fn eval_hd<'a>(alloc: Global, x: ExprValue<'a>) -> Result<Option<ExprValue<'a>>,
     }
 }
 
-/// Returns element `n` of a tuple, counted from 1, or `None` if there is none.
+/// Computes `element`: element `n` of a tuple, counted from 1, or `None` if there is none. An element of a borrowed
+/// tuple is borrowed.
 fn eval_element<'a>(
     alloc: Global,
     n: ExprValue<'a>,

@@ -46,7 +46,7 @@ pub(crate) fn eval_arithmetic(operation: ArithmeticOp, x: &Term, y: &Term) -> Op
     }
 }
 
-/// Computes the operator on two integers. Returns `None` if the result is out of range or the divisor is 0.
+/// Computes the result of the operator for two integers. Returns `None` if it is out of range or the divisor is 0.
 fn calculate(operation: ArithmeticOp, m: Integer, n: Integer) -> Option<Integer>
     ensures { result ≡ calculate operation m n }
 {
@@ -59,7 +59,7 @@ fn calculate(operation: ArithmeticOp, m: Integer, n: Integer) -> Option<Integer>
     }
 }
 
-/// Returns the remainder. The least integer has no quotient by -1, but a remainder.
+/// Returns the remainder, or `None` if `n` is 0. For -1 it is 0, also for the least integer, where `checked_rem` fails.
 fn remainder(m: Integer, n: Integer) -> Option<Integer>
     ensures { result ≡ calculate ArithmeticOp.Remainder m n }
 {
@@ -79,7 +79,7 @@ pub(crate) fn absolute_value(x: &Term) -> Option<Term>
     }
 }
 
-/// Returns a count as an integer.
+/// Returns a count as an integer term.
 pub(crate) fn count(n: usize) -> Option<Term>
     ensures { option_map data_of result ≡ count n }
 {
@@ -89,7 +89,7 @@ pub(crate) fn count(n: usize) -> Option<Term>
     }
 }
 
-/// Returns the integer as a term.
+/// Returns the integer as a term, if there is one.
 fn number(n: Option<Integer>) -> Option<Term>
     ensures { option_map data_of result ≡ option_map int n }
 {

@@ -1,4 +1,4 @@
-// The check of expressions.
+// The check of whether a term is an expression.
 ghost use Rattle.std.specs.Prelude.{◌≡◌, ◌&&◌, ◌||◌, drop, map};
 ghost use Rattle.ets_term.specs.Data.{tuple, data_of, data_list};
 ghost use Rattle.match_spec.specs.Expressions.{is_expression, are_expressions, is_constant, is_bound};
@@ -10,7 +10,7 @@ use crate::pattern::path::FirstPaths;
 use crate::variable::variable;
 use ets_term::Term;
 
-/// Checks whether the term is an expression, if the head binds these variables.
+/// Checks whether the term is an expression. It may use these variables, which the pattern of the clause binds.
 #[cycle(checked)]
 pub(crate) fn is_expression(term: &Term, bound_variables: &FirstPaths) -> bool
     ensures { result ≡ is_expression (numbers_of bound_variables.now.entries) (data_of term.now) }
@@ -23,7 +23,7 @@ pub(crate) fn is_expression(term: &Term, bound_variables: &FirstPaths) -> bool
     }
 }
 
-/// Checks whether the head binds this variable. No number means that the name is no variable.
+/// Checks whether the pattern of the clause binds this variable. `None` means that the name is not a variable.
 #[tactic(auto, using(crate::proofs::PathLaws::is_bound_lookup))]
 fn is_bound(number: Option<u32>, bound_variables: &FirstPaths) -> bool
     ensures { result ≡ is_bound (numbers_of bound_variables.now.entries) number }
@@ -72,7 +72,7 @@ fn is_tuple_expression(terms: &[Term], bound_variables: &FirstPaths) -> bool
     }
 }
 
-/// Checks whether a name with `count` arguments is `const`, or a function, if `arguments_are_expressions`.
+/// Checks whether a name with `count` arguments is a call: `const`, or a function whose arguments are expressions.
 fn is_application(name: &str, count: usize, arguments_are_expressions: bool) -> bool
     ensures { result ≡ (is_constant name.now count
         || (is_function name.now count && arguments_are_expressions)) }
@@ -80,7 +80,7 @@ fn is_application(name: &str, count: usize, arguments_are_expressions: bool) -> 
     is_constant(name, count) || (is_function(name, count) && arguments_are_expressions)
 }
 
-/// Checks whether this is `{const,T}`.
+/// Checks whether the name and the number of arguments are those of `{const,T}`.
 fn is_constant(name: &str, count: usize) -> bool
     ensures { result ≡ is_constant name.now count }
 {

@@ -1,4 +1,4 @@
-// Comparisons, all by the order of terms.
+// The comparison operators. All compare by the order of terms.
 ghost use Rattle.std.specs.Prelude.{◌≡◌};
 ghost use Rattle.ets_term.specs.Data.{int, data_of};
 ghost use Rattle.ets_term.specs.Order.{data_order};
@@ -39,14 +39,14 @@ pub(crate) fn comparison_op_of(name: &str) -> Option<ComparisonOp>
     }
 }
 
-/// Compares two terms.
+/// Checks whether the comparison holds of two terms.
 pub(crate) fn compares(comparison: ComparisonOp, x: &Term, y: &Term) -> bool
     ensures { result ≡ compares comparison (data_order (data_of x.now) (data_of y.now)) }
 {
     order_satisfies(comparison, x.cmp_terms(y))
 }
 
-/// Compares two integers. Unlike `compares`, it needs no terms.
+/// Checks whether the comparison holds of two integers. Unlike `compares`, it needs no terms.
 #[inline(always)]
 pub(crate) fn compares_integers(comparison: ComparisonOp, m: Integer, n: Integer) -> bool
     ensures { result ≡ compares comparison (data_order (int m) (int n)) }

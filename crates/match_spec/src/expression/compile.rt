@@ -11,7 +11,7 @@ use crate::variable::variable;
 use ets_term::{Atom, Items, Term};
 use std::alloc::{AllocError, Global};
 
-/// Compiles an expression by the first paths of the head's variables.
+/// Compiles an expression, which was checked. `first` has the first paths of the variables of the clause's pattern.
 #[cycle(expression)]
 #[tactic(auto, using(ets_term::specs::laws::Exact::back))]
 pub(crate) fn expression_of(
@@ -54,7 +54,8 @@ pub(crate) fn expressions_of(
     Ok(Items::from_vec(compiled))
 }
 
-/// Compiles a tuple: `{{..}}` makes a tuple, and any other is a call.
+/// Compiles a tuple: `{{..}}` makes a tuple, and any other tuple is a call. A tuple that is not an expression never
+/// gets here; it is compiled to `Object`.
 #[cycle(expression)]
 fn tuple_expression(
     alloc: Global,
@@ -82,7 +83,7 @@ fn tuple_expression(
     }
 }
 
-/// Compiles an atom: a variable, `$_` for the object, `$$` for all variables, or the atom itself.
+/// Compiles an atom: a variable, `$_` for the object, `$$` for the list of all bindings, or the atom itself.
 fn name_expression(alloc: Global, name: &Atom, first: &FirstPaths) -> Result<Expression, AllocError>
     ensures { IfOk result (λ e. e ≡ name_expression first.now.entries name.now (variable name.now)) }
 {
@@ -99,7 +100,7 @@ fn name_expression(alloc: Global, name: &Atom, first: &FirstPaths) -> Result<Exp
     Ok(Expression::Constant(Term::Atom(name.try_clone(alloc)?)))
 }
 
-/// Compiles a call: `const` gives its argument as it is, and other calls have compiled arguments.
+/// Compiles a call. The value of `const` is its raw argument; other calls use the compiled arguments.
 fn application(
     alloc: Global,
     name: &str,

@@ -4,7 +4,7 @@ ghost use Rattle.match_spec.specs.inside.Functions.{neutral, combine, decides};
 
 use crate::expression::Connective;
 
-/// Returns the truth value that changes no combination: true for `and`, false for `or`.
+/// Returns the identity of a connective, which changes no value when combined: true for `and`, false for `or`.
 pub(crate) fn identity_of(connective: Connective) -> bool
     ensures { result ≡ neutral connective }
 {
@@ -14,7 +14,7 @@ pub(crate) fn identity_of(connective: Connective) -> bool
     }
 }
 
-/// Combines the truth value so far with that of the next argument.
+/// Combines the truth value of the arguments so far with that of the next argument.
 pub(crate) fn combine(connective: Connective, x: bool, y: bool) -> bool
     ensures { result ≡ combine connective x y }
 {
@@ -24,7 +24,7 @@ pub(crate) fn combine(connective: Connective, x: bool, y: bool) -> bool
     }
 }
 
-/// Checks whether an argument with this truth value decides `andalso` or `orelse`.
+/// Checks whether an argument with this truth value decides the value of `andalso` or `orelse`.
 pub(crate) fn decides(connective: Connective, truth: bool) -> bool
     ensures { result ≡ decides connective truth }
 {

@@ -14,7 +14,8 @@ use crate::pattern::path::{clone_subterms, subterm_at};
 use ets_term::{Items, Term};
 use std::alloc::{AllocError, Global};
 
-/// What expressions are evaluated in: the object, and the first paths of the variables that the head binds.
+/// The environment in which expressions are evaluated: the object, and the first paths of the variables of the clause's
+/// pattern.
 #[derive(Clone, Copy)]
 pub(crate) struct Env<'a> {
     pub(crate) alloc: Global,
@@ -22,7 +23,7 @@ pub(crate) struct Env<'a> {
     pub(crate) object: &'a Term,
 }
 
-/// A value of an expression: borrowed from the object or the expression, or made.
+/// The value of an expression: borrowed from the object or the expression, or a new term.
 #[derive(Drop)]
 pub(crate) enum ExprValue<'a> {
     Borrowed(&'a Term),
@@ -51,8 +52,8 @@ impl<'a> ExprValue<'a> {
     }
 }
 
-/// Returns the value of an expression if it is a part of the object or of the expression, or `None` if it must be
-/// made.
+/// Returns the value of an expression if it can be borrowed from the object or the expression. Returns `None` if a new
+/// term must be made.
 pub(crate) fn borrowed_value<'a>(env: Env<'a>, expression: &'a Expression) -> Option<&'a Term>
     ensures { IfSome result (λ term.
         expression_value env.entry.paths.now expression.now (data_of env.entry.object.now) ≡ Some (data_of term.now)) }
@@ -65,7 +66,7 @@ pub(crate) fn borrowed_value<'a>(env: Env<'a>, expression: &'a Expression) -> Op
     }
 }
 
-/// Returns the value of the expression, or `None` if it fails. Does not call `evaluate` for a borrowed value.
+/// Returns the value of the expression, or `None` if it fails. If the value can be borrowed, does not call `evaluate`.
 #[inline(always)]
 pub(crate) fn value_of<'a>(
     env: Env<'a>,
@@ -169,7 +170,7 @@ fn eval_call<'a>(
     }
 }
 
-/// Evaluates `and` or `or`: all arguments, each of which must be a boolean.
+/// Evaluates `and` or `or`: evaluates all arguments. Returns `None` if one is not a boolean.
 #[cycle(evaluate)]
 fn eval_strict(
     env: Env,
@@ -190,10 +191,10 @@ fn eval_strict(
     Ok(Some(all))
 }
 
-/// Drops a value. A drop inside a loop would repeat all its cases in each later goal.
+/// Drops a value. If a loop dropped it directly, the prover would repeat the cases of the drop in each later goal.
 pub(crate) fn discard(_value: ExprValue) {}
 
-/// Returns the boolean of a value, or `None` if it has no boolean.
+/// Returns the value as a boolean, or `None` if there is no value or it is not a boolean.
 fn truth_of(value: Option<ExprValue>) -> Option<bool>
     ensures { result ≡ option_and_then boolean (option_map value_data value.entry) }
 {
@@ -203,7 +204,8 @@ fn truth_of(value: Option<ExprValue>) -> Option<bool>
     }
 }
 
-/// Evaluates `andalso` or `orelse`: from the left, up to the first boolean that decides.
+/// Evaluates `andalso` or `orelse`: evaluates arguments from the left, up to the first boolean that decides. Returns
+/// `None` if one of these is not a boolean.
 #[cycle(evaluate)]
 fn eval_short_circuit<'a>(
     env: Env<'a>,

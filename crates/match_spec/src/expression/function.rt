@@ -14,7 +14,7 @@ use crate::expression::lists::{list_length, size, tail};
 use ets_term::Term;
 use std::alloc::{AllocError, Global};
 
-/// A function of the values of all its arguments. `and`, `or`, `andalso` and `orelse` are not among these.
+/// A function that is computed from the values of its arguments. `and`, `or`, `andalso` and `orelse` are connectives.
 #[derive(Clone, Copy)]
 pub(crate) enum Function {
     TypeTest(GuardKind),
@@ -81,7 +81,7 @@ fn binary_function_of(name: &str) -> Option<Function>
     }
 }
 
-/// Returns the connective of a name that evaluates all arguments.
+/// Returns the connective with this name, if it evaluates all arguments.
 pub(crate) fn strict_connective(name: &str) -> Option<Connective>
     ensures { result ≡ strict_connective name.now }
 {
@@ -94,7 +94,7 @@ pub(crate) fn strict_connective(name: &str) -> Option<Connective>
     }
 }
 
-/// Returns the connective of a name that stops at the first argument that decides.
+/// Returns the connective with this name, if it stops at the first argument that decides.
 pub(crate) fn short_circuit_connective(name: &str) -> Option<Connective>
     ensures { result ≡ short_circuit_connective name.now }
 {
@@ -107,7 +107,8 @@ pub(crate) fn short_circuit_connective(name: &str) -> Option<Connective>
     }
 }
 
-/// Computes a function of one argument whose value is not an element of the argument. Returns `None` if the call fails.
+/// Computes a function of one argument, except `hd`, whose value is an element of the argument. Returns `None` if the
+/// call fails.
 pub(crate) fn eval_unary(
     alloc: Global,
     function: Function,
@@ -130,7 +131,8 @@ pub(crate) fn eval_unary(
     }
 }
 
-/// Computes a function of two arguments whose value is not an element of them. Returns `None` if the call fails.
+/// Computes a function of two arguments, except `element`, whose value is an element of an argument. Returns `None` if
+/// the call fails.
 pub(crate) fn eval_binary(
     alloc: Global,
     function: Function,

@@ -1,4 +1,4 @@
-// Booleans, and the type tests.
+// Booleans as atoms, and the type tests `is_atom`, `is_integer` and so on.
 ghost use Rattle.std.specs.Prelude.{◌≡◌, IfOk};
 ghost use Rattle.ets_term.specs.Data.{data_of};
 ghost use Rattle.match_spec.specs.Functions.{truth, boolean, exclusive};
@@ -7,7 +7,7 @@ ghost use Rattle.match_spec.specs.inside.Functions.{guard_kind_of, is_kind};
 use ets_term::{Atom, Term};
 use std::alloc::{AllocError, Global};
 
-/// The kind of terms that a guard tests for. A reference is a table identifier.
+/// The kind of terms that a type test accepts. A table identifier is a reference.
 #[derive(Clone, Copy)]
 pub(crate) enum GuardKind {
     Atom,
@@ -19,7 +19,7 @@ pub(crate) enum GuardKind {
     Reference,
 }
 
-/// Returns the kind that the function of this name tests for.
+/// Returns the kind that the type test with this name accepts.
 pub(crate) fn guard_kind_of(name: &str) -> Option<GuardKind>
     ensures { result ≡ guard_kind_of name.now }
 {
@@ -68,7 +68,7 @@ pub(crate) fn truth(alloc: Global, b: bool) -> Result<Term, AllocError>
     Ok(Term::Atom(Atom::of_bytes(alloc, b"false")?))
 }
 
-/// Reads a boolean, if the term is one.
+/// Returns the boolean of the atom `true` or `false`, or `None` for any other term.
 pub(crate) fn boolean(term: &Term) -> Option<bool>
     ensures { result ≡ boolean (data_of term.now) }
 {
@@ -85,7 +85,7 @@ pub(crate) fn boolean(term: &Term) -> Option<bool>
     }
 }
 
-/// Computes `xor` of two booleans.
+/// Computes `xor` of two booleans, or returns `None` if one is missing.
 pub(crate) fn xor(x: Option<bool>, y: Option<bool>) -> Option<bool>
     ensures { result ≡ exclusive x y }
 {

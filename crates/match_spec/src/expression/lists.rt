@@ -8,7 +8,7 @@ use crate::expression::arithmetic::count;
 use ets_term::{Integer, Items, Position, Term};
 use std::alloc::{AllocError, Global};
 
-/// Returns the first element of a list.
+/// Returns the first element of a list, or `None` if there is none.
 pub(crate) fn head(term: &Term) -> Option<&Term>
     ensures { option_map data_of (option_copied result) ≡ head (data_of term.now) }
 {
@@ -18,7 +18,7 @@ pub(crate) fn head(term: &Term) -> Option<&Term>
     }
 }
 
-/// Makes the list of the elements after the first.
+/// Makes the list of the elements after the first. Returns `None` if the term is not a list or is empty.
 pub(crate) fn tail(alloc: Global, term: &Term) -> Result<Option<Term>, AllocError>
     ensures { IfOk result (λ t. option_map data_of t ≡ tail (data_of term.now)) }
 {
@@ -50,7 +50,7 @@ fn copies_from(alloc: Global, items: &[Term], start: usize) -> Result<Items<Term
     Ok(Items::from_vec(copies))
 }
 
-/// Counts the elements of a list.
+/// Returns the number of elements of a list as a term, or `None` for any other term.
 #[tactic(auto, using(crate::proofs::ListLaws::list_length_of))]
 pub(crate) fn list_length(term: &Term) -> Option<Term>
     ensures { option_map data_of result ≡ list_length (data_of term.now) }
@@ -61,7 +61,7 @@ pub(crate) fn list_length(term: &Term) -> Option<Term>
     }
 }
 
-/// Counts the elements of a tuple, or the bytes of a binary.
+/// Returns the number of elements of a tuple, or of bytes of a binary, as a term. Returns `None` for any other term.
 #[tactic(auto, using(crate::proofs::ListLaws::size_of_tuple))]
 pub(crate) fn size(term: &Term) -> Option<Term>
     ensures { option_map data_of result ≡ size (data_of term.now) }
@@ -73,7 +73,7 @@ pub(crate) fn size(term: &Term) -> Option<Term>
     }
 }
 
-/// Returns element `n` of a tuple, from 1, if `n` is an integer.
+/// Returns element `n` of a tuple, counted from 1, or `None` if `n` is not an integer or there is no such element.
 pub(crate) fn element<'a>(n: &Term, tuple: &'a Term) -> Option<&'a Term>
     ensures { option_map data_of (option_copied result) ≡ element (data_of n.now) (data_of tuple.now) }
 {
@@ -83,7 +83,7 @@ pub(crate) fn element<'a>(n: &Term, tuple: &'a Term) -> Option<&'a Term>
     }
 }
 
-/// Returns element `n` of a tuple, counted from 1.
+/// Returns element `n` of a tuple, counted from 1, or `None` if there is no such element.
 #[tactic(auto, using(crate::proofs::ListLaws::element_at_tree))]
 fn nth_element(n: Integer, tuple: &Term) -> Option<&Term>
     ensures { option_map data_of (option_copied result) ≡ element (int n) (data_of tuple.now) }

@@ -1,4 +1,4 @@
-// From a pattern to its compiled form.
+// The compilation of patterns.
 ghost use Rattle.std.specs.Prelude.{◌≡◌, map, IfOk, OnOk};
 ghost use Rattle.ets_term.specs.Data.{atom, data_of, data_list};
 ghost use Rattle.match_spec.specs.inside.CompiledPatterns.{part_of, parts_from, variable_part};
@@ -10,7 +10,7 @@ use crate::variable::variable;
 use ets_term::{Atom, Items, Term};
 use std::alloc::{AllocError, Global};
 
-/// Compiles the part of the pattern at the current path.
+/// Compiles the part of the pattern at the current path. `first` has the first paths of the pattern's variables.
 #[cycle(compile)]
 #[tactic(auto, using(ets_term::specs::laws::Exact::back))]
 pub(crate) fn part_of(
@@ -43,7 +43,7 @@ pub(crate) fn part_of(
     }
 }
 
-/// Compiles the parts of a tuple or list. The current path gets the index of each in turn.
+/// Compiles the parts of a tuple or list. While it compiles a part, the current path ends with the part's index.
 #[cycle(compile)]
 fn parts_of(
     alloc: Global,
@@ -83,7 +83,8 @@ fn name_part(
     }
 }
 
-/// Compiles an occurrence of a variable: the first fits any subterm, and the others fit a subterm equal to that one.
+/// Compiles an occurrence of a variable. The first occurrence fits any subterm. A later one fits only a subterm equal
+/// to the subterm at the first path.
 fn variable_part(
     alloc: Global,
     number: u32,

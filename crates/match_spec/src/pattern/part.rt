@@ -6,8 +6,8 @@ ghost use Rattle.match_spec.specs.inside.CompiledPatterns.{part_fits, all_fit};
 use crate::pattern::path::subterm_at;
 use ets_term::{Items, Term};
 
-/// A part of a compiled pattern. A variable is a `Wildcard` at its first occurrence, and `Repeated` later, with the
-/// path of the first.
+/// A part of a compiled pattern. A variable is compiled to `Wildcard` at its first occurrence, and to `Repeated`, with
+/// the path of its first occurrence, at later ones.
 #[derive(Drop)]
 pub(crate) enum Part {
     Wildcard,
@@ -17,7 +17,7 @@ pub(crate) enum Part {
     Literal(Term),
 }
 
-/// Checks whether a subterm of the object fits the part.
+/// Checks whether `term`, a subterm of the object, fits the part.
 #[cycle(fits)]
 pub(crate) fn fits(part: &Part, object: &Term, term: &Term) -> bool
     ensures { result ≡ part_fits part.now (data_of object.now) (data_of term.now) }
@@ -56,7 +56,7 @@ fn all_fit(parts: &[Part], object: &Term, terms: &[Term]) -> bool
     true
 }
 
-/// Like `fits`, without a call for a wildcard.
+/// Does what `fits` does. A wildcard takes no further call.
 #[inline(always)]
 #[cycle(fits)]
 fn element_fits(part: &Part, object: &Term, term: &Term) -> bool

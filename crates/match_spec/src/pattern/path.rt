@@ -13,7 +13,7 @@ use std::collections::BTreeMap;
 /// The path of the first occurrence of each variable of a pattern, by number.
 pub(crate) type FirstPaths = BTreeMap<u32, Items<usize>>;
 
-/// Returns the subterm at a path, or the last one reached if the path leaves the term.
+/// Returns the subterm at a path. If the path leads out of the term, returns the last subterm on the way.
 pub(crate) fn subterm_at<'a>(path: &[usize], term: &'a Term) -> &'a Term
     ensures { data_of result.now ≡ subterm_at path.now (data_of term.now) }
 {
@@ -42,7 +42,7 @@ fn item_or<'a>(items: &'a [Term], i: usize, term: &'a Term) -> &'a Term
     if i < items.len() { &items[i] } else { term }
 }
 
-/// Clones the subterms at the paths.
+/// Returns copies of the subterms at the paths.
 pub(crate) fn clone_subterms(
     alloc: Global,
     paths: &[Items<usize>],
@@ -90,7 +90,8 @@ fn collect(
     }
 }
 
-/// Collects the first paths of the variables in all parts. The current path gets the index of each in turn.
+/// Collects the first paths of the variables in all parts. While it reads a part, the current path ends with the part's
+/// index.
 #[cycle(collect)]
 fn collect_all(
     alloc: Global,
@@ -110,7 +111,7 @@ fn collect_all(
     Ok(())
 }
 
-/// Records the current path of a variable, unless there is an earlier one.
+/// Adds the current path of a variable, unless the variable has an earlier path.
 fn record_path(
     alloc: Global,
     number: u32,
@@ -125,7 +126,7 @@ fn record_path(
     Ok(())
 }
 
-/// Returns the first path of the variable, empty if the pattern does not have it.
+/// Returns the first path of the variable, or an empty path if the pattern does not have the variable.
 pub(crate) fn first_path(first: &FirstPaths, number: u32) -> &[usize]
     ensures { result.now ≡ first_path first.now.entries number }
 {

@@ -1,4 +1,4 @@
-// The parts of a clause, and the check of them.
+// The three parts of a clause, and the check of whether they form a valid clause.
 ghost use Rattle.std.specs.Prelude.{◌≡◌, nat_lt, map};
 ghost use Rattle.std.specs.Option.{option_map};
 ghost use Rattle.ets_term.specs.Data.{tuple, data_of, data_list};
@@ -12,7 +12,7 @@ use crate::pattern::is_pattern;
 use crate::pattern::path::FirstPaths;
 use ets_term::Term;
 
-/// The three parts of a clause, as terms.
+/// The three parts of a clause, as terms: `head` is the pattern of the clause (MatchHead), then conditions and body.
 #[derive(Clone, Copy)]
 pub(crate) struct ClauseParts<'a> {
     pub(crate) head: &'a Term,
@@ -20,7 +20,7 @@ pub(crate) struct ClauseParts<'a> {
     pub(crate) body: &'a [Term],
 }
 
-/// Splits a clause into its parts, if it has the form of one.
+/// Returns the parts of a clause, or `None` if the term does not have the form of a clause.
 pub(crate) fn clause_parts(term: &Term) -> Option<ClauseParts>
     ensures { option_map raw_clause_of result ≡ clause_parts (data_of term.now) }
 {
@@ -30,7 +30,7 @@ pub(crate) fn clause_parts(term: &Term) -> Option<ClauseParts>
     }
 }
 
-/// Returns the head, conditions and body of a clause, if these are three elements and the last two are lists.
+/// Returns the pattern, conditions and body of a clause, if there are three elements and the last two are lists.
 fn three_parts(parts: &[Term]) -> Option<ClauseParts>
     ensures { option_map raw_clause_of result ≡ clause_parts (tuple (data_list (map data_of parts.now))) }
 {
@@ -50,7 +50,8 @@ fn three_parts(parts: &[Term]) -> Option<ClauseParts>
     })
 }
 
-/// Checks the parts of a clause whose head binds these variables.
+/// Checks whether a clause is valid. Its pattern must be a pattern. Its conditions and its body, which must not be
+/// empty, must be expressions that use only the variables of the pattern, which are in `first`.
 pub(crate) fn is_good(parts: ClauseParts, first: &FirstPaths) -> bool
     ensures { result ≡ is_good_by (numbers_of first.now.entries) (raw_clause_of parts.entry) }
 {
@@ -59,7 +60,7 @@ pub(crate) fn is_good(parts: ClauseParts, first: &FirstPaths) -> bool
     (is_pattern(parts.head) && is_nonempty(parts.body)) && (conditions && body)
 }
 
-/// Checks whether there is a term.
+/// Checks whether the slice has a term.
 #[tactic(auto, using(crate::proofs::ExpressionLaws::data_list_len_of))]
 pub(crate) fn is_nonempty(terms: &[Term]) -> bool
     ensures { result ≡ nat_lt 0 (data_list_len (data_list (map data_of terms.now))) }

@@ -13,7 +13,8 @@ use crate::spec::conditions::{all_hold, is_true};
 use ets_term::{Atom, Items, Term};
 use std::alloc::{AllocError, Global};
 
-/// A compiled clause. `paths` are the first paths of the variables of its head, in order of number.
+/// A compiled clause. `head` is the compiled pattern of the clause (MatchHead), and `paths` has the first path of each
+/// variable of the pattern, in order of their numbers.
 #[derive(Drop)]
 pub(crate) struct Clause {
     pub(crate) head: Part,
@@ -22,7 +23,7 @@ pub(crate) struct Clause {
     pub(crate) body: Items<Expression>,
 }
 
-/// Returns the result of the first matching clause, if one matches.
+/// Returns the result of the first clause that applies to the object, or `None` if none applies.
 #[inline(always)]
 pub(crate) fn result_of_first(
     alloc: Global,
@@ -37,7 +38,7 @@ pub(crate) fn result_of_first(
     }
 }
 
-/// Checks whether that result is `true`, without making its atom.
+/// Checks whether the result of the first clause that applies is the atom `true`. Makes no copy of the result.
 pub(crate) fn first_result_is_true(
     alloc: Global,
     clauses: &[Clause],
@@ -51,7 +52,7 @@ pub(crate) fn first_result_is_true(
     }
 }
 
-/// Returns the first clause that applies to the object.
+/// Returns the first clause that applies to the object, or `None` if none applies.
 #[inline(always)]
 fn first_matching<'a>(
     alloc: Global,
@@ -69,7 +70,7 @@ fn first_matching<'a>(
     Ok(None)
 }
 
-/// Checks whether the head matches the object and all conditions give `true`.
+/// Checks whether a clause applies: its pattern matches the object, and the value of each condition is `true`.
 fn applies(alloc: Global, clause: &Clause, object: &Term) -> Result<bool, AllocError>
     ensures { IfOk result (λ b. b ≡ applies clause.now (data_of object.now)) }
 {
@@ -79,7 +80,7 @@ fn applies(alloc: Global, clause: &Clause, object: &Term) -> Result<bool, AllocE
     all_hold(env_of(alloc, clause, object), clause.conditions.as_slice())
 }
 
-/// Returns what the expressions of a clause are evaluated in.
+/// Returns the environment in which the expressions of a clause are evaluated.
 fn env_of<'a>(alloc: Global, clause: &'a Clause, object: &'a Term) -> Env<'a>
     ensures paths { result.paths.now ≡ clause.now.paths }
     ensures object { result.object.now ≡ object.now }
@@ -111,7 +112,7 @@ fn body_is_true(alloc: Global, clause: &Clause, object: &Term) -> Result<bool, A
     Ok(is_true(value))
 }
 
-/// Returns the value of the last expression, or `None` if an expression fails or there is none.
+/// Evaluates all expressions of a body and returns the value of the last. Returns `None` if one fails or there is none.
 fn last_value<'a>(env: Env<'a>, body: &'a [Expression]) -> Result<Option<ExprValue<'a>>, AllocError>
     ensures { IfOk result (λ v. option_map value_data v
         ≡ last_value_of (map (expression_value env.entry.paths.now) body.now) (data_of env.entry.object.now)) }

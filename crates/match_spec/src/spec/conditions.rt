@@ -15,7 +15,7 @@ use crate::expression::function::Function;
 use ets_term::Term;
 use std::alloc::{AllocError, Global};
 
-/// Checks whether all conditions give `true`.
+/// Checks whether the value of each condition is `true`.
 pub(crate) fn all_hold(env: Env, conditions: &[Expression]) -> Result<bool, AllocError>
     ensures { IfOk result (λ b. b
         ≡ all_hold_of (map (expression_value env.entry.paths.now) conditions.now) (data_of env.entry.object.now)) }
@@ -28,7 +28,7 @@ pub(crate) fn all_hold(env: Env, conditions: &[Expression]) -> Result<bool, Allo
     Ok(true)
 }
 
-/// Checks whether a condition gives `true`. A comparison makes no atom for its answer.
+/// Checks whether the value of a condition is `true`. For a comparison it makes no atom.
 #[tactic(auto, using(crate::proofs::ValueLaws::expression_value_of_two))]
 fn condition_holds(env: Env, condition: &Expression) -> Result<bool, AllocError>
     ensures { IfOk result (λ b. b
@@ -43,7 +43,7 @@ fn condition_holds(env: Env, condition: &Expression) -> Result<bool, AllocError>
     general_condition_holds(env, condition)
 }
 
-/// Checks a condition of any other form. Not inlined: a comparison has no value to drop.
+/// Checks a condition of any other form. It is not inlined, so that the path of a comparison has no value to drop.
 #[inline(never)]
 fn general_condition_holds(env: Env, condition: &Expression) -> Result<bool, AllocError>
     ensures { IfOk result (λ b. b
@@ -53,7 +53,7 @@ fn general_condition_holds(env: Env, condition: &Expression) -> Result<bool, All
     Ok(is_true(evaluate(env, condition)?))
 }
 
-/// Checks a condition of two operands. Borrowed operands are compared in place.
+/// Checks a condition that is a function of two operands. Operands that can be borrowed are compared in place.
 #[tactic(auto, using(crate::proofs::ValueLaws::is_true_truth))]
 fn binary_condition_holds(
     env: Env,
@@ -74,7 +74,8 @@ fn binary_condition_holds(
     owned_operands_hold(env, function, first, second)
 }
 
-/// Checks a condition with an operand that must be made. Not inlined: borrowed operands have no value to drop.
+/// Checks a condition with an operand that may be a new term. It is not inlined, so that the path of borrowed operands
+/// has no value to drop.
 #[inline(never)]
 fn owned_operands_hold(
     env: Env,
@@ -96,7 +97,7 @@ fn owned_operands_hold(
     values_hold(env.alloc, function, x, y)
 }
 
-/// Checks whether a function of these values gives `true`.
+/// Checks whether the value of a function of these two values is `true`.
 #[tactic(auto, using(crate::proofs::ValueLaws::is_true_truth))]
 fn values_hold(
     alloc: Global,

@@ -10,8 +10,8 @@ use crate::pattern::part::Part;
 use crate::spec::clause::Clause;
 use ets_term::{Integer, Term};
 
-/// A necessary condition of a clause: the object is a tuple of `len` elements, and its element at `index`, from 0, is not
-/// an integer or compares with `value`.
+/// A necessary condition of a clause: the object is a tuple of `len` elements, and its element at `index`, counted from
+/// 0, is not an integer or satisfies the comparison with `value`.
 #[derive(Clone, Copy)]
 pub(crate) struct QuickTest {
     pub(crate) len: usize,
@@ -59,8 +59,8 @@ impl QuickTest {
     }
 }
 
-/// Returns a quick test for a single clause whose head is a tuple and whose first condition compares an element with an
-/// integer.
+/// Returns a quick test if there is a single clause, its pattern is a tuple, and its first condition compares an
+/// element with an integer.
 pub(crate) fn quick_test(clauses: &[Clause]) -> Option<QuickTest>
     ensures { IfSome result (λ q. RejectsAll q clauses.now) }
 {
@@ -70,7 +70,7 @@ pub(crate) fn quick_test(clauses: &[Clause]) -> Option<QuickTest>
     }
 }
 
-/// Returns a quick test for a clause.
+/// Returns a quick test for a clause, if its pattern is a tuple and its first condition is such a comparison.
 fn clause_test(clause: &Clause) -> Option<QuickTest>
     ensures { IfSome result (λ q. RejectsClause q clause.now) }
 {
@@ -80,7 +80,7 @@ fn clause_test(clause: &Clause) -> Option<QuickTest>
     }
 }
 
-/// Returns a quick test from the first condition of a clause whose head is a tuple of `len` parts.
+/// Returns a quick test from the first condition of a clause whose pattern is a tuple of `len` parts.
 fn conditions_test(len: usize, conditions: &[Expression]) -> Option<QuickTest>
     ensures { IfSome result (λ q. (q.len ≡ len) × IsNecessary q conditions.now) }
 {
@@ -117,7 +117,7 @@ fn condition_test(len: usize, condition: &Expression) -> Option<QuickTest>
     })
 }
 
-/// Returns the index of the element that an expression reads in the object.
+/// Returns the index of an element, if the expression is a variable whose value is an element of the object itself.
 fn element_index(expression: &Expression) -> Option<usize>
     ensures { IfSome result (λ i. expression.now ≡ Expression.Variable (i ∷ [])) }
 {
@@ -138,7 +138,7 @@ fn single_index(path: &[usize]) -> Option<usize>
     Some(path[0])
 }
 
-/// Returns the integer that an expression is.
+/// Returns the value of an expression that is an integer constant.
 fn integer_constant(expression: &Expression) -> Option<Integer>
     ensures { IfSome result (λ n. expression.now ≡ Expression.Constant (Term.Int n)) }
 {

@@ -37,15 +37,15 @@ table_of_first tables (x ∷ args) = table_of_term tables x
 
 -- of a call whose first argument names a table of this metadata and content
 module _ (p : ℕ) (metadata : Option Metadata) (content : Option Content) where
-  -- the process may use the table in this way, and then this rule on the second argument
+  -- the reason if the process does not have this access to the table; else this rule on the second argument
   abbrev pub last_on_second : Access → Rule → Reason
   last_on_second access broken = needs_access access p metadata (argument 2 broken)
 
-  -- the process may use the table in this way, and then this of its content
+  -- the reason if the process does not have this access to the table; else that of its content
   abbrev pub last_on_content : Access → (Content → Reason) → Reason
   last_on_content access rest = last_rule_of_content access p metadata content rest
 
-  -- by the call's name; a name with any other number of arguments breaks the rule on their number
+  -- the last reason by the call's name; a name with any other number of arguments breaks the rule on their number
   abbrev pub last_rule_of_known : CallName → List Term → Reason
   last_rule_of_known name.Tab2list (x ∷ []) = last_rule_of_use Read p metadata
   last_rule_of_known name.DeleteAllObjects (x ∷ []) = last_rule_of_use Write p metadata
@@ -113,7 +113,7 @@ last_rule w (Ask p asked) limited = last_rule_of_ask w p asked limited
 last_rule w (Grow t) limited = about_whole_call rule.NoTable
 last_rule w (Ready t bucket) limited = about_whole_call rule.NoTable
 
--- no reason for a value, the second for a limit, and the first for any other refusal
+-- no reason for a value, the reason `limit` for SystemLimit, and the reason `other` for any other refusal
 abbrev pub reason_by_reply : Reason → Reason → Reply → Option Reason
 reason_by_reply other limit (Value term) = None
 reason_by_reply other limit Badarg = Some other

@@ -25,12 +25,12 @@ abbrev pub NamesReason : Option Reason → Reason → Type 0
 NamesReason None named = Unit {0}
 NamesReason (Some reason) named = named ≡ reason
 
--- the table exists, and the process may use it in this way, and then this
+-- the reason if the table does not exist, or the process does not have this access to it; else `rest`
 abbrev pub needs_access : Access → ℕ → Option Metadata → Reason → Reason
 needs_access access p None rest = argument 1 rule.NoTable
 needs_access access p (Some metadata) rest = if may_access access metadata p then rest else argument 1 (rule_of_access access)
 
--- the process may use the table in this way, and then this of its content
+-- the reason if the process does not have this access to the table; else that of the content
 abbrev pub last_rule_of_content : Access → ℕ → Option Metadata → Option Content → (Content → Reason) → Reason
 last_rule_of_content access p metadata content rest =
     needs_access access p metadata (option_map_or rest content (argument 1 rule.NoTable))
@@ -39,7 +39,7 @@ last_rule_of_content access p metadata content rest =
 abbrev pub last_rule_of_use : Access → ℕ → Option Metadata → Reason
 last_rule_of_use access p metadata = needs_access access p metadata (argument 1 (rule_of_access access))
 
--- the table is the process's own, and then this
+-- the reason if the table does not exist, or the process does not own it; else `rest`
 abbrev pub needs_owner : ℕ → Option Metadata → Reason → Reason
 needs_owner p None rest = argument 1 rule.NoTable
 needs_owner p (Some metadata) rest = if is_owner metadata p then rest else argument 1 rule.NotOwner
@@ -68,7 +68,7 @@ last_rule_of_new name options =
 abbrev pub last_rule_of_info : Term → Reason
 last_rule_of_info item = if is_some (item_of item) then argument 1 rule.NotAnAtom else argument 2 rule.NotAnItem
 
--- the key has an object, if it needs one, and then this
+-- the reason if the key needs an object and has none; else `rest`
 abbrev pub needs_key : Bool → Reason → List Term → Reason
 needs_key needed rest [] = if needed then argument 2 rule.NoKey else rest
 needs_key needed rest (object ∷ objects) = rest
@@ -82,7 +82,7 @@ last_rule_of_lookup_element key position needed content =
     needs_position (position_of position)
     (needs_key needed (argument 3 rule.NoElement) (objects_under content.slots key))
 
--- the table is a set, and the default an object, and then this
+-- the reason if the table is not a set, or the default is not an object; else `rest`
 abbrev pub needs_set : Term → Option Term → Content → Reason → Reason
 needs_set key default content rest =
     if is_set content.kind

@@ -1,4 +1,4 @@
-// Calls that change nothing, which callers make in parallel.
+// Calls that only read, which callers make in parallel.
 ghost use Rattle.std.specs.Prelude.{◌≡◌, ◌≤◌, false, if◌then◌else◌, Some, None, IfOk, OnOk, OnErr};
 ghost use Rattle.node_core.specs.declared.step.Reply.TheVariants.{NoProcess};
 ghost use Rattle.node_shared.specs.Serving.{AnswersRead, AnswersReads};
@@ -14,10 +14,10 @@ use std::alloc::{AllocError, Global};
 use std::sync::Wait;
 
 impl<B: HistoryId> Caller<B> {
-    /// Replies to a call that changes nothing, in parallel with other readers. Returns `None` for any other call. Some
-    /// run of a node with these limits leads to the state that it reads. That run has at least as many entries as the
-    /// history had at this caller's last own step. It may wait for the lock. `Err` is out of memory, or a history with
-    /// fewer entries, which no server has for its own caller.
+    /// Replies to a call that only reads, in parallel with other readers. Returns `None` for any other call. Some run
+    /// of a node with these limits leads to the state that it reads. That run has at least as many entries as the
+    /// history had after this caller's last own step. It may wait for the lock. `Err` is out of memory, or a shorter
+    /// history, which the caller's own server never has.
     pub fn read<H: KeyHash + Copy + Drop, R: Wait>(
         &self,
         rt: &R,
@@ -32,7 +32,7 @@ impl<B: HistoryId> Caller<B> {
         }
     }
 
-    /// Answers a call that changes nothing from a node under the lock.
+    /// Replies to a call that only reads, from the node under the lock.
     fn read_locked<H: KeyHash + Copy + Drop>(
         &self,
         served: &ServedNode<B, H>,
@@ -44,9 +44,8 @@ impl<B: HistoryId> Caller<B> {
         served.read(self.pid, call)
     }
 
-    /// Like `read`, but writes the reply over another and uses its memory again, as `Node::read_into` does. Returns
-    /// whether it replied: `false` for any other call, which leaves the reply as it is. After an error the reply is
-    /// `NoProcess`.
+    /// Like `read`, but writes over `reply` and uses its memory again, as `Node::read_into` does. Returns `false` for a
+    /// call that does not only read, and then leaves `reply` as it is. After an error, `reply` is `NoProcess`.
     pub fn read_into<H: KeyHash + Copy + Drop, R: Wait>(
         &self,
         rt: &R,
@@ -67,7 +66,7 @@ impl<B: HistoryId> Caller<B> {
         }
     }
 
-    /// Writes the reply of a call that changes nothing, from a node under the lock. Returns whether it did.
+    /// Writes the reply to a call that only reads, from the node under the lock. Returns whether it did.
     fn read_into_locked<H: KeyHash + Copy + Drop>(
         &self,
         served: &ServedNode<B, H>,
@@ -86,7 +85,7 @@ impl<B: HistoryId> Caller<B> {
         served.read_into(self.pid, call, reply)
     }
 
-    /// Replies to several calls that change nothing, in order and all from one state, under one hold of the lock. `read`
+    /// Replies to several calls that only read, in order and all from one state, under one hold of the lock. `read`
     /// says what holds of that state, for which calls there is no reply, and what `Err` is.
     pub fn read_all<H: KeyHash + Copy + Drop, R: Wait>(
         &self,
@@ -105,7 +104,7 @@ impl<B: HistoryId> Caller<B> {
         }
     }
 
-    /// Answers each call that changes nothing from one state of a node under the lock.
+    /// Replies to each call that only reads, from one state of the node under the lock.
     fn read_all_locked<H: KeyHash + Copy + Drop>(
         &self,
         alloc: Global,
@@ -118,18 +117,18 @@ impl<B: HistoryId> Caller<B> {
         served.read_all(alloc, self.pid, calls)
     }
 
-    /// Returns the number that chooses the shard of a sharded lock for a read. Callers whose numbers differ modulo the
-    /// shards of the lock, of which there are 8, change different words of memory.
+    /// Returns the number that chooses the shard of a sharded lock for a read. Callers whose numbers differ modulo 8,
+    /// the number of shards, write to different words of memory.
     fn shard(&self) -> usize {
         self.pid as usize
     }
 
-    /// Returns an error if a history of `count` entries has not all of this caller's own.
+    /// Returns an error if a history of `count` entries is too short to have this caller's last own step.
     fn check_seen(&self, count: u64) -> Result<(), AllocError>
         ensures { OnOk result (self.now.seen ≤ count) }
     {
         if self.seen > count {
-            // No server has so short a history for its own caller. `AllocError` is the only error of a read.
+            // The caller's own server never has so short a history. `AllocError` is the only error of a read.
             return Err(AllocError);
         }
         Ok(())

@@ -1,18 +1,19 @@
-//! The one word of a history, which stays 0, and the atomic steps on it: an entry is added, entries are taken in,
-//! entries are given out.
+//! What the seats (tokens) of a history's one word know, and the steps that change it: the owner appends an entry, or
+//! own entries move between seats. The word itself stays 0.
 use crate::entry::Entry;
 use atomic_table::{Join, Play, Split, TableRule};
 use std::collections::LinkedList;
 
-/// What a seat knows: the owner's seat the whole history, any other some of its entries, in order. No value of this
-/// type exists at run time.
+/// What a seat knows of the history. The owner's seat knows all entries, `all`. Each seat knows some of them, `own`, in
+/// order. No value of this type exists at run time.
 pub struct HistoryView {
     pub is_owner: bool,
     pub all: LinkedList<Entry>,
     pub own: LinkedList<Entry>,
 }
 
-/// The rule of the word: there is one history, at most one seat has all of it, and what any seat has is in it.
+/// The rule that always holds: there is one history; at most one seat, the owner's, knows all of it; and the own
+/// entries of each seat are in it, in order.
 pub struct HistoryRule;
 
 impl TableRule<Entry, HistoryView, ()> for HistoryRule {
@@ -23,7 +24,7 @@ impl TableRule<Entry, HistoryView, ()> for HistoryRule {
     ghost first = { λ about. new_view };
 }
 
-/// The owner adds an entry: it is the last of the history, and of the owner's own.
+/// The atomic step in which the owner adds an entry, as the last of the history and of the owner's own.
 pub struct AppendEntry;
 
 impl Play<Entry, HistoryView> for AppendEntry {
@@ -32,7 +33,8 @@ impl Play<Entry, HistoryView> for AppendEntry {
     ghost then = { AppendsEntry };
 }
 
-/// The owner's own entries: another seat's are taken in, or they are given out.
+/// Moves own entries between seats. A split gives the own entries of a seat to a new seat. A join gives those of
+/// another seat to the first seat, in place of its own.
 pub struct OwnEntries;
 
 impl Split<HistoryView> for OwnEntries {

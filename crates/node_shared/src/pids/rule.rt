@@ -3,11 +3,11 @@ use atomic_table::{Play, Split, TableRule};
 
 /// What a seat has observed. No value of this type exists at run time.
 pub enum View {
-    /// The seat that the table was made with. This number of seats can still be split off it.
+    /// The seat that the atomic word was made with. This number of seats can still be split off it.
     Opening(u64),
-    /// It has no number yet.
+    /// A seat that has not drawn a number yet.
     Undrawn,
-    /// It drew this number.
+    /// A seat that drew this number.
     Drawn(u64),
 }
 

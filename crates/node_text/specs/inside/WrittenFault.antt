@@ -1,4 +1,4 @@
--- What is returned for a call that no step was done for.
+-- What is returned for a call for which no step was run.
 use Rattle.std.specs.Prelude.{◌≡◌, ℕ, ℤ}
 use Rattle.node_text.specs.declared.call_fault.CallFault.{CallFault}
 use Rattle.node_text.specs.declared.call_fault.CallFault.TheVariants.{Syntax, Memory}

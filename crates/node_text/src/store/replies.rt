@@ -1,4 +1,4 @@
-//! What a store says of its last call.
+//! Writes the last reply of a store, and why its last call was refused.
 ghost use Rattle.std.specs.Prelude.{◌≡◌};
 ghost use Rattle.external_term.specs.Encoding.{written};
 ghost use Rattle.term_text.specs.Printed.{printed};
@@ -14,11 +14,11 @@ use node_core::Reply;
 use std::alloc::Global;
 use term_text::print_term;
 
-/// The greatest capacity of the vector for a reply's bytes that is kept after the reply.
+/// The vector for a reply's bytes is kept for the next reply if its capacity is at most this.
 const MAX_KEPT: usize = 65536;
 
 impl Store {
-    /// Returns the reply to the last step that was done.
+    /// Returns the reply to the last step that was run.
     pub fn reply(&self) -> &Reply
         ensures { result.now ≡ self.now.reply }
     {
@@ -32,7 +32,7 @@ impl Store {
         self.refusal
     }
 
-    /// Returns the status of the last reply. Writes as much of its text as fits to `out`, and its whole length to `len`.
+    /// Returns the status of the last reply. Writes as much of its text as fits to `out`, and the full length to `len`.
     pub fn write_reply(&self, alloc: Global, out: &mut [u8], len: &mut usize) -> i32
         ensures { WritesReply printed self.now.reply (written_reply result len.new out.old out.new) }
     {
@@ -49,8 +49,8 @@ impl Store {
         VALUE
     }
 
-    /// Returns the status of the last reply. Writes as much of its bytes in the external format as fits to `out`, and
-    /// their whole number to `len`. Changes nothing else.
+    /// Returns the status of the last reply. Writes as many of its bytes in the external format as fit to `out`, and
+    /// the total number of bytes to `len`. Changes nothing else.
     pub fn write_reply_external(&mut self, out: &mut [u8], len: &mut usize) -> i32
         ensures same { self.new ≡ self.old }
         ensures writes { WritesReply written self.old.reply (written_reply result len.new out.old out.new) }
@@ -66,7 +66,7 @@ impl Store {
         status
     }
 
-    /// Writes as much as fits of the reason why the last call was refused to `out`, and its whole length to `len`. The
+    /// Writes why the last call was refused: as much of the text as fits to `out`, and the full length to `len`. The
     /// length is 0 if the call was not refused.
     pub fn write_reason(&self, alloc: Global, out: &mut [u8], len: &mut usize) -> i32
         ensures { WritesReason self.now.refusal (written_reply result len.new out.old out.new) }
@@ -84,8 +84,8 @@ impl Store {
     }
 }
 
-/// Writes as much of a term's bytes in the external format as fits to `out`, and their whole number to `len`. The bytes
-/// are made in a vector, over what it has.
+/// Writes as many of a term's bytes in the external format as fit to `out`, and the total number of bytes to `len`.
+/// Makes the bytes in the vector, in place of what it has.
 fn write_term(term: &Term, bytes: &mut Vec<u8>, out: &mut [u8], len: &mut usize) -> i32
     requires { len.old ≡ 0 }
     ensures { WritesText (written term.now) (written_reply result len.new out.old out.new) }

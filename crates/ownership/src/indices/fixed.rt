@@ -1,4 +1,4 @@
-// The tables that may be fixed. The dirty table, which was borrowed for a change last, need not be listed.
+// The list of the tables that may be fixed. The dirty table, which was borrowed for a change last, need not be listed.
 ghost use Rattle.std.specs.Prelude.{◌≡◌, ◌≤◌, ℕ, Some, None, OnOk, filter, vec_capacity};
 ghost use Rattle.ownership.specs.inside.Indices.{IndicesInvariant, ids_under, is_fixed_at};
 
@@ -9,7 +9,7 @@ use bucket_table::Rows;
 use std::alloc::AllocError;
 
 impl Indices {
-    /// Reserves capacity for `tables` identifiers.
+    /// Reserves capacity for `tables` identifiers in the list of fixed tables.
     pub(super) fn reserve(&mut self, tables: usize) -> Result<(), AllocError>
         ensures rest { self.new ≡ record self.old { fixed = self.new.fixed } }
         ensures items { self.new.fixed.items ≡ self.old.fixed.items }
@@ -19,7 +19,7 @@ impl Indices {
         self.fixed.reserve(tables.saturating_sub(self.fixed.len()))
     }
 
-    /// Marks a table dirty. Lists the previous dirty table if it is fixed.
+    /// Marks a table as dirty. Adds the previous dirty table to the list if it is fixed.
     pub fn mark_dirty<R: Rows>(&mut self, tables: &[Option<OwnedTable<R>>], id: u32)
         requires indices { IndicesInvariant self.old tables.now }
         ensures indices { IndicesInvariant self.new tables.now }
@@ -34,7 +34,7 @@ impl Indices {
         self.dirty = Some(id);
     }
 
-    /// Clears the dirty mark. Lists the dirty table if it is fixed. This takes no memory.
+    /// Clears the dirty mark. Adds the dirty table to the list if it is fixed. This takes no memory.
     #[inline(never)]
     pub(super) fn flush_dirty<R: Rows>(&mut self, tables: &[Option<OwnedTable<R>>])
         requires indices { IndicesInvariant self.old tables.now }
@@ -56,7 +56,7 @@ impl Indices {
         }
     }
 
-    /// Removes the tables that no process fixes.
+    /// Removes the tables that no process fixes from the list.
     pub(super) fn retain_fixed<R: Rows>(&mut self, tables: &[Option<OwnedTable<R>>])
         ensures rest { self.new ≡ record self.old { fixed = self.new.fixed } }
         ensures items { self.new.fixed.items
@@ -67,7 +67,7 @@ impl Indices {
     }
 }
 
-/// Checks whether there is a table with this identifier, and a process has fixed it.
+/// Checks whether there is a table with this identifier, and some process fixes it.
 fn is_fixed_at<R: Rows>(tables: &[Option<OwnedTable<R>>], id: u32) -> bool
     ensures { result ≡ is_fixed_at tables.now id }
 {

@@ -4,7 +4,7 @@ ghost use Rattle.ownership.specs.inside.Indices.{AscendsBetween, InsertsSorted};
 
 use std::alloc::AllocError;
 
-/// Inserts `id` in ascending order, unless it is there. If memory is refused, nothing changes.
+/// Inserts `id` in the ascending list, unless it is already there. If memory is refused, nothing changes.
 pub fn insert_sorted(ids: &mut Vec<u32>, id: u32) -> Result<(), AllocError>
     ensures ok { OnOk result (InsertsSorted ids.old.items id ids.new.items) }
     ensures err { OnErr result (ids.new.items ≡ ids.old.items) }

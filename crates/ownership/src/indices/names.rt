@@ -12,7 +12,8 @@ use ets_term::Atom;
 use std::alloc::{AllocError, Global};
 
 impl Indices {
-    /// Returns the identifier of the table with this name, or `None`. The last entry of the index needs no hash.
+    /// Returns the identifier of the table with this name, or `None`. It first compares the name with that of the last
+    /// entry of the index, which takes no hash.
     pub fn find(&self, name: &Atom) -> Option<u32>
         ensures { (tables : Tables) → IndicesInvariant self.now tables → result ≡ whereis tables name.now }
     {
@@ -22,7 +23,8 @@ impl Indices {
         }
     }
 
-    /// Returns the identifier under this name in the index, by its hash. It is out of the way of the last entry.
+    /// Returns the identifier under this name, found by the hash of the name. It is not inlined, so that the code of
+    /// `find` for the last entry stays short.
     #[inline(never)]
     fn look_up(&self, name: &Atom) -> Option<u32>
         ensures { result ≡ get_by_text self.now.names name.now }
@@ -30,7 +32,7 @@ impl Indices {
         self.names.get(name.text()).copied()
     }
 
-    /// Returns the identifier in the last entry of the index, if the entry has this name.
+    /// Compares this name with that of the last entry of the index. Returns the entry's identifier if they are equal.
     #[inline(always)]
     fn if_last_entry(&self, name: &Atom) -> Option<u32>
         ensures { IfSome result (λ id. get_by_text self.now.names name.now ≡ Some id) }
@@ -41,7 +43,7 @@ impl Indices {
         }
     }
 
-    /// Adds the next identifier under the name of a table, if the table is named.
+    /// Adds the identifier of a new table under its name, if the table is named.
     pub(super) fn index_name(
         &mut self,
         alloc: Global,
@@ -65,14 +67,15 @@ impl Indices {
         Ok(())
     }
 
-    /// Removes the name of a table, which is then free again. This takes no memory.
+    /// Removes the name of a named table from the index, so that another table can have it. This takes no memory.
     pub fn remove(&mut self, metadata: &Metadata)
         ensures rest { self.new ≡ record self.old { names = self.new.names } }
         ensures indices { (tables : Tables) (t : ℕ) → metadata_of (table_at tables t) ≡ Some metadata.now
             → IndicesInvariant self.old tables → IndicesInvariant self.new (slice_set tables t None) }
     {
         if metadata.named {
-            // The order of the index does not matter: `if_last_entry` checks the name.
+            // This changes the order of the index. The order does not matter, because `if_last_entry` compares the
+            // name.
             let _ = self.names.swap_remove(metadata.name.text());
         }
     }

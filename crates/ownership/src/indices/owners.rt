@@ -1,4 +1,4 @@
-// The index by owner: for each process, the tables that it ever owned, until it ends.
+// The index by owner: for each process, the tables that it owns or once owned. Its entry is removed when it ends.
 ghost use Rattle.std.specs.Prelude.{◌≡◌, OnOk, IfOk};
 ghost use Rattle.ownership.specs.inside.Indices.{IsAmong, AddsUnderOwners, RemovesOwner, HeirsAreIndexed, HeirIsIndexed, ids_under};
 
@@ -12,7 +12,7 @@ use indexmap::IndexMap;
 use std::alloc::{AllocError, Global};
 
 impl Indices {
-    /// Adds a table under an owner. Earlier identifiers stay, also if memory is refused.
+    /// Adds a table under an owner. Identifiers that were added before stay, also if memory is refused.
     pub fn index_owner(&mut self, alloc: Global, owner: u32, id: u32) -> Result<(), AllocError>
         ensures owners { AddsUnderOwners self.old self.new }
         ensures ok { OnOk result (IsAmong id (ids_under self.new owner)) }
@@ -26,7 +26,7 @@ impl Indices {
         Ok(())
     }
 
-    /// Returns the identifiers under an owner.
+    /// Returns a copy of the identifiers under an owner.
     pub fn tables_of(&self, alloc: Global, owner: u32) -> Result<Vec<u32>, AllocError>
         ensures { IfOk result (λ ids. ids.items ≡ ids_under self.now owner) }
     {
@@ -44,7 +44,7 @@ impl Indices {
         let _ = self.owned.swap_remove(&owner);
     }
 
-    /// Adds each of these tables under its heir, if the heir lives.
+    /// Adds each of these tables under its heir if the heir lives, before the owner ends.
     pub fn index_heirs<R: Rows>(
         &mut self,
         alloc: Global,
@@ -61,7 +61,7 @@ impl Indices {
         Ok(())
     }
 
-    /// Adds one table under its heir, if the heir lives.
+    /// Adds one table under its heir if the heir lives.
     fn index_heir<R: Rows>(
         &mut self,
         alloc: Global,

@@ -13,9 +13,9 @@ use indexmap::IndexMap;
 use std::mem;
 
 impl Indices {
-    /// Releases the fixes of an ended process. Passes each of its tables to the living heir, or deletes it. `own`
-    /// must have all tables of the process, and each must be listed under its living heir. Only these and the fixed
-    /// tables are visited. This takes no memory.
+    /// Releases the fixes of a process that ended. Passes each of its tables to its heir, or deletes it if no heir
+    /// lives. `own` must contain all tables of the process, and each must be in the index under its living heir. Only
+    /// these and the fixed tables are visited. This takes no memory.
     pub fn reassign_tables<R: Rows>(
         &mut self,
         tables: &mut Vec<Option<OwnedTable<R>>>,
@@ -44,7 +44,7 @@ impl Indices {
         self.remove_owner(pid);
     }
 
-    /// Does the same for one table.
+    /// Does what `reassign_tables` does, for one table.
     fn reassign_table<R: Rows>(
         &mut self,
         tables: &mut Vec<Option<OwnedTable<R>>>,
@@ -68,8 +68,8 @@ impl Indices {
         tables[index] = self.table_after_exit(processes, pid, table);
     }
 
-    /// Returns a table after its owner's end. The fixes of the process are released. A table that it owned passes to
-    /// the living heir, or is deleted.
+    /// Returns a table as it is after the end of a process. The fixes of the process are released. If the process owned
+    /// the table, the table passes to its heir, or is deleted if no heir lives.
     fn table_after_exit<R: Rows>(
         &mut self,
         processes: &IndexMap<u32, Process>,

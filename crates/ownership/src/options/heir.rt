@@ -11,8 +11,8 @@ use crate::metadata::Heir;
 use ets_term::Term;
 use std::alloc::{AllocError, Global};
 
-/// Reads `{heir,none}` or `{heir,Pid,Data}`. Returns the heir, or `Some(None)` for no heir. Returns `None` for any
-/// other tuple.
+/// Reads the elements of `{heir,none}` or `{heir,Pid,Data}`. Returns `Some(None)` for the first and `Some` of the heir
+/// for the second. Returns `None` for any other tuple.
 pub fn parse_heir(alloc: Global, elements: &[Term]) -> Result<Option<Option<Heir>>, AllocError>
     ensures { IfOk result (λ said. said ≡ parse_heir elements.now) }
 {
@@ -29,8 +29,8 @@ pub fn parse_heir(alloc: Global, elements: &[Term]) -> Result<Option<Option<Heir
     }
 }
 
-/// Reads the options of `setopts`. Returns the heir of the last option, or `None` for an empty list. Returns `Badarg`
-/// if an option does not name an heir.
+/// Reads the options of `setopts`. Returns `Some` of what the last option sets: an heir, or `None` for no heir. Returns
+/// `None` for an empty list, and `Badarg` if a term is not such an option.
 pub fn heir_in_setopts(alloc: Global, options: &Term) -> Result<Option<Option<Heir>>, WorldFault>
     ensures { (heir : Option model.Heir) → ReadsHeir (heir_after heir options.now) heir result }
 {
@@ -40,7 +40,7 @@ pub fn heir_in_setopts(alloc: Global, options: &Term) -> Result<Option<Option<He
     }
 }
 
-/// Parses a term of the list of `setopts`, which must be an heir option. Returns the heir, or `None` for no heir.
+/// Reads one option of `setopts`, which must name an heir or no heir. Returns the heir, or `None` for no heir.
 fn parse_heir_option(alloc: Global, option: &Term) -> Result<Option<Heir>, WorldFault>
     ensures { Reads (heir_form (out-Term option.now)) result }
 {
@@ -51,7 +51,7 @@ fn parse_heir_option(alloc: Global, option: &Term) -> Result<Option<Heir>, World
     heir.ok_or(WorldFault::Badarg)
 }
 
-/// Parses a list of heir options. The last one decides; an empty list changes nothing.
+/// Reads a list of heir options. Returns what the last option sets, or `None` for an empty list, which changes nothing.
 fn parse_last_heir(alloc: Global, options: &[Term]) -> Result<Option<Option<Heir>>, WorldFault>
     ensures { (heir : Option model.Heir) → ReadsHeir (heirs_from heir options.now) heir result }
 {

@@ -12,7 +12,7 @@ use ets_term::Term;
 use std::alloc::Global;
 use table_ops::Kind;
 
-/// Parses the options of `new` in order. A later option overrides an earlier one.
+/// Reads the options of `new` in order. A later option overrides an earlier option.
 pub fn read_all(alloc: Global, terms: &[Term]) -> Result<NewOptions, WorldFault>
     ensures value { Reads (options_from default_options terms.now) result }
     ensures keypos { IfOk result (λ options. 1 ≤ options.keypos) }
@@ -34,7 +34,7 @@ fn is_boolean(term: &Term) -> bool
     term.is_atom("true") || term.is_atom("false")
 }
 
-/// Checks whether a pair is a tuning option, which is allowed and changes nothing.
+/// Checks whether a pair is a tuning option of ets. These options are allowed and have no effect.
 fn is_tuning(name: &Term, value: &Term) -> bool
     ensures { result ≡ is_tuning name.now value.now }
 {
@@ -49,8 +49,8 @@ fn is_tuning(name: &Term, value: &Term) -> bool
     }
 }
 
-/// Each of these methods reads one more option into `self`. It returns `false` or `Badarg` if the option does not
-/// exist.
+/// Each of these methods, except `default`, applies one option to `self`. It returns `false` or `Badarg` if the option
+/// does not exist.
 impl NewOptions {
     /// Returns the options of an empty list.
     fn default() -> NewOptions
@@ -65,7 +65,7 @@ impl NewOptions {
         }
     }
 
-    /// Applies one option. Returns `Badarg` if the term is no option.
+    /// Applies one option. Returns `Badarg` if the term is not an option.
     fn add(&mut self, alloc: Global, term: &Term) -> Result<(), WorldFault>
         requires { 1 ≤ self.old.keypos }
         ensures value { ReadsOption (option_form (out-Term term.now) self.old) result self.new }
@@ -82,7 +82,7 @@ impl NewOptions {
         Ok(())
     }
 
-    /// Applies an option that is an atom. Returns whether the word is one.
+    /// Applies an option that is an atom. Returns whether the word is an option.
     fn set_word(&mut self, word: &str) -> bool
         requires { 1 ≤ self.old.keypos }
         ensures value { SetsOption (word_option word.now self.old) result self.new }
@@ -100,7 +100,8 @@ impl NewOptions {
         true
     }
 
-    /// Applies an option of access, `named_table` or `compressed`. Returns whether the word is one of these.
+    /// Applies an option that sets the protection, or `named_table`, or `compressed`, which has no effect. Returns
+    /// whether the word is one of these.
     fn set_access(&mut self, word: &str) -> bool
         requires { 1 ≤ self.old.keypos }
         ensures value { SetsOption (access_word word.now self.old) result self.new }
@@ -120,7 +121,7 @@ impl NewOptions {
         true
     }
 
-    /// Applies an option that is a tuple: an heir, or a pair.
+    /// Applies an option that is a tuple: one that names an heir or no heir, or any other pair.
     fn add_tuple(&mut self, alloc: Global, elements: &[Term]) -> Result<(), WorldFault>
         requires { 1 ≤ self.old.keypos }
         ensures value { ReadsOption (tuple_option elements.now self.old) result self.new }
@@ -136,7 +137,7 @@ impl NewOptions {
         Ok(())
     }
 
-    /// Applies an option that is a pair. Returns whether the tuple is one.
+    /// Applies an option that is a pair. Returns whether the tuple is such an option.
     fn set_tuple(&mut self, elements: &[Term]) -> bool
         requires { 1 ≤ self.old.keypos }
         ensures value { SetsOption (plain_tuple elements.now self.old) result self.new }
@@ -148,7 +149,7 @@ impl NewOptions {
         }
     }
 
-    /// Applies `{keypos,Pos}`, or accepts a pair that only tunes speed. Returns whether the pair is an option.
+    /// Applies `{keypos,Pos}`, or accepts a tuning option, which has no effect. Returns whether the pair is an option.
     fn set_pair(&mut self, name: &Term, value: &Term) -> bool
         requires { 1 ≤ self.old.keypos }
         ensures value { SetsOption (pair_option name.now value.now self.old) result self.new }

@@ -19,9 +19,9 @@ use std::alloc::{AllocError, Global};
 use std::mem;
 
 impl<R: Rows> World<R> {
-    /// Ends a process (stdlib manual, module ets). Its messages are dropped and its fixes released. Each of its
-    /// tables, in order of creation, passes to its living heir with the transfer message, or is deleted. Returns
-    /// `NoProcess` if the process does not live.
+    /// Ends a process (stdlib manual, module ets). Its messages are dropped and its fixes released. Each of its tables,
+    /// in order of creation, passes to its heir, which gets the transfer message, or is deleted if no heir lives.
+    /// Returns `NoProcess` if the process does not live.
     pub fn end(&mut self, pid: u32) -> Result<(), WorldFault>
         ensures { RefinesWorld (End self.old pid) self.old result self.new }
     {
@@ -88,7 +88,7 @@ fn post_transfers<R: Rows>(
     Ok(())
 }
 
-/// Replaces a process and returns the old one.
+/// Replaces a process and returns the old process.
 fn replace_process(processes: &mut IndexMap<u32, Process>, pid: u32, process: Process) -> Process
     requires { is_some (process_at processes.old.entries pid) ≡ true }
     ensures old { process_at processes.old.entries pid ≡ Some result }
@@ -100,7 +100,7 @@ fn replace_process(processes: &mut IndexMap<u32, Process>, pid: u32, process: Pr
     }
 }
 
-/// Posts the transfer messages of these tables, all or none.
+/// Posts the transfer messages of these tables. If memory is refused, removes those already posted.
 fn post_all<R: Rows>(
     alloc: Global,
     processes: &mut IndexMap<u32, Process>,
@@ -121,7 +121,7 @@ fn post_all<R: Rows>(
     Ok(())
 }
 
-/// Posts the transfer message of one table, if the table has a receiver.
+/// Posts the transfer message of one table, if the process owns it and its heir lives.
 fn post_transfer<R: Rows>(
     alloc: Global,
     processes: &mut IndexMap<u32, Process>,
@@ -143,7 +143,7 @@ fn post_transfer<R: Rows>(
     push_message(processes, heir.pid, message)
 }
 
-/// Removes the transfer messages of these tables, the last first.
+/// Removes the transfer messages of these tables again, the last first.
 fn unpost_all<R: Rows>(
     processes: &mut IndexMap<u32, Process>,
     tables: &[Option<OwnedTable<R>>],
@@ -160,7 +160,7 @@ fn unpost_all<R: Rows>(
     }
 }
 
-/// Removes the transfer message of one table, which was posted last.
+/// Removes the transfer message of one table again. It must be the message that was posted last.
 fn unpost_transfer<R: Rows>(
     processes: &mut IndexMap<u32, Process>,
     tables: &[Option<OwnedTable<R>>],
@@ -180,7 +180,7 @@ fn unpost_transfer<R: Rows>(
     pop_message(processes, heir.pid);
 }
 
-/// Returns the heir that gets a table of the process.
+/// Returns the heir that gets the table when the process ends: `None` if the process does not own it or no heir lives.
 fn receiver_of<'a, R: Rows>(
     processes: &IndexMap<u32, Process>,
     table: &'a OwnedTable<R>,

@@ -28,8 +28,8 @@ impl<R: Rows> World<R> {
         self.processes.len()
     }
 
-    /// Starts the process with this number. Returns `Badarg` if the number was enrolled before, and `SystemLimit` if
-    /// the greatest number of processes was reached.
+    /// Starts a process with this number. Returns `Badarg` if a process with this number was ever enrolled, and
+    /// `SystemLimit` if the greatest number of processes is reached.
     pub fn enrol(&mut self, pid: u32) -> Result<(), WorldFault>
         ensures { RefinesWorld (Enrol self.old pid) self.old result self.new }
     {
@@ -50,14 +50,14 @@ impl<R: Rows> World<R> {
         self.processes.contains_key(&pid)
     }
 
-    /// Checks whether the limit of processes is reached. Ended processes count.
+    /// Checks whether the greatest number of processes is reached. Ended processes are counted too.
     fn has_max_processes(&self) -> bool
         ensures { result ≡ nat_le self.now.max_processes (length self.now.processes) }
     {
         self.enrolled() >= self.max_processes as usize
     }
 
-    /// Adds a process. Its number must be new.
+    /// Adds a living process without messages. Its number must be new.
     #[tactic(auto, using(crate::proofs::Enrolments::enrolling))]
     fn push_process(&mut self, pid: u32) -> Result<(), AllocError>
         requires { process_at self.old.processes pid ≡ None }

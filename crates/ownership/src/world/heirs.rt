@@ -14,9 +14,9 @@ use std::alloc::AllocError;
 
 /// Changes of owners and heirs.
 impl<R: Rows> World<R> {
-    /// Gives a table of the process to another (stdlib manual, ets:give_away/3), which gets the transfer message with
-    /// the gift. The heir and the fixes stay. Returns `Badarg` if the table does not exist or `pid` does not own it.
-    /// Returns `Badarg` too if `to` is `pid` or does not live.
+    /// Gives a table of the process `pid` to the process `to` (stdlib manual, ets:give_away/3), which gets the transfer
+    /// message with the gift. The heir and the fixes stay. Returns `Badarg` if the table does not exist, `pid` does not
+    /// own it, `to` is `pid`, or `to` does not live.
     pub fn give_away(&mut self, pid: u32, id: u32, to: u32, gift: &Term) -> Result<(), WorldFault>
         ensures { RefinesWorld (GiveAway self.old pid id to gift.now) self.old result self.new }
     {
@@ -32,8 +32,8 @@ impl<R: Rows> World<R> {
     }
 
     /// Sets the heir of a table of the process (stdlib manual, ets:setopts/2). The options are `{heir,none}`,
-    /// `{heir,Pid,Data}`, or a list of these, of which the last counts. Returns `Badarg` if the table does not exist,
-    /// `pid` does not own it, or an option does not name an heir.
+    /// `{heir,Pid,Data}`, or a list of these, of which the last takes effect. Returns `Badarg` if the table does not
+    /// exist, `pid` does not own it, or an option does not name an heir.
     pub fn set_options(&mut self, pid: u32, id: u32, options: &Term) -> Result<(), WorldFault>
         ensures { RefinesWorld (SetOptions self.old pid id options.now) self.old result self.new }
     {
@@ -60,7 +60,7 @@ impl<R: Rows> World<R> {
         Err(WorldFault::Badarg)
     }
 
-    /// Passes a table to another owner, and posts the message to it.
+    /// Passes a table to another owner, and posts the message to the new owner.
     fn transfer(&mut self, id: u32, owner: u32, message: Term) -> Result<(), AllocError>
         ensures ok { OnOk result (self.new ≡ after_transfer self.old id owner message) }
         ensures err { OnErr result (self.new ≡ self.old) }

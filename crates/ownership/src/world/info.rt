@@ -22,7 +22,7 @@ impl<R: Rows> World<R> {
     }
 }
 
-/// Returns what `info` answers for one item of a table.
+/// Returns the value of one item of information on a table.
 fn info_value<R: Rows>(
     alloc: Global,
     owned: &OwnedTable<R>,

@@ -10,8 +10,8 @@ use std::alloc::Global;
 use std::mem;
 
 impl<R: Rows> World<R> {
-    /// Returns the messages that the process has not yet received, oldest first. They are empty if the process does
-    /// not exist.
+    /// Returns the messages that the process has not yet received, oldest first. There are none if the process does not
+    /// exist.
     pub fn mailbox(&self, pid: u32) -> &[Term]
         ensures { result.now ≡ mailbox_of self.now.processes pid }
     {
@@ -21,7 +21,7 @@ impl<R: Rows> World<R> {
         }
     }
 
-    /// Takes these messages out of the mailbox, which is then empty. This takes no memory.
+    /// Empties the mailbox of the process and returns its messages, oldest first. This takes no memory.
     pub fn receive(&mut self, pid: u32) -> Items<Term>
         ensures answer { result ≡ mailbox_of self.old.processes pid }
         ensures after { self.new ≡ record self.old { processes = after_receive self.old.processes pid } }

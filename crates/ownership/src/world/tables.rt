@@ -22,7 +22,7 @@ use std::mem;
 impl<R: Rows> World<R> {
     ghost use Rattle.ownership.specs.inside.Lending.{LendsTable};
 
-    /// Returns the number of tables ever made. It is the identifier of the next table.
+    /// Returns the number of tables ever made, which is the identifier of the next table.
     pub fn made(&self) -> u32
         ensures { result ≡ length self.now.tables }
     {
@@ -46,8 +46,8 @@ impl<R: Rows> World<R> {
         self.indices.find(name)
     }
 
-    /// Returns the identifier of the table that a term names: by its identifier, or by its name if it is a named
-    /// table.
+    /// Returns the identifier of the table that a term names, by its identifier or, for a named table, by its name.
+    /// Returns `None` if there is no such table.
     pub fn resolve(&self, term: &Term) -> Option<u32>
         ensures { result ≡ resolve self.now.tables term.now }
     {
@@ -84,9 +84,9 @@ impl<R: Rows> World<R> {
         Some(owned.table_mut())
     }
 
-    /// Creates a table of a process (stdlib manual, ets:new/2). Returns the name of a named table, else the
-    /// identifier. Returns `Badarg` if a named table has the name already, and `SystemLimit` if the greatest number
-    /// of tables was reached. A refused table is dropped.
+    /// Adds a table, owned by a process (stdlib manual, ets:new/2). Returns the name of a named table, else the
+    /// identifier. Returns `Badarg` if it is to be named and another named table has the name, and `SystemLimit` if the
+    /// greatest number of tables is reached. A refused table is dropped.
     pub fn new_table(
         &mut self,
         pid: u32,
@@ -112,14 +112,14 @@ impl<R: Rows> World<R> {
         }
     }
 
-    /// Checks whether the table is to be named and another has its name.
+    /// Checks whether the new table is to be named and another named table has its name.
     fn name_is_taken(&self, options: &NewOptions, name: &Atom) -> bool
         ensures { result ≡ (options.now.named && is_some (whereis self.now.tables name.now)) }
     {
         options.named && self.whereis(name).is_some()
     }
 
-    /// Checks whether the limit of tables is reached. Deleted tables count.
+    /// Checks whether the greatest number of tables is reached. Deleted tables are counted too.
     fn has_max_tables(&self) -> bool
         ensures full { result ≡ nat_le self.now.max_tables (length self.now.tables) }
         ensures few { result ≡ false → length self.now.tables + 1 < 2 ^ 32 }
@@ -127,7 +127,7 @@ impl<R: Rows> World<R> {
         self.made() >= self.max_tables
     }
 
-    /// Creates a table that is not refused.
+    /// Adds a table as `new_table` does, after its checks.
     fn create_table(
         &mut self,
         pid: u32,
@@ -163,7 +163,7 @@ impl<R: Rows> World<R> {
         Ok(answer)
     }
 
-    /// Adds a table with the next identifier. If it is named, its name must be free.
+    /// Adds a table with the next identifier. If it is named, no other table may have its name.
     fn push_table(&mut self, metadata: Metadata, table: Walked<R>) -> Result<(), AllocError>
         requires free { IsNameFree self.old.tables metadata }
         requires few { length self.old.tables + 1 < 2 ^ 32 }
@@ -186,8 +186,8 @@ impl<R: Rows> World<R> {
         Ok(())
     }
 
-    /// Deletes the table with this identifier, with its name and its fixes (stdlib manual, ets:delete/1). Does
-    /// nothing if it does not exist. This takes no memory.
+    /// Deletes the table with this identifier, with its name and its fixes (stdlib manual, ets:delete/1). Does nothing
+    /// if the table does not exist. This takes no memory.
     pub fn drop_table(&mut self, id: u32)
         ensures { self.new ≡ without_table self.old id }
     {

@@ -13,7 +13,7 @@ use ets_term::Term;
 
 impl<R: Rows> Table<R> {
     /// Inserts objects one after another, or none of them if one is refused (stdlib manual, ets:insert/2). Refuses with
-    /// `Badarg` if one is no object, and with `SystemLimit` if one is too deep or the table would pass its limit.
+    /// `Badarg` if one is not an object, and with `SystemLimit` if one is too deep or the table would pass its limit.
     pub fn insert(&mut self, objects: &[Term]) -> Result<(), Refusal>
         ensures content { RefinesChange (Inserts objects.now self.old.content)
             self.old.content result self.new.content }
@@ -25,7 +25,7 @@ impl<R: Rows> Table<R> {
         }
     }
 
-    /// Inserts a copy of one object, which is what most calls insert.
+    /// Does `insert` of one object, which most calls insert. Inserts a copy of it, without an undo log.
     fn insert_one(&mut self, object: &Term) -> Result<(), Refusal>
         ensures content { RefinesChange (Inserts (object.now ∷ []) self.old.content)
             self.old.content result self.new.content }
@@ -50,7 +50,7 @@ impl<R: Rows> Table<R> {
         self.put_checked(object)
     }
 
-    /// Returns why a term cannot be inserted, if it is no object or too deep.
+    /// Returns the refusal if the term is not an object or is too deep, or `None` if it may be inserted.
     fn refusal_of(&self, object: &Term) -> Option<Refusal>
         ensures { MatchOption result
             ((is_object self.now.content.keypos object.now ≡ true)
@@ -80,7 +80,7 @@ impl<R: Rows> Table<R> {
         Ok(())
     }
 
-    /// Inserts a list of objects.
+    /// Does `insert` of a list of objects.
     #[inline(never)]
     fn insert_list(&mut self, objects: &[Term]) -> Result<(), Refusal>
         ensures content { RefinesChange (Inserts objects.now self.old.content)
@@ -94,7 +94,7 @@ impl<R: Rows> Table<R> {
     }
 
     /// Inserts objects if none of their keys has an object, and returns whether it did (stdlib manual,
-    /// ets:insert_new/2). Refuses what `insert` refuses, but `SystemLimit` only if all keys are free.
+    /// ets:insert_new/2). Refuses what `insert` refuses, but with `SystemLimit` only if no key has an object.
     pub fn insert_new(&mut self, objects: &[Term]) -> Result<bool, Refusal>
         ensures content { RefinesChange (InsertsNew objects.now self.old.content)
             self.old.content result self.new.content }
@@ -143,7 +143,7 @@ impl<R: Rows> Table<R> {
         self.insert_all(list, true)
     }
 
-    /// Returns whether the key of an object has objects.
+    /// Returns whether the table has objects with the key of this object.
     fn is_taken(&self, object: &Term) -> bool
         ensures { result ≡ is_taken self.now.content.keypos self.now.content.slots object.now }
     {
@@ -153,7 +153,7 @@ impl<R: Rows> Table<R> {
         }
     }
 
-    /// Returns whether the key of any of the objects has objects.
+    /// Returns whether the table has objects with the key of any of these objects.
     fn any_taken(&self, objects: &[Term]) -> bool
         ensures { result
             ≡ list_any (is_taken self.now.content.keypos self.now.content.slots) objects.now }
@@ -161,7 +161,8 @@ impl<R: Rows> Table<R> {
         objects.iter().any(|object| self.is_taken(object))
     }
 
-    /// Inserts all objects or none. Returns `done` if they are inserted.
+    /// Inserts all objects, or none if one is refused. If they are inserted, returns `done`, the result of the public
+    /// method: `()` of `insert`, `true` of `insert_new`.
     fn insert_all<X: Copy>(&mut self, objects: &[Term], done: X) -> Result<X, Refusal>
         requires { list_all (is_object self.old.content.keypos) objects.now ≡ true }
         ensures content { RefinesChange (InsertsWithinLimit done objects.now self.old.content)

@@ -28,9 +28,9 @@ impl<R: Rows> Table<R> {
         !self.lookup(key).is_empty()
     }
 
-    /// Returns a copy of the element at `position`, from 1, of the key's object; in a bag, the list of these elements
-    /// of all its objects. Refuses with `Badarg` if the key has no object, or one of its objects has no such element
-    /// (stdlib manual, ets:lookup_element/3).
+    /// Returns a copy of the element at `position`, counted from 1, of the key's object. In a bag, returns the list of
+    /// these elements of all objects with the key. Refuses with `Badarg` if the key has no object, or one of its
+    /// objects has no such element (stdlib manual, ets:lookup_element/3).
     pub fn lookup_element(&self, key: &Term, position: Position) -> Result<Term, Refusal>
         ensures { ReturnsOrBadarg (lookup_element self.now.content.kind position
             (objects_under self.now.content.slots key.now)) result }
@@ -43,8 +43,8 @@ impl<R: Rows> Table<R> {
         )
     }
 
-    /// Returns what `lookup_element` does, but a copy of `default` if the key has no object. Refuses position 0 with
-    /// `Badarg` then too (stdlib manual, ets:lookup_element/4).
+    /// Returns what `lookup_element` returns, but a copy of `default` if the key has no object. Even then it refuses
+    /// position 0 with `Badarg` (stdlib manual, ets:lookup_element/4).
     pub fn lookup_element_or(
         &self,
         key: &Term,
@@ -117,7 +117,7 @@ fn elements(alloc: Global, objects: &[Term], position: Position) -> Result<Term,
     Ok(Term::List(Items::from_vec(copies)))
 }
 
-/// Appends copies of objects. The capacity must suffice.
+/// Appends copies of objects to `copies`, which must have capacity for them.
 fn append_clones(alloc: Global, copies: &mut Vec<Term>, objects: &[Term]) -> Result<(), AllocError>
     requires room { vec_len copies.old + length objects.now ≤ vec_capacity copies.old }
     ensures copied { OnOk result (copies.new.items ≡ copies.old.items ++ objects.now) }

@@ -17,8 +17,8 @@ use match_spec::{Pattern, Spec};
 use std::alloc::AllocError;
 
 impl<R: Rows> Table<R> {
-    /// Returns, for each object that matches, the list of the values of the variables, in order of their numbers. The
-    /// lists come in the order of the slots (stdlib manual, ets:match/2).
+    /// Returns, for each object that matches, the list of the values of the variables, in order of the variables'
+    /// numbers. The lists are in the order of the slots (stdlib manual, ets:match/2).
     pub fn matches(&self, pattern: &Pattern) -> Result<Items<Term>, AllocError>
         ensures { ReturnsAllData result (answers_in (bound_in pattern.now) self.now.content) }
     {
@@ -26,7 +26,7 @@ impl<R: Rows> Table<R> {
         self.matches_counted(pattern, &mut looks)
     }
 
-    /// Does `matches` and counts the tested objects: those of the key if the pattern binds it, else all.
+    /// Does `matches` and counts the tested objects: those of the bound key if the pattern has one, else all.
     pub fn matches_counted(
         &self,
         pattern: &Pattern,
@@ -77,7 +77,7 @@ impl<R: Rows> Table<R> {
         self.select_counted(spec, &mut looks)
     }
 
-    /// Does `select` and counts the tested objects: those of the key if all clauses bind the same key, else all.
+    /// Does `select` and counts the tested objects: those of the bound key if all clauses bind the same key, else all.
     pub fn select_counted(&self, spec: &Spec, looks: &mut Looks) -> Result<Items<Term>, AllocError>
         ensures answers { ReturnsAllData result (answers_in (spec_result spec.now) self.now.content) }
         ensures looks { CountsLooks result (looks_of_spec spec.now self.now.content) looks.old looks.new }
@@ -88,7 +88,7 @@ impl<R: Rows> Table<R> {
         self.collect(&Trial::new(spec), key, looks)
     }
 
-    /// Returns the number of objects whose result is `true`, at most 4,294,967,295 (stdlib manual,
+    /// Returns the number of objects for which the result is `true`, at most 4,294,967,295 (stdlib manual,
     /// ets:select_count/2).
     pub fn select_count(&self, spec: &Spec) -> Result<usize, AllocError>
         ensures count { Returns result (chosen_in (is_chosen spec.now) self.now.content) }
@@ -110,7 +110,8 @@ impl<R: Rows> Table<R> {
         self.count_matching(&Trial::new(spec), key, looks)
     }
 
-    /// Deletes the objects that match (stdlib manual, ets:match_delete/2). If memory runs out, it changes nothing.
+    /// Deletes the objects that match (stdlib manual, ets:match_delete/2). A slot that loses its last object stays as a
+    /// tombstone if `hold` is true. If memory runs out, it changes nothing.
     pub fn match_delete(&mut self, pattern: &Pattern, hold: bool) -> Result<(), AllocError>
         ensures content { OnOk result
             (self.new.content ≡ without_chosen hold (matches pattern.now) self.old.content) }
@@ -142,8 +143,9 @@ impl<R: Rows> Table<R> {
         Ok(())
     }
 
-    /// Deletes the objects whose result is `true` and returns their number (stdlib manual, ets:select_delete/2). If
-    /// memory runs out, it changes nothing.
+    /// Deletes the objects for which the result is `true` and returns their number (stdlib manual,
+    /// ets:select_delete/2). A slot that loses its last object stays as a tombstone if `hold` is true. If memory runs
+    /// out, it changes nothing.
     pub fn select_delete(&mut self, spec: &Spec, hold: bool) -> Result<usize, AllocError>
         ensures count { Returns result (chosen_in (is_chosen spec.now) self.old.content) }
         ensures few { IfOk result (λ count. count < 2 ^ 32) }
@@ -177,7 +179,7 @@ impl<R: Rows> Table<R> {
         self.delete_matching(&Trial::new(spec), key, hold, looks)
     }
 
-    /// Returns the results of a query. If `key` is some, only objects with that key may have one.
+    /// Returns the results of a query. If `key` is given, tests only its objects. No other object may have a result.
     fn collect<P: Projection>(
         &self,
         query: &Trial<'_, P>,
@@ -198,7 +200,7 @@ impl<R: Rows> Table<R> {
         Ok(Items::from_vec(found))
     }
 
-    /// Returns the number of chosen objects. If `key` is some, only objects with that key may be chosen.
+    /// Returns the number of chosen objects. If `key` is given, tests only its objects. No other object may be chosen.
     fn count_matching<P: Predicate>(
         &self,
         query: &Trial<'_, P>,
@@ -217,7 +219,7 @@ impl<R: Rows> Table<R> {
         self.inner.count(query, key, looks)
     }
 
-    /// Deletes the chosen objects and returns their number. If `key` is some, only objects with that key may be chosen.
+    /// Deletes the chosen objects and returns their number. If `key` is given, only its objects may be chosen.
     fn delete_matching<P: Predicate>(
         &mut self,
         query: &Trial<'_, P>,

@@ -11,7 +11,8 @@ use ets_term::{Items, Term};
 use std::alloc::AllocError;
 
 impl<R: Rows> Table<R> {
-    /// Deletes the objects of a key (stdlib manual, ets:delete/2). The slot stays as a tombstone if `hold`.
+    /// Deletes the objects of a key (stdlib manual, ets:delete/2). The slot stays as a tombstone if `hold`
+    /// is true.
     pub fn delete_key(&mut self, key: &Term, hold: bool)
         ensures content { self.new.content ≡ without_those hold (has_key key.now) self.old.content }
         ensures buckets { self.new.buckets ≡ self.old.buckets }
@@ -23,7 +24,8 @@ impl<R: Rows> Table<R> {
         self.count -= count;
     }
 
-    /// Removes and returns the objects of a key, oldest first (stdlib manual, ets:take/2).
+    /// Removes and returns the objects of a key, oldest first (stdlib manual, ets:take/2). The slot stays as a
+    /// tombstone if `hold` is true.
     pub fn take(&mut self, key: &Term, hold: bool) -> Result<Items<Term>, AllocError>
         ensures objects { Returns result (objects_under self.old.content.slots key.now) }
         ensures content { OnOk result
@@ -42,8 +44,8 @@ impl<R: Rows> Table<R> {
         Ok(Items::from_vec(taken))
     }
 
-    /// Deletes every instance of an object (stdlib manual, ets:delete_object/2). Refuses with `Badarg` if the term is
-    /// no object.
+    /// Deletes all objects that equal `object` (stdlib manual, ets:delete_object/2). Refuses with `Badarg` if the term
+    /// is not an object. A slot that loses its last object stays as a tombstone if `hold` is true.
     pub fn delete_object(&mut self, object: &Term, hold: bool) -> Result<(), Refusal>
         ensures content { DeletesObject hold object.now self.old.content result self.new.content }
         ensures buckets { self.new.buckets ≡ self.old.buckets }
@@ -59,7 +61,8 @@ impl<R: Rows> Table<R> {
         Ok(())
     }
 
-    /// Deletes all objects (stdlib manual, ets:delete_all_objects/1). All slots stay as tombstones if `hold`.
+    /// Deletes all objects (stdlib manual, ets:delete_all_objects/1). All slots stay as tombstones if
+    /// `hold` is true.
     pub fn delete_all(&mut self, hold: bool)
         ensures content { self.new.content ≡ without_those hold every_object self.old.content }
         ensures buckets { self.new.buckets ≡ self.old.buckets }

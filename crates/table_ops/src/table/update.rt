@@ -12,16 +12,17 @@ use ets_term::{Position, Term};
 
 impl<R: Rows> Table<R> {
     /// Updates the counters of a key's object in place and returns the new value, or the list of new values for a list
-    /// of operations (stdlib manual, ets:update_counter/3 and /4). If the key has no object, it updates the Default
-    /// with that key and inserts it.
+    /// of operations (stdlib manual, ets:update_counter/3 and /4). If the key has no object, it sets the key in
+    /// the Default, updates the counters of this object and inserts it.
     ///
     /// Refuses with `Badarg`
-    /// - a bag,
-    /// - an operation on the key's element or on a position without an integer,
-    /// - a Default that is no object, even if it is not needed,
-    /// - a key without object if there is no Default.
+    /// - a table that is not a set,
+    /// - an operation on the element at keypos, or on a position without an integer,
+    /// - a Default that is not an object, even if the key has an object,
+    /// - a key without an object, if there is no Default.
     ///
-    /// Refuses with `SystemLimit` a new value that overflows, and a new object that is too deep or past the limit.
+    /// Refuses with `SystemLimit` a new value out of the range of integers, a new object that is too deep, and one
+    /// object more than the table may have.
     pub fn update_counter(
         &mut self,
         key: &Term,
@@ -75,16 +76,16 @@ impl<R: Rows> Table<R> {
     }
 
     /// Sets elements of a key's object in place and returns `true` (stdlib manual, ets:update_element/3 and /4). If the
-    /// key has no object, it sets them in the Default with that key and inserts it, also for no values. Without a
-    /// Default it returns `false`.
+    /// key has no object, it sets the key and the elements in the Default and inserts this object, even if there are no
+    /// values. If there is no Default either, it returns `false`.
     ///
     /// Refuses with `Badarg`
-    /// - a bag,
-    /// - a value for the key's element,
-    /// - a Default that is no object, even if it is not needed,
+    /// - a table that is not a set,
+    /// - a value for the element at keypos,
+    /// - a Default that is not an object, even if the key has an object,
     /// - a position that the object does not have.
     ///
-    /// Refuses with `SystemLimit` an object that would be too deep or past the limit.
+    /// Refuses with `SystemLimit` an object that would be too deep, and one object more than the table may have.
     pub fn update_element(
         &mut self,
         key: &Term,
@@ -140,7 +141,8 @@ impl<R: Rows> Table<R> {
         }
     }
 
-    /// Returns whether an update may name this position: the table is a set, and the position is not that of the key.
+    /// Returns whether an update may name this position: the table is a set, and the position is at least 1 and not
+    /// keypos.
     #[inline(always)]
     fn may_update_one(&self, position: Position) -> bool
         ensures { result ≡ (is_set self.now.content.kind && may_update self.now.content.keypos position) }
@@ -148,7 +150,7 @@ impl<R: Rows> Table<R> {
         self.is_set() && self.inner.may_update(position)
     }
 
-    /// Returns whether `update_counter` may take these arguments.
+    /// Returns whether `update_counter` allows these arguments: the table is a set, and `ops_are_valid` holds.
     fn counter_is_valid(&self, key: &Term, ops: &Ops, default: Option<&Term>) -> bool
         ensures { result
             ≡ counter_is_valid self.now.content key.now ops.now (option_copied default.entry) }
@@ -156,7 +158,7 @@ impl<R: Rows> Table<R> {
         self.is_set() && self.ops_are_valid(key, ops, default)
     }
 
-    /// Returns whether the operations avoid the key and the Default is an object.
+    /// Returns whether no operation names keypos, and the Default, if there is one, is an object with this key.
     fn ops_are_valid(&self, key: &Term, ops: &Ops, default: Option<&Term>) -> bool
         ensures { result
             ≡ (ops_avoid_key self.now.content.keypos ops.now
@@ -165,7 +167,7 @@ impl<R: Rows> Table<R> {
         self.inner.ops_avoid_key(ops) && self.inner.default_is_object(key, default)
     }
 
-    /// Returns whether `update_element` may take these arguments.
+    /// Returns whether `update_element` allows these arguments: the table is a set, and `specs_are_valid` holds.
     fn element_is_valid(&self, key: &Term, specs: &ElementSpecs, default: Option<&Term>) -> bool
         ensures { result
             ≡ element_is_valid self.now.content key.now specs.now (option_copied default.entry) }
@@ -173,7 +175,7 @@ impl<R: Rows> Table<R> {
         self.is_set() && self.specs_are_valid(key, specs, default)
     }
 
-    /// Returns whether the values avoid the key and the Default is an object.
+    /// Returns whether no value is for keypos, and the Default, if there is one, is an object with this key.
     fn specs_are_valid(&self, key: &Term, specs: &ElementSpecs, default: Option<&Term>) -> bool
         ensures { result
             ≡ (specs_avoid_key self.now.content.keypos specs.now

@@ -16,8 +16,8 @@ use ets_term::Term;
 use std::alloc::AllocError;
 
 impl<R: Rows> TableRows<R> {
-    /// Appends the results of the query for all objects to `found`. If `key` is some, only the objects of that key are
-    /// tested.
+    /// Appends the results of the query for all objects to `found`. If `key` is given, tests only the objects of that
+    /// key; no other object may then have a result.
     pub(crate) fn collect<P: Projection>(
         &self,
         query: &Trial<'_, P>,
@@ -53,7 +53,7 @@ impl<R: Rows> TableRows<R> {
         }
     }
 
-    /// Appends the results for all objects.
+    /// Tests all objects and appends their results.
     #[tactic(auto, using(crate::proofs::QueryLaws::appended))]
     fn collect_all<P: Projection>(
         &self,
@@ -67,15 +67,17 @@ impl<R: Rows> TableRows<R> {
         ensures at_most { looks.new ≤ ticks (object_count (R.content self.now.rows)) looks.old }
         ensures at_least { looks.old ≤ looks.new }
     {
+        // The call changes nothing. It gives the proof that the count is a `u64`.
         let _before = looks.count();
         for (_, objects) in all_of(&self.rows) {
             self.collect_from(query, objects, found, looks)?;
+            // The same for the count after this slot.
             let _after = looks.count();
         }
         Ok(())
     }
 
-    /// Appends the results for these objects.
+    /// Tests these objects and appends their results.
     #[inline(always)]
     fn collect_from<P: Projection>(
         &self,
@@ -90,6 +92,7 @@ impl<R: Rows> TableRows<R> {
         ensures at_most { looks.new ≤ ticks (length objects.now) looks.old }
         ensures at_least { looks.old ≤ looks.new }
     {
+        // The call changes nothing. It gives the proof that the count is a `u64`.
         let _before = looks.count();
         for object in objects {
             self.collect_one(query, object, found, looks)?;
@@ -97,7 +100,7 @@ impl<R: Rows> TableRows<R> {
         Ok(())
     }
 
-    /// Appends the result for one object, if it has one.
+    /// Tests one object and appends its result, if it has one.
     #[inline(always)]
     fn collect_one<P: Projection>(
         &self,

@@ -16,7 +16,8 @@ use ets_term::Term;
 use std::alloc::AllocError;
 
 impl<R: Rows> TableRows<R> {
-    /// Returns the number of chosen objects. If `key` is some, only the objects of that key are tested.
+    /// Returns the number of chosen objects. If `key` is given, tests only the objects of that key; the query may then
+    /// choose no other object.
     pub(crate) fn count<P: Predicate>(
         &self,
         query: &Trial<'_, P>,
@@ -40,7 +41,7 @@ impl<R: Rows> TableRows<R> {
         }
     }
 
-    /// Tests all objects and returns the number of chosen ones.
+    /// Tests all objects and returns the number of chosen objects.
     #[tactic(auto, using(crate::proofs::QueryLaws::appended))]
     fn count_all<P: Predicate>(
         &self,
@@ -54,16 +55,18 @@ impl<R: Rows> TableRows<R> {
         ensures at_most { looks.new ≤ ticks (object_count (R.content self.now.rows)) looks.old }
         ensures at_least { looks.old ≤ looks.new }
     {
+        // The call changes nothing. It gives the proof that the count is a `u64`.
         let _before = looks.count();
         let mut total = 0;
         for (_, objects) in all_of(&self.rows) {
             total += self.count_in(query, objects, looks)?;
+            // The same for the count after this slot.
             let _after = looks.count();
         }
         Ok(total)
     }
 
-    /// Tests these objects and returns the number of chosen ones.
+    /// Tests these objects and returns the number of chosen objects.
     fn count_in<P: Predicate>(
         &self,
         query: &Trial<'_, P>,
@@ -75,6 +78,7 @@ impl<R: Rows> TableRows<R> {
         ensures at_most { looks.new ≤ ticks (length objects.now) looks.old }
         ensures at_least { looks.old ≤ looks.new }
     {
+        // The call changes nothing. It gives the proof that the count is a `u64`.
         let _before = looks.count();
         let mut count = 0;
         for i in 0..objects.len() {

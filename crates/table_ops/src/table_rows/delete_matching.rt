@@ -18,8 +18,8 @@ use ets_term::Term;
 use std::alloc::AllocError;
 
 impl<R: Rows> TableRows<R> {
-    /// Plans the deletion of all chosen objects and returns their number. If `key` is some, only the objects of that
-    /// key are tested.
+    /// Plans the deletion of all chosen objects and returns their number. If `key` is given, tests only the objects of
+    /// that key; the query may then choose no other object.
     pub(crate) fn plan<P: Predicate>(
         &self,
         query: &Trial<'_, P>,
@@ -70,6 +70,7 @@ impl<R: Rows> TableRows<R> {
             (planned_at (R.key_at self.now.rows) plan.new.list.items
             ≡ plan_of (P.tests query.now.query.now) (R.content self.now.rows)) }
     {
+        // The call changes nothing. It gives the proof that the count is a `u64`.
         let _before = looks.count();
         let Some(place) = self.find(key) else {
             return Ok(0);
@@ -77,7 +78,7 @@ impl<R: Rows> TableRows<R> {
         plan.plan_slot(query, place, self.rows.objects_at(place), looks)
     }
 
-    /// Tests all objects, plans the deletion of the chosen ones and returns their number.
+    /// Tests all objects, plans the deletion of the chosen objects and returns their number.
     fn plan_all<P: Predicate>(
         &self,
         query: &Trial<'_, P>,
@@ -95,6 +96,7 @@ impl<R: Rows> TableRows<R> {
             ≡ planned_at (R.key_at self.now.rows) plan.old.list.items
             ++ plan_of (P.tests query.now.query.now) (R.content self.now.rows)) }
     {
+        // The call changes nothing. It gives the proof that the count is a `u64`.
         let _before = looks.count();
         self.rows.reveal_invariant();
         let mut total = 0;
@@ -108,7 +110,8 @@ impl<R: Rows> TableRows<R> {
         Ok(total)
     }
 
-    /// Executes a plan, from the last slot to the first, so that the places that remain in the plan stay valid.
+    /// Executes a plan, from its last slot to its first. A change of a slot does not change the places of the slots
+    /// before it, so the places in the rest of the plan stay valid.
     pub(crate) fn apply(&mut self, hold: bool, mut plan: DeletePlan)
         requires { AreInOrder (R.content self.old.rows)
             (planned_at (R.key_at self.old.rows) plan.list.items) }
@@ -122,7 +125,8 @@ impl<R: Rows> TableRows<R> {
         }
     }
 
-    /// Replaces the objects of one slot by the kept ones. Removes the slot if none is kept, unless `hold`.
+    /// Replaces the objects of one slot by the kept objects. If none is kept, removes the slot, or makes it a tombstone
+    /// if `hold` is true.
     fn apply_one(&mut self, hold: bool, delete: SlotDelete)
         requires { is_some (R.key_at self.old.rows delete.place) ≡ true }
         ensures slots { R.content self.new.rows ≡ with_kept hold

@@ -17,8 +17,8 @@ use ets_term::Term;
 use node_list::Chain;
 
 impl<R: Rows> TableRows<R> {
-    /// Inserts a copy of one object where the search for its key ended. `below_limit` says whether one more object is
-    /// allowed.
+    /// Inserts a copy of one object. `entry` is the result of the search for its key. `below_limit` says whether the
+    /// table may have one more object.
     pub(crate) fn put(
         &mut self,
         below_limit: bool,
@@ -60,7 +60,7 @@ impl<R: Rows> TableRows<R> {
         }
     }
 
-    /// Inserts an object with a new slot, under a copy of its key. `hash` must be the key's hash.
+    /// Inserts a new slot with a copy of the key and this object. `hash` must be the key's hash.
     fn put_new(
         &mut self,
         below_limit: bool,
@@ -83,7 +83,7 @@ impl<R: Rows> TableRows<R> {
         Ok(Undo::NewSlot)
     }
 
-    /// Replaces the object of a set's slot, or fills a tombstone.
+    /// Replaces the object of a set's slot, or inserts the object in a tombstone.
     fn put_in_set(&mut self, below_limit: bool, place: Place, object: Term) -> Result<Undo, Refusal>
         requires { ForKey (R.key_at self.old.rows place) (λ key.
             FitsKind Set (objects_under (R.content self.old.rows) key)) }
@@ -138,7 +138,7 @@ impl<R: Rows> TableRows<R> {
     }
 }
 
-/// Returns whether a set may insert an object: one more is allowed, or it replaces another.
+/// Returns whether an object may be inserted in a slot of a set: one more is allowed, or it replaces an object.
 fn may_insert(below_limit: bool, objects: &[Term]) -> bool
     ensures { result ≡ (below_limit || has_objects objects.now) }
 {

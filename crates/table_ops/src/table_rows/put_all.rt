@@ -14,8 +14,8 @@ use ets_term::Term;
 use node_list::Chain;
 
 impl<R: Rows> TableRows<R> {
-    /// Inserts a single object, without an undo log. `before` is how many objects the table has; returns how many it has
-    /// then. If the key has no slot, the object goes straight to the rows.
+    /// Inserts a single object, without an undo log. `before` is the number of objects of the table. Returns their
+    /// number after the insertion. If the key has no slot, inserts a new slot.
     pub(crate) fn put_one(&mut self, before: usize, object: Term) -> Result<usize, Refusal>
         requires object { is_object self.old.keypos object ≡ true }
         requires holds { TableRowsInvariant R.content self.old before }
@@ -40,7 +40,8 @@ impl<R: Rows> TableRows<R> {
         }
     }
 
-    /// Inserts a single object in the slot of its key. Returns how many objects the table has then.
+    /// Inserts a single object in the slot of its key, which is at `place`. Returns the number of objects of the table
+    /// after the insertion.
     #[inline(never)]
     fn put_one_at(&mut self, before: usize, place: Place, object: Term) -> Result<usize, Refusal>
         requires object { is_object self.old.keypos object ≡ true }
@@ -58,7 +59,8 @@ impl<R: Rows> TableRows<R> {
         Ok(before + undo.added_objects())
     }
 
-    /// Inserts objects one after another, and rolls back if one is refused. Returns how many the table has then.
+    /// Inserts objects one after another. If one is refused, undoes the earlier insertions by an undo log. Returns the
+    /// number of objects of the table after the insertions.
     pub(crate) fn put_all(&mut self, before: usize, objects: &[Term]) -> Result<usize, Refusal>
         requires objects { list_all (is_object self.old.keypos) objects.now ≡ true }
         requires holds { TableRowsInvariant R.content self.old before }
@@ -84,7 +86,7 @@ impl<R: Rows> TableRows<R> {
         Ok(count)
     }
 
-    /// Inserts one object under its key.
+    /// Inserts a copy of one object, and returns how to undo the insertion.
     fn put_object(&mut self, below_limit: bool, object: &Term) -> Result<Undo, Refusal>
         requires object { is_object self.old.keypos object.now ≡ true }
         requires slots { AreSlots self.old.kind self.old.keypos (R.content self.old.rows) }
@@ -99,7 +101,8 @@ impl<R: Rows> TableRows<R> {
         self.put(below_limit, entry, key, object)
     }
 
-    /// Undoes the insertions of a log, the last one first. Its entries belong to the first of `objects`, in order.
+    /// Undoes the insertions in an undo log, the last first. The log has one part for each of the first `objects`, in
+    /// their order.
     fn roll_back(&mut self, objects: &[Term], mut undo_log: Vec<Undo>)
         requires objects { list_all (is_object self.old.keypos) objects.now ≡ true }
         requires long { length undo_log.items ≤ length objects.now }
@@ -115,7 +118,7 @@ impl<R: Rows> TableRows<R> {
         }
     }
 
-    /// Undoes the last insertion under a key.
+    /// Undoes the last insertion of an object with this key.
     #[tactic(auto, using(crate::proofs::SlotLaws::slot_laws))]
     fn undo(&mut self, key: &Term, undo: Undo)
         ensures slots { R.content self.new.rows ≡ after_undo undo key.now (R.content self.old.rows) }

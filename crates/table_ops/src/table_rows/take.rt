@@ -20,7 +20,8 @@ impl<R: Rows> TableRows<R> {
         self.rows.find(key)
     }
 
-    /// Removes and returns the objects of a slot. The slot stays as a tombstone if `hold`, or if it was one before.
+    /// Removes and returns the objects of a slot. The slot stays as a tombstone if `hold` is true, or if it already was
+    /// a tombstone.
     pub(crate) fn remove_objects_at(&mut self, hold: bool, place: Place) -> Chain
         requires { IsSome (R.key_at self.old.rows place) }
         ensures objects { objects_in (R.content self.old.rows) (R.key_at self.old.rows place)
@@ -36,8 +37,8 @@ impl<R: Rows> TableRows<R> {
         objects
     }
 
-    /// Deletes the objects of a slot and returns their number. It moves none of them. The slot stays as a tombstone if
-    /// `hold`, or if it was one before.
+    /// Drops the objects of a slot and returns their number. The slot stays as a tombstone if `hold` is true, or if it
+    /// already was a tombstone.
     pub(crate) fn delete_objects_at(&mut self, hold: bool, place: Place) -> usize
         requires { IsSome (R.key_at self.old.rows place) }
         ensures slots { ForKey (R.key_at self.old.rows place) (λ key.
@@ -50,8 +51,8 @@ impl<R: Rows> TableRows<R> {
         self.rows.drop_at(place)
     }
 
-    /// Removes every instance of an object from a slot and returns their number. A slot that loses its last object is
-    /// removed, unless `hold`.
+    /// Removes all objects that equal `object` from a slot and returns their number. A slot that loses its last object
+    /// is removed, or stays as a tombstone if `hold` is true.
     pub(crate) fn remove_object_at(&mut self, hold: bool, place: Place, object: &Term) -> usize
         requires { IsSome (R.key_at self.old.rows place) }
         ensures slots { ForKey (R.key_at self.old.rows place) (λ key.
@@ -70,7 +71,7 @@ impl<R: Rows> TableRows<R> {
     }
 }
 
-/// Returns whether a slot stays with these objects.
+/// Returns whether a slot stays in the table, if it has these objects after a deletion.
 fn slot_stays(hold: bool, was_tombstone: bool, objects: &[Term]) -> bool
     ensures { result ≡ (hold || has_objects objects.now || was_tombstone) }
 {

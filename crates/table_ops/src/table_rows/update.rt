@@ -20,7 +20,7 @@ use node_list::Chain;
 use std::alloc::AllocError;
 
 impl<R: Rows> TableRows<R> {
-    /// Returns whether an update may name a position: any from 1 on, except keypos.
+    /// Returns whether an update may name a position: it must be at least 1 and not keypos.
     #[inline(always)]
     pub(crate) fn may_update(&self, position: Position) -> bool
         ensures { result ≡ may_update self.now.keypos position }
@@ -28,7 +28,7 @@ impl<R: Rows> TableRows<R> {
         0 < position && position != self.keypos as Position
     }
 
-    /// Returns whether no operation updates the key, and each position is at least 1.
+    /// Returns whether each operation has a position that an update may name.
     pub(crate) fn ops_avoid_key(&self, ops: &Ops) -> bool
         ensures { result ≡ ops_avoid_key self.now.keypos ops.now }
     {
@@ -38,14 +38,14 @@ impl<R: Rows> TableRows<R> {
         }
     }
 
-    /// Returns whether no operation of a list updates the key, and each position is at least 1.
+    /// Returns whether each operation of a list has a position that an update may name.
     fn all_avoid_key(&self, ops: &[Op]) -> bool
         ensures { result ≡ list_all (λ op. may_update self.now.keypos op.position) ops.now }
     {
         ops.iter().all(|op| self.may_update(op.position))
     }
 
-    /// Returns whether no value is for the key, and each position is at least 1.
+    /// Returns whether each value has a position that an update may name.
     pub(crate) fn specs_avoid_key(&self, specs: &ElementSpecs) -> bool
         ensures { result ≡ specs_avoid_key self.now.keypos specs.now }
     {
@@ -58,7 +58,7 @@ impl<R: Rows> TableRows<R> {
         }
     }
 
-    /// Returns whether the default object is absent, or is an object with `key` at keypos.
+    /// Returns whether the Default is absent, or becomes an object if `key` is set at keypos.
     pub(crate) fn default_is_object(&self, key: &Term, default: Option<&Term>) -> bool
         ensures { result ≡ default_is_object self.now.keypos key.now (option_copied default.entry) }
     {
@@ -83,7 +83,7 @@ impl<R: Rows> TableRows<R> {
         Some(place)
     }
 
-    /// Updates the counters of the only object at a place. A single counter is set where it is.
+    /// Updates counters of the only object of the slot at a place. A single counter is set without moving the object.
     pub(crate) fn update_counter_at(
         &mut self,
         place: Place,
@@ -100,7 +100,7 @@ impl<R: Rows> TableRows<R> {
         }
     }
 
-    /// Updates one counter of the only object at a place, where it is.
+    /// Updates one counter of the only object of the slot at a place, without moving the object.
     #[inline(always)]
     pub(crate) fn update_one_counter_at(
         &mut self,
@@ -119,7 +119,8 @@ impl<R: Rows> TableRows<R> {
         Ok(Term::Int(value))
     }
 
-    /// Updates counters of the only object at a place, which is moved out meanwhile.
+    /// Updates counters of the only object of the slot at a place. The object is moved out of the slot for the update,
+    /// and then back.
     fn update_counters_at(&mut self, place: Place, ops: &Ops) -> Result<Term, CounterFault>
         requires { HasOneObject (R.content self.old.rows) (R.key_at self.old.rows place) }
         ensures slots { UpdatesCounterAt ops.now (R.key_at self.old.rows place)
@@ -132,7 +133,7 @@ impl<R: Rows> TableRows<R> {
         counted
     }
 
-    /// Sets elements of the only object at a place. A single element is set where it is.
+    /// Sets elements of the only object of the slot at a place. A single element is set without moving the object.
     pub(crate) fn update_element_at(
         &mut self,
         place: Place,
@@ -151,7 +152,7 @@ impl<R: Rows> TableRows<R> {
         }
     }
 
-    /// Sets one element of the only object at a place, where it is.
+    /// Sets one element of the only object of the slot at a place, without moving the object.
     #[inline(always)]
     pub(crate) fn update_one_element_at(
         &mut self,
@@ -173,7 +174,8 @@ impl<R: Rows> TableRows<R> {
         Ok(())
     }
 
-    /// Sets elements of the only object at a place, which is moved out meanwhile.
+    /// Sets elements of the only object of the slot at a place. The object is moved out of the slot for the update, and
+    /// then back.
     fn update_elements_at(&mut self, place: Place, specs: &ElementSpecs) -> Result<(), CounterFault>
         requires { HasOneObject (R.content self.old.rows) (R.key_at self.old.rows place) }
         ensures slots { UpdatesElementAt specs.now (R.key_at self.old.rows place)
@@ -186,7 +188,8 @@ impl<R: Rows> TableRows<R> {
         written
     }
 
-    /// Inserts the first object of a key. `below_limit` says whether one more object is allowed.
+    /// Inserts an object made from the Default, if the key has no object. `below_limit` says whether the table may have
+    /// one more object.
     pub(crate) fn insert_default(
         &mut self,
         below_limit: bool,
@@ -207,7 +210,7 @@ impl<R: Rows> TableRows<R> {
         Ok(())
     }
 
-    /// Inserts the first object of a key, in its tombstone or in a new slot.
+    /// Inserts the first object of a key, in the key's tombstone or in a new slot.
     fn insert_first(&mut self, entry: SlotEntry, key: &Term, object: Term) -> Result<(), AllocError>
         requires { IsEntry (R.content self.old.rows) (R.hash_of self.old.rows)
             (R.key_at self.old.rows) key.now entry }

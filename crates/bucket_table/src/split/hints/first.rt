@@ -1,4 +1,4 @@
-// What an insertion and a removal do to the hint of their interval.
+// The effect of an insertion or a removal on the hint of the item's interval.
 ghost use Rattle.std.specs.Prelude.{◌≡◌, ◌/◌, ◌^◌, true, false, None, get_or};
 ghost use Rattle.bucket_table.specs.inside.Directory.{HaveParity};
 ghost use Rattle.bucket_table.specs.inside.Intervals.{HintsAreSound, IsNewFirst, KeepsFirst, IsItemIn, IsHintAfterRemoval};
@@ -8,7 +8,8 @@ use crate::split::hint::Hint;
 use node_list::{At, NodeList};
 
 impl Hints {
-    /// Returns whether an item with this split key, inserted now, needs the hint of its interval changed.
+    /// Checks whether an item with this split key, if inserted now, would be the first of its interval by a known hint.
+    /// The hint of the interval must then change.
     pub fn is_new_first(&self, list: &NodeList, split_key: u64) -> bool
         requires hints { HintsAreSound self.now list.now.cells }
         ensures new { result ≡ true
@@ -28,7 +29,7 @@ impl Hints {
         }
     }
 
-    /// Returns the hint of an interval after the removal of its first item, the one at `at`.
+    /// Returns the new hint of an interval if its first item, at `at`, is removed. It is unknown if a dummy follows.
     pub fn hint_after_removal(&self, list: &NodeList, interval: usize, at: At) -> Hint
         requires parity { HaveParity list.now.cells }
         requires hints { HintsAreSound self.now list.now.cells }

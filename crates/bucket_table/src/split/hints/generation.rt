@@ -1,18 +1,19 @@
-// The hints of a new number of buckets. They are set to unknown in steps.
+// A generation: the hints of one number of buckets. They are set to unknown in small parts.
 ghost use Rattle.std.specs.Prelude.{◌≡◌, ◌/◌, ◌^◌, ◌<◌, OnOk, OnErr};
 ghost use Rattle.bucket_table.specs.inside.Intervals.{AreUnknown, HaveSameHints};
 
 use super::{Hints, SPLIT_KEY_BITS};
 use std::alloc::AllocError;
 
-/// A doubling sets at most this many hints to unknown, which are 64 KiB. So no doubling takes long.
+/// The greatest number of hints that a doubling sets to unknown, 64 KiB. So no doubling takes long.
 const HINTS_SET_AT_DOUBLING: usize = 16384;
 
-/// An insertion then sets at most this many more, which are 1 KiB.
+/// The greatest number of further hints that one insertion sets to unknown, 1 KiB.
 const HINTS_SET_AT_INSERTION: usize = 256;
 
 impl Hints {
-    /// Replaces the previous hints by unknown ones, with memory for `intervals` of them.
+    /// Replaces the previous hints by unknown hints, with memory for `intervals` hints. The caller then makes them the
+    /// current hints.
     pub fn start_generation(&mut self, intervals: usize) -> Result<(), AllocError>
         ensures ok { OnOk result (AreUnknown self.new.previous) }
         ensures rest { self.new ≡ record self.old { previous = self.new.previous } }
@@ -31,8 +32,8 @@ impl Hints {
         (1usize << SPLIT_KEY_BITS) >> self.interval_bits
     }
 
-    /// Adds unknown hints to the current ones, if some intervals have none yet. Without memory it does nothing: a
-    /// missing hint is unknown.
+    /// Adds unknown hints to the current hints, if some intervals have none yet. If memory is refused, it does nothing:
+    /// a missing hint is unknown anyway.
     pub fn extend_generation(&mut self)
         requires narrow { self.old.interval_bits < 64 }
         ensures same { HaveSameHints self.old.current self.new.current }

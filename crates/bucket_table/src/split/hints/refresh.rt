@@ -8,8 +8,8 @@ use crate::split::hint::Hint;
 use node_list::{At, NodeList};
 
 impl Hints {
-    /// Scans from a node before the key's interval to the last node before its first item. Returns that node and the
-    /// hint of the interval.
+    /// Scans from a node before the interval of a split key to the last node before the interval. Returns that node and
+    /// the hint of the interval.
     fn scan_to_interval(&self, list: &NodeList, split_key: u64, start: At) -> (At, Hint)
         requires parity { HaveParity list.now.cells }
         requires hints { HintsAreSound self.now list.now.cells }
@@ -39,7 +39,8 @@ impl Hints {
         (at, Hint::empty())
     }
 
-    /// Sets the hint of the key's interval if it is unknown, by a scan from `start`. Returns a node before the key.
+    /// If the hint of the split key's interval is unknown, sets it by a scan from `start`. Returns a node with a lesser
+    /// split key, from which the insertion can start.
     pub fn refresh(&mut self, list: &NodeList, split_key: u64, start: At) -> At
         requires parity { HaveParity list.now.cells }
         requires hints { HintsAreSound self.old list.now.cells }

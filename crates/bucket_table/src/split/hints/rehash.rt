@@ -1,4 +1,4 @@
-// The rehash of previous hints into current ones.
+// The rehash: previous hints are split into current hints.
 ghost use Rattle.std.specs.Prelude.{◌≡◌, ◌+◌, ◌*◌, ◌/◌, ◌^◌, None, get_or};
 ghost use Rattle.bucket_table.specs.inside.Intervals.{HintsAreSound, IsSoundHint};
 
@@ -7,8 +7,8 @@ use crate::split::hint::Hint;
 use node_list::NodeList;
 
 impl Hints {
-    /// Returns the hints of the lower and the upper half of a previous interval. If its first item is in the upper
-    /// half, the lower half is empty.
+    /// Returns the hints of the lower and the upper half of the previous interval `pair`, which are the current
+    /// intervals `2 * pair` and `2 * pair + 1`. If its first item is in the upper half, the lower half is empty.
     fn split_hint(&self, list: &NodeList, pair: usize) -> (Hint, Hint)
         requires hints { HintsAreSound self.now list.now.cells }
         ensures lower { IsSoundHint (2 ^ self.now.interval_bits) (2 * pair) list.now.cells result.0 }
@@ -28,7 +28,7 @@ impl Hints {
         }
     }
 
-    /// Moves a previous hint to its halves.
+    /// Rehashes one previous hint: sets the current hints of the two halves of its interval, and then forgets it.
     fn rehash_pair(&mut self, list: &NodeList, pair: usize)
         requires hints { HintsAreSound self.old list.now.cells }
         ensures hints { HintsAreSound self.new list.now.cells }
@@ -43,7 +43,7 @@ impl Hints {
         }
     }
 
-    /// Rehashes the previous hint of a split key.
+    /// Rehashes the previous hint of the interval of a split key.
     pub fn rehash_interval(&mut self, list: &NodeList, split_key: u64)
         requires hints { HintsAreSound self.old list.now.cells }
         ensures hints { HintsAreSound self.new list.now.cells }
@@ -53,8 +53,8 @@ impl Hints {
         self.rehash_pair(list, self.interval_of(split_key) / 2);
     }
 
-    /// Rehashes the next three previous hints and adds some current ones. After the last of them each step frees the
-    /// memory of some previous hints.
+    /// Rehashes the next three previous hints, and adds unknown current hints if some are missing. If all previous
+    /// hints are rehashed, frees the memory of some of them.
     fn rehash_step(&mut self, list: &NodeList)
         requires hints { HintsAreSound self.old list.now.cells }
         ensures hints { HintsAreSound self.new list.now.cells }
@@ -72,8 +72,8 @@ impl Hints {
         }
     }
 
-    /// Does an insertion's part of the rehash, which includes the previous hint of its split key. It does nothing where
-    /// there are no previous hints and each interval has a current one.
+    /// Does an insertion's part of the rehash, which includes the previous hint of its split key. It does nothing if
+    /// there are no previous hints and each interval has a current hint.
     #[inline(always)]
     pub fn catch_up(&mut self, list: &NodeList, split_key: u64)
         requires hints { HintsAreSound self.old list.now.cells }
@@ -86,7 +86,7 @@ impl Hints {
         }
     }
 
-    /// Does the next step of the rehash, and rehashes the previous hint of a split key.
+    /// Does the next part of the rehash, and rehashes the previous hint of the interval of a split key.
     #[inline(never)]
     fn rehash_now(&mut self, list: &NodeList, split_key: u64)
         requires hints { HintsAreSound self.old list.now.cells }

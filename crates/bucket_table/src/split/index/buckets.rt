@@ -10,7 +10,8 @@ use node_list::At;
 use split_key::{bucket_of, laws, parent, rev32};
 
 impl<H: KeyHash + Copy + Drop> SplitIndex<H> {
-    /// Returns the nearest ready bucket among this one, its parent, and so on, with the place of its dummy.
+    /// Returns the first ready bucket among this bucket, its parent, the parent's parent and so on, with the place of
+    /// its dummy.
     pub fn nearest_ready(&self, bucket: u32) -> (u32, At)
         requires rows { RowsInvariant H.hash self.now }
         requires below { bucket < length self.now.directory }
@@ -25,12 +26,13 @@ impl<H: KeyHash + Copy + Drop> SplitIndex<H> {
                 unreachable!();
             }
             let before = parent(at);
+            // The law does nothing at run time. It gives the proof that the number falls, so the loop ends.
             laws::parent_stands_before(at, before);
             at = before;
         }
     }
 
-    /// Returns the nearest ready bucket of a hash with the place of its dummy. A search by the hash can start there.
+    /// Returns the nearest ready bucket for a hash, with the place of its dummy. A search by the hash can start there.
     pub fn bucket_start(&self, hash: u32) -> (u32, At)
         requires rows { RowsInvariant H.hash self.now }
         ensures { IsNearestReady self.now.directory (hash % length self.now.directory) result.0 result.1 }
@@ -56,7 +58,7 @@ impl<H: KeyHash + Copy + Drop> SplitIndex<H> {
     }
 }
 
-/// Returns the hash of an item from its split key.
+/// Computes the hash of an item from its split key.
 pub fn item_hash(split_key: u64) -> u32
     requires { split_key < 2 ^ 33 }
     ensures { (hash : ℕ) → split_key ≡ key_of_item hash → result ≡ hash % 2 ^ 32 }

@@ -18,6 +18,7 @@ impl<H: KeyHash + Copy + Drop> SplitIndex<H> {
         ensures visits { CountsVisits H.hash self.now key.now steps.old steps.new }
     {
         self.list.reveal_invariant();
+        // The call changes nothing. Its contract gives the proof that the count is a `u64`.
         let _count = steps.count();
         let interval = self.hints.interval_of(item_key(hash));
         match self.hints.current.get(interval) {
@@ -27,7 +28,7 @@ impl<H: KeyHash + Copy + Drop> SplitIndex<H> {
         }
     }
 
-    /// Does the same search from the previous hint of the interval.
+    /// Does the same search as `find`, but by the previous hint of the key's interval.
     fn find_by_previous_hint(&self, hash: u32, key: &Term, steps: &mut Steps) -> Option<At>
         requires rows { RowsInvariant H.hash self.now }
         requires hash { hash ≡ H.hash self.now.hasher key.now }
@@ -35,6 +36,7 @@ impl<H: KeyHash + Copy + Drop> SplitIndex<H> {
         ensures visits { CountsVisits H.hash self.now key.now steps.old steps.new }
     {
         self.list.reveal_invariant();
+        // The call changes nothing. Its contract gives the proof that the count is a `u64`.
         let _count = steps.count();
         let interval = self.hints.interval_of(item_key(hash));
         match self.hints.previous.get(interval / 2) {
@@ -44,7 +46,8 @@ impl<H: KeyHash + Copy + Drop> SplitIndex<H> {
         }
     }
 
-    /// Does the same search from the nearest known hint below, or from the dummy of the nearest ready bucket.
+    /// Does the same search as `find`, but from the nearest known hint below, or else from the dummy of the nearest
+    /// ready bucket.
     fn find_without_hint(&self, hash: u32, key: &Term, steps: &mut Steps) -> Option<At>
         requires rows { RowsInvariant H.hash self.now }
         requires hash { hash ≡ H.hash self.now.hasher key.now }
@@ -61,7 +64,7 @@ impl<H: KeyHash + Copy + Drop> SplitIndex<H> {
         }
     }
 
-    /// Does the same search from a node where it can start.
+    /// Does the same search as `find`, but from the node at `start`.
     fn find_from(&self, start: At, hash: u32, key: &Term, steps: &mut Steps) -> Option<At>
         requires hash { hash ≡ H.hash self.now.hasher key.now }
         requires start { CanStartSearch (H.hash self.now.hasher) self.now.directory key.now start

@@ -13,7 +13,7 @@ use node_list::Chain;
 use split_key::item_key;
 
 impl<H: KeyHash + Copy + Drop> SplitIndex<H> {
-    /// Inserts an item for a key that has none. Memory must be reserved, and `hash` must be the key's hash.
+    /// Inserts an item for a key that has no item. Memory must be reserved, and `hash` must be the key's hash.
     pub fn insert(&mut self, hash: u32, key: Term, objects: Chain)
         requires rows { RowsInvariant H.hash self.old }
         requires room { HasRoom self.old.list 1 }

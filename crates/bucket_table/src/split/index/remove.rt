@@ -24,7 +24,7 @@ impl<H: KeyHash + Copy + Drop> SplitIndex<H> {
         self.remove_rehashed(split_key, start, at)
     }
 
-    /// Removes the item at a place and returns the number of its objects. It moves none of them.
+    /// Removes the item at a place, drops its objects without moving them, and returns their number.
     pub fn delete(&mut self, at: At) -> usize
         requires rows { RowsInvariant H.hash self.old }
         requires item { HasItem at self.old.list.cells }
@@ -38,7 +38,7 @@ impl<H: KeyHash + Copy + Drop> SplitIndex<H> {
         self.delete_rehashed(split_key, start, at)
     }
 
-    /// Removes an item and returns the number of its objects. `start` is a node before it.
+    /// Removes an item, drops its objects and returns their number. `start` is a node before the item.
     pub fn delete_after(&mut self, start: At, at: At) -> usize
         requires rows { RowsInvariant H.hash self.old }
         requires item { HasItem at (cells_after start self.old.list.cells) }
@@ -80,7 +80,7 @@ impl<H: KeyHash + Copy + Drop> SplitIndex<H> {
         self.search_start(split_key)
     }
 
-    /// Removes an item of a rehashed interval, and returns its key and objects. `start` is a node before it.
+    /// Removes an item whose interval is rehashed, and returns its key and objects. `start` is a node before the item.
     fn remove_rehashed(&mut self, split_key: u64, start: At, at: At) -> (Term, Chain)
         requires rows { RowsInvariant H.hash self.old }
         requires item { HasItem at (cells_after start self.old.list.cells) }
@@ -100,7 +100,8 @@ impl<H: KeyHash + Copy + Drop> SplitIndex<H> {
         slot
     }
 
-    /// Removes an item of a rehashed interval, and returns the number of its objects. `start` is a node before it.
+    /// Removes an item whose interval is rehashed, and returns the number of its objects. `start` is a node before the
+    /// item.
     fn delete_rehashed(&mut self, split_key: u64, start: At, at: At) -> usize
         requires rows { RowsInvariant H.hash self.old }
         requires item { HasItem at (cells_after start self.old.list.cells) }

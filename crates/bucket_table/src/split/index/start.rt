@@ -12,8 +12,8 @@ use node_list::At;
 use split_key::{dummy_key, item_key};
 
 impl<H: KeyHash + Copy + Drop> SplitIndex<H> {
-    /// Returns a node before all items of a split key: the first item of a near interval by the hints, or the dummy of
-    /// the nearest ready bucket. It computes the hash only if no near hint helps.
+    /// Returns a node before all items with a split key: the first item of a near interval by the hints, or the dummy
+    /// of the nearest ready bucket. It computes the hash only if `near_start` finds no node.
     pub fn search_start(&self, split_key: u64) -> At
         requires rows { RowsInvariant H.hash self.now }
         requires small { split_key < 2 ^ 33 }
@@ -26,8 +26,8 @@ impl<H: KeyHash + Copy + Drop> SplitIndex<H> {
         }
     }
 
-    /// Returns the first item of the interval of a split key, if it has a lesser key. Otherwise returns the first item
-    /// of a lower interval of the same bucket, if a current hint has one.
+    /// Returns the first item of the split key's interval, if the item has a lesser split key. Otherwise returns the
+    /// first item of a lower interval of the same bucket, if a current hint has its place.
     #[inline(always)]
     fn near_start(&self, split_key: u64) -> Option<At>
         requires rows { RowsInvariant H.hash self.now }
@@ -43,8 +43,8 @@ impl<H: KeyHash + Copy + Drop> SplitIndex<H> {
         self.hints.bucket_hint_below(interval)
     }
 
-    /// Returns a node before all items of a hash: the first item of a lower interval by the hints, or the dummy of the
-    /// nearest ready bucket.
+    /// Returns a node before all items with a hash: the first item of a lower interval by the hints, or the dummy of
+    /// the nearest ready bucket.
     #[inline(never)]
     fn far_start(&self, hash: u32) -> At
         requires rows { RowsInvariant H.hash self.now }

@@ -38,7 +38,8 @@ impl<H: KeyHash + Copy + Drop> SplitIndex<H> {
         }
     }
 
-    /// Sweeps the node after a kept one. Returns the last node that is kept now.
+    /// Sweeps the node `next`, which follows the kept node `at`. Returns the last kept node: `next`, or `at` if `next`
+    /// was removed.
     fn sweep_next(&mut self, mode: SweepMode, at: At, next: At) -> At
         requires rows { RowsInvariant H.hash self.old }
         requires place { IsPlaceOf at self.old.list.cells }
