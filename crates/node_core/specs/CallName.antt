@@ -38,7 +38,7 @@ spellings =
     ∷ (codes "whereis", Whereis)
     ∷ []
 
--- the first entry with this text
+-- the name in the first entry with this text
 abbrev pub look_up : List ℕ → List (List ℕ × CallName) → Option CallName
 look_up text [] = None
 look_up text (s ∷ entries) = if bytes_eq text s.0 then Some s.1 else look_up text entries

@@ -1,17 +1,19 @@
--- The observable state: all that calls can observe, which excludes the buckets of a table that are ready.
+-- The observable state: all that calls can observe. That excludes how many buckets a table has, and which are ready.
 use Rattle.std.specs.Prelude.{◌≡◌, ℕ, Some, map, option_map}
 use Rattle.fixed_walk.specs.TableState.{TableState}
 use Rattle.ownership.specs.World.{Table, Tables, table_at}
 use Rattle.node_core.specs.State.{State}
 use Rattle.node_core.specs.rules.Tables.{first_buckets}
 
--- the content and the fixes of a table, with the buckets of a new one in place of its own
+-- a table's content and fixes, with the buckets of a new table in place of its own
 abbrev pub observable_fixed : TableState → TableState
 observable_fixed fixed = record fixed { buckets = first_buckets }
 
+-- the same for a table with its metadata
 abbrev pub observable_table : Table → Table
 observable_table table = record table { fixed = observable_fixed table.fixed }
 
+-- the same for all tables
 abbrev pub observable_tables : Tables → Tables
 observable_tables tables = map (option_map observable_table) tables
 
@@ -19,7 +21,7 @@ observable_tables tables = map (option_map observable_table) tables
 abbrev pub observable : State → State
 observable s = record s { world = record s.world { tables = observable_tables s.world.tables } }
 
--- a table that stays has the number of buckets that it had, and the same of them are ready
+-- each table that is in both states has as many buckets as before, of which the same are ready
 abbrev pub KeepsBuckets : State → State → Type 0
 KeepsBuckets old new =
     (t : ℕ) (was table : Table) → table_at old.world.tables t ≡ Some was

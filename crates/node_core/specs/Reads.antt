@@ -11,6 +11,7 @@ use Rattle.node_core.specs.State.{State}
 use Rattle.node_core.specs.CallName.{call_name}
 use Rattle.node_core.specs.Machine.{step}
 
+-- whether a call with this name and these arguments only reads, so that it changes nothing
 abbrev pub reads_only : CallName → List Term → Bool
 reads_only Tab2list (x ∷ []) = true
 reads_only First (x ∷ []) = true
@@ -29,11 +30,11 @@ reads_only LookupElement (x ∷ y ∷ z ∷ []) = true
 reads_only LookupElement (x ∷ y ∷ z ∷ default ∷ []) = true
 reads_only _ _ = false
 
--- the same of a call by the text of its name
+-- the same for a call by the text of its name
 abbrev pub is_read : Call → Bool
 is_read asked = option_map_or (λ name. reads_only name asked.args) (call_name asked.name) false
 
--- None is for any other call; a reply is one that the machine may give to a step that leaves the state as it is
+-- what a read returns: None for a call that does not only read; else a reply that the machine may give, with no change
 abbrev pub Reads : State → ℕ → Call → Option Reply → Type 0
 Reads s p asked None = is_read asked ≡ false
 Reads s p asked (Some reply) = (is_read asked ≡ true) × step s (Ask p asked) reply s

@@ -39,7 +39,7 @@ pub enum CallName {
 impl CallName {
     /// Reads the name of a call, such as `lookup_element`. Returns `None` if no call has this name.
     ///
-    /// Names of the same length are compared one after another; the last group has the lengths of only one name.
+    /// The name is compared only with names of its length. The last group has the names whose length no other name has.
     pub fn read(name: &str) -> Option<CallName>
         ensures { result ≡ call_name name.now }
     {

@@ -27,7 +27,8 @@ pub fn steps_keep_keys()
 
 /// In each run, each traversal by `first` and `next` of a table that stays fixed, by any process, gives no key twice,
 /// and gives each key that has objects in every state of the traversal. It does so whatever processes do between its
-/// calls, and however the table grows. The premise is on that table alone, and holds in each state that a run reaches.
+/// calls, and however the table grows. The premise `HasSoundKeys` is about that table alone, and holds in each state
+/// that a run reaches.
 pub fn walks_are_whole()
     ensures whole { TableWalksAreWhole }
     ensures sound { SoundStatesHaveSoundKeys }

@@ -1,5 +1,5 @@
-//! Each step of a node is a step of the machine in specs/: its reply is one that the machine allows, and a refusal
-//! changes nothing.
+//! A node: processes, their tables, and the calls of the module `ets`. Each step of a node is a step of the machine
+//! in specs/: its reply is one that the machine allows, and a refusal changes nothing.
 //!
 //! *Guarantee.* `Node::step` and `Node::run` have the machine of specs/Machine.antt as their contracts, word for word,
 //! over the observable state of a node (specs/Observable.antt). They also say what becomes of the buckets, which no
@@ -7,9 +7,8 @@
 //!
 //! *Weakness.* Any step may run out of memory; no contract says that memory is available.
 //!
-//! *Mechanism.* `CallName` lists the names of calls. A call's method borrows only the table that the
-//! first argument names, so everything else is known to stay. A queue has the tables that may have a pending growth
-//! step.
+//! *Mechanism.* `CallName` lists the names of calls. A call's method borrows only the table that the first argument
+//! names, so nothing else changes. `PendingTables` keeps the tables that may have a pending growth step.
 //!
 //! *Limits.* A node is a single value: sharing it between threads is for the layer above.
 #![tactic(auto)]

@@ -6,7 +6,7 @@ use std::collections::VecDeque;
 use std::marker::Model;
 
 /// The tables that may have a pending growth step: a queue of identifiers in ascending order, each once, and the dirty
-/// table, which was borrowed last. Capacity is reserved beforehand, so that adding one takes no memory.
+/// table, which was borrowed for a change last. Capacity is reserved before, so that adding a table takes no memory.
 #[derive(Drop)]
 pub struct PendingTables {
     ordered: VecDeque<u32>,
@@ -41,7 +41,7 @@ impl PendingTables {
         }
     }
 
-    /// Gives a proof the invariant that they ascend; it does nothing at run time.
+    /// Gives a proof the invariant that the queue ascends. It does nothing at run time.
     pub fn reveal_invariant(&self)
         ensures { Ascends self.now.ordered }
     {

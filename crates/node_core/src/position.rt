@@ -3,7 +3,8 @@ ghost use Rattle.node_core.specs.Positions.{position_of};
 
 use ets_term::{Position, Term};
 
-/// Returns the position that a term gives, counted from 1; no tuple has an element 0.
+/// Returns the position in a tuple that a term gives: an integer that is not negative. Positions count from 1, so no
+/// tuple has an element at 0.
 pub fn position_of(term: &Term) -> Option<Position>
     ensures { result ≡ position_of term.now }
 {

@@ -102,32 +102,38 @@ pub fn walk_among<H: KeyHash + Copy + Drop, O: Others>(
         return Err(WalkFault::Lost);
     };
     node.fix_table(pid, id)?;
-    let walked = walk_fixed(node, pid, id, limit, others);
+    let walked = walk_fixed(node, Traversal { pid, id }, limit, others);
     node.unfix_table(pid, id);
     walked
+}
+
+/// A process, and the identifier of the table that it traverses, which it has fixed for that time.
+#[derive(Clone, Copy)]
+struct Traversal {
+    pid: u32,
+    id: u32,
 }
 
 /// Traverses a table that the process has fixed once more, since some state `start`.
 fn walk_fixed<H: KeyHash + Copy + Drop, O: Others>(
     node: &mut Node<H>,
-    pid: u32,
-    id: u32,
+    traversal: Traversal,
     limit: u32,
     others: &mut O,
 ) -> Result<Walk, WalkFault>
     requires keys { O.keys others.old ≡ [] }
     requires steps { O.steps others.old ≡ [] }
-    requires fix { (start : State) × FixIsDone pid id start node.old }
-    ensures { WalkResult pid id limit node.old (O.keys others.new) (O.steps others.new)
+    requires fix { (start : State) × FixIsDone traversal.pid traversal.id start node.old }
+    ensures { WalkResult traversal.pid traversal.id limit node.old (O.keys others.new) (O.steps others.new)
         result node.new }
 {
     let mut keys = Vec::new(node.allocator());
-    let mut found = node.next_key(pid, id, None)?;
+    let mut found = node.next_key(traversal.pid, traversal.id, None)?;
     for _at in 0..limit {
         let Some(key) = found else {
             return Ok(Walk::from_keys(keys));
         };
-        found = walk_turn(node, pid, id, key, &mut keys, others)?;
+        found = walk_turn(node, traversal, key, &mut keys, others)?;
     }
     match found {
         None => Ok(Walk::from_keys(keys)),
@@ -139,18 +145,17 @@ fn walk_fixed<H: KeyHash + Copy + Drop, O: Others>(
 /// some state `start` to this node.
 fn walk_turn<H: KeyHash + Copy + Drop, O: Others>(
     node: &mut Node<H>,
-    pid: u32,
-    id: u32,
+    traversal: Traversal,
     key: Term,
     keys: &mut Vec<Term>,
     others: &mut O,
 ) -> Result<Option<Term>, WalkFault>
     requires keys { O.keys others.old ≡ keys.old.items }
     requires so_far { (start : State)
-        × WalkSoFar pid id start (O.keys others.old) (O.steps others.old) (Some key) node.old }
+        × WalkSoFar traversal.pid traversal.id start (O.keys others.old) (O.steps others.old) (Some key) node.old }
     ensures keys { OnOk result (keys.new.items ≡ O.keys others.new) }
     ensures count { OnOk result (vec_len keys.new ≡ vec_len keys.old + 1) }
-    ensures turn { TurnResult pid id (O.keys others.old) (O.steps others.old) key node.old
+    ensures turn { TurnResult traversal.pid traversal.id (O.keys others.old) (O.steps others.old) key node.old
         (O.keys others.new) (O.steps others.new) result node.new }
 {
     if keys.reserve(1).is_err() {
@@ -160,8 +165,8 @@ fn walk_turn<H: KeyHash + Copy + Drop, O: Others>(
     if others.between(&key).is_err() {
         return Err(WalkFault::Memory);
     }
-    run_steps(node, pid, &others.given()[before..])?;
-    let found = node.next_key(pid, id, Some(&key))?;
+    run_steps(node, traversal.pid, &others.given()[before..])?;
+    let found = node.next_key(traversal.pid, traversal.id, Some(&key))?;
     keys.push_reserved(key);
     Ok(found)
 }

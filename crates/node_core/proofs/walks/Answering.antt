@@ -59,7 +59,7 @@ module _ (p t : ℕ) where
   asked s None h = walk_step-cond (p == p) (is_table s t (Tid t)) (Some (None, false)) (number-same p) (names-table s h)
   asked s (Some key) h = walk_step-cond (p == p) (is_table s t (Tid t)) (Some (Some key, false)) (number-same p) (names-table s h)
 
-  -- a step of others is no call of the walk
+  -- a step of others is not a call of the walk
   walk_step-none : (b : Bool) (o : Option (Option Term × Bool)) → b ≡ false → cond b o None ≡ None
   walk_step-none true o h = absurd (true≢false h)
   walk_step-none false o h = refl

@@ -82,7 +82,7 @@ next_key-present key (m ∷ moments) (k ∷ keys) walk free = next_key-free m ke
 module _ (p t : ℕ) (old mid : State) (s : Step) (r : Reply) (steps : List Step) (stretch : List State) (done : step old s r mid) (distinct : HasDistinctKeys (slots_in t old)) (free : HasNoEnd (slots_in t old))
     (is : IsThere t old) (sub : IsSubsequence (keys_of (slots_in t old)) (keys_of (slots_in t mid))) (Further : Option Term → List Term → Type 0)
     (further : (call : Option Term) (keys : List Term) → Further call keys → Walked p t call keys mid stretch) where
-  -- the step is no call of the walk
+  -- the step is not a call of the walk
   passes : (call : Option Term) (keys : List Term) → Walked p t call keys mid stretch → Walked p t call keys old (old ∷ stretch)
   passes call keys w = record {
     moments = w.moments;

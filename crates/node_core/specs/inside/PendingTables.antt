@@ -28,7 +28,7 @@ pub record IsAmong (ids : List ℕ) (id : ℕ) : Type 0 where
 abbrev pub AreBelow : List ℕ → ℕ → Type 0
 AreBelow ids bound = (i : ℕ) → i < length ids → get_or ids i 0 < bound
 
--- it is in the queue, or is the dirty one
+-- an identifier is in the queue, or is the dirty table
 abbrev pub IsIn : PendingTablesState → ℕ → Type 0
 IsIn s id = IsAmong s.ordered id ⊎ (s.dirty ≡ Some id)
 

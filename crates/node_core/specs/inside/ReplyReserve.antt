@@ -15,13 +15,13 @@ use Rattle.node_core.specs.State.{State}
 use Rattle.node_core.specs.Machine.{step}
 use Rattle.node_core.specs.rules.Growth.{in_table, Grows, Readies}
 
--- what a method ensures of its step
+-- a step of a node: of Grow and Ready, also what it does to the buckets; of any other, a step of the machine
 abbrev pub StepsWithBuckets : State → Step → Outcome Reply State
 StepsWithBuckets old (Grow t) reply new = in_table old t Grows reply new
 StepsWithBuckets old (Ready t bucket) reply new = in_table old t (Readies bucket) reply new
 StepsWithBuckets old event reply new = step old event reply new
 
--- the copy of such a term takes no memory
+-- whether a copy of a term of this form takes no memory
 abbrev pub is_flat_form : Term-F Term → Bool
 is_flat_form (Term-F.Int n) = true
 is_flat_form (Term-F.Atom text) = nat_le (length text) 22
@@ -44,14 +44,14 @@ list_terms_form _ = []
 abbrev pub list_terms : Term → List Term
 list_terms term = list_terms_form (out-Term term)
 
--- a list of such terms, for which there is capacity
+-- the reply is a list of terms whose copies take no memory, and there is capacity for the list
 pub record FitsCapacity (capacity : ℕ) (reply : Reply) : Type 0 where
   pub terms : List Term
   pub reply_is : reply ≡ Value (term.List terms)
   pub flat : list_all is_flat_term terms ≡ true
   pub few : length terms ≤ capacity
 
--- the reply can be copied from what was reserved before it
+-- the reply can be copied with the memory that was reserved before the step
 abbrev pub CanCopy : ReplyReserve → Reply → Type 0
 CanCopy Nothing reply = Unit {0}
 CanCopy (Predicted copy) reply = (is_flat reply ≡ true) ⊎ (copy ≡ reply)
@@ -63,19 +63,19 @@ abbrev pub TakesNoMemory : State → Outcome Reply State → Type 0
 TakesNoMemory old outcome =
     (reply : Reply) (new : State) → outcome reply new → (is_flat reply ≡ true) ⊎ (new ≡ old)
 
--- each reply that it allows takes no memory, or is this one
+-- each reply that an outcome allows takes no memory, or equals the predicted one
 abbrev pub Predicts : Outcome Reply State → Reply → Type 0
 Predicts outcome copy =
     (reply : Reply) (new : State) → outcome reply new → (is_flat reply ≡ true) ⊎ (copy ≡ reply)
 
--- or is a list of terms that take none, for which there is capacity
+-- each reply that an outcome allows takes no memory, or is a list of terms that take none, for which there is capacity
 abbrev pub FitCapacity : Outcome Reply State → ℕ → Type 0
 FitCapacity outcome capacity =
     (reply : Reply) (new : State) → outcome reply new
     → (is_flat reply ≡ true) ⊎ FitsCapacity capacity reply
 
--- it suffices for each reply that the outcome allows; with nothing reserved, a reply that takes memory is one of a step
--- that changed nothing
+-- the reserved memory suffices for each reply that the outcome allows; with nothing reserved, a reply that takes memory
+-- is the reply to a step that changed nothing
 abbrev pub Suffices : State → Outcome Reply State → ReplyReserve → Type 0
 Suffices old outcome Nothing = TakesNoMemory old outcome
 Suffices old outcome (Predicted copy) = Predicts outcome copy

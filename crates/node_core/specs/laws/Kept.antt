@@ -16,12 +16,12 @@ use Rattle.node_core.specs.Machine.{step}
 abbrev pub slots_in : ℕ → State → List Slot
 slots_in t s = option_map_or (λ table. table.fixed.content.slots) (table_at s.world.tables t) []
 
--- whether it exists and some process fixes it
+-- whether the table with this identifier exists, and some process fixes it
 abbrev pub is_fixed_in : ℕ → State → Bool
 is_fixed_in t s =
     option_map_or (λ table. is_fixed table.fixed.fixes) (table_at s.world.tables t) false
 
--- some process fixes it in each of these states
+-- some process fixes the table in each of these states
 abbrev pub StaysFixed : ℕ → List State → Type 0
 StaysFixed t stretch = AllByRecursion (λ s. is_fixed_in t s ≡ true) stretch
 

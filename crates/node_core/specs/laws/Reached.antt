@@ -11,12 +11,12 @@ use Rattle.node_core.specs.declared.step.Step.{Step}
 use Rattle.node_core.specs.State.{State, empty}
 use Rattle.node_core.specs.Machine.{run}
 
--- no key is '$end_of_table'
+-- no slot has the key '$end_of_table', with which a traversal ends
 abbrev pub HasNoEnd : List Slot → Type 0
 HasNoEnd slots = AllByRecursion (λ key. is_atom (codes "$end_of_table") key ≡ false) (keys_of slots)
 
--- no two slots of one table have the same key, none has the key '$end_of_table', and no two named tables have the same
--- name
+-- a sound state: no two slots of one table have the same key, none has the key '$end_of_table', and no two named tables
+-- have the same name
 pub record IsSound (s : State) : Type 0 where
   pub keys : (t : ℕ) (table : Table) → table_at s.world.tables t ≡ Some table
       → HasDistinctKeys table.fixed.content.slots
@@ -27,13 +27,13 @@ pub record IsSound (s : State) : Type 0 where
       → table_at s.world.tables u ≡ Some other
       → one.metadata.named ≡ true → other.metadata.named ≡ true → one.metadata.name ≡ other.metadata.name → t ≡ u
 
--- the state after a run is sound if the one before it is
+-- a run from a sound state ends in a sound state
 abbrev pub RunsStaySound : Type 0
 RunsStaySound =
     (old : State) (steps : List Step) (replies : List Reply) (new : State)
     → run old steps replies new → IsSound old → IsSound new
 
--- so is each state that a run reaches from the empty one
+-- each state that a run reaches from the empty one is sound
 abbrev pub ReachedAreSound : Type 0
 ReachedAreSound =
     (limits : Limits) (steps : List Step) (replies : List Reply) (s : State)

@@ -8,13 +8,14 @@ use Rattle.node_core.specs.Observable.{observable}
 use Rattle.node_core.specs.Machine.{run}
 use Rattle.node_core.specs.Buckets.{run_on_buckets}
 
--- the machine may do the same steps with the same replies, from the observable state before to the one after
+-- a run of a node is a run of the machine: the same steps with the same replies, from the observable state before it to
+-- the one after it
 abbrev pub RunsAreObservable : Type 0
 RunsAreObservable =
     (old : State) (steps : List Step) (replies : List Reply) (new : State)
     → run_on_buckets old steps replies new → run (observable old) steps replies (observable new)
 
--- from the empty state too, which has no buckets
+-- the same for a run from the empty state, which is its own observable state: it has no buckets
 abbrev pub TranscriptsAreRuns : Type 0
 TranscriptsAreRuns =
     (limits : Limits) (steps : List Step) (replies : List Reply) (new : State)

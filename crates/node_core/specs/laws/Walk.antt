@@ -33,8 +33,8 @@ states old (s ∷ steps) [] new done = absurd done
 abbrev pub is_table : State → ℕ → Term → Bool
 is_table s t term = option_map_or (λ u. u == t) (resolve s.world.tables term) false
 
--- what a call reads of the table for a traversal: None is first, Some is next of this key; with it, whether it also
--- reads the objects; the outer None is any other call
+-- What a call does for a traversal of this table, or None for any other call. The first part of the pair is None for
+-- first, and Some for next of this key. The second part says whether the call also returns the objects.
 abbrev pub walk_call : State → ℕ → CallName → List Term → Option (Option Term × Bool)
 walk_call s t name.First (term ∷ []) = if is_table s t term then Some (None, false) else None
 walk_call s t name.FirstLookup (term ∷ []) = if is_table s t term then Some (None, true) else None
@@ -42,7 +42,7 @@ walk_call s t name.Next (term ∷ key ∷ []) = if is_table s t term then Some (
 walk_call s t name.NextLookup (term ∷ key ∷ []) = if is_table s t term then Some (Some key, true) else None
 walk_call s t _ _ = None
 
--- the same for a step, if this process makes the call
+-- the same for a step that is a call of this process; None for any other step
 abbrev pub walk_step : State → ℕ → ℕ → Step → Option (Option Term × Bool)
 walk_step s p t (Ask q call) =
     if q == p
@@ -55,14 +55,15 @@ abbrev pub IsKey : Bool → Term → Reply → Type 0
 IsKey false key r = r ≡ Value key
 IsKey true key r = (objects : List Term) × (r ≡ Value (key_and_objects (key, objects)))
 
--- the reply is the next key, and the traversal goes on from it; or it is the end, and no step is left
+-- The reply to a call of a traversal that still has these keys to give. It is the first of them, and Further holds of
+-- it and the rest. If there are none, it is the end of the table, and no step is left.
 abbrev pub Answers : Bool → Reply → List Step → List Term → (Term → List Term → Type 0) → Type 0
 Answers objects r steps [] Further = (r ≡ key_reply None) × (steps ≡ [])
 Answers objects r steps (key ∷ keys) Further = IsKey objects key r × Further key keys
 
 module _ (p t : ℕ) where
-  -- the calls of first and next, each with or without the objects, that the process makes on the table are, in order,
-  -- this one and next of each key that is replied
+  -- In this run, the process traverses the table and gets these keys. Its calls of first and next on the table, with or
+  -- without the objects, are, in order: this one (None is first), and then next of each key that it got.
   abbrev pub Walks : Option Term → List Term → (old : State) (steps : List Step)
       (replies : List Reply) (new : State) → run old steps replies new → Type 0
   Walks call keys old [] [] new done = ⊥
@@ -74,7 +75,8 @@ module _ (p t : ℕ) where
   Walks call keys old [] (r ∷ replies) new done = ⊥
   Walks call keys old (s ∷ steps) [] new done = ⊥
 
--- no key comes twice, and each key that has objects in every state comes
+-- these keys are an exact traversal of the table over these states: no key comes twice, and each key that has objects
+-- in every state comes
 pub record IsWholeOverStates (t : ℕ) (stretch : List State) (keys : List Term) : Type 0 where
   pub once : IsDistinct same keys
   pub all : (key : Term) → AllByRecursion (λ s. is_present (slots_in t s) key ≡ true) stretch
@@ -84,7 +86,7 @@ pub record IsWholeOverStates (t : ℕ) (stretch : List State) (keys : List Term)
 abbrev pub HasSoundKeys : ℕ → State → Type 0
 HasSoundKeys t s = HasDistinctKeys (slots_in t s) × HasNoEnd (slots_in t s)
 
--- that holds of each table of a sound state
+-- each table of a sound state has sound keys
 abbrev pub SoundStatesHaveSoundKeys : Type 0
 SoundStatesHaveSoundKeys = (s : State) (t : ℕ) → IsSound s → HasSoundKeys t s
 

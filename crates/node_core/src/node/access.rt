@@ -1,4 +1,4 @@
-// The table that a call is about.
+// Finds the table that a call names, and checks the access of the process.
 ghost use Rattle.std.specs.Prelude.{◌≡◌, option_copied, option_map};
 ghost use Rattle.std.specs.Option.{option_copied_mut};
 ghost use Rattle.std.specs.Borrow.{sem};
@@ -13,7 +13,7 @@ use ets_term::{KeyHash, Term};
 use fixed_walk::Walked;
 use ownership::Metadata;
 
-/// What a call does with a table.
+/// The access to a table that a call needs.
 #[derive(Clone, Copy)]
 pub enum Access {
     Read,
@@ -36,7 +36,7 @@ impl<H: KeyHash + Copy + Drop> Node<H> {
         self.world.table(id)
     }
 
-    /// Borrows the table that a term names for a change, if the process may use it in this way.
+    /// Borrows the table that a term names for a change, if the process has this access to it.
     // `lends`: when the borrow ends, this table has what the borrower wrote, and the rest of the node's state is as
     // before. If the result is `None`, all of it is as before.
     #[inline(always)]
@@ -60,7 +60,7 @@ impl<H: KeyHash + Copy + Drop> Node<H> {
         self.table_mut(id)
     }
 
-    /// Borrows the table with an identifier for a change, and marks it dirty: it may have a pending step afterwards.
+    /// Borrows the table with this identifier for a change. Marks it dirty, as it may have a pending growth step later.
     #[inline(always)]
     pub(crate) fn table_mut(&mut self, id: u32) -> Option<&mut Walked<SplitRows<H>>>
         ensures* lends { sem 𝓛
@@ -71,7 +71,7 @@ impl<H: KeyHash + Copy + Drop> Node<H> {
         self.world.table_mut(id)
     }
 
-    /// Returns the identifier of the table that a term names, if the process may use it in this way.
+    /// Returns the identifier of the table that a term names, if the process has this access to it.
     pub(crate) fn usable_id(&self, access: Access, pid: u32, term: &Term) -> Option<u32>
         ensures { result
             ≡ option_map (λ found. found.0) (usable access self.now.world.tables pid term.now) }

@@ -1,4 +1,4 @@
-// Calls of a process.
+// Makes and reads the calls of processes: their early refusals, and refusals as replies.
 ghost use Rattle.std.specs.Prelude.{◌≡◌, false, if◌then◌else◌, Some, None, Err, IfOk, OnOk, OnErr};
 ghost use Rattle.std.specs.List.{list_any};
 ghost use Rattle.ets_term.specs.Depth.{is_too_deep};
@@ -18,7 +18,7 @@ use std::alloc::AllocError;
 use table_ops::Refusal;
 
 impl<H: KeyHash + Copy + Drop> Node<H> {
-    /// Replies to a call that changes nothing, as `step` does, and changes nothing. Returns `None` for any other call.
+    /// Replies to a call that only reads, as `step` does. Returns `None` for any other call. The node does not change.
     pub fn read(&self, pid: u32, call: &Call) -> Result<Option<Reply>, AllocError>
         ensures { IfOk result (Reads (observable self.now) pid call.now) }
     {
@@ -36,9 +36,8 @@ impl<H: KeyHash + Copy + Drop> Node<H> {
         }
     }
 
-    /// Like `read`, but writes the reply over another and uses its memory again, as `step_into` does. Returns whether
-    /// it replied: `false` for any other call, which leaves the reply as it is. After out of memory the reply is
-    /// `NoProcess`.
+    /// Like `read`, but writes over `reply` and uses its memory again, as `step_into` does. Returns `false` for a call
+    /// that does not only read, and then leaves `reply` as it is. After out of memory, `reply` is `NoProcess`.
     pub fn read_into(&self, pid: u32, call: &Call, reply: &mut Reply) -> Result<bool, AllocError>
         ensures ok { IfOk result (λ replied. Reads (observable self.now) pid call.now
             (if replied then Some reply.new else None)) }
@@ -85,7 +84,8 @@ impl<H: KeyHash + Copy + Drop> Node<H> {
         write_refusal(result, reply)
     }
 
-    /// Writes the refusal that does not depend on the call's name, if one applies, and returns whether it did.
+    /// Writes the refusal that does not depend on the call's name, if one applies: the process does not live, or an
+    /// argument is too deep. Returns whether it wrote one.
     #[inline(always)]
     pub(super) fn refuse_early(&self, pid: u32, args: &[Term], reply: &mut Reply) -> bool
         ensures { RefusesEarly self.now pid args.now result reply.old reply.new }
@@ -135,7 +135,7 @@ fn any_too_deep(terms: &[Term]) -> bool
     terms.iter().any(|term| is_too_deep(term))
 }
 
-/// Returns whether a term is too deep. Most arguments are leaves, which are answered at once.
+/// Checks whether a term has more than 128 levels. Most arguments are leaves, which need no search.
 #[inline(always)]
 fn is_too_deep(term: &Term) -> bool
     ensures { result ≡ is_too_deep term.now }
@@ -146,7 +146,7 @@ fn is_too_deep(term: &Term) -> bool
     }
 }
 
-/// Writes the refusal of a call that was refused; running out of memory is an error.
+/// Writes the refusal as the reply, if the call was refused. Out of memory stays an error.
 #[inline(always)]
 pub(super) fn write_refusal(call: Result<(), Refusal>, reply: &mut Reply) -> Result<(), AllocError>
     ensures { RefusalToReply (to_reply (λ _. reply.old) call) (to_reply (λ _. reply.new) result) }
@@ -157,7 +157,7 @@ pub(super) fn write_refusal(call: Result<(), Refusal>, reply: &mut Reply) -> Res
     }
 }
 
-/// Writes a refusal, out of the way of calls that are not refused.
+/// Writes a refusal as the reply. The rare case of `write_refusal`, not inlined, because few calls are refused.
 #[inline(never)]
 fn write_refused(refusal: Refusal, reply: &mut Reply) -> Result<(), AllocError>
     ensures { RefusalToReply (Err refusal) (to_reply (λ _. reply.new) result) }
@@ -170,7 +170,7 @@ fn write_refused(refusal: Refusal, reply: &mut Reply) -> Result<(), AllocError>
     Ok(())
 }
 
-/// Returns the reply for the result of a call.
+/// Turns a refusal into its reply. Out of memory stays an error.
 pub fn into_reply(call: Result<Reply, Refusal>) -> Result<Reply, AllocError>
     ensures { RefusalToReply call result }
 {

@@ -6,6 +6,7 @@ ghost use Rattle.node_core.specs.inside.Refusals.{RefinesInto, RefinesRead};
 
 use super::Node;
 use super::replies::{write_reply, write_true, write_truth, write_value};
+use super::updates::Update;
 use crate::call_name::CallName;
 use crate::step::Reply;
 use ets_term::{KeyHash, Term};
@@ -32,16 +33,23 @@ impl<H: KeyHash + Copy + Drop> Node<H> {
                 CallName::Delete => self.delete_into(pid, x, y, reply),
                 _ => self.make_rare_call(pid, name, args, reply),
             },
-            [x, y, z] => match name {
-                CallName::UpdateCounter => self.update_counter_into(pid, x, y, z, None, reply),
-                CallName::UpdateElement => self.update_element_into(pid, x, y, z, None, reply),
-                _ => self.make_rare_call(pid, name, args, reply),
-            },
+            [x, y, z] => {
+                let update = Update {
+                    key: y,
+                    changes: z,
+                    default: None,
+                };
+                match name {
+                    CallName::UpdateCounter => self.update_counter_into(pid, x, update, reply),
+                    CallName::UpdateElement => self.update_element_into(pid, x, update, reply),
+                    _ => self.make_rare_call(pid, name, args, reply),
+                }
+            }
             _ => self.make_rare_call(pid, name, args, reply),
         }
     }
 
-    /// Makes any call.
+    /// Makes any call. The frequent calls are here too: a contract holds for each name.
     #[inline(never)]
     fn make_rare_call(
         &mut self,
@@ -156,21 +164,28 @@ impl<H: KeyHash + Copy + Drop> Node<H> {
             },
             [x] => self.change_call_of_one(pid, name, x, reply),
             [x, y] => self.change_call_of_two(pid, name, x, y, reply),
-            [x, y, z] => match name {
-                CallName::GiveAway => write_reply(self.give_away(pid, x, y, z), reply),
-                CallName::UpdateCounter => self.update_counter_into(pid, x, y, z, None, reply),
-                CallName::UpdateElement => self.update_element_into(pid, x, y, z, None, reply),
-                _ => Err(Refusal::Badarg),
-            },
-            [x, y, z, default] => {
-                let default = Some(default);
+            [x, y, z] => {
+                let update = Update {
+                    key: y,
+                    changes: z,
+                    default: None,
+                };
                 match name {
-                    CallName::UpdateCounter => {
-                        self.update_counter_into(pid, x, y, z, default, reply)
-                    }
-                    CallName::UpdateElement => {
-                        self.update_element_into(pid, x, y, z, default, reply)
-                    }
+                    CallName::GiveAway => write_reply(self.give_away(pid, x, y, z), reply),
+                    CallName::UpdateCounter => self.update_counter_into(pid, x, update, reply),
+                    CallName::UpdateElement => self.update_element_into(pid, x, update, reply),
+                    _ => Err(Refusal::Badarg),
+                }
+            }
+            [x, y, z, default] => {
+                let update = Update {
+                    key: y,
+                    changes: z,
+                    default: Some(default),
+                };
+                match name {
+                    CallName::UpdateCounter => self.update_counter_into(pid, x, update, reply),
+                    CallName::UpdateElement => self.update_element_into(pid, x, update, reply),
                     _ => Err(Refusal::Badarg),
                 }
             }

@@ -9,7 +9,8 @@ use ets_term::KeyHash;
 use std::alloc::AllocError;
 
 impl<H: KeyHash + Copy + Drop> Node<H> {
-    /// Doubles the buckets of a table. Its reply is `badarg` if there is no such table.
+    /// Doubles the number of buckets of a table, unless it is the greatest. Its reply is `badarg` if there is no such
+    /// table.
     pub(crate) fn grow(&mut self, id: u32) -> Result<Reply, AllocError>
         ensures ok { IfOk result (λ r. in_table self.old id Grows r self.new) }
         ensures err { OnErr result (self.new ≡ self.old) }
@@ -22,7 +23,8 @@ impl<H: KeyHash + Copy + Drop> Node<H> {
         Ok(atom_reply(alloc, b"ok"))
     }
 
-    /// Readies a bucket of a table. Its reply is `badarg` if there is no such table.
+    /// Readies a bucket of a table, if the table has one of this number. Its reply is `badarg` if there is no such
+    /// table.
     pub(crate) fn ready(&mut self, id: u32, bucket: u32) -> Result<Reply, AllocError>
         ensures ok { IfOk result (λ r. in_table self.old id (Readies bucket) r self.new) }
         ensures err { OnErr result (self.new ≡ self.old) }

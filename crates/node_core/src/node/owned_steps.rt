@@ -1,4 +1,4 @@
-// Steps that a node consumes: a single object that is inserted moves into its table.
+// Steps that a node takes by value: an inserted single object moves into its table, and is not copied.
 ghost use Rattle.std.specs.Prelude.{◌≡◌, true, [], ◌∷◌, Some, OnOk, OnErr};
 ghost use Rattle.node_core.specs.Access.{writes};
 ghost use Rattle.node_core.specs.CallName.{call_name};
@@ -24,7 +24,8 @@ use std::alloc::AllocError;
 use table_ops::Refusal;
 
 impl<H: KeyHash + Copy + Drop> Node<H> {
-    /// Like `step_into`, but consumes the step: the object of a single insertion moves into the table and is not copied.
+    /// Like `step_into`, but consumes the step: if it inserts a single object, the object moves into the table, and is
+    /// not copied.
     pub fn step_own(&mut self, mut event: Step, reply: &mut Reply) -> Result<(), AllocError>
         ensures ok { OnOk result
             (step (observable self.old) event reply.new (observable self.new)) }
@@ -34,7 +35,8 @@ impl<H: KeyHash + Copy + Drop> Node<H> {
         self.drain_step(&mut event, reply)
     }
 
-    /// Runs a step as `step_own` does, and leaves its memory: a step that may lack the object.
+    /// Like `step_own`, but borrows the step, so that its memory can be used again. An inserted single object has been
+    /// moved out of it.
     pub fn drain_step(&mut self, event: &mut Step, reply: &mut Reply) -> Result<(), AllocError>
         ensures ok { OnOk result
             (step (observable self.old) event.old reply.new (observable self.new)) }
@@ -72,7 +74,7 @@ impl<H: KeyHash + Copy + Drop> Node<H> {
         Ok(())
     }
 
-    /// Makes the call as `ask` does, but moves the object into the table.
+    /// Inserts a single object as `ask` does, but moves the object into the table.
     #[inline(always)]
     fn ask_own(&mut self, pid: u32, call: &mut Call, reply: &mut Reply) -> Result<(), AllocError>
         requires { InsertsOne call.old }
@@ -86,7 +88,7 @@ impl<H: KeyHash + Copy + Drop> Node<H> {
         write_refusal(result, reply)
     }
 
-    /// Moves the last argument of an insertion into the table that the first one names, and writes the reply.
+    /// Moves the last argument of an insertion into the table that the first argument names. Writes the reply.
     #[inline(always)]
     fn insert_last(
         &mut self,

@@ -50,7 +50,7 @@ impl<H: KeyHash + Copy + Drop> Node<H> {
         }
     }
 
-    /// Empties the mailbox of the process into a list, oldest message first.
+    /// Removes all messages from the process's mailbox. The reply is their list, oldest first.
     pub(crate) fn receive(&mut self, pid: u32) -> Result<Reply, Refusal>
         ensures { RefinesReply (Receive self.old pid) self.old result self.new }
     {
@@ -96,7 +96,7 @@ fn can_name(term: &Term) -> bool
     }
 }
 
-/// Makes a reply of a term, or of the atom `undefined`.
+/// Returns the value as a reply, or the atom `undefined` if there is none.
 fn value_or_undefined(alloc: Global, value: Option<Term>) -> Reply
     ensures { result ≡ value_or_undefined value }
 {

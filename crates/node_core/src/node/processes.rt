@@ -11,7 +11,7 @@ use ets_term::{KeyHash, Term};
 use std::alloc::AllocError;
 
 impl<H: KeyHash + Copy + Drop> Node<H> {
-    /// Enrols a process. Its reply is the pid.
+    /// Enrols (starts) a process. The reply is its pid.
     pub(crate) fn enrol(&mut self, pid: u32) -> Result<Reply, AllocError>
         ensures ok { IfOk result (λ r. step self.old (Enrol pid) r self.new) }
         ensures err { OnErr result (self.new ≡ self.old) }

@@ -13,7 +13,7 @@ use ets_term::{KeyHash, Term};
 use table_ops::Refusal;
 
 impl<H: KeyHash + Copy + Drop> Node<H> {
-    /// Writes the objects of a key as a list over an earlier reply.
+    /// Writes the list of a key's objects over an earlier reply.
     #[inline(never)]
     pub(crate) fn lookup(
         &self,
@@ -30,7 +30,7 @@ impl<H: KeyHash + Copy + Drop> Node<H> {
         Ok(())
     }
 
-    /// Writes whether a key has an object over an earlier reply.
+    /// Writes `true` over an earlier reply if a key has an object, else `false`.
     #[inline(never)]
     pub(crate) fn member_into(
         &self,

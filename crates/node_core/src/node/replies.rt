@@ -1,4 +1,4 @@
-// Replies. Short atoms take no memory.
+// Makes replies, or writes them over earlier ones. An atom of at most 22 characters takes no memory.
 ghost use Rattle.std.specs.Prelude.{◌≡◌, ◌≤◌, length, IfOk, OnOk};
 ghost use Rattle.ets_term.specs.Character.{IsAtomText};
 ghost use Rattle.ets_term.specs.declared.term.Term.TheVariants as term;
@@ -20,7 +20,7 @@ pub fn true_reply(alloc: Global) -> Reply
     atom_reply(alloc, b"true")
 }
 
-/// Returns the atom with this text, which must be short.
+/// Returns the atom with this text, which has at most 22 characters.
 pub fn atom_reply(alloc: Global, text: &[u8]) -> Reply
     requires text { IsAtomText text.now }
     requires short { length text.now ≤ 22 }
@@ -32,7 +32,7 @@ pub fn atom_reply(alloc: Global, text: &[u8]) -> Reply
     Reply::Value(Term::Atom(atom))
 }
 
-/// Writes the atom with this text, which must be short. A reply that is this atom stays as it is, which is faster.
+/// Writes the atom with this short text. If the reply is this atom already, it stays as it is, which is faster.
 #[inline(always)]
 fn write_atom(alloc: Global, text: &str, reply: &mut Reply)
     requires text { IsAtomText text.now }
@@ -47,7 +47,7 @@ fn write_atom(alloc: Global, text: &str, reply: &mut Reply)
     write_new_atom(alloc, text, reply);
 }
 
-/// Writes the atom with this text, which must be short, over any reply.
+/// Writes the atom with this short text over another reply. The rare case of `write_atom`, not inlined.
 #[inline(never)]
 fn write_new_atom(alloc: Global, text: &str, reply: &mut Reply)
     requires text { IsAtomText text.now }
@@ -57,7 +57,7 @@ fn write_new_atom(alloc: Global, text: &str, reply: &mut Reply)
     *reply = atom_reply(alloc, text.as_bytes());
 }
 
-/// Writes the reply that there is no such process. Like the next two, it is out of the way of usual replies.
+/// Writes the reply that there is no such process. Like the next two, it is not inlined, because it is rare.
 #[inline(never)]
 pub fn write_no_process(reply: &mut Reply)
     ensures { reply.new ≡ NoProcess }
@@ -89,7 +89,7 @@ pub fn list_reply(alloc: Global, objects: &[Term]) -> Result<Reply, AllocError>
     Ok(Reply::Value(Term::List(copies)))
 }
 
-/// Writes a list of copies of these objects. A list of the same length in its place gives its memory.
+/// Writes a list of copies of these objects. If the earlier reply is as long a list, its memory is used again.
 #[inline(always)]
 pub fn write_list(alloc: Global, objects: &[Term], reply: &mut Reply) -> Result<(), AllocError>
     ensures { OnOk result (reply.new ≡ list_reply objects.now) }
@@ -103,7 +103,7 @@ pub fn write_list(alloc: Global, objects: &[Term], reply: &mut Reply) -> Result<
     Ok(())
 }
 
-/// Writes the reply `true`, if the call was made.
+/// Writes the reply `true` if the call succeeded, else returns its refusal.
 #[inline(always)]
 pub fn write_true(
     alloc: Global,
@@ -121,7 +121,7 @@ pub fn write_true(
     }
 }
 
-/// Writes the truth value that a call returned, if it was made.
+/// Writes `true` or `false`, as the call returned, or returns its refusal.
 #[inline(always)]
 pub fn write_truth(
     alloc: Global,
@@ -139,7 +139,7 @@ pub fn write_truth(
     }
 }
 
-/// Writes the value that a call returned, if it was made.
+/// Writes the value that a call returned, or returns its refusal.
 #[inline(always)]
 pub fn write_value(call: Result<Term, Refusal>, reply: &mut Reply) -> Result<(), Refusal>
     ensures { to_reply (λ _. reply.new) result ≡ to_reply Value call }
@@ -153,7 +153,7 @@ pub fn write_value(call: Result<Term, Refusal>, reply: &mut Reply) -> Result<(),
     }
 }
 
-/// Writes the reply that a call returned, if it was made.
+/// Writes the reply that a call returned, or returns its refusal.
 pub fn write_reply(call: Result<Reply, Refusal>, reply: &mut Reply) -> Result<(), Refusal>
     ensures { to_reply (λ _. reply.new) result ≡ call }
 {
@@ -166,7 +166,7 @@ pub fn write_reply(call: Result<Reply, Refusal>, reply: &mut Reply) -> Result<()
     }
 }
 
-/// Converts a refusal of the world into that of a call.
+/// Converts a fault of the world into a refusal of a call, or into the reply `NoProcess`.
 pub fn refusal_of(fault: WorldFault) -> Result<Reply, Refusal>
     ensures { result ≡ refusal_of fault }
 {

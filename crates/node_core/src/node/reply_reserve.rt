@@ -1,4 +1,4 @@
-// A step with its reply twice: memory for the copy is reserved before anything changes.
+// Memory for a second copy of a step's reply, reserved before the step changes anything.
 ghost use Rattle.std.specs.Prelude.{◌≡◌, ℕ, true, false, ◌≤◌, [], ◌∷◌, length, vec_capacity, IfOk, OnErr, MatchOption};
 ghost use Rattle.std.specs.List.{list_all};
 ghost use Rattle.node_core.specs.Access.{writes};
@@ -21,16 +21,16 @@ const MAX_INLINE: usize = 22;
 /// Memory reserved before a step for a second copy of its reply.
 #[derive(Drop)]
 pub enum ReplyReserve {
-    /// Nothing: the copy takes no memory, or the step changes nothing.
+    /// Nothing is reserved: the copy takes no memory, or the step changes nothing, so the copy may still fail.
     Nothing,
-    /// The reply itself, predicted, if it takes memory.
+    /// A copy of the predicted reply. It equals the reply if the reply takes memory.
     Predicted(Reply),
-    /// Capacity for the terms of a list, none of which takes memory.
+    /// Capacity for the terms of a list, of which each can be copied without memory of its own.
     Capacity(Vec<Term>),
 }
 
 impl<H: KeyHash + Copy + Drop> Node<H> {
-    /// Reserves what the copy of a step's reply needs.
+    /// Reserves the memory that a second copy of the step's reply needs.
     pub(crate) fn reserve_for_step(&self, event: &Step) -> Result<ReplyReserve, AllocError>
         ensures { IfOk result (Suffices self.now (StepsWithBuckets self.now event.now)) }
     {
@@ -94,7 +94,7 @@ impl<H: KeyHash + Copy + Drop> Node<H> {
         }
     }
 
-    /// Predicts the reply of `take`, if it is allowed: a process that may write may read.
+    /// Predicts the reply of `take`: the objects of the key. A process that may write to a table may read it.
     fn predicted_take(&self, pid: u32, table: &Term, key: &Term) -> Result<Reply, AllocError>
         ensures { IfOk result (Predicts (writes self.now pid table.now (Take key.now))) }
     {
@@ -105,7 +105,7 @@ impl<H: KeyHash + Copy + Drop> Node<H> {
     }
 }
 
-/// Reserves capacity for the new values of counters.
+/// Reserves memory for a call with updates: for `update_counter`, capacity for the list of new values.
 fn reserve_for_updates(
     alloc: Global,
     name: CallName,
@@ -124,7 +124,7 @@ fn reserve_for_updates(
     }
 }
 
-/// Predicts the reply of `new` for a named table.
+/// Predicts the reply of `new` for a named table, which is the name.
 fn predicted_name(alloc: Global, name: &Term) -> Result<ReplyReserve, AllocError>
     ensures { (old : State) → (pid : ℕ) → (options : Term)
         → IfOk result (Suffices old (New old pid name.now options)) }
@@ -137,7 +137,7 @@ fn predicted_name(alloc: Global, name: &Term) -> Result<ReplyReserve, AllocError
 }
 
 impl ReplyReserve {
-    /// Returns a copy of the reply.
+    /// Returns a copy of the reply, and uses the reserved memory if the copy takes memory.
     pub fn copy(self, alloc: Global, reply: &Reply) -> Result<Reply, AllocError>
         requires { CanCopy self reply.now }
         ensures ok { IfOk result (λ r. r ≡ reply.now) }
@@ -155,7 +155,7 @@ impl ReplyReserve {
     }
 }
 
-/// Returns a copy of a reply that takes no memory.
+/// Copies a reply that needs no allocation, or returns `None`.
 fn flat_copy(alloc: Global, reply: &Reply) -> Option<Reply>
     ensures { MatchOption result
         (is_flat reply.now ≡ false) (λ r. (r ≡ reply.now) × (is_flat reply.now ≡ true)) }

@@ -12,8 +12,7 @@ use ets_term::{Items, KeyHash};
 use std::alloc::AllocError;
 
 impl<H: KeyHash + Copy + Drop> Node<H> {
-    /// Runs steps in order, each as `step` does. If memory runs out, it stops and returns the replies to the steps
-    /// before.
+    /// Runs steps in order, each as `step` does. If memory runs out, it stops and returns the replies so far.
     pub fn run(&mut self, steps: &[Step]) -> Result<Vec<Reply>, RunFault>
         ensures ok { IfOk result (λ replies.
             run (observable self.old) steps.now replies.items (observable self.new)) }
@@ -42,9 +41,9 @@ impl<H: KeyHash + Copy + Drop> Node<H> {
         Ok(replies)
     }
 
-    /// Runs steps in order, each as `step` does, and continues past those that run out of memory: such a step has no
-    /// reply, and changes nothing. Capacity for the replies is reserved before the first step; `Err` says that there
-    /// was no memory for it.
+    /// Runs steps in order, each as `step` does, and skips those that run out of memory: such a step has no reply, and
+    /// changes nothing. Capacity for the replies is reserved before the first step. `Err` means that there was no
+    /// memory for it.
     pub fn run_through(&mut self, steps: &[Step]) -> Result<Vec<Option<Reply>>, AllocError>
         ensures len { IfOk result (λ answers. length answers.items ≡ length steps.now) }
         ensures ok { IfOk result (λ answers.
@@ -71,7 +70,7 @@ impl<H: KeyHash + Copy + Drop> Node<H> {
 }
 
 impl RunFault {
-    /// Makes the fault of a run that stopped after these replies.
+    /// Makes the fault of a run that ran out of memory after these replies.
     fn with_replies(replies: Vec<Reply>) -> RunFault
         ensures { result.replies ≡ replies.items }
     {

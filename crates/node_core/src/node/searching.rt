@@ -95,7 +95,7 @@ impl<H: KeyHash + Copy + Drop> Node<H> {
         Ok(count_reply(count?))
     }
 
-    /// Removes the objects for which a match specification gives `true`, and counts them.
+    /// Removes the objects for which a match specification gives `true`. The reply is their number.
     pub(crate) fn select_delete(
         &mut self,
         pid: u32,
@@ -167,14 +167,14 @@ fn delete_selected<R: Rows>(
     Ok(deleted?)
 }
 
-/// Makes a reply of the results of a search.
+/// Returns the list of a search's results as a reply.
 fn answers_reply(found: Items<Term>) -> Reply
     ensures { result ≡ answers_reply (map data_of found) }
 {
     Reply::Value(Term::List(found))
 }
 
-/// Makes the reply of a count, of the objects that a call selected or deleted.
+/// Returns the number of objects that a call counted or removed, as a reply.
 fn count_reply(count: usize) -> Reply
     requires { count < 2 ^ 32 }
     ensures { result ≡ count_reply count }

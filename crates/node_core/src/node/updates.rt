@@ -18,6 +18,15 @@ use fixed_walk::Walked;
 use std::alloc::Global;
 use table_ops::Refusal;
 
+/// What an update call names besides its table: the key, the changes to its object, and, if there is a Default, the
+/// object to begin with when the key has none.
+#[derive(Clone, Copy)]
+pub(crate) struct Update<'a> {
+    pub(crate) key: &'a Term,
+    pub(crate) changes: &'a Term,
+    pub(crate) default: Option<&'a Term>,
+}
+
 impl<H: KeyHash + Copy + Drop> Node<H> {
     /// Adds to counters of a key's object, and writes the new values as the reply.
     #[inline(never)]
@@ -25,17 +34,15 @@ impl<H: KeyHash + Copy + Drop> Node<H> {
         &mut self,
         pid: u32,
         table: &Term,
-        key: &Term,
-        updates: &Term,
-        default: Option<&Term>,
+        update: Update<'_>,
         reply: &mut Reply,
     ) -> Result<(), Refusal>
         ensures { RefinesInto
             (writes self.old pid table.now
-            (UpdateCounter key.now updates.now (option_copied default.entry)))
+            (UpdateCounter update.entry.key.now update.entry.changes.now (option_copied update.entry.default)))
             self.old result reply.new self.new }
     {
-        let counted = self.update_counter(pid, table, key, updates, default);
+        let counted = self.update_counter(pid, table, update);
         write_value(counted, reply)
     }
 
@@ -45,17 +52,15 @@ impl<H: KeyHash + Copy + Drop> Node<H> {
         &mut self,
         pid: u32,
         table: &Term,
-        key: &Term,
-        updates: &Term,
-        default: Option<&Term>,
+        update: Update<'_>,
         reply: &mut Reply,
     ) -> Result<(), Refusal>
         ensures { RefinesInto
             (writes self.old pid table.now
-            (UpdateElement key.now updates.now (option_copied default.entry)))
+            (UpdateElement update.entry.key.now update.entry.changes.now (option_copied update.entry.default)))
             self.old result reply.new self.new }
     {
-        let is_written = self.update_element(pid, table, key, updates, default);
+        let is_written = self.update_element(pid, table, update);
         write_truth(self.alloc, is_written, reply)
     }
 
@@ -65,20 +70,18 @@ impl<H: KeyHash + Copy + Drop> Node<H> {
         &mut self,
         pid: u32,
         table: &Term,
-        key: &Term,
-        updates: &Term,
-        default: Option<&Term>,
+        update: Update<'_>,
     ) -> Result<Term, Refusal>
         ensures { RefinesReply
             (writes self.old pid table.now
-            (UpdateCounter key.now updates.now (option_copied default.entry)))
+            (UpdateCounter update.entry.key.now update.entry.changes.now (option_copied update.entry.default)))
             self.old (to_reply Value result) self.new }
     {
         let alloc = self.alloc;
         let Some(table) = self.usable_table_mut(Access::Write, pid, table) else {
             return Err(Refusal::Badarg);
         };
-        let answer = count(alloc, table, key, updates, default)?;
+        let answer = apply_operations(alloc, table, update)?;
         Ok(answer)
     }
 
@@ -88,20 +91,18 @@ impl<H: KeyHash + Copy + Drop> Node<H> {
         &mut self,
         pid: u32,
         table: &Term,
-        key: &Term,
-        updates: &Term,
-        default: Option<&Term>,
+        update: Update<'_>,
     ) -> Result<bool, Refusal>
         ensures { RefinesReply
             (writes self.old pid table.now
-            (UpdateElement key.now updates.now (option_copied default.entry)))
+            (UpdateElement update.entry.key.now update.entry.changes.now (option_copied update.entry.default)))
             self.old (to_reply truth_reply result) self.new }
     {
         let alloc = self.alloc;
         let Some(table) = self.usable_table_mut(Access::Write, pid, table) else {
             return Err(Refusal::Badarg);
         };
-        let is_written = write(alloc, table, key, updates, default)?;
+        let is_written = write_elements(alloc, table, update)?;
         Ok(is_written)
     }
 }
@@ -109,40 +110,36 @@ impl<H: KeyHash + Copy + Drop> Node<H> {
 /// Applies the operations of a term to the counters of a key's object. A single increment, without a Default, is the
 /// most frequent update.
 #[inline(always)]
-fn count<R: Rows>(
+fn apply_operations<R: Rows>(
     alloc: Global,
     table: &mut Walked<R>,
-    key: &Term,
-    updates: &Term,
-    default: Option<&Term>,
+    update: Update<'_>,
 ) -> Result<Term, Refusal>
     ensures { table_refusals.RefinesChange
-        (Counts key.now updates.now (option_copied default.entry) table.old)
+        (Counts update.entry.key.now update.entry.changes.now (option_copied update.entry.default) table.old)
         table.old result table.new }
 {
-    if default.is_none() {
-        if let Some(op) = read_increment(updates, table.keypos()) {
-            return table.update_one_counter(key, op);
+    if update.default.is_none() {
+        if let Some(op) = read_increment(update.changes, table.keypos()) {
+            return table.update_one_counter(update.key, op);
         }
     }
-    count_any(alloc, table, key, updates, default)
+    apply_any_operations(alloc, table, update)
 }
 
 /// Applies any operations of a term to the counters of a key's object.
 #[inline(never)]
-fn count_any<R: Rows>(
+fn apply_any_operations<R: Rows>(
     alloc: Global,
     table: &mut Walked<R>,
-    key: &Term,
-    updates: &Term,
-    default: Option<&Term>,
+    update: Update<'_>,
 ) -> Result<Term, Refusal>
     ensures { table_refusals.RefinesChange
-        (Counts key.now updates.now (option_copied default.entry) table.old)
+        (Counts update.entry.key.now update.entry.changes.now (option_copied update.entry.default) table.old)
         table.old result table.new }
 {
-    let ops = read_ops(alloc, updates, table.keypos())?;
-    let answer = table.update_counter(key, &ops, default);
+    let ops = read_ops(alloc, update.changes, table.keypos())?;
+    let answer = table.update_counter(update.key, &ops, update.default);
     drop(ops);
     answer
 }
@@ -150,40 +147,36 @@ fn count_any<R: Rows>(
 /// Writes the element values of a term into a key's object, or into the default if the key is missing. Returns whether
 /// it wrote. A single value, without a Default, is the most frequent update.
 #[inline(always)]
-fn write<R: Rows>(
+fn write_elements<R: Rows>(
     alloc: Global,
     table: &mut Walked<R>,
-    key: &Term,
-    updates: &Term,
-    default: Option<&Term>,
+    update: Update<'_>,
 ) -> Result<bool, Refusal>
     ensures { table_refusals.RefinesChange
-        (WritesElements key.now updates.now (option_copied default.entry) table.old)
+        (WritesElements update.entry.key.now update.entry.changes.now (option_copied update.entry.default) table.old)
         table.old result table.new }
 {
-    if default.is_none() {
-        if let Some((position, value)) = read_pair(updates, table.keypos()) {
-            return table.update_one_element(key, position, value);
+    if update.default.is_none() {
+        if let Some((position, value)) = read_pair(update.changes, table.keypos()) {
+            return table.update_one_element(update.key, position, value);
         }
     }
-    write_any(alloc, table, key, updates, default)
+    write_any_elements(alloc, table, update)
 }
 
 /// Writes any element values of a term.
 #[inline(never)]
-fn write_any<R: Rows>(
+fn write_any_elements<R: Rows>(
     alloc: Global,
     table: &mut Walked<R>,
-    key: &Term,
-    updates: &Term,
-    default: Option<&Term>,
+    update: Update<'_>,
 ) -> Result<bool, Refusal>
     ensures { table_refusals.RefinesChange
-        (WritesElements key.now updates.now (option_copied default.entry) table.old)
+        (WritesElements update.entry.key.now update.entry.changes.now (option_copied update.entry.default) table.old)
         table.old result table.new }
 {
-    let specs = read_element_specs(alloc, updates, table.keypos())?;
-    let is_written = table.update_element(key, &specs, default);
+    let specs = read_element_specs(alloc, update.changes, table.keypos())?;
+    let is_written = table.update_element(update.key, &specs, update.default);
     drop(specs);
     is_written
 }

@@ -1,4 +1,4 @@
-// What a traversal among the steps of others does to its table.
+// What `walk_among` does with its table: it fixes the table, finds keys, and releases the fix.
 ghost use Rattle.std.specs.Prelude.{◌≡◌, Some, option_copied, IsTrue};
 ghost use Rattle.fixed_walk.specs.TableState.{IncrementsFix};
 ghost use Rattle.fixed_walk.specs.laws.Walks.{walk_answer};
@@ -26,7 +26,7 @@ impl<H: KeyHash + Copy + Drop> Node<H> {
         self.world.lives(pid) && self.world.may_read(pid, id)
     }
 
-    /// Fixes the table once more.
+    /// Adds one fix of the process to the table.
     pub(crate) fn fix_table(&mut self, pid: u32, id: u32) -> Result<(), WalkFault>
         ensures fix { FixesTable pid id (observable self.old) result (observable self.new) }
         ensures buckets { FixOnBuckets pid id self.old result self.new }
@@ -57,7 +57,7 @@ impl<H: KeyHash + Copy + Drop> Node<H> {
         true
     }
 
-    /// Returns the first key, or the key after the last one, or `None` at the end.
+    /// Returns the first key, or the key after `last` if there is one. Returns `None` at the end of the table.
     pub(crate) fn next_key(
         &self,
         pid: u32,

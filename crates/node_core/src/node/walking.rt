@@ -16,7 +16,7 @@ use std::alloc::{AllocError, Global};
 use table_ops::Refusal;
 
 impl<H: KeyHash + Copy + Drop> Node<H> {
-    /// Fixes or releases a table, as the flag says.
+    /// Adds one fix to a table if the flag is `true`, or releases one if it is `false`.
     pub(crate) fn safe_fixtable(
         &mut self,
         pid: u32,
@@ -47,7 +47,7 @@ impl<H: KeyHash + Copy + Drop> Node<H> {
         Ok(true_reply(alloc))
     }
 
-    /// Gives back one fix of the process on a table that it may read.
+    /// Releases one fix of the process on a table that it may read.
     fn release(&mut self, pid: u32, table: &Term) -> Result<Reply, Refusal>
         ensures { RefinesReply (changes self.old pid Read table.now (Releases pid))
             self.old result self.new }
@@ -60,7 +60,7 @@ impl<H: KeyHash + Copy + Drop> Node<H> {
         Ok(true_reply(alloc))
     }
 
-    /// Returns the first key of a table, or the atom that marks its end.
+    /// Returns the first key of a table, or `'$end_of_table'`.
     pub(crate) fn first(&self, pid: u32, table: &Term) -> Result<Reply, Refusal>
         ensures { RefinesReply (reads self.now pid table.now first_reply) self.now result self.now }
     {
@@ -68,7 +68,7 @@ impl<H: KeyHash + Copy + Drop> Node<H> {
         Ok(key_reply(self.alloc, table.first())?)
     }
 
-    /// Returns the key after this one, or the atom that marks the end of a table.
+    /// Returns the key after this one, or `'$end_of_table'`.
     pub(crate) fn next(&self, pid: u32, table: &Term, key: &Term) -> Result<Reply, Refusal>
         ensures { RefinesReply (reads self.now pid table.now (next_reply key.now)) self.now result self.now }
     {
@@ -77,7 +77,7 @@ impl<H: KeyHash + Copy + Drop> Node<H> {
         Ok(key_reply(self.alloc, found)?)
     }
 
-    /// Returns the first key of a table with its objects.
+    /// Returns the first key of a table with its objects, or `'$end_of_table'`.
     pub(crate) fn first_lookup(&self, pid: u32, table: &Term) -> Result<Reply, Refusal>
         ensures { RefinesReply (reads self.now pid table.now first_lookup_reply) self.now result self.now }
     {
@@ -85,7 +85,7 @@ impl<H: KeyHash + Copy + Drop> Node<H> {
         Ok(slot_reply(self.alloc, table.first_lookup())?)
     }
 
-    /// Returns the key after this one with its objects.
+    /// Returns the key after this one with its objects, or `'$end_of_table'`.
     pub(crate) fn next_lookup(&self, pid: u32, table: &Term, key: &Term) -> Result<Reply, Refusal>
         ensures { RefinesReply (reads self.now pid table.now (next_lookup_reply key.now))
             self.now result self.now }

@@ -8,5 +8,5 @@ abbrev pub invariant-loop-at : goal.invariant-loop-at
 invariant-loop-at g l = record {
   keys_are : g.O.Others.keys l.others ≡ l.keys.items;
   count : vec_len l.keys ≡ l._at;
-  so_far : (old : State) → FixIsDone l.pid l.id old l.fn.node → WalkSoFar l.pid l.id old l.keys.items (g.O.Others.steps l.others) l.found l.node;
+  so_far : (old : State) → FixIsDone l.traversal.pid l.traversal.id old l.fn.node → WalkSoFar l.traversal.pid l.traversal.id old l.keys.items (g.O.Others.steps l.others) l.found l.node;
 }

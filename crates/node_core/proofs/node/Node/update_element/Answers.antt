@@ -9,8 +9,8 @@ use Rattle.node_core.proofs.node.Node.update_element.Goals as goal
 pub returns-in_err-is_written : goal.returns-in_err-is_written
 returns-in_err-is_written g c =
     let p = err_from_is_err_and c.from_residual.result c.from_residual.ensures.1 in
-    rw (p.1, p.2) (changed-err c.args.self.now c.args.pid Write c.args.table.now c.in-Some.table.now c.write.new.table c.in-Some.ensures.value truth_reply (WritesElements c.args.key.now c.args.updates.now (option_copied c.args.default)) c.in_err-is_written.field-0.0 c.in_err-is_written.ensures)
+    rw (p.1, p.2) (changed-err c.args.self.now c.args.pid Write c.args.table.now c.in-Some.table.now c.write_elements.new.table c.in-Some.ensures.value truth_reply (WritesElements c.args.update.key.now c.args.update.changes.now (option_copied c.args.update.default)) c.in_err-is_written.field-0.0 c.in_err-is_written.ensures)
 
 pub returns : goal.returns
 returns g c =
-    changed-ok c.args.self.now c.args.pid Write c.args.table.now c.in-Some.table.now c.write.new.table c.in-Some.ensures.value truth_reply (WritesElements c.args.key.now c.args.updates.now (option_copied c.args.default)) c.in_ok-is_written.is_written c.in_ok-is_written.ensures
+    changed-ok c.args.self.now c.args.pid Write c.args.table.now c.in-Some.table.now c.write_elements.new.table c.in-Some.ensures.value truth_reply (WritesElements c.args.update.key.now c.args.update.changes.now (option_copied c.args.update.default)) c.in_ok-is_written.is_written c.in_ok-is_written.ensures

@@ -1,6 +1,6 @@
 use Rattle.std.proofs.Common.{sym, ◌∙◌}
 use Rattle.node_core.proofs.pending.Tending.{pending-unobserved}
-use Rattle.node_core.proofs.node.Node.run_due.Goals as goal
+use Rattle.node_core.proofs.node.Node.run_first_pending.Goals as goal
 
 pub returns-clause-observable : goal.returns-clause-observable
 returns-clause-observable g c =
