@@ -85,18 +85,21 @@ def scripts(to):
                     args.write(words)
 
 
-def unproved(logs):
-    """Returns the parts that need no proof: the tables of calls, the pages, and the scripts run by the sources, compiled with
-    sanitizers."""
-    os.mkdir(f"{logs}/scripts")
-    scripts(f"{logs}/scripts")
+def cheap():
+    """Returns the parts that need no proof and no program: the tables of calls, the pages and the list of definitions."""
     return [
         Part("the tables of calls", [f"{TOP}/.ci/names"], ends_all=True),
         Part("the pages and comments", [f"{TOP}/.ci/prose"], ends_all=True),
         Part("the check of pages itself", [f"{TOP}/.ci/prose", "--self"], ends_all=True),
         Part("the list of definitions", [f"{TOP}/.ci/definitions"], ends_all=True),
-        Part("the scripts", ["rt", "try", "--seconds", "300", "--cases", f"{logs}/scripts"], PROGRAM, ends_all=True),
     ]
+
+
+def scripts_by_sources(logs):
+    """Returns the part that runs the scripts by the sources, compiled unproved and with sanitizers."""
+    os.mkdir(f"{logs}/scripts")
+    scripts(f"{logs}/scripts")
+    return Part("the scripts", ["rt", "try", "--seconds", "300", "--cases", f"{logs}/scripts"], PROGRAM, ends_all=True)
 
 
 def side_by_side(parts, logs, at_once):

@@ -6,7 +6,7 @@ import sys
 import tempfile
 import time
 
-from parts import BEGAN, TOP, Part, end_on_signals, say, side_by_side, unproved
+from parts import BEGAN, TOP, Part, cheap, end_on_signals, say, scripts_by_sources, side_by_side
 from tools import crates_of
 
 DIST = f"{TOP}/dist/x86_64-linux/ets_script"
@@ -25,7 +25,7 @@ def main():
     on_dist += [Part("the snippets of the pages", [f"{TOP}/.ci/snippets", DIST])]
     tests = [Part(f"the tests of {name}", ["rt", "try", "--test", "--seconds", "300"], f"crates/{name}") for name in crates if name.startswith("test_")]
     with tempfile.TemporaryDirectory(prefix="quick-") as logs:
-        parts = [*proofs.values(), *unproved(logs), *on_dist, *tests]
+        parts = [*proofs.values(), *cheap(), scripts_by_sources(logs), *on_dist, *tests]
         failed = side_by_side(parts, logs, len(os.sched_getaffinity(0)))
     count = lambda part: len(re.findall(r"^fn \S+: proved$", part.text, re.M))
     print(f"proved: {', '.join(f'{name} ({count(it)} functions)' for name, it in proofs.items() if it.is_well)}")

@@ -9,7 +9,7 @@ import time
 
 from costs import Costs, budget, table
 from dist import built
-from parts import BEGAN, BUDGET, PROGRAM, TOP, Part, end_on_signals, say, side_by_side, unproved
+from parts import BEGAN, BUDGET, PROGRAM, TOP, Part, cheap, end_on_signals, say, side_by_side
 from tools import Log, crates_of
 
 
@@ -69,9 +69,13 @@ def on_the_files_of_dist(copy, log, words):
     write = [it for it in words if it == "--write"]
     is_there = [Proved("ets_script_cli", log), Proved("ets_c", log)]
     dist = Part("the files of dist", [f"{TOP}/.ci/dist", copy, *write], after=is_there, show=r"^dist: ")
-    sources = Part("the sources of dist", [f"{TOP}/.ci/dist", "--sources"], ends_all=True)
+    # (what is committed in dist/ must be of these sources, so its program can run the scripts before anything is proved)
+    committed = [
+        Part("the sources of dist", [f"{TOP}/.ci/dist", "--sources"], ends_all=True),
+        Part("the scripts by the program in dist", [f"{TOP}/tests/run", f"{TOP}/dist/x86_64-linux/ets_script"], ends_all=True),
+    ]
     return [
-        *([] if write else [sources]),
+        *([] if write else committed),
         dist,
         *(Part(f"bindings/{it}", [f"{TOP}/bindings/{it}/test", built(copy)], after=[dist]) for it in ("c", "rust", "python", "erlang")),
         Part("the release", [f"{TOP}/.ci/release"], after=[dist], show=r"^release: "),
@@ -88,7 +92,7 @@ def parts_of(words, copy, logs):
     tried = [*politely, f"{TOP}/.ci/mutants", "--libraries", copy, "--after", proofs.file(logs), *words]
     mutants = Part("the mutants", tried, show=r"^mutants: ")
     log = Log(proofs.file(logs))
-    return [*unproved(logs), order, itself, *on_the_program(copy, log), *on_the_files_of_dist(copy, log, words)], proofs, mutants
+    return [*cheap(), order, itself, *on_the_program(copy, log), *on_the_files_of_dist(copy, log, words)], proofs, mutants
 
 
 def report(mutants, costs):
