@@ -65,10 +65,10 @@ def main():
             faults.append(what)
             print(f"{what}: {found}, expected {wanted}", file=sys.stderr)
 
-    chain = [{"low": 4}, {"middle": 4, "tests": 2, "side": 2, "other": 2}, {"high": 4}, {"top": 4}]
-    expect(turns(4), chain, "the chain has all processors, the others half of them")
-    expect(turns(2)[1], {"middle": 2, "tests": 1, "side": 1}, "on two processors, two others run with the chain")
-    expect(turns(4, 1.4)[1], {"middle": 4, "tests": 2}, "a check without memory waits")
+    chain = [{"low": 3}, {"middle": 3, "tests": 1, "side": 1}, {"high": 3, "other": 1}, {"top": 3}]
+    expect(turns(4), chain, "the head of the chain has three jobs, the others one, while at most four run")
+    expect(turns(2)[1], {"middle": 1, "tests": 1, "side": 1}, "on two processors each check has one job")
+    expect(turns(4, 1.4)[1], {"middle": 3, "tests": 1}, "a check without memory waits")
     expect(len(turns(4, 0.1)), 7, "one check runs, however little memory there is")
 
     def call(given, jobs):

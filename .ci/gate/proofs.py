@@ -1,4 +1,4 @@
-"""Runs every proof, test and program of a tree: the kit's `rt ci`, with the longest chain of crates first and on all processors.
+"""Runs every proof, test and program of a tree: the kit's `rt ci`, with the longest chain of crates first and on several processors.
 
     python3 proofs.py TREE
 
@@ -8,9 +8,8 @@ one. What is checked, how, and the verdict are the kit's. Three rules make the o
 
 - A task starts once those that it waits for have ended. The first to start is the one before the longest chain of others, by the seconds
   of docs/internals/ci.md.
-- The head of the longest chain gets a job for each processor, and so does a second one if its chain is at least three quarters as long.
-  The others get half as many, at a low priority.
-- A task starts only if memory for it is free. Only one runs if there is never enough.
+- The head of the longest chain gets three jobs. The others get one, at a low priority, since a check with more jobs takes more CPU time.
+- A task starts only if at most one job a processor runs, and if memory for it is free. Only one runs if there is never enough.
 
 If the kit's program has another form, `rt ci` runs as it is. The check of a static library also writes what it proved into its out/,
 from which .ci/dist builds the library without a second proof."""
@@ -31,6 +30,9 @@ from parts import BUDGET, CHECKED
 OF_EXPECTED = 0.6
 # The seconds of a check that the budget does not have, and of what CI runs after a check: what it tries on the program.
 UNKNOWN, AFTER = 60, {("ets_script_cli", "proof"): 300}
+# The jobs of a head. With one, two, three and four jobs the check of ets_term took 158, 118, 86 and 91 s, and 162, 186, 199 and 235 s of
+# CPU time (4 processors, nothing else running).
+HEAD_JOBS = 3
 
 
 class Order:
@@ -50,7 +52,7 @@ class Order:
         self.running, self.ended = {}, {}
 
     def is_head(self, key):
-        return 4 * self.chain[key] >= 3 * self.chain[self.waiting[0]] and sum(self.running.values()) < 2
+        return 4 * self.chain[key] >= 3 * self.chain[self.waiting[0]] and not any(self.running.values())
 
     def may_start(self, key):
         if not self.ended.keys() >= set(self.tasks[key][0]):
@@ -59,19 +61,18 @@ class Order:
         if not busy or not self.seconds[key]:
             return True
         memory = OF_EXPECTED * sum(self.tasks[it][2] for it in [*busy, key])
-        others = sum(not self.running[it] for it in busy)
-        return memory <= self.memory and (self.is_head(key) or others <= self.processors // 2)
+        return memory <= self.memory and sum(self.jobs(self.running[it]) for it in busy) <= self.processors
 
     def start(self):
         """Starts the next task, and returns it with whether it is a head; or returns None if none may start."""
         for key in filter(self.may_start, self.waiting):
-            self.running[key] = self.is_head(key)
+            self.running[key] = self.seconds[key] > 0 and self.is_head(key)
             self.waiting.remove(key)
             return key, self.running[key]
         return None
 
     def jobs(self, is_head):
-        return self.processors if is_head else max(1, self.processors // 2)
+        return max(1, min(HEAD_JOBS, self.processors - 1)) if is_head else 1
 
     def end(self, key, result=None):
         del self.running[key]
