@@ -2,7 +2,7 @@
 ghost use Rattle.std.specs.Prelude.{◌≡◌, ◌+◌, ◌<◌, All, vec_len};
 
 use crate::calls::{has_object, insert, new_table};
-use crate::mixture::{GROWTH_STEPS, KEYS, Outcome, mixture};
+use crate::mixture::{GROWTH_STEPS, KEYS, Timing, mixture};
 use crate::report::nanoseconds;
 use ets_term::Fnv;
 use node_core::Limits;
@@ -32,7 +32,7 @@ pub(crate) fn time_clients<R: Alloc<A = Global> + Clock + Threads + Wait + Sync>
     rt: &R,
     clients: u32,
     calls: u32,
-) -> io::Result<Outcome>
+) -> io::Result<Timing>
     requires { 0 < clients }
 {
     time_shared::<Brand, R>(rt, Blank::new(u64::from(clients) + 1), clients, calls)
@@ -45,7 +45,7 @@ fn time_shared<L: Ledger + Send + Sync, R: Alloc<A = Global> + Clock + Threads +
     blank: Blank,
     clients: u32,
     calls: u32,
-) -> io::Result<Outcome>
+) -> io::Result<Timing>
     requires name { blank.name ≡ L.name }
     requires parts { blank.parts ≡ L.parts }
     requires enough { blank.parts ≡ clients + 1 }
@@ -66,7 +66,7 @@ fn time_work<L: Ledger + Send + Sync, R: Alloc<A = Global> + Clock + Threads + W
     shared: &Shared<L, Fnv>,
     clients: u32,
     calls: u32,
-) -> io::Result<Outcome>
+) -> io::Result<Timing>
     requires { 0 < clients }
 {
     let alloc = rt.alloc();
@@ -75,7 +75,7 @@ fn time_work<L: Ledger + Send + Sync, R: Alloc<A = Global> + Clock + Threads + W
     let workers = run_clients(rt, alloc, shared, work, &NoGate)?;
     let nanoseconds = nanoseconds(start.elapsed(rt)?);
     let found = count_found(workers.as_slice());
-    Ok(Outcome { nanoseconds, found })
+    Ok(Timing { nanoseconds, found })
 }
 
 /// Returns the clients, each with its jobs, and fills the table with all keys.

@@ -27,16 +27,16 @@ pub(crate) fn mixture(alloc: Global, calls: u32, seed: u64) -> Result<Vec<Call>,
     Ok(mixture)
 }
 
-/// How long the calls of all callers took, and how many objects they found.
+/// How long the calls of all callers took, and how many lookups found an object.
 #[derive(Clone, Copy)]
-pub(crate) struct Outcome {
+pub(crate) struct Timing {
     /// How long all calls took.
     pub(crate) nanoseconds: u64,
     /// How many lookups found an object.
     pub(crate) found: u64,
 }
 
-impl Outcome {
+impl Timing {
     /// Prints the nanoseconds per call of callers, each of which made a mixture of `calls` calls.
     pub(crate) fn print(
         self,
@@ -46,7 +46,7 @@ impl Outcome {
         calls: u32,
     ) -> io::Result<()> {
         // Every tenth call is an insertion, the others are lookups.
-        self.print_mixture(rt, who, callers, calls, calls - calls / 10)
+        self.print_line(rt, who, callers, calls, calls - calls / 10)
     }
 
     /// Prints the nanoseconds per call of callers, each of which made `calls` lookups.
@@ -57,12 +57,12 @@ impl Outcome {
         callers: u32,
         calls: u32,
     ) -> io::Result<()> {
-        self.print_mixture(rt, who, callers, calls, calls)
+        self.print_line(rt, who, callers, calls, calls)
     }
 
-    /// Prints the nanoseconds per call. Prints a warning first unless all lookups found an object: `lookups` of each
-    /// caller.
-    fn print_mixture(
+    /// Prints the line of a run: the nanoseconds per call. Prints a warning first unless all lookups found an object:
+    /// `lookups` of each caller. The word `mixture` is in the line of each run.
+    fn print_line(
         self,
         rt: &impl Print,
         who: &str,

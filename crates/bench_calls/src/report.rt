@@ -2,7 +2,7 @@
 ghost use Rattle.std.specs.Prelude.{◌<◌};
 
 use crate::clients::time_clients;
-use crate::mixture::Outcome;
+use crate::mixture::Timing;
 use crate::node::{ask_all, fill, mixture_steps, node_with_table};
 use crate::phases::{PHASES, Phase, Way};
 use crate::plans::{Load, Plan};
@@ -138,7 +138,7 @@ fn print_mixture(
     let start = Instant::now(rt)?;
     let found = ask_all(node, steps.as_slice())?;
     let nanoseconds = nanoseconds(start.elapsed(rt)?);
-    Outcome { nanoseconds, found }.print(rt, "alone", 1, calls)
+    Timing { nanoseconds, found }.print(rt, "alone", 1, calls)
 }
 
 /// Prints the nanoseconds per call of clients that make `calls` calls each, in parallel.
@@ -181,10 +181,10 @@ fn print_server<R: Print + Alloc<A = Global> + Clock + Threads + Wait + Sync>(
 ) -> io::Result<()>
     requires { 0 < callers }
 {
-    let outcome = time_server(rt, plan, callers)?;
+    let timing = time_server(rt, plan, callers)?;
     match plan.load {
-        Load::Reads | Load::Lists => outcome.print_lookups(rt, plan.name(), callers, plan.calls),
-        Load::Mixture => outcome.print(rt, plan.name(), callers, plan.calls),
+        Load::Reads | Load::Lists => timing.print_lookups(rt, plan.name(), callers, plan.calls),
+        Load::Mixture => timing.print(rt, plan.name(), callers, plan.calls),
     }
 }
 
@@ -202,8 +202,8 @@ pub(crate) fn print_counts<R: Print + Alloc<A = Global> + Clock + Threads + Wait
     print_phase_counts(rt, Way::StepInto, count)?;
     print_phase_counts(rt, Way::Run, count)?;
     walks::print_counts(rt, count)?;
-    let outcome = time_clients(rt, CLIENTS, count)?;
-    println!(rt; "clients found {}", outcome.found)?;
+    let timing = time_clients(rt, CLIENTS, count)?;
+    println!(rt; "clients found {}", timing.found)?;
     for locking in [Locking::Single, Locking::Sharded] {
         for load in [Load::Mixture, Load::Reads, Load::Lists] {
             let plan = Plan {
@@ -211,8 +211,8 @@ pub(crate) fn print_counts<R: Print + Alloc<A = Global> + Clock + Threads + Wait
                 locking,
                 calls: count,
             };
-            let outcome = time_server(rt, plan, CLIENTS)?;
-            println!(rt; "{} found {}", plan.name(), outcome.found)?;
+            let timing = time_server(rt, plan, CLIENTS)?;
+            println!(rt; "{} found {}", plan.name(), timing.found)?;
         }
     }
     Ok(())

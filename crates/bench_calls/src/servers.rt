@@ -3,7 +3,7 @@ ghost use Rattle.std.specs.Prelude.{◌≡◌, ◌<◌, All, vec_len};
 ghost use Rattle.std.specs.Thread.{IsSync};
 
 use crate::calls::{has_object, insert, new_table};
-use crate::mixture::{GROWTH_STEPS, KEYS, Outcome};
+use crate::mixture::{GROWTH_STEPS, KEYS, Timing};
 use crate::plans::{LIST_LEN, Plan};
 use crate::report::nanoseconds;
 use ets_term::{Fnv, KeyHash};
@@ -17,16 +17,16 @@ use std::thread::Threads;
 use std::time::Instant;
 use std::{io, thread};
 
-/// Times `callers` callers of a new server.
+/// Times `caller_count` callers of a new server.
 pub(crate) fn time_server<R: Alloc<A = Global> + Clock + Threads + Wait + Sync>(
     rt: &R,
     plan: Plan,
-    callers: u32,
-) -> io::Result<Outcome>
-    requires { 0 < callers }
+    caller_count: u32,
+) -> io::Result<Timing>
+    requires { 0 < caller_count }
 {
     let limits = Limits {
-        processes: callers,
+        processes: caller_count,
         ..Limits::usual()
     };
     let history = NewHistory::new(rt.alloc())?;
@@ -37,14 +37,14 @@ pub(crate) fn time_server<R: Alloc<A = Global> + Clock + Threads + Wait + Sync>(
 fn time_server_within<
     B: HistoryId + Send + Sync,
     R: Alloc<A = Global> + Clock + Threads + Wait + Sync,
->(rt: &R, history: NewHistory, limits: Limits, plan: Plan) -> io::Result<Outcome>
+>(rt: &R, history: NewHistory, limits: Limits, plan: Plan) -> io::Result<Timing>
     requires table { history.word.shared.table_id ≡ B.table }
     requires limits { limits ≡ B.limits }
     requires some { 0 < limits.processes }
 {
-    let callers = limits.processes;
+    let caller_count = limits.processes;
     let server = Server::<B, Fnv>::new(rt.alloc(), plan.locking, history, limits, Fnv)?;
-    time_calls(rt, &server, plan, callers)
+    time_calls(rt, &server, plan, caller_count)
 }
 
 /// Times the calls of all callers. The calls are built before the clock runs.
@@ -52,15 +52,15 @@ fn time_calls<B: HistoryId + Send + Sync, R: Alloc<A = Global> + Clock + Threads
     rt: &R,
     server: &Server<B, Fnv>,
     plan: Plan,
-    callers: u32,
-) -> io::Result<Outcome>
-    requires { 0 < callers }
+    caller_count: u32,
+) -> io::Result<Timing>
+    requires { 0 < caller_count }
 {
-    let work = build_work(rt, rt.alloc(), server, plan, callers)?;
+    let work = build_work(rt, rt.alloc(), server, plan, caller_count)?;
     let start = Instant::now(rt)?;
     let found = call_all(rt, server, work);
     let nanoseconds = nanoseconds(start.elapsed(rt)?);
-    Ok(Outcome { nanoseconds, found })
+    Ok(Timing { nanoseconds, found })
 }
 
 /// Fills the table with all keys. Returns each caller with its calls, and how many of them it makes each time it takes
@@ -70,11 +70,11 @@ fn build_work<B: HistoryId, R: Wait>(
     alloc: Global,
     server: &Server<B, Fnv>,
     plan: Plan,
-    callers: u32,
+    caller_count: u32,
 ) -> Result<Vec<(Caller<B>, Vec<Call>, usize)>, AllocError>
-    requires { 0 < callers }
+    requires { 0 < caller_count }
 {
-    let mut callers = enrol_callers(rt, alloc, server, callers)?;
+    let mut callers = enrol_callers(rt, alloc, server, caller_count)?;
     if let Some(first) = callers.first_mut() {
         fill(rt, alloc, server, first)?;
     }
@@ -91,11 +91,11 @@ fn enrol_callers<B: HistoryId, R: Wait>(
     rt: &R,
     alloc: Global,
     server: &Server<B, Fnv>,
-    callers: u32,
+    caller_count: u32,
 ) -> Result<Vec<Caller<B>>, AllocError>
-    requires { 0 < callers }
+    requires { 0 < caller_count }
 {
-    let Ok((pids, seats)) = Pids::open(alloc, callers as usize) else {
+    let Ok((pids, seats)) = Pids::open(alloc, caller_count as usize) else {
         return Err(AllocError);
     };
     callers_of_seats(rt, alloc, server, &pids, seats)

@@ -4,7 +4,7 @@ ghost use Rattle.split_key.specs.Keys.{IsPowerOfTwo};
 ghost use Rattle.node_list.specs.ListState.{HasRoom};
 ghost use Rattle.bench_layers.specs.Buckets.{IsReady};
 
-use crate::lists::Lists;
+use crate::lists::BucketedList;
 use crate::order::{number_at, order_len};
 use ets_term::Integer;
 use node_list::Steps;
@@ -20,7 +20,8 @@ const INSERT_SEED: u64 = 1;
 const FIND_SEED: u64 = 2;
 
 /// Inserts the objects `{K,1}`, for each K below `items` in shuffled order, into a list of `buckets` buckets. If
-/// `finds` is 0, it then returns 0. Otherwise it searches for each key in another order, and returns how many it found.
+/// `finds` is 0, it then returns 0, so that the caller times the insertions alone. Otherwise it searches for each key in
+/// another order, and returns how many it found.
 /// It also returns 0 if `buckets` is not a power of two, if `items` or `buckets` is above 2^31, or if memory runs out.
 #[unsafe(no_mangle)]
 pub extern "C" fn bench_layers_list(alloc: Global, items: u64, buckets: u64, finds: u64) -> u64
@@ -42,7 +43,7 @@ pub extern "C" fn bench_layers_list(alloc: Global, items: u64, buckets: u64, fin
 }
 
 /// Builds a list of `buckets` buckets, and inserts the items.
-fn build_lists(alloc: Global, items: u64, buckets: u64) -> Result<Lists, AllocError>
+fn build_lists(alloc: Global, items: u64, buckets: u64) -> Result<BucketedList, AllocError>
     requires some { 0 < buckets }
     requires power { IsPowerOfTwo buckets }
     requires few_items { items ≤ 2 ^ 31 }
@@ -56,7 +57,7 @@ fn build_lists(alloc: Global, items: u64, buckets: u64) -> Result<Lists, AllocEr
 
 /// Builds a list without items: only the dummy, the sentinel node, of each of the `buckets` buckets. The list has
 /// capacity for the items.
-fn build_empty_lists(alloc: Global, items: u64, buckets: u64) -> Result<Lists, AllocError>
+fn build_empty_lists(alloc: Global, items: u64, buckets: u64) -> Result<BucketedList, AllocError>
     requires some { 0 < buckets }
     requires power { IsPowerOfTwo buckets }
     requires few_items { items ≤ 2 ^ 31 }
@@ -64,7 +65,7 @@ fn build_empty_lists(alloc: Global, items: u64, buckets: u64) -> Result<Lists, A
     ensures ready { IfOk result (λ l. IsReady l) }
     ensures room { IfOk result (λ l. HasRoom l.list items) }
 {
-    let mut lists = Lists::new(alloc, (items + buckets) as usize, buckets as usize)?;
+    let mut lists = BucketedList::new(alloc, (items + buckets) as usize, buckets as usize)?;
     for _bucket in 1..buckets {
         lists.add_dummy();
     }
@@ -72,7 +73,7 @@ fn build_empty_lists(alloc: Global, items: u64, buckets: u64) -> Result<Lists, A
 }
 
 /// Inserts an item for each number below `items`, in shuffled order.
-fn insert(alloc: Global, lists: &mut Lists, items: u64) -> Result<(), AllocError>
+fn insert(alloc: Global, lists: &mut BucketedList, items: u64) -> Result<(), AllocError>
     requires ready { IsReady lists.old }
     requires few_items { items ≤ 2 ^ 31 }
     requires room { HasRoom lists.old.list items }
@@ -91,7 +92,7 @@ fn insert(alloc: Global, lists: &mut Lists, items: u64) -> Result<(), AllocError
 }
 
 /// Searches for the item of each number below `items`, in another shuffled order. Returns how many it found.
-fn count_found(lists: &Lists, items: u64) -> u64
+fn count_found(lists: &BucketedList, items: u64) -> u64
     requires ready { IsReady lists.now }
     requires few_items { items ≤ 2 ^ 31 }
 {

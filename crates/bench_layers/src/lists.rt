@@ -13,15 +13,15 @@ use std::alloc::{AllocError, Global};
 /// A node list, sorted by split key, and the place of the dummy of each bucket: the sentinel node at the start of the
 /// bucket.
 #[derive(Drop)]
-pub struct Lists {
+pub struct BucketedList {
     list: NodeList,
     dummies: Vec<At>,
 }
 
-impl Lists {
+impl BucketedList {
     /// Builds a list whose only node is the dummy of bucket 0. It has capacity for `nodes` more nodes and `buckets`
     /// more buckets.
-    pub fn new(alloc: Global, nodes: usize, buckets: usize) -> Result<Lists, AllocError>
+    pub fn new(alloc: Global, nodes: usize, buckets: usize) -> Result<BucketedList, AllocError>
         ensures dummies { IfOk result (λ l. HasDummies l.dummies.items l.list.cells) }
         ensures one { IfOk result (λ l. vec_len l.dummies ≡ 1) }
         ensures room { IfOk result (λ l. HasRoom l.list nodes) }
@@ -32,7 +32,7 @@ impl Lists {
         let mut dummies = Vec::new(alloc);
         dummies.push(list.head())?;
         dummies.reserve(buckets)?;
-        Ok(Lists { list, dummies })
+        Ok(BucketedList { list, dummies })
     }
 
     /// Inserts the dummy of the next bucket. The search for its place begins at the dummy of its parent bucket, whose
@@ -50,9 +50,9 @@ impl Lists {
         ensures room { self.new.list.capacity ≡ self.old.list.capacity }
     {
         let bucket = self.dummies.len() as u32;
-        let before = parent(bucket);
-        laws::parent_stands_before(bucket, before);
-        let start = self.dummies[before as usize];
+        let parent_bucket = parent(bucket);
+        laws::parent_stands_before(bucket, parent_bucket);
+        let start = self.dummies[parent_bucket as usize];
         let at = self.list.insert_dummy(start, dummy_key(bucket));
         self.dummies.push_reserved(at);
     }

@@ -1,7 +1,7 @@
 use Rattle.std.proofs.Common.{List, ℕ, [], ◌∷◌, ◌++◌, sym, ◌∙◌, ap, subst}
 use Rattle.bench_layers.specs.Buckets.{HasDummies}
 use Rattle.bench_layers.proofs.DummyLaws.{first-dummy}
-use Rattle.bench_layers.proofs.lists.Lists.new.Goals as goal
+use Rattle.bench_layers.proofs.lists.BucketedList.new.Goals as goal
 
 pub returns-clause-dummies : goal.returns-clause-dummies
 returns-clause-dummies c =

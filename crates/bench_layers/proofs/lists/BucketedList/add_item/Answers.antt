@@ -3,7 +3,7 @@ use Rattle.std.specs.Int.{w128}
 use Rattle.ets_term.specs.declared.term.Term.TheVariants.{Int}
 use Rattle.node_list.specs.Cells.{new_cell, new_item}
 use Rattle.bench_layers.proofs.DummyLaws.{put-keeps_dummies}
-use Rattle.bench_layers.proofs.lists.Lists.add_item.Goals as goal
+use Rattle.bench_layers.proofs.lists.BucketedList.add_item.Goals as goal
 
 pub returns-clause-ready : goal.returns-clause-ready
 returns-clause-ready c =

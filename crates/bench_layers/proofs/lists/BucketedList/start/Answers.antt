@@ -1,7 +1,7 @@
 use Rattle.std.proofs.Common.{vec_len, sym}
 use Rattle.split_key.specs.Keys.{key_of_item}
 use Rattle.bench_layers.proofs.DummyLaws.{read-has_key_at_most, bucket-below}
-use Rattle.bench_layers.proofs.lists.Lists.start.Goals as goal
+use Rattle.bench_layers.proofs.lists.BucketedList.start.Goals as goal
 
 pub returns : goal.returns
 returns c =
