@@ -86,14 +86,14 @@ fn bytes_of(alloc: Global, line: &[u8]) -> Result<Vec<u8>, AllocError> {
     let mut bytes = Vec::new(alloc);
     for pair in line.chunks(2) {
         if let [high, low] = pair {
-            bytes.push(value_of(*high) * 16 + value_of(*low))?;
+            bytes.push(hex_value(*high) * 16 + hex_value(*low))?;
         }
     }
     Ok(bytes)
 }
 
 /// Returns the value of a hexadecimal digit, and 0 for any other byte.
-fn value_of(digit: u8) -> u8
+fn hex_value(digit: u8) -> u8
     ensures { result < 16 }
 {
     match digit {
@@ -106,14 +106,14 @@ fn value_of(digit: u8) -> u8
 /// Appends two hexadecimal digits for each byte.
 fn append_digits(bytes: &[u8], output: &mut Vec<u8>) -> Result<(), AllocError> {
     for byte in bytes {
-        output.push(digit_of(*byte / 16))?;
-        output.push(digit_of(*byte % 16))?;
+        output.push(hex_digit(*byte / 16))?;
+        output.push(hex_digit(*byte % 16))?;
     }
     Ok(())
 }
 
 /// Returns the hexadecimal digit of a value below 16.
-fn digit_of(value: u8) -> u8 {
+fn hex_digit(value: u8) -> u8 {
     if value < 10 {
         value.wrapping_add(b'0')
     } else {

@@ -1,5 +1,5 @@
-// Tests of bound keys, of long and deep terms, and of random terms compared with a plain reading of the rules. In all
-// helpers, `None` can also mean out of memory.
+//! Tests of bound keys, of long and deep terms, and of random terms compared with a plain reading of the rules.
+// In all helpers, `None` can also mean out of memory.
 use ets_term::{Integer, Items, Term};
 use match_spec::{Pattern, Spec};
 use std::alloc::Global;

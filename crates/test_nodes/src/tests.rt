@@ -1,3 +1,6 @@
+//! The modules of the tests, and what they share: types for the numbers of processes, tables and buckets, and
+//! `keep_if_ok` for changes that can fail.
+
 // Tests of `node_core::Node`: steps and their replies.
 mod node;
 // Reads the terms that the tests write as texts.

@@ -1,9 +1,9 @@
-// Tests of a `Shared` and of a `Server`: nodes that threads share. A `Shared` has clients, a journal of all steps, and
-// a ledger, which counts the entries of each client. A `Blank` is an unused ledger, and `L` is its name in types. A
-// ledger has a part for each process and one more: for two processes a test passes `Blank::new(3)`. A `Server` has
-// callers, and no journal; in types, `B` names its history and limits. A test passes `Brand` for `L` or `B`. To join a
-// client or a caller means to enrol its process in the node. `rt` is the runtime: its type has `Wait` to wait for
-// locks, and `Threads` to start threads.
+//! Tests of a `Shared` and of a `Server`: nodes that threads share.
+// A `Shared` has clients, a journal of all steps, and a ledger, which counts the entries of each client. A `Blank` is
+// an unused ledger, and `L` is its name in types. A ledger has a part for each process and one more: for two processes
+// a test passes `Blank::new(3)`. A `Server` has callers, and no journal; in types, `B` names its history and limits. A
+// test passes `Brand` for `L` or `B`. To join a client or a caller means to enrol its process in the node. `rt` is the
+// runtime: its type has `Wait` to wait for locks, and `Threads` to start threads.
 ghost use Rattle.std.specs.Prelude.{◌≡◌, ◌<◌};
 
 use ets_term::{Fnv, KeyHash};

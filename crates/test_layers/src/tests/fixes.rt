@@ -1,5 +1,6 @@
-// Fixes, tombstones and traversals of a `Walked`, a table with fixes. Most tests run over plain rows and over split
-// rows. Expected answers are from the rules of `ets`. `None` means out of memory, unless a comment says otherwise.
+//! Tests of a `Walked`, a table with fixes (`safe_fixtable`): its calls, its tombstones and its traversals. Most run
+//! over plain rows and over split rows.
+// Expected answers are from the rules of `ets`. `None` means out of memory, unless a comment says otherwise.
 use self::answers::{Expected, Step, try_insert};
 use super::keep_if_some;
 use bucket_table::{PlainRows, Rows, SplitRows};

@@ -1,4 +1,5 @@
-// Node lists, the sorted lists of a table's items and dummies. Each check runs on a new list.
+//! Node lists, the sorted lists of a table's items (keys with their objects) and dummies (the starts of buckets). Each
+//! check runs on a new list.
 use self::nodes::{Check, new_list_passes};
 use std::process::Abort;
 

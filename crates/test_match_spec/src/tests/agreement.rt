@@ -1,4 +1,5 @@
-// Compares random patterns and match specifications with a plain reading of the rules: the functions of `plain`.
+//! Random patterns and match specifications, compared with a plain reading of the rules: the functions of `plain`.
+//! Enough of them must match, compile, be refused and give results.
 use super::*;
 use crate::tests::plain;
 use crate::tests::random::Random;
@@ -42,7 +43,7 @@ fn bindings(alloc: Global, pattern: &Term, object: &Term) -> Option<Option<Term>
 
 impl Tally {
     /// Counts a mismatch, unless an answer is the same as that of the plain reading.
-    fn count_agreement(&mut self, same: bool) {
+    fn count_mismatch_unless(&mut self, same: bool) {
         if !same {
             self.mismatches = self.mismatches.saturating_add(1);
         }
@@ -55,7 +56,7 @@ impl Tally {
         self.matches = self
             .matches
             .saturating_add(matches!(found, Some(Some(_))) as u32);
-        self.count_agreement(found == Some(plain::bindings(alloc, pattern, object)));
+        self.count_mismatch_unless(found == Some(plain::bindings(alloc, pattern, object)));
     }
 
     /// Compares the result of a match specification with the plain reading.
@@ -65,7 +66,7 @@ impl Tally {
         self.results = self
             .results
             .saturating_add(matches!(result, Some(Some(_))) as u32);
-        self.count_agreement(result == Some(plain::result(alloc, spec, object)));
+        self.count_mismatch_unless(result == Some(plain::result(alloc, spec, object)));
     }
 
     /// Checks that a match specification compiles exactly if the plain reading accepts it. If it compiles, compares its
@@ -75,10 +76,10 @@ impl Tally {
         match Spec::compile(alloc, spec) {
             Ok(compiled) => {
                 self.compiled = self.compiled.saturating_add(1);
-                self.count_agreement(is_spec);
+                self.count_mismatch_unless(is_spec);
                 self.compare_result(alloc, &compiled, spec, object);
             }
-            Err(_) => self.count_agreement(!is_spec),
+            Err(_) => self.count_mismatch_unless(!is_spec),
         }
     }
 

@@ -1,4 +1,4 @@
-// Builds the terms of the tests. `None` means out of memory.
+//! Functions that build the terms of the tests. `None` means out of memory.
 use ets_term::{Atom, Items, Term};
 use std::alloc::Global;
 

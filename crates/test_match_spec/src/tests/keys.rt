@@ -1,4 +1,5 @@
-// The bound key of patterns and match specifications: the key that every matching object has.
+//! The bound key of patterns and match specifications: the key that every matching object has. A row is a text and the
+//! key that it binds, if it binds one.
 use super::*;
 use ets_term::Position;
 use term_text::read_term;

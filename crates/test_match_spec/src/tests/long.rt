@@ -1,4 +1,4 @@
-// Patterns and match specifications of thousands of parts, and a sum of 128 additions inside each other.
+//! Patterns and match specifications of thousands of parts, and a sum of 128 additions inside each other.
 use super::*;
 use crate::tests::forms::{atom, one_item, pair, triple};
 

@@ -1,6 +1,6 @@
-// A plain reading of the rules: a second implementation of patterns and match specifications, which the tests compare
-// with `match_spec`. It shares no code with that crate. It reads terms as they are: it has no paths and compiles
-// nothing.
+//! A plain reading of the rules: a second implementation of patterns and match specifications, which the tests compare
+//! with `match_spec`. It shares no code with that crate.
+// It reads terms as they are: it has no paths and compiles nothing.
 use crate::tests::forms::{atom, copy};
 use ets_term::{Integer, Items, Term};
 use std::alloc::Global;

@@ -1,5 +1,5 @@
-// Random objects, patterns and match specifications. They are built from pools of terms. A pool grows by tuples and
-// lists of the terms in it.
+//! Random objects, patterns and match specifications, the same in each run. They are built from pools of terms, which
+//! grow by tuples and lists of the terms in them.
 use super::*;
 use crate::tests::forms::{atom, copy, triple};
 

@@ -1,5 +1,6 @@
-// Out of memory. `.ci/refusals` runs these tests with each allocation refused in turn. A compilation or evaluation that
-// runs out of memory is repeated, and must then give the result of ample memory.
+//! Compilations and evaluations that run out of memory. `.ci/refusals` runs these tests with each allocation refused in
+//! turn.
+// A compilation or evaluation that runs out of memory is repeated, and must then give the result of ample memory.
 use super::*;
 use term_text::{TextFault, read_term};
 

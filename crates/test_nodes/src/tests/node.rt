@@ -1,5 +1,6 @@
-// Tests what no script of tests/scripts can say. A test is a table of rows: a step, and the reply that the rules of
-// docs/calls.md want, written by hand and called `wanted`. A test reports the index of the first wrong row.
+//! Tests of `node_core::Node`, the store, for what no script of tests/scripts can say.
+// A test is a table of rows: a step, and the reply that the rules of docs/calls.md want, written by hand and called
+// `wanted`. A test reports the index of the first wrong row.
 use crate::tests::text::{is_spelled, term, terms};
 use crate::tests::{Bucket, Pid, Tid, keep_if_ok};
 use ets_term::{AllSame, Atom, Fnv, Items, KeyHash, Term};
@@ -31,7 +32,7 @@ mod why;
 
 /// A step to run. Its call is a text, so that tables of rows can be constants.
 #[derive(Clone, Copy)]
-enum Event<'a> {
+enum StepText<'a> {
     /// The process starts.
     Enrol(Pid),
     /// The process exits.
@@ -45,7 +46,7 @@ enum Event<'a> {
 }
 
 /// A step, and its wanted reply: a term, a list after `any order: `, or a refusal such as `** badarg`.
-type Row = (Event<'static>, &'static str);
+type Row = (StepText<'static>, &'static str);
 
 /// Builds the step of a call that a process makes, such as `lookup(t,a)`. A text that is not a call is a fault of the
 /// test, reported as out of memory.
@@ -66,14 +67,14 @@ fn ask(alloc: Global, pid: Pid, call: &str) -> Result<Step, AllocError> {
     }
 }
 
-/// Builds the step of an event.
-fn build_step(alloc: Global, event: Event) -> Result<Step, AllocError> {
-    match event {
-        Event::Enrol(pid) => Ok(Step::Enrol(pid.0)),
-        Event::End(pid) => Ok(Step::End(pid.0)),
-        Event::Ask(pid, call) => ask(alloc, pid, call),
-        Event::Grow(id) => Ok(Step::Grow(id.0)),
-        Event::Ready(id, bucket) => Ok(Step::Ready(id.0, bucket.0)),
+/// Builds the step of a `StepText`.
+fn build_step(alloc: Global, step_text: StepText) -> Result<Step, AllocError> {
+    match step_text {
+        StepText::Enrol(pid) => Ok(Step::Enrol(pid.0)),
+        StepText::End(pid) => Ok(Step::End(pid.0)),
+        StepText::Ask(pid, call) => ask(alloc, pid, call),
+        StepText::Grow(id) => Ok(Step::Grow(id.0)),
+        StepText::Ready(id, bucket) => Ok(Step::Ready(id.0, bucket.0)),
     }
 }
 
@@ -123,14 +124,14 @@ fn reply_has_text(alloc: Global, reply: &Reply, wanted: &str) -> Result<bool, Al
     }
 }
 
-/// Runs the step of an event, and returns whether it has the wanted reply.
-fn event_has_reply<H: KeyHash + Copy + Drop>(
+/// Runs the step of a `StepText`, and returns whether it has the wanted reply.
+fn step_text_has_reply<H: KeyHash + Copy + Drop>(
     alloc: Global,
     node: &mut Node<H>,
-    event: Event,
+    step_text: StepText,
     wanted: &str,
 ) -> Result<bool, AllocError> {
-    let step = build_step(alloc, event)?;
+    let step = build_step(alloc, step_text)?;
     let answered = step_has_reply(alloc, node, &step, wanted);
     drop(step);
     answered
@@ -155,8 +156,8 @@ fn first_wrong_row_in<H: KeyHash + Copy + Drop>(
     node: &mut Node<H>,
     rows: &[Row],
 ) -> Result<Option<usize>, AllocError> {
-    for (index, (event, wanted)) in rows.iter().enumerate() {
-        if !event_has_reply(alloc, node, *event, *wanted)? {
+    for (index, (step_text, wanted)) in rows.iter().enumerate() {
+        if !step_text_has_reply(alloc, node, *step_text, *wanted)? {
             return Ok(Some(index));
         }
     }

@@ -1,6 +1,6 @@
-// Reads texts as terms, as Erlang writes them: `{a,-1}`, `['$1',[]]`, `#Tid<7>`, `<0.7.0>`. The text `deep(7)` is the
-// empty list within six lists, seven levels deep. A text that is not a term is a fault of its test, reported as out of
-// memory.
+//! A reader of texts as terms, as the store prints them: `{a,-1}`, `['$1',[]]`, `#Tid<7>`, `<0.7.0>`.
+// The text `deep(7)` is the empty list within six lists, seven levels deep. Most texts that are not a term are a fault of
+// their test, reported as out of memory. Brackets are not compared with each other, nor checked to be closed.
 use crate::tests::keep_if_ok;
 use ets_term::{Atom, Integer, Items, Term};
 use std::alloc::{AllocError, Global};

@@ -1,5 +1,6 @@
-// A `World` is the processes and tables of a node, without its calls. Each test is a table of rows: a call of a method
-// of `World`, and the answer that the rules want, called `wanted`. A test reports the index of the first wrong row.
+//! Tests of `ownership::World`: the processes and tables of a node, without its calls.
+// Each test is a table of rows: a call of a method of `World`, and the answer that the rules want, called `wanted`. A
+// test reports the index of the first wrong row.
 use crate::tests::text::is_spelled;
 use crate::tests::{Pid, Tid};
 use bucket_table::PlainRows;
@@ -37,11 +38,11 @@ enum Call<'a> {
     /// The process makes a table of this name with these options.
     New(Pid, &'a str, &'a str),
     /// The table is deleted.
-    Drop(Tid),
+    Delete(Tid),
     /// The process gives the table to another, with this gift.
-    Give(Pid, Tid, Pid, &'a str),
+    GiveAway(Pid, Tid, Pid, &'a str),
     /// The process sets these options of the table.
-    Set(Pid, Tid, &'a str),
+    SetOptions(Pid, Tid, &'a str),
     /// The process takes the messages out of its mailbox.
     Receive(Pid),
     /// Asks for an `info` item of the table; `undefined` if the table does not exist.
@@ -61,10 +62,10 @@ type Row = (Call<'static>, &'static str);
 const DONE: &str = "{}";
 
 /// A world of tables over plain rows, which are in one bucket.
-type Tables = World<PlainRows>;
+type PlainWorld = World<PlainRows>;
 
 /// Returns the answer of a call that only reads, and the empty tuple for any other call.
-fn query(alloc: Global, world: &Tables, call: Call) -> Result<Term, WorldFault> {
+fn query(alloc: Global, world: &PlainWorld, call: Call) -> Result<Term, WorldFault> {
     match call {
         Call::Info(id, item) => info_or_undefined(alloc, world, id.0, item),
         Call::Resolve(named) => tid_or_none(alloc, world, named),
@@ -74,13 +75,13 @@ fn query(alloc: Global, world: &Tables, call: Call) -> Result<Term, WorldFault> 
 }
 
 /// Makes a call that has no result, and does nothing for any other call.
-fn run_call(alloc: Global, world: &mut Tables, call: Call) -> Result<(), WorldFault> {
+fn run_call(alloc: Global, world: &mut PlainWorld, call: Call) -> Result<(), WorldFault> {
     match call {
         Call::Enrol(pid) => world.enrol(pid.0),
         Call::End(pid) => world.end(pid.0),
-        Call::Give(pid, id, to, gift) => give_away(alloc, world, pid.0, id.0, to.0, gift),
-        Call::Set(pid, id, options) => set_options(alloc, world, pid.0, id.0, options),
-        Call::Drop(id) => {
+        Call::GiveAway(pid, id, to, gift) => give_away(alloc, world, pid.0, id.0, to.0, gift),
+        Call::SetOptions(pid, id, options) => set_options(alloc, world, pid.0, id.0, options),
+        Call::Delete(id) => {
             world.drop_table(id.0);
             Ok(())
         }
@@ -89,7 +90,7 @@ fn run_call(alloc: Global, world: &mut Tables, call: Call) -> Result<(), WorldFa
 }
 
 /// Makes a call, and returns its answer.
-fn answer(alloc: Global, world: &mut Tables, call: Call) -> Result<Term, WorldFault> {
+fn answer(alloc: Global, world: &mut PlainWorld, call: Call) -> Result<Term, WorldFault> {
     match call {
         Call::New(pid, name, options) => new_table(alloc, world, pid.0, name, options),
         Call::Receive(pid) => Ok(Term::List(world.receive(pid.0))),
@@ -114,7 +115,7 @@ fn refusal(fault: &WorldFault) -> &'static str {
 /// Makes a call, and returns whether it has the wanted answer.
 fn call_has_answer(
     alloc: Global,
-    world: &mut Tables,
+    world: &mut PlainWorld,
     call: Call,
     wanted: &str,
 ) -> Result<bool, AllocError> {
@@ -141,7 +142,7 @@ enum Tries {
 /// Makes the call of a row, and returns whether it has its wanted answer.
 fn row_has_answer(
     alloc: Global,
-    world: &mut Tables,
+    world: &mut PlainWorld,
     tries: Tries,
     row: Row,
 ) -> Result<bool, AllocError> {
@@ -155,7 +156,7 @@ fn row_has_answer(
 /// Makes the calls of the rows in a world, and returns the index of the first row with another answer than wanted.
 fn first_wrong_row_in(
     alloc: Global,
-    world: &mut Tables,
+    world: &mut PlainWorld,
     tries: Tries,
     rows: &[Row],
 ) -> Result<Option<usize>, AllocError> {

@@ -1,5 +1,5 @@
-// Helpers that build calls from text, make them, and check the replies. A call is a pair of texts: its name, and the
-// list of its arguments.
+//! Helpers that build calls from text, make them, and check the replies. A call is a pair of texts: its name, and the
+//! list of its arguments. `None` means that a text is not a call, or that memory ran out.
 use ets_term::{Atom, KeyHash, Term};
 use node_core::{Call, Reply};
 use node_shared::{Caller, Client, HistoryId, Job, Server, Shared};
@@ -8,14 +8,14 @@ use std::sync::Wait;
 use std::sync::ledger::Ledger;
 use term_text::read_term;
 
-/// The arguments of `new`, and those of `insert` for nine objects, after which four growth steps are pending.
-pub(super) const TABLE: [&str; 2] = [
+/// The arguments of `new` for the table t, and those of `insert` for nine objects. Four growth steps are then pending.
+pub(super) const FILL_T: [&str; 2] = [
     "[t,[named_table]]",
     "[t,[{1},{2},{3},{4},{5},{6},{7},{8},{9}]]",
 ];
 
-/// The same arguments for a second table.
-pub(super) const OTHER_TABLE: [&str; 2] = [
+/// The same arguments for the table u.
+pub(super) const FILL_U: [&str; 2] = [
     "[u,[named_table]]",
     "[u,[{1},{2},{3},{4},{5},{6},{7},{8},{9}]]",
 ];
@@ -31,7 +31,10 @@ pub(super) fn build_call(alloc: Global, text: (&str, &str)) -> Option<Call> {
 }
 
 /// Returns the call of a name with formatted arguments: the result of `format!`.
-pub(super) fn call_with(alloc: Global, text: (&str, Result<String, AllocError>)) -> Option<Call> {
+pub(super) fn build_formatted_call(
+    alloc: Global,
+    text: (&str, Result<String, AllocError>),
+) -> Option<Call> {
     let arguments = text.1.ok()?;
     build_call(alloc, (text.0, arguments.as_str()))
 }
@@ -79,15 +82,45 @@ pub(super) fn caller_gets_value<B: HistoryId, H: KeyHash + Copy + Drop, R: Wait>
 }
 
 /// Makes a call of a caller with formatted arguments, and returns whether the reply is a value, not a refusal.
-pub(super) fn caller_gets_value_for<B: HistoryId, H: KeyHash + Copy + Drop, R: Wait>(
+pub(super) fn caller_gets_value_formatted<B: HistoryId, H: KeyHash + Copy + Drop, R: Wait>(
     rt: &R,
     alloc: Global,
     server: &Server<B, H>,
     caller: &mut Caller<B>,
     text: (&str, Result<String, AllocError>),
 ) -> Option<bool> {
-    let request = call_with(alloc, text)?;
+    let request = build_formatted_call(alloc, text)?;
     Some(caller.ask(rt, server, request).ok()?.is_value())
+}
+
+/// Makes a call of a caller, and returns `None` if the reply is a refusal.
+pub(super) fn expect_value<B: HistoryId, H: KeyHash + Copy + Drop, R: Wait>(
+    rt: &R,
+    alloc: Global,
+    server: &Server<B, H>,
+    caller: &mut Caller<B>,
+    text: (&str, &str),
+) -> Option<()> {
+    if caller_gets_value(rt, alloc, server, caller, text)? {
+        Some(())
+    } else {
+        None
+    }
+}
+
+/// Makes a call of a caller with formatted arguments, and returns `None` if the reply is a refusal.
+pub(super) fn expect_value_formatted<B: HistoryId, H: KeyHash + Copy + Drop, R: Wait>(
+    rt: &R,
+    alloc: Global,
+    server: &Server<B, H>,
+    caller: &mut Caller<B>,
+    text: (&str, Result<String, AllocError>),
+) -> Option<()> {
+    if caller_gets_value_formatted(rt, alloc, server, caller, text)? {
+        Some(())
+    } else {
+        None
+    }
 }
 
 /// Makes a call with formatted arguments by `Caller::read`. Returns whether its reply is a list of `count` elements.
@@ -99,7 +132,7 @@ pub(super) fn read_gives_list<B: HistoryId, H: KeyHash + Copy + Drop, R: Wait>(
     text: (&str, Result<String, AllocError>),
     count: usize,
 ) -> Option<bool> {
-    let request = call_with(alloc, text)?;
+    let request = build_formatted_call(alloc, text)?;
     let reply = caller.read(rt, server, &request).ok()??;
     Some(is_list(&reply, count))
 }

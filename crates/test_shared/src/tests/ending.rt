@@ -1,5 +1,6 @@
-// Calls after the end of their process are refused, also while another thread runs pending growth steps. All keys have
-// the same hash.
+//! A test of calls after the end of their process: they are refused, also while another thread runs pending growth
+//! steps.
+// All keys have the same hash.
 ghost use Rattle.std.specs.Prelude.{◌≡◌};
 
 use super::calls::build_jobs;

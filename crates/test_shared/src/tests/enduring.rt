@@ -1,8 +1,9 @@
-// Eight clients with twenty thousand jobs each, on tables that grow. Some processes end and leave their tables to
-// heirs. At the end the journal must have the steps of all clients.
+//! Tests of eight clients with twenty thousand jobs each, on tables that grow. At the end the journal must have the
+//! steps of all clients.
+// Some processes end and leave their tables to heirs.
 ghost use Rattle.std.specs.Prelude.{◌≡◌};
 
-use super::calls::call_with;
+use super::calls::build_formatted_call;
 use super::keeper::run_while_keeping;
 use super::{Plan, close_all, join_with_jobs, limits};
 use ets_term::Fnv;
@@ -36,7 +37,7 @@ fn job(alloc: Global, pid: u32, number: u32) -> Option<Job> {
     }
     // `pid ^ 1` is the neighbour.
     let arguments = arguments_of_call(alloc, pid, pid ^ 1, number);
-    Some(Job::Ask(call_with(alloc, (name_of_call(number), arguments))?))
+    Some(Job::Ask(build_formatted_call(alloc, (name_of_call(number), arguments))?))
 }
 
 /// Returns the name of the call that the job of this number makes.

@@ -1,5 +1,6 @@
-// The steps of a process, and pending growth steps, are run and get an entry in the journal. A `Book` is what is under
-// the lock of a `Shared`: the node, the journal and the ledger. A `Share` is the part of one client in the ledger.
+//! A test of a `Book`: it runs the steps of a process and pending growth steps, and each gets an entry in the journal.
+// A `Book` is what is under the lock of a `Shared`: the node, the journal and the ledger. A `Share` is the part of one
+// client in the ledger.
 ghost use Rattle.std.specs.Prelude.{◌≡◌};
 
 use super::calls::build_call;

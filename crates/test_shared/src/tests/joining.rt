@@ -1,5 +1,5 @@
-// At most 4,096 process numbers are opened. A process is enrolled once, and only up to the limit. A client that is
-// missing at the end is reported.
+//! Tests of process numbers and of joining, and of the fault that names a client missing at the end.
+// At most 4,096 process numbers are opened. A process is enrolled once, and only up to the limit.
 ghost use Rattle.std.specs.Prelude.{◌≡◌};
 
 use super::{draw, join_clients, limits};

@@ -1,4 +1,4 @@
-// Clients that do their jobs while another thread, the keeper, runs pending growth steps.
+//! A helper that runs the jobs of clients while another thread, the keeper, runs pending growth steps.
 ghost use Rattle.std.specs.Thread.{IsSync};
 
 use super::clients_of_workers;
@@ -21,8 +21,8 @@ impl Gate for OpenGate {
     fn after(&self, _client: usize, _call: usize) {}
 }
 
-/// A number of turns that is greater than the number of pending steps at any time.
-const MANY_TURNS: u32 = 1_000_000;
+/// A number of steps that is greater than the number of pending steps at any time.
+const MANY_STEPS: u32 = 1_000_000;
 
 /// Runs pending steps until `are_through` says that the clients have done their jobs, and once more after that. `R:
 /// Wait` allows a loop without a bound, as `forever` is.
@@ -34,7 +34,7 @@ fn keep_until<L: Ledger, H: KeyHash + Copy + Drop, R: Wait>(
     for _ in rt.forever() {
         // Read before `keep` runs, so that `keep` runs once more after the jobs.
         let is_last = are_through.load(Ordering::SeqCst);
-        let _kept = keep(rt, shared, MANY_TURNS);
+        let _steps_run = keep(rt, shared, MANY_STEPS);
         if is_last {
             return;
         }

@@ -1,8 +1,9 @@
-// `keep` runs as many pending growth steps as there are, but at most one in each turn. Nine objects in a new table make
-// four steps pending: to ready bucket 1, to double the buckets, and to ready buckets 2 and 3.
+//! A test of `keep`, which runs pending growth steps, at most one in each turn.
+// Nine objects in a new table make four steps pending: to ready bucket 1, to double the buckets, and to ready buckets 2
+// and 3.
 ghost use Rattle.std.specs.Prelude.{◌≡◌};
 
-use super::calls::{OTHER_TABLE, TABLE, client_gets_value};
+use super::calls::{FILL_T, FILL_U, client_gets_value};
 use super::{join_clients, limits};
 use ets_term::Fnv;
 use node_shared::{Client, Shared, keep};
@@ -22,16 +23,16 @@ struct StepsRun {
     of_other_table: u32,
 }
 
-/// Makes a table of a client, and inserts nine objects. `table` has the arguments of both calls. Their replies are not
+/// Makes a table of a client, and inserts nine objects. `arguments` are those of both calls. Their replies are not
 /// checked, since the growth steps that are pending afterwards show that both succeeded.
 fn fill_table<L: Ledger, R: Wait>(
     rt: &R,
     alloc: Global,
     shared: &Shared<L, Fnv>,
     client: &mut Client<L>,
-    table: [&str; 2],
+    arguments: [&str; 2],
 ) -> Option<()> {
-    let [new, objects] = table;
+    let [new, objects] = arguments;
     client_gets_value(rt, alloc, shared, client, ("new", new))?;
     client_gets_value(rt, alloc, shared, client, ("insert", objects))?;
     Some(())
@@ -54,11 +55,11 @@ fn fill_and_run<L: Ledger, R: Wait>(
     shared: &Shared<L, Fnv>,
     client: &mut Client<L>,
 ) -> Option<StepsRun> {
-    fill_table(rt, alloc, shared, client, TABLE)?;
+    fill_table(rt, alloc, shared, client, FILL_T)?;
     let in_three_turns = keep(rt, shared, 3);
     let in_nine_turns = keep(rt, shared, 9);
     let in_nine_more_turns = keep(rt, shared, 9);
-    fill_table(rt, alloc, shared, client, OTHER_TABLE)?;
+    fill_table(rt, alloc, shared, client, FILL_U)?;
     let of_other_table = keep(rt, shared, 9);
     Some(StepsRun {
         in_three_turns,

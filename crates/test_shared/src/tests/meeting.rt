@@ -1,6 +1,7 @@
-// Two clients run at the same time, which a `Gate` checks: its methods are called before and after each call. The first
-// call of each client waits until the other client is at its first call. A later call waits until the other client has
-// a reply.
+//! A test of two clients that run at the same time, which a `Gate` checks: its methods are called before and after each
+//! call.
+// The first call of each client waits until the other client is at its first call. The second call of the reader waits
+// until the writer has the reply to its second call.
 ghost use Rattle.std.specs.Prelude.{◌≡◌};
 
 use super::calls::{build_jobs, client_gets_value};
@@ -94,7 +95,8 @@ impl Plan for ReadAndWrite {
     }
 }
 
-/// Returns a reader and a writer with their jobs. The reader has already made the table.
+/// Returns a reader and a writer with their jobs. The reader has already called `new`; its reply is not checked, since
+/// the last reply of the reader shows that there is a table.
 fn reader_and_writer<L: Ledger, R: Wait>(
     rt: &R,
     alloc: Global,

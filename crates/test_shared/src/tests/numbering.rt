@@ -1,5 +1,5 @@
-// Four clients run at the same time. The methods `before` and `after` of a `Gate` are called before and after each job,
-// with the number of the client and of the job.
+//! A test of the numbers that a `Gate` gets: its methods are called with the number of the client and of the job.
+// Four clients run at the same time. `before` is called before each job, and `after` after it.
 ghost use Rattle.std.specs.Prelude.{◌≡◌};
 
 use super::calls::build_call;

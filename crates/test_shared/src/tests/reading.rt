@@ -1,5 +1,6 @@
-// A caller reads what it inserted. `read` replies, but adds no step to the history of the process. For a call that may
-// change the table it does nothing, and returns `None`.
+//! A test of reads of a server: a caller reads what it inserted.
+// `read` replies, but adds no step to the history of the process. For a call that may change the table it does nothing,
+// and returns `None`.
 ghost use Rattle.std.specs.Prelude.{◌≡◌};
 
 use super::calls::{build_call, build_calls};

@@ -1,10 +1,13 @@
-// A server runs the calls of its callers, and pending growth steps if `keep` is called. Callers in threads may call it
-// at the same time. Nine objects in a new table make four growth steps pending. `B` names the history and the limits of
-// a server. In contracts, the table is the kit's table of shared words, which has the word of the history.
+//! Tests of a server, which runs the calls of its callers, and pending growth steps if `keep` is called.
+// Callers in threads may call it at the same time. Nine objects in a new table make four growth steps pending. `B`
+// names the history and the limits of a server. In contracts, the table is the kit's table of shared words, which has
+// the word of the history.
 ghost use Rattle.std.specs.Prelude.{◌≡◌};
 ghost use Rattle.std.specs.Thread.{IsSync};
 
-use super::calls::{OTHER_TABLE, TABLE, build_call, build_calls, call_with, caller_gets_value};
+use super::calls::{
+    FILL_T, FILL_U, build_call, build_calls, build_formatted_call, caller_gets_value, expect_value,
+};
 use super::{draw, join_callers, limits};
 use ets_term::{Fnv, KeyHash, Term};
 use node_core::{Call, Limits, Reply};
@@ -16,22 +19,22 @@ use std::test::Fail;
 use std::thread;
 use std::thread::Threads;
 
-/// The arguments of `new` for a third table, and those of `insert` for nine objects.
-const THIRD_TABLE: [&str; 2] = [
+/// The arguments of `new` for the table v, and those of `insert` for nine objects.
+const FILL_V: [&str; 2] = [
     "[v,[named_table]]",
     "[v,[{1},{2},{3},{4},{5},{6},{7},{8},{9}]]",
 ];
 
-/// Makes a table of a caller, and inserts nine objects. `table` has the arguments of both calls. The replies are not
+/// Makes a table of a caller, and inserts nine objects. `arguments` are those of both calls. The replies are not
 /// checked, since the pending growth steps show that both succeeded.
 fn fill_table<B: HistoryId, R: Wait>(
     rt: &R,
     alloc: Global,
     server: &Server<B, Fnv>,
     caller: &mut Caller<B>,
-    table: [&str; 2],
+    arguments: [&str; 2],
 ) -> Option<()> {
-    let [new, objects] = table;
+    let [new, objects] = arguments;
     caller_gets_value(rt, alloc, server, caller, ("new", new))?;
     caller_gets_value(rt, alloc, server, caller, ("insert", objects))?;
     Some(())
@@ -44,9 +47,9 @@ fn fill_table_at_once<B: HistoryId, R: Wait>(
     alloc: Global,
     server: &Server<B, Fnv>,
     caller: &mut Caller<B>,
-    table: [&str; 2],
+    arguments: [&str; 2],
 ) -> Option<usize> {
-    let [new, objects] = table;
+    let [new, objects] = arguments;
     let calls = build_calls(alloc, &[("new", new), ("insert", objects)])?;
     let replies = caller.ask_all(rt, server, calls, 3).ok()?;
     Some(replies.len())
@@ -60,11 +63,11 @@ fn pending_steps_run_in_turns<B: HistoryId, R: Wait>(
     server: &Server<B, Fnv>,
     caller: &mut Caller<B>,
 ) -> Option<bool> {
-    fill_table(rt, alloc, server, caller, TABLE)?;
+    fill_table(rt, alloc, server, caller, FILL_T)?;
     let first_table = server.keep(rt, 3) == 3 && server.keep(rt, 9) == 1 && server.keep(rt, 9) == 0;
-    fill_table(rt, alloc, server, caller, OTHER_TABLE)?;
+    fill_table(rt, alloc, server, caller, FILL_U)?;
     let second_table = server.keep(rt, 9) == 4;
-    let is_filled = fill_table_at_once(rt, alloc, server, caller, THIRD_TABLE)? == 2;
+    let is_filled = fill_table_at_once(rt, alloc, server, caller, FILL_V)? == 2;
     Some(first_table && second_table && is_filled && server.keep(rt, 9) == 1)
 }
 
@@ -139,7 +142,7 @@ fn a_server_runs_calls_and_pending_steps(rt: HostRuntime) -> Result<(), Fail> {
     Ok(())
 }
 
-/// Joins two callers, of which the first makes a table for both.
+/// Joins two callers, of which the first makes a table for both. Returns `None` if the table is refused.
 fn two_callers<B: HistoryId, R: Wait>(
     rt: &R,
     alloc: Global,
@@ -147,7 +150,7 @@ fn two_callers<B: HistoryId, R: Wait>(
 ) -> Option<(Caller<B>, Caller<B>)> {
     let mut callers = join_callers(rt, alloc, server, 2)?;
     let new = ("new", "[t,[named_table,public]]");
-    caller_gets_value(rt, alloc, server, callers.first_mut()?, new)?;
+    expect_value(rt, alloc, server, callers.first_mut()?, new)?;
     let other = callers.pop()?;
     Some((callers.pop()?, other))
 }
@@ -162,7 +165,9 @@ fn insertions(alloc: Global, first: u32) -> Option<Vec<Call>> {
     for number in 0..INSERTIONS {
         let key = first.wrapping_add(number);
         let object = format!(in alloc; "[t,{{{key}}}]");
-        calls.push(call_with(alloc, ("insert", object))?).ok()?;
+        calls
+            .push(build_formatted_call(alloc, ("insert", object))?)
+            .ok()?;
     }
     calls.push(build_call(alloc, ("info", "[t,size]"))?).ok()?;
     Some(calls)

@@ -1,14 +1,15 @@
-// Four readers and two writers call one server over a million times, while tables grow, are fixed and traversed, and
-// processes end and leave their tables to heirs. Each of them checks the replies against its own writes; it 'is right'
-// if all replies are right. A reader or writer is the last caller of a team. The other callers of a writer's team are
-// its guests: they end, and the writer inherits their tables.
+//! Tests of a server under load: four readers and two writers call it over a million times.
+// Meanwhile tables grow, are fixed and traversed, and processes end and leave their tables to heirs. Each reader and
+// writer checks the replies against its own writes; it 'is right' if all replies are right. A reader or writer is the
+// last caller of a team. The other callers of a writer's team are its guests: they end, and the writer inherits their
+// tables.
 ghost use Rattle.std.specs.Prelude.{◌≡◌};
 ghost use Rattle.std.specs.Thread.{IsSync};
 
 mod reader; // the calls of a reader
 mod writer; // the calls of a writer
 
-use super::calls::caller_gets_value_for;
+use super::calls::expect_value_formatted;
 use super::{join_callers, limits};
 use crate::tests::stressing::reader::reader_is_right;
 use crate::tests::stressing::writer::writer_is_right;
@@ -63,7 +64,8 @@ fn take_team<B: HistoryId>(
     Some(team)
 }
 
-/// Makes the table of a caller, whose name has its process number, and inserts the keys below `keys`.
+/// Makes the table of a caller, whose name has its process number, and inserts the keys below `keys`. Returns `None` if
+/// a call is refused.
 fn set_up<B: HistoryId, R: Wait>(
     rt: &R,
     alloc: Global,
@@ -73,10 +75,10 @@ fn set_up<B: HistoryId, R: Wait>(
 ) -> Option<()> {
     let table = caller.pid();
     let options = format!(in alloc; "[t{table},[named_table,public]]");
-    caller_gets_value_for(rt, alloc, server, caller, ("new", options))?;
+    expect_value_formatted(rt, alloc, server, caller, ("new", options))?;
     for key in 0..keys {
         let object = format!(in alloc; "[t{table},{{{key},0}}]");
-        caller_gets_value_for(rt, alloc, server, caller, ("insert", object))?;
+        expect_value_formatted(rt, alloc, server, caller, ("insert", object))?;
     }
     Some(())
 }

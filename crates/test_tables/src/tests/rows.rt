@@ -1,7 +1,8 @@
+//! Tests of rows: calls succeed at every size, which no contract promises, and searches in ready buckets visit few
+//! nodes. Plain rows have one bucket; the buckets of split rows double, and each is ready once its dummy node is in the
+//! list.
 ghost use Rattle.std.specs.Prelude.{◌≡◌, ◌<◌, [], IfOk};
 
-// Tests of rows: calls succeed at every size, which no contract promises, and searches in ready buckets visit few
-// nodes.
 use bucket_table::{Growth, PlainRows, Readying, Rows, SlotEntry, SplitRows};
 use ets_term::{AllSame, Fnv, Integer, KeyHash, Term};
 use node_list::{Chain, Steps};

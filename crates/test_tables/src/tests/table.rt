@@ -1,6 +1,7 @@
-// Compares answers of tables with those that follow from the manual of ets. A scenario is a list of steps, each with
-// its answer. `scenario_holds` runs it on tables over plain rows and over split rows. Each answer has a code, an
-// integer, so that answers of all types can be compared.
+//! Tests of tables over rows: their answers are compared with those that follow from the manual of ets. A scenario is a
+//! list of steps, each with its answer.
+// `scenario_holds` runs it on tables over plain rows and over split rows. Each answer has a code, an integer, so that
+// answers of all types can be compared.
 use super::rows::new_rows_with_retry;
 use answers::Answer;
 use bucket_table::{PlainRows, Rows, SplitRows};

@@ -1,4 +1,5 @@
-// Steps on a table, and a code for each answer: a number, so that answers of all types are compared in one way.
+//! The steps that tests make on a table with fixes, and their expected answers. An answer of any type has a code, a
+//! number, by which it is compared with the expected one.
 use crate::tests::fixes::{Key, Object, Pid, build_object, delete};
 use bucket_table::{Growth, Readying, Rows};
 use ets_term::{Integer, Items, Term};

@@ -1,4 +1,5 @@
-// Each call on many keys, while the buckets double.
+//! Calls on 5,000 keys of a table with fixes, while the buckets double, and fixes by 5,000 processes. Each must have
+//! the answer of the rules of `ets`.
 use super::answers::Expected::{Done, NotDone, Objects};
 use super::answers::Step::{DeleteObject, InsertNew, Take};
 use super::answers::{count_objects, is_answered, second_element};

@@ -1,4 +1,5 @@
-// Calls that take no memory: `.ci/refusals` refuses each allocation between two marks.
+//! Calls of a fixed table that take no memory: a traversal, a deletion and releases. `.ci/refusals` refuses each
+//! allocation between two marks, and the calls must still have their results.
 use super::*;
 
 /// A number of bytes that no machine has, so that each request is refused. For `.ci/refusals`, such a request marks the

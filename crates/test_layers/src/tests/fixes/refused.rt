@@ -1,6 +1,7 @@
-// Calls that run out of memory. `.ci/refusals` runs these tests with each allocation refused in turn. A call that ran
-// out of memory must change nothing: no key, no order, no fix. Its retry must have the answer that it has with enough
-// memory.
+//! Calls of a table with fixes that run out of memory. `.ci/refusals` runs these tests with each allocation refused in
+//! turn.
+// A call that ran out of memory must change nothing: no key, no order, no fix. Its retry must have the answer that it
+// has with enough memory.
 use super::answers::Expected::{Done, IsFixed, IsNotFixed, NotDone, Objects, Refused};
 use super::answers::Step::{
     AllObjects, Delete, DeleteObject, Fix, Grow, Insert, InsertNew, LookupSecond, Ready, Release,

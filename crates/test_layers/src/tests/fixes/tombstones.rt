@@ -1,4 +1,5 @@
-// Tombstones: what deleted keys leave in a fixed table, call by call.
+//! Tombstones: what deleted keys leave in a fixed table, call by call. A row of a test is a call, the expected answer
+//! of `first` or `next`, or the expected numbers of slots and objects.
 use self::Row::{
     Delete, FirstIs, FirstIsEnd, Fix, Insert, IsFixed, IsNotFixed, NextIs, NextIsBadarg, NextIsEnd,
     Release, ReleaseAll,

@@ -1,6 +1,6 @@
-// Traversals of a fixed table, while other processes insert and delete, and the buckets double. A traversal is exact if
-// it visits no key twice, each stable key once, and only keys with objects. A key is stable if it has objects at the
-// start and after each step.
+//! Traversals of a fixed table, while other processes insert and delete, and the buckets double. A traversal is exact
+//! if it visits no key twice, each stable key once, and only keys with objects.
+// A key is stable if it has objects at the start and after each step.
 use self::expectation::Expectation;
 use self::steps::run_other_steps;
 use super::*;

@@ -1,4 +1,5 @@
-// Chains: the terms of one item of a node list.
+//! Chains: a chain has the objects of one item of a node list, in their order. The tests push, pop, remove, replace and
+//! move terms, which are integers.
 use crate::tests::keep_if_ok;
 use ets_term::{Integer, Term};
 use node_list::Chain;

@@ -1,4 +1,4 @@
-// Links of nodes: the place of the next node, or none, in one word.
+//! Links of list nodes: the place of the next node, or none, in one word.
 use node_list::Link;
 use std::mem::size_of;
 use std::process::Abort;

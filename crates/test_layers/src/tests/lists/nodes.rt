@@ -1,5 +1,5 @@
-// Checks of one node list. Each inserts nodes into a new list, which has the head only, and then reads, searches or
-// changes the list.
+//! Checks of one node list. Each inserts nodes into a new list, which has the head only, and then reads, searches or
+//! changes the list.
 ghost use Rattle.std.specs.Prelude.{◌≡◌, [], ◌∷◌, Some, IfOk};
 ghost use Rattle.std.specs.Borrow.{sem};
 ghost use Rattle.ets_term.specs.declared.term.Term.TheVariants.{Int};

@@ -1,5 +1,6 @@
-// Reading and printing that run out of memory. `.ci/refusals` runs these tests with each allocation refused in turn. A
-// retry must have the result of enough memory. Printing that is refused memory must leave the output as it was.
+//! Reading and printing of terms that run out of memory. `.ci/refusals` runs these tests with each allocation refused
+//! in turn.
+// A retry must have the result of enough memory. Printing that is refused memory must leave the output as it was.
 use super::*;
 use term_text::{TextFault, read_term};
 

@@ -1,4 +1,5 @@
-// `update_counter` of an object, in place and on a copy.
+//! `update_counter` of an object, in place and on a copy. A row has an object, operations, the expected answer, and the
+//! object that they leave.
 use super::rows::{Call, Update, first_mismatch, first_valid_text};
 use super::*;
 

@@ -1,4 +1,5 @@
-// Updates with a default object, as `update_counter/4` and `update_element/4` make them for a missing key.
+//! Updates with a default object, as `update_counter/4` and `update_element/4` make them for a missing key. A row has
+//! the default object, the key, the update and its expected result.
 use super::rows::{Call, first_mismatch};
 use super::*;
 

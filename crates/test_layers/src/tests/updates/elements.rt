@@ -1,4 +1,5 @@
-// `update_element` of an object, in place and on a copy.
+//! `update_element` of an object, in place and on a copy. A row has an object, element values `{Pos,Value}`, and the
+//! expected object or refusal.
 use super::rows::{Call, Update, first_mismatch, first_valid_text};
 use super::*;
 

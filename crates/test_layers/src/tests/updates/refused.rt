@@ -1,6 +1,7 @@
-// Updates that run out of memory. `.ci/refusals` runs these tests with each allocation refused in turn. A call that ran
-// out of memory must leave the object as it was. Its retry must have the answer that it has with enough memory. Helpers
-// `.._with_retry` make each call a second time if memory is refused.
+//! Updates of counters and elements that run out of memory. `.ci/refusals` runs these tests with each allocation
+//! refused in turn.
+// A call that ran out of memory must leave the object as it was. Its retry must have the answer that it has with enough
+// memory. Helpers `.._with_retry` make each call a second time if memory is refused.
 use super::retries::{
     apply_elements_with_retry, apply_ops_with_retry, clone_with_retry,
     read_element_specs_with_retry, read_ops_with_retry, start_counter_with_retry,

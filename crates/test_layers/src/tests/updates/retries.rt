@@ -1,4 +1,5 @@
-// Calls that are retried once if memory is refused. `.ci/refusals` refuses one allocation a run, so a retry has memory.
+//! Calls of `counters` that are retried once if memory is refused. `.ci/refusals` refuses one allocation a run, so a
+//! retry has memory.
 use super::*;
 
 /// Copies a term. Retries once if memory is refused.

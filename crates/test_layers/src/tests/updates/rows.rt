@@ -1,4 +1,5 @@
-// Rows of text: each is a list of lower-case labels and of terms, for one update and its expected result.
+//! How rows of text are read and checked. A row is a list of lower-case labels and of terms, for one update and its
+//! expected result.
 use super::counts::updates_counter_as_expected;
 use super::defaults::{starts_counter_as_expected, writes_default_as_expected};
 use super::elements::writes_as_expected;

@@ -1,4 +1,4 @@
-// Which terms are match specifications.
+//! Which terms are match specifications, by the plain reading.
 use super::*;
 use crate::tests::plain::clauses::parts_of;
 use crate::tests::plain::functions::{is_kind_test, is_one_of};

@@ -1,4 +1,4 @@
-// The result of a match specification on an object.
+//! The result of a match specification on an object, by the plain reading.
 use super::*;
 use crate::tests::plain::matching::{Binding, pattern_matches};
 use crate::tests::plain::values::expression_value;

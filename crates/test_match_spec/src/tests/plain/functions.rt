@@ -1,4 +1,4 @@
-// The values of the functions of match specifications. `None` means that a function fails.
+//! The values of the functions of match specifications, by the plain reading. `None` means that a function fails.
 use super::*;
 use crate::tests::plain::operations::{
     calculate, compare_terms, difference, is_arithmetic_operator,
@@ -32,16 +32,16 @@ pub(crate) fn apply_function(alloc: Global, name: &Term, arguments: &[Term]) -> 
     }
 }
 
-/// Returns the value of `or` if `stop` is true, else of `and`: `stop` if an argument is `stop`, otherwise its opposite.
-/// `None` means that an argument is not a boolean.
-fn join_booleans(arguments: &[Term], stop: bool) -> Option<bool> {
-    let mut found = !stop;
+/// Returns the value of `or` if `dominant` is true, else of `and`: `dominant` if an argument is `dominant`, otherwise its
+/// opposite. `None` means that an argument is not a boolean.
+fn join_booleans(arguments: &[Term], dominant: bool) -> Option<bool> {
+    let mut joined = !dominant;
     for argument in arguments {
-        if boolean_of(argument)? == stop {
-            found = stop;
+        if boolean_of(argument)? == dominant {
+            joined = dominant;
         }
     }
-    Some(found)
+    Some(joined)
 }
 
 /// Returns the name of the kind test that is true of a term.
@@ -70,8 +70,8 @@ const KIND_TESTS: [&str; 7] = [
 
 /// Returns whether a term is an atom whose text is one of these names.
 pub(crate) fn is_one_of(name: &Term, names: &[&'static str]) -> bool {
-    for own in names {
-        if name.is_atom(*own) {
+    for text in names {
+        if name.is_atom(*text) {
             return true;
         }
     }

@@ -1,4 +1,4 @@
-// Which terms a pattern matches, and what its variables are bound to.
+//! Which terms a pattern matches, and what its variables are bound to, by the plain reading.
 use super::*;
 
 /// A variable and the term that it is bound to.

@@ -1,4 +1,4 @@
-// The values of arithmetic and comparison operators.
+//! The values of arithmetic and comparison operators, by the plain reading.
 use super::*;
 use crate::tests::plain::functions::is_one_of;
 

@@ -1,4 +1,4 @@
-// The values of expressions. `None` means that an expression fails.
+//! The values of expressions, by the plain reading. `None` means that an expression fails.
 use super::*;
 use crate::tests::plain::functions::{apply_function, boolean_of, boolean_term};
 use crate::tests::plain::matching::{Binding, bound_value, values_in_order, variable_number};

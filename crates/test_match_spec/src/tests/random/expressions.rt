@@ -1,23 +1,9 @@
-// Random expressions of match specifications.
+//! Random expressions of match specifications, for their conditions and bodies. They are built from a pool of
+//! expressions, and some of them are refused.
 use super::Random;
 use crate::tests::forms::{atom, one_item};
 use ets_term::{Items, Term};
 use std::alloc::Global;
-
-/// Returns a function's name, with 1 as its usual number of arguments.
-fn unary(name: &'static str) -> (&'static str, u64) {
-    (name, 1)
-}
-
-/// Returns a function's name, with 2 as its usual number of arguments.
-fn binary(name: &'static str) -> (&'static str, u64) {
-    (name, 2)
-}
-
-/// Returns a function's name, with 3 as its usual number of arguments.
-fn ternary(name: &'static str) -> (&'static str, u64) {
-    (name, 3)
-}
 
 impl Random {
     /// Draws an expression without parts: a variable, an atom, an empty list or another leaf.
@@ -33,43 +19,44 @@ impl Random {
         }
     }
 
-    /// Draws the name of a function and its usual number of arguments.
+    /// Draws the name of a function and its usual number of arguments. `and`, `or`, `andalso` and `orelse` take one or
+    /// more arguments. Two of them usually get three here, so that they are tested with more than two.
     fn random_function(&mut self) -> (&'static str, u64) {
         match self.random_below(34) {
-            0 => unary("is_atom"),
-            1 => unary("is_integer"),
-            2 => unary("is_number"),
-            3 => unary("is_list"),
-            4 => unary("is_tuple"),
-            5 => unary("is_binary"),
-            6 => unary("is_pid"),
-            7 => unary("is_reference"),
-            8 => unary("not"),
-            9 => unary("abs"),
-            10 => unary("hd"),
-            11 => unary("tl"),
-            12 => unary("length"),
-            13 => unary("size"),
-            14 => binary("xor"),
-            15 => binary("element"),
-            16 => binary("+"),
-            17 => binary("-"),
-            18 => binary("*"),
-            19 => binary("div"),
-            20 => binary("rem"),
-            21 => binary(">"),
-            22 => binary(">="),
-            23 => binary("<"),
-            24 => binary("=<"),
-            25 => binary("=:="),
-            26 => binary("=="),
-            27 => binary("=/="),
-            28 => binary("/="),
-            29 => ternary("and"),
-            30 => binary("or"),
-            31 => ternary("andalso"),
-            32 => binary("orelse"),
-            _ => unary("const"),
+            0 => ("is_atom", 1),
+            1 => ("is_integer", 1),
+            2 => ("is_number", 1),
+            3 => ("is_list", 1),
+            4 => ("is_tuple", 1),
+            5 => ("is_binary", 1),
+            6 => ("is_pid", 1),
+            7 => ("is_reference", 1),
+            8 => ("not", 1),
+            9 => ("abs", 1),
+            10 => ("hd", 1),
+            11 => ("tl", 1),
+            12 => ("length", 1),
+            13 => ("size", 1),
+            14 => ("xor", 2),
+            15 => ("element", 2),
+            16 => ("+", 2),
+            17 => ("-", 2),
+            18 => ("*", 2),
+            19 => ("div", 2),
+            20 => ("rem", 2),
+            21 => (">", 2),
+            22 => (">=", 2),
+            23 => ("<", 2),
+            24 => ("=<", 2),
+            25 => ("=:=", 2),
+            26 => ("==", 2),
+            27 => ("=/=", 2),
+            28 => ("/=", 2),
+            29 => ("and", 3),
+            30 => ("or", 2),
+            31 => ("andalso", 3),
+            32 => ("orelse", 2),
+            _ => ("const", 1),
         }
     }
 

@@ -1,5 +1,7 @@
-// The depth limit. The text `deep(n)` is the empty list within n - 1 lists: a term n levels deep.
-use super::Event::{Ask, Enrol};
+//! A test of the depth limit: arguments and stored objects are at most 128 levels deep. A row is a step and its wanted
+//! reply.
+// The text `deep(n)` is the empty list within n - 1 lists: a term n levels deep.
+use super::StepText::{Ask, Enrol};
 use super::{Pid, Row, first_wrong_row};
 use std::process::Abort;
 

@@ -1,5 +1,7 @@
-// `Node::due`: the growth step of a table, if any, that is pending after each step.
-use super::Event::{Ask, Enrol, Grow, Ready};
+//! A test of `Node::due`, which returns the pending growth step of a node, if any. A row is a step, its wanted reply,
+//! and the step that is pending after it.
+// A growth step doubles the buckets of a table, or makes one bucket ready.
+use super::StepText::{Ask, Enrol, Grow, Ready};
 use super::{Bucket, Pid, Row, Tid, first_wrong_row_in};
 use Pending::{Nothing, ToGrow, ToReady};
 use ets_term::{AllSame, Fnv, KeyHash};

@@ -1,5 +1,6 @@
-// Long inputs. They fail a mutant that reports out of memory at a small size. A template is a text such as
-// `lookup(t,N)`, in which a number replaces each N.
+//! Tests of a node with long inputs: thousands of objects, tables, processes and steps.
+// They fail a mutant that reports out of memory at a small size. A template is a text such as `lookup(t,N)`, in which a
+// number replaces each N.
 
 // A table that grows while objects are inserted, found and deleted.
 mod growth;
@@ -10,8 +11,8 @@ mod processes;
 // `Node::run` and `Node::run_through` of many steps.
 mod runs;
 
-use super::Event::{Ask, Enrol};
-use super::{Pid, Row, event_has_reply, first_wrong_row_in};
+use super::StepText::{Ask, Enrol};
+use super::{Pid, Row, first_wrong_row_in, step_text_has_reply};
 use crate::tests::keep_if_ok;
 use ets_term::Fnv;
 use node_core::{Limits, Node};
@@ -113,7 +114,7 @@ fn call_has_reply(
     call: &str,
     wanted: &str,
 ) -> Result<bool, AllocError> {
-    event_has_reply(alloc, node, Ask(Pid(0), call), wanted)
+    step_text_has_reply(alloc, node, Ask(Pid(0), call), wanted)
 }
 
 /// Fills a number into the templates of a call and a reply. Returns whether the call, made by process 0, has this

@@ -1,6 +1,8 @@
-// `Node::step_own` consumes its step: an insertion moves its object into the table. A step that runs out of memory
-// changes nothing, so an equal step is built, which must have the reply of a first run. The test is in `refused`.
-use super::Event::{Ask, Enrol};
+//! The rows and the check of a test of `Node::step_own`, which consumes its step: an insertion moves its object into
+//! the table.
+// A step that runs out of memory changes nothing, so an equal step is built, which must have the reply of a first run.
+// The test is in `refused`.
+use super::StepText::{Ask, Enrol};
 use super::refused::{build_step_with_retry, reply_has_text_with_retry};
 use super::{Pid, Row};
 use ets_term::Fnv;
@@ -43,12 +45,12 @@ pub(super) fn owned_step_has_reply_with_retry(
     reply: &mut Reply,
     row: Row,
 ) -> Result<bool, AllocError> {
-    let (event, wanted) = row;
+    let (step_text, wanted) = row;
     if node.step_own(first, reply).is_err() {
         if !matches!(reply, Reply::NoProcess) {
             return Ok(false);
         }
-        let second = build_step_with_retry(alloc, event)?;
+        let second = build_step_with_retry(alloc, step_text)?;
         node.step_own(second, reply)?;
     }
     reply_has_text_with_retry(alloc, reply, wanted)

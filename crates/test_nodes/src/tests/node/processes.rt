@@ -1,5 +1,5 @@
-// Enrolment and exit of processes. A row is a step and its wanted reply.
-use super::Event::{Ask, End, Enrol};
+//! Tests of enrolment and exit of processes, and of their limit. A row is a step and its wanted reply.
+use super::StepText::{Ask, End, Enrol};
 use super::{Pid, Row, first_wrong_row, first_wrong_row_within_limits};
 use node_core::Limits;
 use std::process::Abort;

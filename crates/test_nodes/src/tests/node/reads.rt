@@ -1,6 +1,7 @@
-// `Node::read` returns the reply to a call, and `Node::read_into` writes it over a previous reply. Both reply as `step`
-// does, and only to calls that change nothing.
-use super::Event::{Ask, Enrol};
+//! A test of `Node::read`, which returns the reply to a call, and of `Node::read_into`, which writes it over a previous
+//! reply.
+// Both reply as `step` does, and only to calls that change nothing. A row is a process, its call, and the wanted reply.
+use super::StepText::{Ask, Enrol};
 use super::{Pid, Row, ask, first_wrong_row_in, reply_has_text};
 use ets_term::Fnv;
 use node_core::{Limits, Node, Reply, Step};

@@ -1,19 +1,22 @@
-// Out of memory. `.ci/refusals` runs these tests many times, each time with another allocation refused. A step that
-// runs out of memory changes nothing, so a second run must have the wanted reply. A test also retries its own
+//! Tests of out of memory: a step that runs out of memory changes nothing, so a second run must have the wanted reply.
+// `.ci/refusals` runs these tests many times, each time with another allocation refused. A test also retries its own
 // allocations.
-use super::Event::{Ask, End, Enrol, Grow, Ready};
+use super::StepText::{Ask, End, Enrol, Grow, Ready};
 use super::owned::{OWNED, owned_step_has_reply_with_retry};
-use super::{Bucket, Event, Pid, Row, Tid, build_step, reply_has_text};
+use super::{Bucket, Pid, Row, StepText, Tid, build_step, reply_has_text};
 use ets_term::Fnv;
 use node_core::{Limits, Node, Reply, Step};
 use std::alloc::{AllocError, Global};
 use std::process::Abort;
 
-/// Builds the step of an event, and retries once if memory runs out.
-pub(super) fn build_step_with_retry(alloc: Global, event: Event) -> Result<Step, AllocError> {
-    match build_step(alloc, event) {
+/// Builds the step of a `StepText`, and retries once if memory runs out.
+pub(super) fn build_step_with_retry(
+    alloc: Global,
+    step_text: StepText,
+) -> Result<Step, AllocError> {
+    match build_step(alloc, step_text) {
         Ok(step) => Ok(step),
-        Err(_) => build_step(alloc, event),
+        Err(_) => build_step(alloc, step_text),
     }
 }
 
@@ -86,8 +89,8 @@ fn row_has_reply_with_retry(
     reply: &mut Reply,
     row: Row,
 ) -> Result<bool, AllocError> {
-    let (event, wanted) = row;
-    let step = build_step_with_retry(alloc, event)?;
+    let (step_text, wanted) = row;
+    let step = build_step_with_retry(alloc, step_text)?;
     match runner {
         Runner::StepOwn => owned_step_has_reply_with_retry(alloc, node, step, reply, row),
         Runner::StepInto => {

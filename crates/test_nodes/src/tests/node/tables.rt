@@ -1,5 +1,5 @@
-// Names and identifiers of tables, and their limit. A `Row` is a step and its wanted reply.
-use super::Event::{Ask, Enrol};
+//! Tests of names and identifiers of tables, and of their limit. A `Row` is a step and its wanted reply.
+use super::StepText::{Ask, Enrol};
 use super::{Pid, Row, Tid, first_wrong_row_in, first_wrong_row_within_limits, term};
 use ets_term::{Fnv, Term};
 use node_core::{Limits, Node};

@@ -1,6 +1,7 @@
-// `Node::run` and `Node::run_through` run a list of steps. They reply to each step, a refused one too, if there is
-// memory. The answer of `run_through` to a step is `None` after out of memory.
-use super::Event::{Ask, End, Enrol, Grow, Ready};
+//! Tests of `Node::run` and `Node::run_through`, which run a list of steps. A row is a step and its wanted reply.
+// Both reply to each step, a refused one too, if there is memory. The answer of `run_through` to a step is `None` after
+// out of memory.
+use super::StepText::{Ask, End, Enrol, Grow, Ready};
 use super::{Bucket, Pid, Row, Tid, build_step, reply_has_text};
 use crate::tests::keep_if_ok;
 use ets_term::Fnv;
@@ -30,8 +31,8 @@ static EACH_KIND: [Row; 16] = [
 
 /// Builds the steps of the rows and appends them.
 fn push_steps(alloc: Global, steps: &mut Vec<Step>, rows: &[Row]) -> Result<(), AllocError> {
-    for (event, _) in rows {
-        steps.push(build_step(alloc, *event)?)?;
+    for (step_text, _) in rows {
+        steps.push(build_step(alloc, *step_text)?)?;
     }
     Ok(())
 }

@@ -1,7 +1,8 @@
-// `walk_among` traverses a table (here: walks over it), and runs steps of other processes after each key. The tests
-// check how a walk ends, and then the reply to one more step. The hasher `Fnv` spreads the keys; `AllSame` gives all
-// keys one hash.
-use super::Event::Ask;
+//! Tests of `walk_among`, which traverses a table (here: walks over it), and runs steps of other processes after each
+//! key.
+// The tests check how a walk ends, and then the reply to one more step. The hasher `Fnv` spreads the keys; `AllSame`
+// gives all keys one hash.
+use super::StepText::Ask;
 use super::{Pid, Row};
 use ets_term::{AllSame, Fnv};
 use node_core::WalkFault;
@@ -13,7 +14,7 @@ use starts::{
 };
 use std::alloc::{AllocError, Global};
 use std::process::Abort;
-use walk_check::{WalkEnd, WalkSetup, walk_ends};
+use walk_check::{WalkEnd, WalkSetup, walk_has_wanted_end};
 
 // An `Others` that hands in the steps of a `Plan` after each visited key.
 mod plan_follower;
@@ -33,8 +34,12 @@ static REINSERTED: WalkSetup<'static> = WalkSetup {
 #[test]
 fn keys_that_are_deleted_and_inserted_again_come_once(rt: HostRuntime) {
     let all_keys = WalkEnd::Keys("[1,2,3,4,5,6,7,8,9]");
-    assert!(rt; walk_ends(rt.alloc(), Fnv, REINSERTED, all_keys, IS_NOT_FIXED) == Ok(true));
-    assert!(rt; walk_ends(rt.alloc(), AllSame, REINSERTED, all_keys, IS_NOT_FIXED) == Ok(true));
+    assert!(rt;
+        walk_has_wanted_end(rt.alloc(), Fnv, REINSERTED, all_keys, IS_NOT_FIXED) == Ok(true)
+    );
+    assert!(rt;
+        walk_has_wanted_end(rt.alloc(), AllSame, REINSERTED, all_keys, IS_NOT_FIXED) == Ok(true)
+    );
 }
 
 /// Seventy keys of a protected table, walked by a process that does not own it. Others do nothing.
@@ -50,7 +55,9 @@ fn seventy_keys_are_walked_by_another_process(rt: HostRuntime) {
     let all_keys = WalkEnd::Keys(
         "[1,2,3,4,5,6,7,8,9,10,11,12,13,14,15,16,17,18,19,20,21,22,23,24,25,26,27,28,29,30,31,32,33,34,35,36,37,38,39,40,41,42,43,44,45,46,47,48,49,50,51,52,53,54,55,56,57,58,59,60,61,62,63,64,65,66,67,68,69,70]",
     );
-    assert!(rt; walk_ends(rt.alloc(), Fnv, WALK_BY_NON_OWNER, all_keys, IS_NOT_FIXED) == Ok(true));
+    assert!(rt;
+        walk_has_wanted_end(rt.alloc(), Fnv, WALK_BY_NON_OWNER, all_keys, IS_NOT_FIXED) == Ok(true)
+    );
 }
 
 /// One key. Another process inserts a new key in each turn, so that the walk reaches more keys than its limit.
@@ -64,8 +71,16 @@ static NEW_KEY_EACH_TURN: WalkSetup<'static> = WalkSetup {
 #[test]
 fn a_key_past_the_limit_ends_the_walk(rt: HostRuntime) {
     // The others see five keys, not the sixth one.
-    let end = WalkEnd::FaultAfter(&WalkFault::LimitReached, 5);
-    assert!(rt; walk_ends(rt.alloc(), AllSame, NEW_KEY_EACH_TURN, end, IS_NOT_FIXED) == Ok(true));
+    let wanted_end = WalkEnd::FaultAfter(&WalkFault::LimitReached, 5);
+    assert!(rt;
+        walk_has_wanted_end(
+            rt.alloc(),
+            AllSame,
+            NEW_KEY_EACH_TURN,
+            wanted_end,
+            IS_NOT_FIXED
+        ) == Ok(true)
+    );
 }
 
 /// Returns the setup of a walk over two keys, less than its limit, while others follow a plan.
@@ -98,7 +113,7 @@ fn first_wrong_stop(
 /// Walks over two keys, and returns whether the walk ends with the wanted fault and the step after it has its reply.
 fn walk_stops(alloc: Global, stop: StopRow, wanted: &WalkFault) -> Result<bool, AllocError> {
     let (plan, next_row) = stop;
-    walk_ends(
+    walk_has_wanted_end(
         alloc,
         Fnv,
         setup_of_two_keys(plan),
@@ -163,8 +178,8 @@ fn out_of_memory_ends_the_walk(rt: HostRuntime) {
 #[test]
 fn a_walk_over_an_emptied_table_visits_one_key(rt: HostRuntime) {
     let setup = setup_of_two_keys(Plan::Always(&DELETES_ALL_OBJECTS));
-    let end = WalkEnd::KeysSeen(1);
-    assert!(rt; walk_ends(rt.alloc(), Fnv, setup, end, IS_NOT_FIXED) == Ok(true));
+    let wanted_end = WalkEnd::KeysSeen(1);
+    assert!(rt; walk_has_wanted_end(rt.alloc(), Fnv, setup, wanted_end, IS_NOT_FIXED) == Ok(true));
 }
 
 /// Runs `rows` and walks as process 0. Returns whether the walk ends with this fault, and `next_row` then has its
@@ -182,7 +197,7 @@ fn walk_has_fault(
         limit,
         plan: Plan::DeleteAndInsert,
     };
-    walk_ends(alloc, Fnv, setup, WalkEnd::Fault(fault), next_row)
+    walk_has_wanted_end(alloc, Fnv, setup, WalkEnd::Fault(fault), next_row)
 }
 
 /// Process 1 asks whether its table is fixed. It is not.
@@ -234,6 +249,8 @@ static ZERO_LIMIT: WalkSetup<'static> = WalkSetup {
 fn a_limit_of_zero_allows_only_an_empty_table(rt: HostRuntime) {
     let alloc = rt.alloc();
     let fault = WalkFault::LimitReached;
-    assert!(rt; walk_ends(alloc, Fnv, ZERO_LIMIT, WalkEnd::Keys("[]"), IS_NOT_FIXED) == Ok(true));
+    assert!(rt;
+        walk_has_wanted_end(alloc, Fnv, ZERO_LIMIT, WalkEnd::Keys("[]"), IS_NOT_FIXED) == Ok(true)
+    );
     assert!(rt; walk_has_fault(alloc, &TWO_KEYS, 0, &fault, IS_NOT_FIXED) == Ok(true));
 }

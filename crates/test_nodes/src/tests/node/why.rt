@@ -1,9 +1,10 @@
-// `node_reasons::why`: the reason of each refusal, in words. A reply that is a value has no reason.
+//! Tests of `node_reasons::why`: the reason of each refusal, in words.
+// A reply that is a value has no reason.
 
 // The rows: steps that break a rule, each with its reason.
 mod misuses;
 
-use super::{Event, Row, build_step};
+use super::{Row, StepText, build_step};
 use ets_term::Fnv;
 use node_core::{Limits, Node, Reply, Step};
 use node_reasons::{Reason, why};
@@ -32,14 +33,14 @@ fn has_reason(
     }
 }
 
-/// Runs the step of an event, and returns whether its reply has the wanted reason.
-fn event_has_reason(
+/// Runs the step of a `StepText`, and returns whether its reply has the wanted reason.
+fn step_text_has_reason(
     alloc: Global,
     node: &mut Node<Fnv>,
-    event: Event,
+    step_text: StepText,
     wanted: &str,
 ) -> Result<bool, AllocError> {
-    let step = build_step(alloc, event)?;
+    let step = build_step(alloc, step_text)?;
     let explained = step_has_reason(alloc, node, &step, wanted);
     drop(step);
     explained
@@ -64,8 +65,8 @@ fn first_wrong_reason_in(
     node: &mut Node<Fnv>,
     rows: &[Row],
 ) -> Result<Option<usize>, AllocError> {
-    for (index, (event, wanted)) in rows.iter().enumerate() {
-        if !event_has_reason(alloc, node, *event, *wanted)? {
+    for (index, (step_text, wanted)) in rows.iter().enumerate() {
+        if !step_text_has_reason(alloc, node, *step_text, *wanted)? {
             return Ok(Some(index));
         }
     }

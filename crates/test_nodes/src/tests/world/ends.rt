@@ -1,5 +1,6 @@
-// Exits of processes. A row is a call and its wanted answer. Tables are numbered from 0 in order of creation.
-use super::Call::{End, Enrol, Fix, Info, New, Receive, Resolve, Set};
+//! A test of exits of processes: what becomes of their tables, fixes and numbers.
+// A row is a call and its wanted answer. Tables are numbered from 0 in order of creation.
+use super::Call::{End, Enrol, Fix, Info, New, Receive, Resolve, SetOptions};
 use super::{DONE, Pid, Row, Tid, first_wrong_scenario};
 use std::process::Abort;
 
@@ -62,7 +63,7 @@ static FIXES: [Row; 12] = [
     (Fix(Pid(1), Tid(0)), DONE),
     (End(Pid(1)), DONE),
     (Info(Tid(0), "fixed"), "true"),
-    (Set(Pid(0), Tid(0), "[]"), DONE),
+    (SetOptions(Pid(0), Tid(0), "[]"), DONE),
     (End(Pid(0)), DONE),
     (Info(Tid(0), "fixed"), "false"),
     (Info(Tid(0), "owner"), "<0.2.0>"),

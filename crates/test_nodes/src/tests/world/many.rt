@@ -1,6 +1,6 @@
-// Worlds of hundreds of processes and tables. The owner and the fix of each table are compared with those of a plain
-// model, `owner_and_fix_after`.
-use super::Tables;
+//! Tests of worlds with many processes or tables.
+// The larger test compares the owner and the fix of each table with those of a plain model, `owner_and_fix_after`.
+use super::PlainWorld;
 use super::single_calls::{fix_table, new_table};
 use ets_term::Term;
 use ownership::{World, WorldFault};
@@ -20,7 +20,7 @@ const GONE: u32 = 1_000;
 /// Makes a table of the process, with this heir and the gift 1.
 fn make_with_heir(
     alloc: Global,
-    world: &mut Tables,
+    world: &mut PlainWorld,
     pid: u32,
     heir: u32,
 ) -> Result<(), WorldFault> {
@@ -32,7 +32,7 @@ fn make_with_heir(
 }
 
 /// Returns the owner of a table and whether it is fixed, or `GONE` if the table does not exist.
-fn owner_and_fix(world: &Tables, id: u32) -> (u32, bool) {
+fn owner_and_fix(world: &PlainWorld, id: u32) -> (u32, bool) {
     match (world.metadata(id), world.table(id)) {
         (Some(metadata), Some(table)) => (metadata.owner, table.is_fixed()),
         _ => (GONE, false),
@@ -55,7 +55,7 @@ fn are_about_tables_in_order(messages: &[Term], wanted: u32) -> bool {
 }
 
 /// Makes `TABLES` tables of process 0, whose heir is process 1.
-fn make_all_with_one_heir(alloc: Global, world: &mut Tables) -> Result<(), WorldFault> {
+fn make_all_with_one_heir(alloc: Global, world: &mut PlainWorld) -> Result<(), WorldFault> {
     world.enrol(0)?;
     world.enrol(1)?;
     for _ in 0..TABLES {
@@ -65,7 +65,7 @@ fn make_all_with_one_heir(alloc: Global, world: &mut Tables) -> Result<(), World
 }
 
 /// Returns whether none of the `TABLES` tables exists.
-fn all_are_gone(world: &Tables) -> bool {
+fn all_are_gone(world: &PlainWorld) -> bool {
     for id in 0..TABLES {
         if owner_and_fix(world, id) != (GONE, false) {
             return false;
@@ -75,7 +75,7 @@ fn all_are_gone(world: &Tables) -> bool {
 }
 
 /// Returns whether the exit of process 0 passes all tables to their heir in order, and the heir's exit deletes them.
-fn passes_tables_on(alloc: Global, world: &mut Tables) -> Result<bool, WorldFault> {
+fn passes_tables_on(alloc: Global, world: &mut PlainWorld) -> Result<bool, WorldFault> {
     make_all_with_one_heir(alloc, world)?;
     world.end(0)?;
     let last = owner_and_fix(world, TABLES - 1);
@@ -139,7 +139,7 @@ fn owner_and_fix_after(id: u32, turns: u32) -> (u32, bool) {
 }
 
 /// Enrols all processes.
-fn enrol_all(world: &mut Tables) -> Result<(), WorldFault> {
+fn enrol_all(world: &mut PlainWorld) -> Result<(), WorldFault> {
     for pid in 0..MANY {
         world.enrol(pid)?;
     }
@@ -147,7 +147,7 @@ fn enrol_all(world: &mut Tables) -> Result<(), WorldFault> {
 }
 
 /// Makes a table of each process, with the heir `heir_of`, and fixes it for the process `fixer_of`.
-fn make_and_fix_all(alloc: Global, world: &mut Tables) -> Result<(), WorldFault> {
+fn make_and_fix_all(alloc: Global, world: &mut PlainWorld) -> Result<(), WorldFault> {
     for id in 0..MANY {
         make_with_heir(alloc, world, id, heir_of(id))?;
         drop(fix_table(alloc, world, fixer_of(id), id)?);
@@ -156,7 +156,7 @@ fn make_and_fix_all(alloc: Global, world: &mut Tables) -> Result<(), WorldFault>
 }
 
 /// Returns the first table with another owner or fix than it must have after a number of turns.
-fn first_wrong_table_after(world: &Tables, turns: u32) -> Option<u32> {
+fn first_wrong_table_after(world: &PlainWorld, turns: u32) -> Option<u32> {
     for id in 0..MANY {
         if owner_and_fix(world, id) != owner_and_fix_after(id, turns) {
             return Some(id);
@@ -166,7 +166,9 @@ fn first_wrong_table_after(world: &Tables, turns: u32) -> Option<u32> {
 }
 
 /// Ends all processes one by one. Returns the first turn after which a table has a wrong owner or fix, and the table.
-fn first_wrong_table_while_ending(world: &mut Tables) -> Result<Option<(u32, u32)>, WorldFault> {
+fn first_wrong_table_while_ending(
+    world: &mut PlainWorld,
+) -> Result<Option<(u32, u32)>, WorldFault> {
     for turn in 0..MANY {
         world.end(process_to_end(turn))?;
         // Compares after one turn in 16 and after the last, since to compare after each turn would take too long.
@@ -180,7 +182,10 @@ fn first_wrong_table_while_ending(world: &mut Tables) -> Result<Option<(u32, u32
 }
 
 /// Fills a world and ends all its processes. Returns the first turn after which a table is wrong, and the table.
-fn first_wrong_turn(alloc: Global, world: &mut Tables) -> Result<Option<(u32, u32)>, WorldFault> {
+fn first_wrong_turn(
+    alloc: Global,
+    world: &mut PlainWorld,
+) -> Result<Option<(u32, u32)>, WorldFault> {
     enrol_all(world)?;
     make_and_fix_all(alloc, world)?;
     first_wrong_table_while_ending(world)

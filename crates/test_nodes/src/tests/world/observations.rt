@@ -1,6 +1,7 @@
-// All that can be observed of a world, as a list of terms. A test compares two such lists to see whether a call that
-// ran out of memory changed the world. The numbers 0 to 3 and the names are those that the test in `refused` uses.
-use super::Tables;
+//! All that can be observed of a world, as a list of terms.
+// A test compares two such lists to see whether a call that ran out of memory changed the world. The numbers 0 to 3 and
+// the names are those that the test in `refused` uses.
+use super::PlainWorld;
 use crate::tests::keep_if_ok;
 use crate::tests::text::term;
 use ets_term::{Integer, Term};
@@ -34,7 +35,7 @@ fn add_flag(observed: &mut Vec<Term>, value: bool) -> Result<(), AllocError> {
 /// Appends whether a process lives, and the messages in its mailbox.
 fn observe_process(
     alloc: Global,
-    world: &Tables,
+    world: &PlainWorld,
     pid: u32,
     observed: &mut Vec<Term>,
 ) -> Result<(), AllocError> {
@@ -46,7 +47,7 @@ fn observe_process(
 }
 
 /// Returns whether a table is found by its identifier.
-fn is_resolved(world: &Tables, id: u32) -> bool {
+fn is_resolved(world: &PlainWorld, id: u32) -> bool {
     let named = Term::Tid(id);
     let found = world.resolve(&named);
     drop(named);
@@ -55,7 +56,7 @@ fn is_resolved(world: &Tables, id: u32) -> bool {
 
 /// Appends an item of a table, if the table exists.
 fn observe_item(
-    world: &Tables,
+    world: &PlainWorld,
     id: u32,
     item: InfoItem,
     observed: &mut Vec<Term>,
@@ -68,7 +69,7 @@ fn observe_item(
 
 /// Appends whether a table exists, and these items of it.
 fn observe_items(
-    world: &Tables,
+    world: &PlainWorld,
     id: u32,
     items: &[InfoItem],
     observed: &mut Vec<Term>,
@@ -82,7 +83,7 @@ fn observe_items(
 
 /// Appends whether a process may read and write a table, and owns it.
 fn observe_rights(
-    world: &Tables,
+    world: &PlainWorld,
     pid: u32,
     id: u32,
     observed: &mut Vec<Term>,
@@ -93,7 +94,11 @@ fn observe_rights(
 }
 
 /// Appends the rights in a table of processes 0 to 3.
-fn observe_all_rights(world: &Tables, id: u32, observed: &mut Vec<Term>) -> Result<(), AllocError> {
+fn observe_all_rights(
+    world: &PlainWorld,
+    id: u32,
+    observed: &mut Vec<Term>,
+) -> Result<(), AllocError> {
     for pid in 0..4 {
         observe_rights(world, pid, id, observed)?;
     }
@@ -103,7 +108,7 @@ fn observe_all_rights(world: &Tables, id: u32, observed: &mut Vec<Term>) -> Resu
 /// Appends the identifier of the table that has a name, or 0 if there is no such table.
 fn observe_name(
     alloc: Global,
-    world: &Tables,
+    world: &PlainWorld,
     name: &str,
     observed: &mut Vec<Term>,
 ) -> Result<(), AllocError> {
@@ -122,7 +127,7 @@ static NAMES: [&str; 5] = ["a_name_longer_than_its_place", "u", "v", "w", "x"];
 /// Appends processes 0 to 3, and tables 0 to 3 with these items and the rights of the processes in each.
 fn observe_numbers(
     alloc: Global,
-    world: &Tables,
+    world: &PlainWorld,
     items: &[InfoItem],
     observed: &mut Vec<Term>,
 ) -> Result<(), AllocError> {
@@ -137,7 +142,7 @@ fn observe_numbers(
 /// Appends the identifiers of the tables that have these names.
 fn observe_names(
     alloc: Global,
-    world: &Tables,
+    world: &PlainWorld,
     names: &[&'static str],
     observed: &mut Vec<Term>,
 ) -> Result<(), AllocError> {
@@ -148,14 +153,18 @@ fn observe_names(
 }
 
 /// Appends all that can be observed of the world: how many tables were made, each process, each table and each name.
-fn observe_all(alloc: Global, world: &Tables, observed: &mut Vec<Term>) -> Result<(), AllocError> {
+fn observe_all(
+    alloc: Global,
+    world: &PlainWorld,
+    observed: &mut Vec<Term>,
+) -> Result<(), AllocError> {
     add_observation(observed, Term::Int(Integer::from(world.made())))?;
     observe_numbers(alloc, world, &ITEMS, observed)?;
     observe_names(alloc, world, &NAMES, observed)
 }
 
 /// Returns all that can be observed of a world.
-pub fn observe_world(alloc: Global, world: &Tables) -> Result<Vec<Term>, AllocError> {
+pub fn observe_world(alloc: Global, world: &PlainWorld) -> Result<Vec<Term>, AllocError> {
     // There are about a hundred observations.
     let mut observed = Vec::with_capacity(alloc, 128)?;
     keep_if_ok(observe_all(alloc, world, &mut observed), observed)

@@ -1,5 +1,5 @@
-// The options of `new`, and what `info` then replies. A row is a call and its wanted answer. The world makes tables
-// also for a process that did not enrol.
+//! A test of the options of `new`, and of what `info` then replies.
+// A row is a call and its wanted answer. The world makes tables also for a process that did not enrol.
 use super::Call::{Info, New};
 use super::{Pid, Row, Tid, first_wrong_scenario};
 use std::process::Abort;

@@ -1,6 +1,6 @@
-// Owners, heirs, rights and names. A row is a call and its wanted answer. The world makes tables also for a process
-// that did not enrol.
-use super::Call::{Drop, End, Enrol, Give, Info, New, Receive, Resolve, Rights, Set};
+//! A test of owners, heirs, rights and names of tables.
+// A row is a call and its wanted answer. The world makes tables also for a process that did not enrol.
+use super::Call::{Delete, End, Enrol, GiveAway, Info, New, Receive, Resolve, Rights, SetOptions};
 use super::{DONE, Pid, Row, Tid, first_wrong_scenario};
 use std::process::Abort;
 
@@ -9,11 +9,11 @@ static GIVEN: [Row; 14] = [
     (Enrol(Pid(0)), DONE),
     (Enrol(Pid(1)), DONE),
     (New(Pid(0), "x", "[]"), "#Tid<0>"),
-    (Give(Pid(1), Tid(0), Pid(1), "g"), "** badarg"),
-    (Give(Pid(0), Tid(0), Pid(0), "g"), "** badarg"),
-    (Give(Pid(0), Tid(0), Pid(2), "g"), "** badarg"),
-    (Give(Pid(0), Tid(1), Pid(1), "g"), "** badarg"),
-    (Give(Pid(0), Tid(0), Pid(1), "g"), DONE),
+    (GiveAway(Pid(1), Tid(0), Pid(1), "g"), "** badarg"),
+    (GiveAway(Pid(0), Tid(0), Pid(0), "g"), "** badarg"),
+    (GiveAway(Pid(0), Tid(0), Pid(2), "g"), "** badarg"),
+    (GiveAway(Pid(0), Tid(1), Pid(1), "g"), "** badarg"),
+    (GiveAway(Pid(0), Tid(0), Pid(1), "g"), DONE),
     (Receive(Pid(1)), "[{'ETS-TRANSFER',#Tid<0>,<0.0.0>,g}]"),
     (Rights(Pid(0), Tid(0)), "[read]"),
     (Rights(Pid(1), Tid(0)), "[read,write,own]"),
@@ -27,15 +27,21 @@ static HEIRS: [Row; 13] = [
     (Enrol(Pid(0)), DONE),
     (Enrol(Pid(1)), DONE),
     (New(Pid(0), "t", "[named_table]"), "t"),
-    (Set(Pid(0), Tid(0), "[{heir,<0.1.0>,a},{heir,none}]"), DONE),
+    (
+        SetOptions(Pid(0), Tid(0), "[{heir,<0.1.0>,a},{heir,none}]"),
+        DONE,
+    ),
     (Info(Tid(0), "heir"), "none"),
-    (Set(Pid(0), Tid(0), "{heir,<0.1.0>,a}"), DONE),
+    (SetOptions(Pid(0), Tid(0), "{heir,<0.1.0>,a}"), DONE),
     (Info(Tid(0), "heir"), "<0.1.0>"),
-    (Set(Pid(1), Tid(0), "[]"), "** badarg"),
-    (Set(Pid(0), Tid(0), "[{heir,none},{heir,1,a}]"), "** badarg"),
-    (Set(Pid(0), Tid(0), "heir"), "** badarg"),
-    (Set(Pid(0), Tid(1), "[]"), "** badarg"),
-    (Set(Pid(0), Tid(0), "[]"), DONE),
+    (SetOptions(Pid(1), Tid(0), "[]"), "** badarg"),
+    (
+        SetOptions(Pid(0), Tid(0), "[{heir,none},{heir,1,a}]"),
+        "** badarg",
+    ),
+    (SetOptions(Pid(0), Tid(0), "heir"), "** badarg"),
+    (SetOptions(Pid(0), Tid(1), "[]"), "** badarg"),
+    (SetOptions(Pid(0), Tid(0), "[]"), DONE),
     (Info(Tid(0), "heir"), "<0.1.0>"),
 ];
 
@@ -61,12 +67,12 @@ static NAMES: [Row; 12] = [
     (Resolve("t"), "#Tid<0>"),
     (Resolve("#Tid<1>"), "#Tid<1>"),
     (Resolve("1"), "none"),
-    (Drop(Tid(0)), DONE),
+    (Delete(Tid(0)), DONE),
     (Resolve("t"), "none"),
     (Resolve("#Tid<0>"), "none"),
     (New(Pid(0), "t", "[named_table]"), "t"),
     (Resolve("t"), "#Tid<2>"),
-    (Drop(Tid(0)), DONE),
+    (Delete(Tid(0)), DONE),
 ];
 
 /// Runs the rows about owners, heirs, rights and names.

@@ -1,9 +1,10 @@
-// Out of memory. `.ci/refusals` runs these tests many times, each time with another allocation refused. A call that
-// runs out of memory changes nothing that can be observed, and a second call must have the wanted answer. A test also
-// retries its own allocations.
-use super::Call::{End, Enrol, Fix, Give, Info, New, Receive, Set};
+//! A test of out of memory: the refused call changes nothing that can be observed, and a second call must have the
+//! wanted answer.
+// `.ci/refusals` runs this test many times, each time with another allocation refused. The test also retries its own
+// allocations. A row is a call and its wanted answer.
+use super::Call::{End, Enrol, Fix, GiveAway, Info, New, Receive, SetOptions};
 use super::observations::observe_world;
-use super::{Call, DONE, Pid, Row, Tables, Tid, Tries, answer, first_wrong_row, refusal};
+use super::{Call, DONE, Pid, PlainWorld, Row, Tid, Tries, answer, first_wrong_row, refusal};
 use crate::tests::text::is_spelled;
 use ets_term::Term;
 use ownership::WorldFault;
@@ -37,9 +38,9 @@ static CALLS: [Row; 28] = [
     (Fix(Pid(0), Tid(0)), DONE),
     (Fix(Pid(1), Tid(0)), DONE),
     (Fix(Pid(0), Tid(3)), DONE),
-    (Set(Pid(0), Tid(0), "{heir,<0.1.0>,{an,heir}}"), DONE),
+    (SetOptions(Pid(0), Tid(0), "{heir,<0.1.0>,{an,heir}}"), DONE),
     (
-        Set(
+        SetOptions(
             Pid(0),
             Tid(2),
             "[{heir,<0.2.0>,{a,b}},{heir,<0.1.0>,{c,[d]}}]",
@@ -47,13 +48,16 @@ static CALLS: [Row; 28] = [
         DONE,
     ),
     (
-        Set(Pid(0), Tid(2), "[{heir,<0.2.0>,{e,f}},{heir,7,x}]"),
+        SetOptions(Pid(0), Tid(2), "[{heir,<0.2.0>,{e,f}},{heir,7,x}]"),
         "** badarg",
     ),
-    (Give(Pid(0), Tid(1), Pid(2), "{a,{deep,[gift]}}"), DONE),
-    (Give(Pid(0), Tid(1), Pid(2), "{a,gift}"), "** badarg"),
-    (Give(Pid(1), Tid(3), Pid(0), "{another,gift}"), DONE),
-    (Set(Pid(0), Tid(3), "{heir,<0.2.0>,{last,gift}}"), DONE),
+    (GiveAway(Pid(0), Tid(1), Pid(2), "{a,{deep,[gift]}}"), DONE),
+    (GiveAway(Pid(0), Tid(1), Pid(2), "{a,gift}"), "** badarg"),
+    (GiveAway(Pid(1), Tid(3), Pid(0), "{another,gift}"), DONE),
+    (
+        SetOptions(Pid(0), Tid(3), "{heir,<0.2.0>,{last,gift}}"),
+        DONE,
+    ),
     (End(Pid(0)), DONE),
     (End(Pid(0)), "** noproc"),
     (
@@ -69,7 +73,7 @@ static CALLS: [Row; 28] = [
 ];
 
 /// Returns all that can be observed of a world. Observes it a second time if memory runs out.
-fn observe_world_with_retry(alloc: Global, world: &Tables) -> Result<Vec<Term>, AllocError> {
+fn observe_world_with_retry(alloc: Global, world: &PlainWorld) -> Result<Vec<Term>, AllocError> {
     match observe_world(alloc, world) {
         Ok(observed) => Ok(observed),
         Err(_) => observe_world(alloc, world),
@@ -101,7 +105,7 @@ fn answer_has_text(
 }
 
 /// Returns whether all that can be observed of a world is equal to `before`.
-fn is_unchanged(alloc: Global, world: &Tables, before: &[Term]) -> Result<bool, AllocError> {
+fn is_unchanged(alloc: Global, world: &PlainWorld, before: &[Term]) -> Result<bool, AllocError> {
     let after = observe_world_with_retry(alloc, world)?;
     let same = after.as_slice() == before;
     drop(after);
@@ -112,7 +116,7 @@ fn is_unchanged(alloc: Global, world: &Tables, before: &[Term]) -> Result<bool, 
 /// can be observed, which was `before`, and a second call must have the wanted answer.
 fn call_has_answer_or_is_refused_once(
     alloc: Global,
-    world: &mut Tables,
+    world: &mut PlainWorld,
     before: &[Term],
     call: Call,
     wanted: &str,
@@ -132,7 +136,7 @@ fn call_has_answer_or_is_refused_once(
 /// memory changed nothing.
 pub(super) fn call_has_answer_with_retry(
     alloc: Global,
-    world: &mut Tables,
+    world: &mut PlainWorld,
     call: Call,
     wanted: &str,
 ) -> Result<bool, AllocError> {

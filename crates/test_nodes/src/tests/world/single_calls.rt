@@ -1,5 +1,5 @@
-// Each function makes one call of a world. Texts spell the names, options and terms that the call takes.
-use super::Tables;
+//! Helpers that make single calls of a world. Texts spell the names, options and terms that a call takes.
+use super::PlainWorld;
 use crate::tests::text::term;
 use bucket_table::PlainRows;
 use ets_term::{Atom, Items, Term};
@@ -16,7 +16,7 @@ pub fn empty_tuple(alloc: Global) -> Term {
 /// Makes a table with the options that a text spells. Returns its name if it is named, and its identifier otherwise.
 pub fn new_table(
     alloc: Global,
-    world: &mut Tables,
+    world: &mut PlainWorld,
     pid: u32,
     name: &str,
     options: &str,
@@ -37,8 +37,8 @@ pub fn new_table(
 }
 
 /// Returns the options of a table that a text spells.
-fn options_of(alloc: Global, options: &str) -> Result<NewOptions, WorldFault> {
-    let options = term(alloc, options)?;
+fn options_of(alloc: Global, options_text: &str) -> Result<NewOptions, WorldFault> {
+    let options = term(alloc, options_text)?;
     let read = NewOptions::read(alloc, &options);
     drop(options);
     read
@@ -48,7 +48,7 @@ fn options_of(alloc: Global, options: &str) -> Result<NewOptions, WorldFault> {
 /// otherwise.
 fn add_table(
     alloc: Global,
-    world: &mut Tables,
+    world: &mut PlainWorld,
     pid: u32,
     name: &Atom,
     options: NewOptions,
@@ -62,7 +62,7 @@ fn add_table(
 /// Returns an `info` item of a table, or `undefined` if the table does not exist.
 pub fn info_or_undefined(
     alloc: Global,
-    world: &Tables,
+    world: &PlainWorld,
     id: u32,
     item: &str,
 ) -> Result<Term, WorldFault> {
@@ -84,7 +84,7 @@ fn item_of(alloc: Global, item: &str) -> Result<Option<InfoItem>, AllocError> {
 }
 
 /// Returns the identifier of the table that a text names, or `none`.
-pub fn tid_or_none(alloc: Global, world: &Tables, named: &str) -> Result<Term, WorldFault> {
+pub fn tid_or_none(alloc: Global, world: &PlainWorld, named: &str) -> Result<Term, WorldFault> {
     let named = term(alloc, named)?;
     let found = world.resolve(&named);
     drop(named);
@@ -97,7 +97,7 @@ pub fn tid_or_none(alloc: Global, world: &Tables, named: &str) -> Result<Term, W
 /// Returns the list of what a process may do with a table: `read`, `write`, `own`.
 pub fn list_of_rights(
     alloc: Global,
-    world: &Tables,
+    world: &PlainWorld,
     pid: u32,
     id: u32,
 ) -> Result<Term, WorldFault> {
@@ -114,7 +114,7 @@ pub fn list_of_rights(
 /// Appends what a process may do with a table: `read`, `write` or `own`.
 fn push_rights(
     alloc: Global,
-    world: &Tables,
+    world: &PlainWorld,
     pid: u32,
     id: u32,
     rights: &mut Items<Term>,
@@ -138,7 +138,12 @@ fn push_right(
 }
 
 /// Fixes a table for a process. A table that does not exist is refused.
-pub fn fix_table(alloc: Global, world: &mut Tables, pid: u32, id: u32) -> Result<Term, WorldFault> {
+pub fn fix_table(
+    alloc: Global,
+    world: &mut PlainWorld,
+    pid: u32,
+    id: u32,
+) -> Result<Term, WorldFault> {
     let Some(table) = world.table_mut(id) else {
         return Err(WorldFault::Badarg);
     };
@@ -152,7 +157,7 @@ pub fn fix_table(alloc: Global, world: &mut Tables, pid: u32, id: u32) -> Result
 /// Gives a table to another process, with a gift that a text spells.
 pub fn give_away(
     alloc: Global,
-    world: &mut Tables,
+    world: &mut PlainWorld,
     pid: u32,
     id: u32,
     to: u32,
@@ -167,7 +172,7 @@ pub fn give_away(
 /// Sets options of a table, which a text spells.
 pub fn set_options(
     alloc: Global,
-    world: &mut Tables,
+    world: &mut PlainWorld,
     pid: u32,
     id: u32,
     options: &str,

@@ -1,7 +1,8 @@
-// A reader: it reads the tables of the writers and its own, and it fixes and traverses the tables of the writers. Table
-// `tN` is the table of process N. A reader or a turn 'is right' if all its replies are right.
+//! The calls of a reader: it reads the tables of the writers and its own, and it fixes and traverses the tables of the
+//! writers.
+// Table `tN` is the table of process N. A reader or a turn 'is right' if all its replies are right.
 use super::{KEPT_KEYS, READS, WRITERS};
-use crate::tests::calls::{call_with, caller_gets_value_for, read_gives_list};
+use crate::tests::calls::{build_formatted_call, caller_gets_value_formatted, read_gives_list};
 use ets_term::{KeyHash, Term};
 use node_core::Reply;
 use node_shared::{Caller, HistoryId, Server};
@@ -56,7 +57,7 @@ fn turn_is_right<B: HistoryId, H: KeyHash + Copy + Drop, R: Wait>(
     match turn % OWN_WRITE_PERIOD {
         0 => {
             let object = format!(in alloc; "[t{own_table},{{own,{turn}}}]");
-            caller_gets_value_for(rt, alloc, server, caller, ("insert", object))
+            caller_gets_value_formatted(rt, alloc, server, caller, ("insert", object))
         }
         1 => {
             let written = turn.wrapping_sub(1);
@@ -86,10 +87,16 @@ fn traversal_is_exact<B: HistoryId, H: KeyHash + Copy + Drop, R: Wait>(
     writer: u32,
 ) -> Option<bool> {
     let fix = format!(in alloc; "[t{writer},true]");
-    let is_fixed = caller_gets_value_for(rt, alloc, server, caller, ("safe_fixtable", fix))?;
+    let is_fixed = caller_gets_value_formatted(rt, alloc, server, caller, ("safe_fixtable", fix))?;
     let is_whole = visits_each_kept_key_once(rt, alloc, server, caller, writer)?;
     let release = format!(in alloc; "[t{writer},false]");
-    let is_released = caller_gets_value_for(rt, alloc, server, caller, ("safe_fixtable", release))?;
+    let is_released = caller_gets_value_formatted(
+        rt,
+        alloc,
+        server,
+        caller,
+        ("safe_fixtable", release),
+    )?;
     Some(is_fixed && is_whole && is_released)
 }
 
@@ -141,7 +148,7 @@ fn key_of<B: HistoryId, H: KeyHash + Copy + Drop, R: Wait>(
     caller: &Caller<B>,
     text: (&str, Result<String, AllocError>),
 ) -> Option<Option<u32>> {
-    let request = call_with(alloc, text)?;
+    let request = build_formatted_call(alloc, text)?;
     Some(match caller.read(rt, server, &request).ok()? {
         Some(Reply::Value(Term::Int(key))) => u32::try_from(key).ok(),
         _ => None,

@@ -1,7 +1,10 @@
-// A writer: it inserts and deletes in batches, so that its table grows, and it inherits the tables of its guests. Table
-// `tN` is the table of process N. A writer or a batch 'is right' if all its replies are right.
+//! The calls of a writer: it inserts and deletes in batches, and it inherits the tables of its guests.
+// The batches make its table grow. Table `tN` is the table of process N. A writer or a batch 'is right' if all its
+// replies are right.
 use super::{BATCHES, GUESTS, KEPT_KEYS};
-use crate::tests::calls::{build_call, call_with, caller_gets_value_for, is_list, read_gives_list};
+use crate::tests::calls::{
+    build_call, build_formatted_call, caller_gets_value_formatted, is_list, read_gives_list,
+};
 use ets_term::KeyHash;
 use node_core::Call;
 use node_shared::{Caller, HistoryId, Server};
@@ -72,7 +75,9 @@ fn batch(alloc: Global, own_table: u32, first: u32) -> Option<Vec<Call>> {
     for index in 0..INSERTED {
         let key = first.wrapping_add(index);
         let object = format!(in alloc; "[t{own_table},{{{key},{number}}}]");
-        calls.push(call_with(alloc, ("insert", object))?).ok()?;
+        calls
+            .push(build_formatted_call(alloc, ("insert", object))?)
+            .ok()?;
     }
     push_deletions(&mut calls, own_table, first)?;
     Some(calls)
@@ -84,7 +89,9 @@ fn push_deletions(calls: &mut Vec<Call>, own_table: u32, first: u32) -> Option<(
     for index in 0..DELETED {
         let key = first.wrapping_add(index);
         let arguments = format!(in alloc; "[t{own_table},{key}]");
-        calls.push(call_with(alloc, ("delete", arguments))?).ok()?;
+        calls
+            .push(build_formatted_call(alloc, ("delete", arguments))?)
+            .ok()?;
     }
     Some(())
 }
@@ -115,9 +122,9 @@ fn leaves_table<B: HistoryId, H: KeyHash + Copy + Drop, R: Wait>(
 ) -> Option<bool> {
     let table = guest.pid();
     let options = format!(in alloc; "[t{table},[named_table,{{heir,<0.{heir}.0>,gift}}]]");
-    let is_made = caller_gets_value_for(rt, alloc, server, guest, ("new", options))?;
+    let is_made = caller_gets_value_formatted(rt, alloc, server, guest, ("new", options))?;
     let objects = format!(in alloc; "[t{table},[{{1}},{{2}},{{3}}]]");
-    let is_filled = caller_gets_value_for(rt, alloc, server, guest, ("insert", objects))?;
+    let is_filled = caller_gets_value_formatted(rt, alloc, server, guest, ("insert", objects))?;
     guest.end(rt, server).ok()?;
     Some(is_made && is_filled)
 }
@@ -134,7 +141,7 @@ fn inherits<B: HistoryId, H: KeyHash + Copy + Drop, R: Wait>(
     let name = format!(in alloc; "[t{table}]");
     let has_objects = read_gives_list(rt, alloc, server, caller, ("tab2list", name), 3)?;
     let name = format!(in alloc; "[t{table}]");
-    let is_deleted = caller_gets_value_for(rt, alloc, server, caller, ("delete", name))?;
+    let is_deleted = caller_gets_value_formatted(rt, alloc, server, caller, ("delete", name))?;
     Some(has_message && has_objects && is_deleted)
 }
 

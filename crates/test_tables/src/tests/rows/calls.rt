@@ -1,4 +1,5 @@
-// Random calls on rows, compared with the same calls on a plain list that has the state of each key.
+//! Random calls on rows, compared with the same calls on a plain list that has the state of each key. The state is no
+//! slot, a tombstone, or an object.
 use super::checks::{Check, plain_rows_pass, split_rows_pass};
 use super::sweeps::sweep_sometimes;
 use super::traversals::traverses;

@@ -1,4 +1,5 @@
-// The checks of this folder, each run on new rows. All of them share the functions that create and drop rows.
+//! The checks of rows, as one enum. Each runs on new rows, and all of them share the functions that create and drop
+//! rows.
 use super::calls::rows_agree_with_list;
 use super::free::calls_take_no_memory;
 use super::growth::{

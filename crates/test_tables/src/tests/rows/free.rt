@@ -1,5 +1,5 @@
-// Calls that take no memory. The tests mark where these calls begin and end, and `.ci/refusals` refuses each allocation
-// between the marks.
+//! Calls on rows that take no memory. The tests mark where these calls begin and end, and `.ci/refusals` refuses each
+//! allocation between the marks.
 use super::checks::{Check, plain_rows_pass, split_rows_pass};
 use super::*;
 
@@ -61,34 +61,34 @@ struct Observed {
     /// The sum of all objects before the calls.
     sum: Integer,
     /// The state of key 1 before its object is replaced.
-    replaced: KeyState,
+    before_replace: KeyState,
     /// The sum of all objects after the replacement.
     sum_replaced: Integer,
     /// The state of key 2 before it is removed.
-    removed: KeyState,
+    before_removal: KeyState,
     /// The sum of all objects after the removal.
     sum_removed: Integer,
     /// The number of slots after `clear` and `purge`.
-    slots_cleared: usize,
+    slots_left: usize,
 }
 
 /// Makes calls that take no memory: replaces the object of key 1 by 10, and removes key 2. Then `clear(true)` makes
 /// tombstones of the other slots, and `purge` removes them.
 fn run_free_calls<R: Rows>(rows: &mut R, alloc: Global) -> Observed {
     let sum = sum_of_objects(rows);
-    let replaced = replace(rows, 1, Chain::one(alloc, Term::Int(10)));
+    let before_replace = replace(rows, 1, Chain::one(alloc, Term::Int(10)));
     let sum_replaced = sum_of_objects(rows);
-    let removed = remove(rows, 2);
+    let before_removal = remove(rows, 2);
     let sum_removed = sum_of_objects(rows);
     rows.clear(true);
     rows.purge();
     Observed {
         sum,
-        replaced,
+        before_replace,
         sum_replaced,
-        removed,
+        before_removal,
         sum_removed,
-        slots_cleared: rows.len(),
+        slots_left: rows.len(),
     }
 }
 
@@ -98,18 +98,18 @@ pub(super) fn calls_take_no_memory<R: Rows>(
     alloc: Global,
 ) -> Result<bool, AllocError> {
     fill_with_keys(rows, alloc)?;
-    let began = mark(alloc);
+    let start_marked = mark(alloc);
     let observed = run_free_calls(rows, alloc);
-    let ended = mark(alloc);
+    let end_marked = mark(alloc);
     let wanted = Observed {
         sum: 1 + 2 + 3 + 4,
-        replaced: KeyState::Object(1),
+        before_replace: KeyState::Object(1),
         sum_replaced: 10 + 2 + 3 + 4,
-        removed: KeyState::Object(2),
+        before_removal: KeyState::Object(2),
         sum_removed: 10 + 3 + 4,
-        slots_cleared: 0,
+        slots_left: 0,
     };
-    Ok(began && ended && observed == wanted)
+    Ok(start_marked && end_marked && observed == wanted)
 }
 
 #[test]
@@ -121,11 +121,11 @@ fn reads_replacements_and_removals_take_no_memory(rt: HostRuntime) {
 /// Returns whether counted searches between two marks find key 3, miss key 9, and count a visited node.
 fn counted_searches_are_right(rows: &SplitRows<Fnv>, alloc: Global) -> bool {
     let mut visited = Steps::new();
-    let began = mark(alloc);
+    let start_marked = mark(alloc);
     let found = is_found(rows, 3, &mut visited);
     let missed = !is_found(rows, 9, &mut visited);
-    let ended = mark(alloc);
-    began && found && missed && ended && visited.count() > 0
+    let end_marked = mark(alloc);
+    start_marked && found && missed && end_marked && visited.count() > 0
 }
 
 /// Inserts the keys 1 to 4, and returns whether counted searches between two marks are right.

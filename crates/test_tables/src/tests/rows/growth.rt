@@ -1,4 +1,5 @@
-// The doubling of buckets, and the readying of buckets.
+//! The doubling of buckets, and the readying of buckets, which inserts their dummy nodes. The answers of `grow` and
+//! `ready`, and the buckets that are then ready, are compared with the expected ones.
 use super::checks::{Check, plain_rows_pass, split_rows_pass};
 use super::*;
 

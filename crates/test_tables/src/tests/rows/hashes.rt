@@ -1,8 +1,8 @@
+//! The hashers of the tests, which put keys into known buckets.
 ghost use Rattle.std.specs.Prelude.{◌*◌, ◌/◌};
 ghost use Rattle.ets_term.specs.Encoding.{encoding, fnv};
 
-// The hashers of the tests. Of each, `ghost hash` is what contracts see of `hash32`, and `ghost below` proves that
-// hashes are below 2^32.
+// Of each hasher, `ghost hash` is what contracts see of `hash32`, and `ghost below` proves that hashes are below 2^32.
 use ets_term::{Fnv, KeyHash, Term};
 
 /// A hasher whose hashes are never odd, so that each odd bucket is empty, however many buckets there are.

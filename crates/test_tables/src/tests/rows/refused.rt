@@ -1,5 +1,5 @@
-// Out of memory. `.ci/refusals` runs these tests with each allocation refused in turn. A call that ran out of memory
-// must have changed nothing, and must succeed when it is made again.
+//! Calls on rows that run out of memory. `.ci/refusals` runs these tests with each allocation refused in turn.
+// A call that ran out of memory must have changed nothing, and must succeed when it is made again.
 use super::checks::{Check, plain_rows_pass, split_rows_pass};
 use super::growth::{each_grow_answers, ready_answers};
 use super::several::{put_three, three_keys};
@@ -59,7 +59,7 @@ fn hash_of_rows<R: Rows>(rows: &R) -> u64 {
 /// A call that takes memory.
 #[derive(Clone, Copy)]
 enum Call {
-    /// Puts the slots of `three_keys` of a number.
+    /// Inserts new slots with the keys 3n, 3n + 1 and 3n + 2, by one call of `put`.
     PutThree(u32),
     /// Doubles the buckets.
     Grow,

@@ -1,5 +1,6 @@
-// Searches at random moments of growth: each finds exactly the keys that were inserted, and in a ready bucket visits at
-// most two nodes more than the bucket has keys. The keys are the integers below the number of slots.
+//! Searches in split rows at random moments of growth. Each finds exactly the inserted keys, and in a ready bucket of n
+//! keys visits at most n + 2 nodes.
+// The keys are the integers below the number of slots.
 use super::*;
 
 /// The number of moments of growth at which keys are searched for, for each of four hashers.

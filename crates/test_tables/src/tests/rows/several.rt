@@ -1,4 +1,5 @@
-// Insertions of three slots by one call of `put`.
+//! Insertions of three new slots by one call of `put`, while the buckets double. At the end each key must have its
+//! object.
 use super::checks::{Check, plain_rows_pass, split_rows_pass};
 use super::*;
 

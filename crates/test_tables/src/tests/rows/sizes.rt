@@ -1,4 +1,5 @@
-// Rows of 70,000 slots: `insert`, `replace`, `remove`, `clear` and `purge`.
+//! Rows of 70,000 slots, a number past many powers of two. All slots are inserted, replaced and removed one by one, or
+//! removed by `clear` and `purge`.
 use super::checks::{Check, plain_rows_pass, split_rows_pass};
 use super::*;
 

@@ -1,4 +1,4 @@
-// Calls on all slots, `clear` and `purge`, made on rows and on the list that `calls` compares them with.
+//! Calls on all slots, `clear` and `purge`, made on rows and on the list that `calls` compares them with.
 use super::*;
 
 /// A call on all slots.

@@ -1,4 +1,4 @@
-// Traversals of all slots. Each next slot is found twice: by `next_place`, and by `next_at` of the key.
+//! Traversals of all slots of rows. Each next slot is found twice: by `next_place`, and by `next_at` of the key.
 use super::*;
 
 /// Returns the integer that a key is, or -1.

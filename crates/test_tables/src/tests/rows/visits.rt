@@ -1,4 +1,5 @@
-// The number of nodes that searches visit, in rows whose keys in each bucket are known.
+//! The number of list nodes that searches visit, in split rows whose keys in each bucket are known. In a ready bucket
+//! of n keys it must be at most n + 2, and in one test the least possible.
 use super::growth::{each_grow_answers, ready_answers};
 use super::*;
 

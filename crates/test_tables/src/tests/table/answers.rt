@@ -1,4 +1,4 @@
-// The expected answers of steps, and the code of each answer.
+//! The expected answers of steps, and the code of each answer: an integer, by which answers of all types are compared.
 use super::terms::as_integer;
 use ets_term::Integer;
 use table_ops::Refusal;

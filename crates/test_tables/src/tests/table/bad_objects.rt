@@ -1,4 +1,5 @@
-// Lists of objects and one bad term, which is not an object, at each index.
+//! Lists of objects and one bad term, which is not an object, at each index. `insert` and `insert_new` must refuse each
+//! list and insert none of it.
 use super::answers::Answer::{Badarg, True};
 use super::checks::{Check, plain_table_passes, split_table_passes};
 use super::objects::object_under_end_of_table;

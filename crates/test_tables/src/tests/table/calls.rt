@@ -1,4 +1,4 @@
-// Each call, and each refusal: steps in order on one table, each with its answer.
+//! Each call of a table, and each refusal: steps in order on one table, each with its expected answer.
 use super::Emptied::{LeaveTombstone, RemoveSlot};
 use super::Step::{
     CountObjects, CountSlots, Delete, DeleteAll, DeleteObject, Insert, InsertInteger, InsertNew,

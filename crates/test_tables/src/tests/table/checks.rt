@@ -1,4 +1,5 @@
-// The checks of this folder, each run on a new table. All of them share the functions that create and drop tables.
+//! The checks of tables, as one enum. Each runs on a new table, and all of them share the functions that create and
+//! drop tables.
 use super::answers::Answer;
 use super::bad_objects::refuses_bad_terms;
 use super::lists::{Row, inserts, inserts_new};

@@ -1,5 +1,6 @@
-// How many objects a deletion by a pattern or a match specification tests: those of the bound key, or all if it binds
-// no key. The table has the objects `{Key,0}` for the keys 1 to 1,000.
+//! How many objects a deletion by a pattern or a match specification tests. It tests those of its bound key, which
+//! every matching object has, or all if it binds no key.
+// The table has the objects `{Key,0}` for the keys 1 to 1,000.
 use super::Key;
 use super::searches::{Found, MISSING, Tested, both_find, select_by_keys};
 use super::terms::{pattern_of_key, spec_of_keys};

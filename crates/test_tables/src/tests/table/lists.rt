@@ -1,5 +1,6 @@
-// A list of objects whose keys repeat. The key of an object is its index modulo `KEYS`, its value the last digit of the
-// index.
+//! Insertions of one list of 10,000 objects whose keys repeat. A table of each kind inserts the list whole, or refuses
+//! it if it would exceed its greatest number of objects.
+// The key of an object is its index modulo `KEYS`, its value the last digit of the index.
 use super::answers::Answer::{self, False, SystemLimit, True};
 use super::checks::{Check, both_tables_pass};
 use super::single_calls::{lookup_code, try_insert, try_insert_new};

@@ -1,4 +1,5 @@
-// Which terms are objects: tables with other keyposes, values of the greatest depth, and the key `'$end_of_table'`.
+//! Which terms are objects: tables with other keyposes, values of the greatest depth, and the key `'$end_of_table'`,
+//! which no object has.
 use super::Emptied::{LeaveTombstone, RemoveSlot};
 use super::Step::{
     CountObjects, CountSlots, Delete, DeleteObject, Insert, InsertDeep, InsertNew, InsertNewDeep,

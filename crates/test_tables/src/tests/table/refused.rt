@@ -1,6 +1,7 @@
-// Out of memory. `.ci/refusals` runs these tests with each allocation refused in turn. A step that is refused memory
-// must change nothing, and must have the answer of ample memory when it is run again. If the refused allocation is one
-// of the test itself, the test makes it again.
+//! Steps on a table that run out of memory: `.ci/refusals` runs these tests with each allocation refused in turn. The
+//! count of objects that searches test, their *looks*, must never fall then.
+// A step that is refused memory must change nothing, and must have the answer of ample memory when it is run again. If
+// the refused allocation is one of the test itself, the test makes it again.
 use super::Emptied::{LeaveTombstone, RemoveSlot};
 use super::Step::{
     CountSlots, DeleteAll, DeleteObject, Grow, Insert, InsertDeep, InsertNew, InsertNewDeep,

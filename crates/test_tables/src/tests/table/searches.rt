@@ -1,5 +1,6 @@
-// How many objects a search tests: those of the bound key, or all if it binds no key. The objects are `{Key,0}` for the
-// keys 1 to 1,000.
+//! How many objects a search tests, as `Looks` counts them. It tests those of its bound key, which every matching
+//! object has, or all if it binds no key.
+// The objects are `{Key,0}` for the keys 1 to 1,000.
 use super::checks::{Check, plain_table_passes, split_table_passes};
 use super::deletions::deletions_are_right;
 use super::single_calls::{count_matches, count_of, insert, insert_all};

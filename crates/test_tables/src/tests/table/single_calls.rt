@@ -1,5 +1,6 @@
-// Functions that make one call on a table, and return the code of its answer. `leave_tombstone` says whether a slot
-// that loses its last object stays as a tombstone. `built` is an argument just built, or `None` if memory ran out.
+//! Functions that make one call on a table, and return the code of its answer, an integer.
+// `leave_tombstone` says whether a slot that loses its last object stays as a tombstone. `built` is an argument just
+// built, or `None` if memory ran out.
 use super::OUT_OF_MEMORY;
 use super::answers::{code_of_matchings, code_of_selections, refusal_code};
 use super::terms::{

@@ -1,4 +1,5 @@
-// Runs a step on a table. Each function runs some kinds of steps, and passes the other kinds to the next function.
+//! Functions that run a step on a table. Each runs some kinds of steps, and passes the other kinds to the next
+//! function.
 use super::Step;
 use super::single_calls::{
     clear, count_matches_of_key, deep_object, delete_below, delete_key, delete_matching,
@@ -32,8 +33,8 @@ pub fn run_step<R: Rows>(alloc: Global, table: &mut Table<R>, step: Step) -> Opt
     }
 }
 
-/// Runs a step that takes or deletes by a key, by an object, or all objects, or that purges tombstones. `run_update` gets
-/// all other kinds.
+/// Runs a step that takes or deletes by a key, by an object, or all objects, or that purges tombstones. `run_update`
+/// gets all other kinds.
 fn run_deletion<R: Rows>(alloc: Global, table: &mut Table<R>, step: Step) -> Option<Integer> {
     match step {
         Step::Take(key, emptied) => Some(try_take(table, key.0, emptied.leaves_tombstone())),

@@ -1,4 +1,5 @@
-// Builds the terms, patterns and match specifications of the tests, and computes hashes and digits of objects.
+//! Functions that build the terms, patterns and match specifications of the tests, and compute hashes and digits of
+//! objects. The digits are the second elements, written as one number.
 use super::answers::add_digit;
 use ets_term::{Atom, Integer, Items, Term};
 use match_spec::{Pattern, Spec};

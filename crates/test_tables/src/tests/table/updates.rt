@@ -1,4 +1,4 @@
-// Updates of counters and elements, and the codes of their answers.
+//! Functions that update counters and elements of a table's objects, and return the codes of the answers.
 use super::answers::refusal_code;
 use super::terms::{integer_of, tuple};
 use bucket_table::Rows;

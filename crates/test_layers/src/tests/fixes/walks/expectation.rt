@@ -1,4 +1,5 @@
-// What a table should have during a traversal, and what the traversal has visited.
+//! What a table should have during a traversal, and what the traversal has visited. It is a plain model, a vector of
+//! values by key, with which the table is compared.
 use crate::tests::keep_if_some;
 use std::alloc::Global;
 

@@ -1,5 +1,6 @@
-// Pseudo-random steps that other processes make during a traversal. Each also notes in the `Expectation` which values
-// its key then has, a bit for each value: `|` adds a value, and `& !` removes it.
+//! Pseudo-random steps that other processes make during a traversal: insertions, deletions and growth. Each also notes
+//! in the `Expectation` which values its key then has.
+// The values of a key are one number, a bit for each value: `|` adds a value, and `& !` removes it.
 use super::expectation::Expectation;
 use crate::tests::fixes::answers::{Expected, try_delete_object};
 use crate::tests::fixes::{build_object, delete, grow, insert};

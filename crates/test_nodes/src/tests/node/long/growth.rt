@@ -1,5 +1,6 @@
-// A table grows by at most one pending step after each number, and replies as the rules want. In a template a number
-// replaces each N.
+//! A test of a table that grows while thousands of objects are inserted, found and deleted. A row is the templates of a
+//! call and of its wanted reply.
+// At most one pending step runs after each number. In a template a number replaces each N.
 use super::*;
 
 /// Runs the first pending step, if any, and returns whether there was one.

@@ -1,4 +1,5 @@
-// Many objects in a table: one by one, in one call, and in one reply. In a template a number replaces each N.
+//! Tests of many objects in a table: one by one, in one call, and in one reply.
+// A row is the templates of a call and of its wanted reply. In a template a number replaces each N.
 use super::*;
 
 /// Templates of calls and of their replies. Each call is made for all numbers before the next call.
@@ -35,17 +36,17 @@ fn a_table_has_many_objects(rt: HostRuntime) {
     assert!(rt; new_node_passes(rt.alloc(), Check::Objects) == Ok(true));
 }
 
-/// A long text: `start`, then the template `middle` for each number in turn, then `end`. A `middle` ends with a comma;
-/// the module `text`, which reads the text, allows a comma before the closing bracket.
+/// A template of a long text: `start`, then the template `middle` for each number in turn, then `end`. A `middle` ends
+/// with a comma; the module `text`, which reads the text, allows a comma before the closing bracket.
 #[derive(Clone, Copy)]
-struct LongText<'a> {
+struct LongTemplate<'a> {
     start: &'a str,
     middle: &'a str,
     end: &'a str,
 }
 
-/// Builds a long text and appends it.
-fn push_long_text(alloc: Global, text: &mut String, long: LongText) -> Result<(), AllocError> {
+/// Appends a long text.
+fn push_long_text(alloc: Global, text: &mut String, long: LongTemplate) -> Result<(), AllocError> {
     text.push_str(long.start)?;
     for number in 0..COUNT {
         push_template(alloc, text, long.middle, number)?;
@@ -54,7 +55,7 @@ fn push_long_text(alloc: Global, text: &mut String, long: LongText) -> Result<()
 }
 
 /// Builds a long text.
-fn long_text(alloc: Global, long: LongText) -> Result<String, AllocError> {
+fn long_text(alloc: Global, long: LongTemplate) -> Result<String, AllocError> {
     let mut text = String::new(alloc);
     keep_if_ok(push_long_text(alloc, &mut text, long), text)
 }
@@ -103,7 +104,7 @@ fn passes_with_second_text(
     alloc: Global,
     check: TextCheck,
     first: &str,
-    second: LongText,
+    second: LongTemplate,
 ) -> Result<bool, AllocError> {
     let second = long_text(alloc, second)?;
     let passed = new_node_passes_with_texts(alloc, check, first, second.as_str());
@@ -115,8 +116,8 @@ fn passes_with_second_text(
 fn passes_with_long_texts(
     alloc: Global,
     check: TextCheck,
-    first: LongText,
-    second: LongText,
+    first: LongTemplate,
+    second: LongTemplate,
 ) -> Result<bool, AllocError> {
     let first = long_text(alloc, first)?;
     let passed = passes_with_second_text(alloc, check, first.as_str(), second);
@@ -142,12 +143,12 @@ fn inserts_and_lists(
 
 /// Returns whether one call inserts an object for each number. The call begins with `start`; `object` is a template.
 fn inserts_at_once(alloc: Global, start: &str, object: &str) -> Result<bool, AllocError> {
-    let insert = LongText {
+    let insert = LongTemplate {
         start,
         middle: object,
         end: "])",
     };
-    let listed = LongText {
+    let listed = LongTemplate {
         start: "any order: [",
         middle: object,
         end: "]",
@@ -184,14 +185,14 @@ fn finds_many_objects(
 }
 
 /// The reply of `match` with the keys of many objects: a list of bindings for each object.
-const BINDINGS: LongText<'static> = LongText {
+const BINDINGS: LongTemplate<'static> = LongTemplate {
     start: "any order: [",
     middle: "[N],",
     end: "]",
 };
 
 /// The reply of `select` with the keys of many objects.
-const RESULTS: LongText<'static> = LongText {
+const RESULTS: LongTemplate<'static> = LongTemplate {
     start: "any order: [",
     middle: "N,",
     end: "]",
@@ -219,14 +220,14 @@ fn call_on_set_has_reply(
 }
 
 /// One call that adds 1 to a counter many times. The counter starts at -1, so that its first value is 0.
-const INCREMENTS: LongText<'static> = LongText {
+const INCREMENTS: LongTemplate<'static> = LongTemplate {
     start: "update_counter(s,c,[",
     middle: "{2,1},",
     end: "],{c,-1})",
 };
 
 /// The reply: the value of the counter after each addition.
-const VALUES: LongText<'static> = LongText {
+const VALUES: LongTemplate<'static> = LongTemplate {
     start: "[",
     middle: "N,",
     end: "]",

@@ -1,31 +1,32 @@
-// Many processes, many tables of one process, and names of every length.
-use super::super::Event::End;
-use super::super::{Event, term};
+//! Tests of many processes, of many tables of one process, and of names of every length.
+// In a template of a reply a number replaces each N.
+use super::super::StepText::End;
+use super::super::{StepText, term};
 use super::*;
 use ets_term::Term;
 
-/// Runs the step of an event, and returns whether its reply is the template `wanted`, filled in with a number.
-fn event_has_filled_reply(
+/// Runs the step of a `StepText`, and returns whether its reply is the template `wanted`, filled in with a number.
+fn step_text_has_filled_reply(
     alloc: Global,
     node: &mut Node<Fnv>,
-    event: Event,
+    step_text: StepText,
     wanted: &str,
     number: u32,
 ) -> Result<bool, AllocError> {
     let wanted = fill_template(alloc, wanted, number)?;
-    let done = event_has_reply(alloc, node, event, wanted.as_str());
+    let done = step_text_has_reply(alloc, node, step_text, wanted.as_str());
     drop(wanted);
     done
 }
 
 /// Enrols a process, and returns whether the reply is its pid.
 fn enrols(alloc: Global, node: &mut Node<Fnv>, pid: u32) -> Result<bool, AllocError> {
-    event_has_filled_reply(alloc, node, Enrol(Pid(pid)), "<0.N.0>", pid)
+    step_text_has_filled_reply(alloc, node, Enrol(Pid(pid)), "<0.N.0>", pid)
 }
 
 /// Makes an unnamed table of a process, and returns whether it gets this identifier.
 fn makes_table(alloc: Global, node: &mut Node<Fnv>, pid: u32, id: u32) -> Result<bool, AllocError> {
-    event_has_filled_reply(alloc, node, Ask(Pid(pid), "new(u,[])"), "#Tid<N>", id)
+    step_text_has_filled_reply(alloc, node, Ask(Pid(pid), "new(u,[])"), "#Tid<N>", id)
 }
 
 /// Returns the table with this identifier, if it exists.
@@ -53,7 +54,7 @@ const EXIT_EVERY: u32 = 16;
 /// Ends every sixteenth process, and returns whether all these steps have their replies.
 fn every_16th_exits(alloc: Global, node: &mut Node<Fnv>, count: u32) -> Result<bool, AllocError> {
     for pid in 0..count {
-        if pid % EXIT_EVERY == 0 && !event_has_reply(alloc, node, End(Pid(pid)), "true")? {
+        if pid % EXIT_EVERY == 0 && !step_text_has_reply(alloc, node, End(Pid(pid)), "true")? {
             return Ok(false);
         }
     }
@@ -97,7 +98,7 @@ pub fn exit_deletes_many_tables(
 ) -> Result<bool, AllocError> {
     if !starts_with_table(alloc, node)?
         || !makes_many_tables(alloc, node, count)?
-        || !event_has_reply(alloc, node, End(Pid(0)), "true")?
+        || !step_text_has_reply(alloc, node, End(Pid(0)), "true")?
     {
         return Ok(false);
     }

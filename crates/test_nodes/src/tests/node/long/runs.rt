@@ -1,4 +1,5 @@
-// `Node::run` and `Node::run_through` with thousands of steps.
+//! Tests of `Node::run` and `Node::run_through` with thousands of steps: each step has a reply, and the last reply is
+//! the object inserted last.
 use super::super::{ask, build_step, reply_has_text};
 use super::*;
 use node_core::{Reply, Step};

@@ -1,9 +1,10 @@
-// An `Others` for tests: it hands in the steps of a plan after each key that the traversal visits. The index of the
-// key, from 0, is the turn.
+//! An `Others` for tests: it hands in the steps of a plan after each key that the traversal visits.
+// `Others` is the trait by which `walk_among` gets the steps of other processes. The index of the key, from 0, is the
+// turn.
 ghost use Rattle.std.specs.Prelude.{◌≡◌, []};
 
-use super::super::Event::{Ask, Grow, Ready};
-use super::super::{Bucket, Event, Pid, Tid, build_step};
+use super::super::StepText::{Ask, Grow, Ready};
+use super::super::{Bucket, Pid, StepText, Tid, build_step};
 use crate::tests::keep_if_ok;
 use ets_term::{Integer, Term};
 use node_core::{Others, Step};
@@ -13,7 +14,7 @@ use std::alloc::{AllocError, Global};
 #[derive(Clone, Copy)]
 pub enum Plan {
     /// These steps, after each key.
-    Always(&'static [Event<'static>]),
+    Always(&'static [StepText<'static>]),
     /// Process 1 deletes the visited key and inserts it again, the buckets double, and the bucket whose number is the
     /// turn becomes ready.
     DeleteAndInsert,
@@ -89,23 +90,27 @@ fn plan_steps(
     last: &Term,
 ) -> Result<Vec<Step>, AllocError> {
     match plan {
-        Plan::Always(events) => steps_of(alloc, events),
+        Plan::Always(step_texts) => steps_of(alloc, step_texts),
         Plan::DeleteAndInsert => delete_and_insert(alloc, turn, last),
         Plan::InsertNewKey => insert_new_key(alloc, turn),
         Plan::NoMemory => Err(AllocError),
     }
 }
 
-/// Builds the steps of events.
-fn steps_of(alloc: Global, events: &[Event]) -> Result<Vec<Step>, AllocError> {
-    let mut steps = Vec::with_capacity(alloc, events.len())?;
-    keep_if_ok(push_steps(alloc, &mut steps, events), steps)
+/// Builds the steps of `StepText`s.
+fn steps_of(alloc: Global, step_texts: &[StepText]) -> Result<Vec<Step>, AllocError> {
+    let mut steps = Vec::with_capacity(alloc, step_texts.len())?;
+    keep_if_ok(push_steps(alloc, &mut steps, step_texts), steps)
 }
 
-/// Builds the steps of events and appends them.
-fn push_steps(alloc: Global, steps: &mut Vec<Step>, events: &[Event]) -> Result<(), AllocError> {
-    for event in events {
-        steps.push(build_step(alloc, *event)?)?;
+/// Builds the steps of `StepText`s and appends them.
+fn push_steps(
+    alloc: Global,
+    steps: &mut Vec<Step>,
+    step_texts: &[StepText],
+) -> Result<(), AllocError> {
+    for step_text in step_texts {
+        steps.push(build_step(alloc, *step_text)?)?;
     }
     Ok(())
 }

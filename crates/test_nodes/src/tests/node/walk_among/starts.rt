@@ -1,6 +1,6 @@
-// The steps before a walk (`Row`s with their replies), and the steps of others during it (`Event`s). Process 0 walks,
-// in all but `SEVENTY_KEYS`; process 1 is one of the others.
-use super::super::Event::{self, Ask, Enrol};
+//! The steps before a walk (`Row`s with their replies), and the steps of others during it (`StepText`s).
+// Process 0 walks, in all but `SEVENTY_KEYS`; process 1 is one of the others.
+use super::super::StepText::{self, Ask, Enrol};
 use super::super::{Pid, Row};
 
 /// Process 0 asks whether the table is fixed. It is not.
@@ -55,38 +55,38 @@ pub const SEVENTY_KEYS: [Row; 4] = [
 ];
 
 /// Others delete the table.
-pub const DELETES_TABLE: [Event; 1] = [Ask(Pid(1), "delete(t)")];
+pub const DELETES_TABLE: [StepText; 1] = [Ask(Pid(1), "delete(t)")];
 
 /// Others delete the table and create another table with its name.
-pub const MAKES_TABLE_ANEW: [Event; 3] = [
+pub const MAKES_TABLE_ANEW: [StepText; 3] = [
     Ask(Pid(1), "delete(t)"),
     Ask(Pid(1), "new(t,[named_table,public])"),
     Ask(Pid(1), "insert(t,[{1,a},{2,b}])"),
 ];
 
 /// The walker enrols again, between two steps of process 1.
-pub const WALKER_ENROLS: [Event; 3] = [
+pub const WALKER_ENROLS: [StepText; 3] = [
     Ask(Pid(1), "insert(t,{3,c})"),
     Enrol(Pid(0)),
     Ask(Pid(1), "insert(t,{4,d})"),
 ];
 
 /// The walker exits, between two steps of process 1.
-pub const WALKER_ENDS: [Event; 3] = [
+pub const WALKER_ENDS: [StepText; 3] = [
     Ask(Pid(1), "insert(t,{3,c})"),
-    Event::End(Pid(0)),
+    StepText::End(Pid(0)),
     Ask(Pid(1), "insert(t,{4,d})"),
 ];
 
 /// The walker deletes the table, between two steps of process 1.
-pub const WALKER_DELETES_TABLE: [Event; 3] = [
+pub const WALKER_DELETES_TABLE: [StepText; 3] = [
     Ask(Pid(1), "insert(t,{3,c})"),
     Ask(Pid(0), "delete(t)"),
     Ask(Pid(1), "insert(t,{4,d})"),
 ];
 
 /// Others delete all objects.
-pub static DELETES_ALL_OBJECTS: [Event; 1] = [Ask(Pid(1), "delete_all_objects(t)")];
+pub static DELETES_ALL_OBJECTS: [StepText; 1] = [Ask(Pid(1), "delete_all_objects(t)")];
 
 /// Makes the private table t of process 1, which process 0 may not read.
 pub const PRIVATE_TABLE_OF_ANOTHER: [Row; 3] = [
@@ -100,5 +100,5 @@ pub const WALKER_HAS_ENDED: [Row; 4] = [
     (Enrol(Pid(0)), "<0.0.0>"),
     (Enrol(Pid(1)), "<0.1.0>"),
     (Ask(Pid(1), "new(t,[named_table])"), "t"),
-    (Event::End(Pid(0)), "true"),
+    (StepText::End(Pid(0)), "true"),
 ];

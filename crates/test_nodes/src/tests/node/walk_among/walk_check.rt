@@ -1,5 +1,6 @@
-// Walks over the table t with steps of others after each key, and checks how the walk ends.
-use super::super::{Row, event_has_reply, first_wrong_row_in, has_items, term};
+//! The check of one walk over the table t, with steps of others after each key: whether it ends with the wanted keys or
+//! fault.
+use super::super::{Row, first_wrong_row_in, has_items, step_text_has_reply, term};
 use super::plan_follower::{Plan, PlanFollower};
 use ets_term::{KeyHash, Term};
 use node_core::{Limits, Node, Others, Walk, WalkFault, walk_among};
@@ -36,9 +37,9 @@ fn keys_are_wanted_end(
     alloc: Global,
     keys: &Term,
     seen: usize,
-    end: WalkEnd,
+    wanted_end: WalkEnd,
 ) -> Result<bool, AllocError> {
-    match end {
+    match wanted_end {
         WalkEnd::Keys(wanted) => has_items(alloc, keys, wanted),
         WalkEnd::KeysSeen(wanted) => Ok(seen == wanted),
         // A fault was wanted.
@@ -47,8 +48,8 @@ fn keys_are_wanted_end(
 }
 
 /// Returns whether a walk that stopped with this fault has the wanted end. The others saw `seen` keys.
-fn fault_is_wanted_end(fault: &WalkFault, seen: usize, end: WalkEnd) -> bool {
-    match end {
+fn fault_is_wanted_end(fault: &WalkFault, seen: usize, wanted_end: WalkEnd) -> bool {
+    match wanted_end {
         WalkEnd::Fault(wanted) => fault == wanted,
         WalkEnd::FaultAfter(wanted, count) => fault == wanted && seen == count,
         // Keys were wanted.
@@ -59,19 +60,19 @@ fn fault_is_wanted_end(fault: &WalkFault, seen: usize, end: WalkEnd) -> bool {
 /// Returns whether the result of a walk is the wanted end. The others saw `seen` keys.
 fn has_wanted_end(
     alloc: Global,
-    walked: Result<Walk, WalkFault>,
+    walk_result: Result<Walk, WalkFault>,
     seen: usize,
-    end: WalkEnd,
+    wanted_end: WalkEnd,
 ) -> Result<bool, AllocError> {
-    match walked {
+    match walk_result {
         Ok(Walk { keys }) => {
             let keys = Term::List(keys);
-            let same = keys_are_wanted_end(alloc, &keys, seen, end);
+            let same = keys_are_wanted_end(alloc, &keys, seen, wanted_end);
             drop(keys);
             same
         }
         Err(fault) => {
-            let same = fault_is_wanted_end(&fault, seen, end);
+            let same = fault_is_wanted_end(&fault, seen, wanted_end);
             drop(fault);
             Ok(same)
         }
@@ -79,50 +80,50 @@ fn has_wanted_end(
 }
 
 /// Walks over a table while others follow the plan, and returns whether the walk has the wanted end.
-fn walk_ends_over<H: KeyHash + Copy + Drop>(
+fn walk_over_has_wanted_end<H: KeyHash + Copy + Drop>(
     alloc: Global,
     node: &mut Node<H>,
     setup: WalkSetup,
     table: &Term,
-    end: WalkEnd,
+    wanted_end: WalkEnd,
 ) -> Result<bool, AllocError> {
     let mut others = PlanFollower::new(alloc, setup.plan);
-    let walked = walk_among(node, setup.walker, table, setup.limit, &mut others);
+    let walk_result = walk_among(node, setup.walker, table, setup.limit, &mut others);
     let seen = others.seen().len();
     drop(others);
-    has_wanted_end(alloc, walked, seen, end)
+    has_wanted_end(alloc, walk_result, seen, wanted_end)
 }
 
 /// Runs the steps before a walk, walks, and runs the step of `next_row`. Returns whether the walk has the wanted end
 /// and the step its wanted reply. A wrong reply before the walk is a fault of the test, reported as out of memory.
-fn walk_ends_in<H: KeyHash + Copy + Drop>(
+fn walk_has_wanted_end_in<H: KeyHash + Copy + Drop>(
     alloc: Global,
     node: &mut Node<H>,
     setup: WalkSetup,
-    end: WalkEnd,
+    wanted_end: WalkEnd,
     next_row: Row,
 ) -> Result<bool, AllocError> {
     if first_wrong_row_in(alloc, node, setup.rows)?.is_some() {
         return Err(AllocError);
     }
     let table = term(alloc, "t")?;
-    let ended = walk_ends_over(alloc, node, setup, &table, end);
+    let ended = walk_over_has_wanted_end(alloc, node, setup, &table, wanted_end);
     drop(table);
-    let (event, wanted) = next_row;
-    Ok(ended? && event_has_reply(alloc, node, event, wanted)?)
+    let (step_text, wanted) = next_row;
+    Ok(ended? && step_text_has_reply(alloc, node, step_text, wanted)?)
 }
 
 /// Walks by the setup in a new node with this hasher, and then runs the step of `next_row`. Returns whether the walk
 /// has the wanted end and the step its wanted reply.
-pub fn walk_ends<H: KeyHash + Copy + Drop>(
+pub fn walk_has_wanted_end<H: KeyHash + Copy + Drop>(
     alloc: Global,
     hasher: H,
     setup: WalkSetup,
-    end: WalkEnd,
+    wanted_end: WalkEnd,
     next_row: Row,
 ) -> Result<bool, AllocError> {
     let mut node = Node::new(alloc, Limits::usual(), hasher);
-    let ended = walk_ends_in(alloc, &mut node, setup, end, next_row);
+    let ended = walk_has_wanted_end_in(alloc, &mut node, setup, wanted_end, next_row);
     drop(node);
     ended
 }

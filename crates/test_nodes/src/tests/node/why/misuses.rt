@@ -1,8 +1,9 @@
-// Steps that break a rule or pass a limit. A row is a step and the wanted reason of its refusal: the first rule that it
-// breaks. A step that is not refused has `NO_REASON`.
+//! The rows of the tests of `why`: steps that break a rule or pass a limit.
+// A row is a step and the wanted reason of its refusal: the first rule that it breaks. A step that is not refused has
+// `NO_REASON`.
 use super::super::{Bucket, Pid, Tid};
-use super::Event::{Ask, End, Enrol, Grow, Ready};
 use super::Row;
+use super::StepText::{Ask, End, Enrol, Grow, Ready};
 
 /// The wanted text of a step that is not refused.
 const NO_REASON: &str = "";
