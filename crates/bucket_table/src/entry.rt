@@ -1,3 +1,5 @@
+//! The place of a slot (a key with its objects), and the result of a search before an insertion.
+
 /// The place of a slot: its index in the rows. It is valid until a slot is inserted or removed.
 pub type Place = usize;
 

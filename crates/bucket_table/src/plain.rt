@@ -1,3 +1,5 @@
+//! Rows in insertion order, over a map that keeps this order. They have one bucket, which is always ready, so no step
+//! of growth changes them. The place of a slot is its index in the map.
 ghost use Rattle.std.specs.Prelude.{◌≡◌, ◌<◌, ◌≤◌, ◌+◌, true, not, [], ◌∷◌, ◌++◌, None, IsOk, OnOk, OnErr, option_map, slice_get};
 ghost use Rattle.indexmap.specs.IndexMap.{spare};
 ghost use Rattle.bucket_table.specs.Slots.{has_objects, objects_of};

@@ -1,3 +1,5 @@
+//! Rows in hash buckets: one list of all slots, sorted by their hashes with the bits reversed (Shalev and Shavit). Each
+//! bucket is an interval of this list.
 ghost use Rattle.std.specs.Prelude.{◌≡◌, ◌∷◌, [], true, false, IfOk, option_copied};
 ghost use Rattle.bucket_table.specs.Slots.{objects_of};
 ghost use Rattle.bucket_table.specs.Buckets.{HasLooked};

@@ -1,3 +1,4 @@
+//! The faults of an update: why it is refused.
 use std::alloc::AllocError;
 
 /// Why an update is refused. A refused update changes nothing.

@@ -49,8 +49,9 @@ pub fn write_elements(
     }
 }
 
-/// Returns a copy of the value that an update writes, and changes nothing. Refuses what `write_elements` refuses. If it
-/// returns a copy, the object has an element at the position, so the element's index fits a `usize`.
+/// Returns a copy of `value`, which the caller can write to an element of `object`, and changes nothing. Refuses what
+/// `write_elements` refuses. If it returns a copy, the object has an element at the position, so the element's index
+/// fits a `usize`.
 #[inline(always)]
 pub fn element_value(
     alloc: Global,
@@ -73,7 +74,8 @@ pub fn element_value(
     copied_value(alloc, elements.as_slice(), position, value)
 }
 
-/// Returns a copy of one value, if `check_one` allows to write it.
+/// Does what `element_value` does, but for the elements of a tuple: returns a copy of `value` if `check_one` allows to
+/// write it. The caller writes the copy.
 #[inline(always)]
 fn copied_value(
     alloc: Global,
@@ -94,7 +96,7 @@ fn copied_value(
     Ok(copy_value(alloc, value)?)
 }
 
-/// Returns a copy of a value. An integer is copied without a further call.
+/// Returns a copy of any value, without the checks of `copied_value`. An integer is copied without a further call.
 #[inline(always)]
 fn copy_value(alloc: Global, value: &Term) -> Result<Term, AllocError>
     ensures { IfOk result (λ copy. copy ≡ value.now) }
@@ -105,7 +107,8 @@ fn copy_value(alloc: Global, value: &Term) -> Result<Term, AllocError>
     }
 }
 
-/// Writes a copy of one value that is not in a list.
+/// Writes a copy of the value of `spec`, which is not in a list, into the element that `spec` names. `copied_value`
+/// checks the value and copies it. If it refuses, the elements stay.
 fn copy_one(
     alloc: Global,
     elements: &mut Items<Term>,
@@ -121,7 +124,9 @@ fn copy_one(
     Ok(())
 }
 
-/// Writes copies of a list of values.
+/// Writes copies of the values of `specs`, a list, into the elements that they name, in the order of the list.
+/// `check_list` checks the list and all values are copied before the first one is written. If that fails, the elements
+/// stay.
 fn copy_list(
     alloc: Global,
     elements: &mut Items<Term>,

@@ -1,12 +1,12 @@
-//! The store as a C library: each call on a handle runs one step of the store, and returns a status and the reply, as a
-//! text or in Erlang's External Term Format.
+//! The store as a C library: a call on a handle runs one step of the store, and returns a status and the reply, as a
+//! text or in Erlang's External Term Format. Other functions open and close a handle, or return the last reply again.
 //!
 //! bindings/c/include/yoyoash.h declares these functions.
 //!
 //! *Guarantee.* A call on a handle runs the step that its text or term spells, as the specification says, or it is
 //! refused and changes nothing. The status, the number of the reply's bytes and the bytes in the caller's buffer are
-//! those of the reply. `yoyoash_why` returns why the last call was refused. Each call on a closed handle returns
-//! `CLOSED`.
+//! those of the reply. `yoyoash_why` returns why the last call was refused. On a closed handle, every
+//! function but `yoyoash_open` and `yoyoash_close` returns `CLOSED`.
 //!
 //! *Weakness.* Nothing checks what a caller in C must do: move a handle and never copy it, pass buffers that do not
 //! overlap, and let one call at a time use a handle. A handle may move to another thread, since a store is `Send`; the

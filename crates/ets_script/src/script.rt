@@ -18,12 +18,13 @@ use node_core::{Call, Limits, Node, Reply, Step};
 use std::alloc::Global;
 use std::marker::Model;
 
-/// The names that were spawned, in order, and the node.
+/// The names that were spawned, in order, and the node. A contract sees only these two. It does not see `last_caller`
+/// and `arguments`, which are not in the view, so both may change where a contract says that the script is unchanged.
 #[derive(Drop)]
 pub struct Script<H: KeyHash + Copy + Drop> {
     names: IndexSet<Vec<u8>>,
     node: Node<H>,
-    /// The process of the previous call.
+    /// The process that made the last call; 0 before the first call.
     last_caller: u32,
     /// An empty list, if any, with the memory of the arguments of an earlier call.
     arguments: Option<Vec<Term>>,

@@ -1,3 +1,5 @@
+//! Atoms: texts of at most 255 characters, all printable ASCII. `Atom::new` checks its text; `Atom::of_bytes` leaves
+//! the check to its caller.
 ghost use Rattle.std.specs.Prelude.{◌≡◌, ◌<◌, ◌≤◌, ◌↔◌, length, IfOk, IsOk, IsErrOf};
 ghost use Rattle.std.specs.List.{list_all};
 ghost use Rattle.ets_term.specs.Character.{is_character, max_characters, max_inline, IsAtomText};

@@ -1,3 +1,5 @@
+//! A `Vec` of which contracts see only the elements. It stores the elements of tuples and lists, and the bytes of
+//! binaries.
 ghost use Rattle.std.specs.Prelude.{◌≡◌, [], ◌∷◌, ◌++◌, ◌<◌, ◌==◌, length, slice_get, slice_set, slice_index, Some, OnOk, OnErr, MatchOption, option_copied};
 ghost use Rattle.std.specs.Prelude.{◌^◌};
 ghost use Rattle.std.specs.Iterator.Runs.{EveryRun, ItemsMapTo};

@@ -1,3 +1,5 @@
+//! The enum of all terms, with the copy and the depth of a term. The depth is 1 for a leaf, and one more for each tuple
+//! or list around it.
 ghost use Rattle.std.specs.Prelude.{◌≡◌, IfOk, min, map, nat_le, nat_lt, option_copied};
 ghost use Rattle.ets_term.specs.Atoms.{is_atom};
 ghost use Rattle.ets_term.specs.Depth.{depth, is_too_deep, largest, element_at};

@@ -11,7 +11,8 @@ use std::sync::ledger::Ledger;
 /// More keys than the bag has: a bound of the loop.
 const MOST_KEYS: u32 = 1_000;
 
-/// Fixes the bag and traverses it. Returns the client, and how many of the keys from before it visited.
+/// Fixes the bag and traverses it. Returns the client, and how many of the keys below `TIMES`, which were there before
+/// the others inserted, it visited.
 pub(crate) fn traverse<L: Ledger, H: KeyHash + Copy + Drop, R: Wait>(
     rt: &R,
     alloc: Global,

@@ -1,3 +1,4 @@
+//! Why bytes do not begin with a term, and why a term is not written into memory or into a writer.
 ghost use Rattle.std.specs.Prelude.{◌≡◌};
 ghost use Rattle.external_term.specs.Faults.{offset};
 
@@ -12,7 +13,8 @@ pub enum ExternalFault {
     Truncated(usize),
     /// The first byte is not the version, 131.
     BadVersion(usize),
-    /// No tag has the value of the byte at this offset.
+    /// The byte at this offset is not a supported tag. The format also has tags that are not supported, such as those
+    /// of floats (70) and maps (116).
     UnknownTag(usize),
     /// At this offset a term, or a character of a string, is at level 129.
     TooDeep(usize),

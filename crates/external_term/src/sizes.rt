@@ -8,7 +8,7 @@ use crate::put::digit_count;
 use crate::small::is_string;
 use ets_term::{Integer, Term};
 
-/// Returns the number of bytes of the integer `n`, which is not negative.
+/// Returns the number of bytes of the integer `n`, which is 0 or positive.
 #[tactic(auto, using(crate::proofs::SmallIntegers::byte_bytes, crate::proofs::SmallIntegers::word_bytes, crate::proofs::SmallIntegers::wide_bytes))]
 fn positive_size(n: Magnitude) -> usize
     ensures size { result ≡ length (integer_bytes (pos n)) }
@@ -65,7 +65,10 @@ pub(crate) fn size_of_term(term: &Term) -> usize
     match term {
         Term::Int(n) => integer_size(*n),
         Term::Atom(name) => name.text().len() + 2,
+        // The tag, 15 bytes of the node's name, and 4 bytes each of the number, the serial and the creation.
         Term::Pid(_) => 28,
+        // The tag, 2 bytes of the number of words, 15 bytes of the node's name, and 4 bytes each of the creation and
+        // the word.
         Term::Tid(_) => 26,
         Term::Tuple(items) => tuple_size(items.as_slice()),
         Term::List(items) => list_size(items.as_slice()),
@@ -95,7 +98,7 @@ fn list_size(items: &[Term]) -> usize
     sizes_of(items).saturating_add(6)
 }
 
-/// Returns the number of bytes of some terms, at most `usize::MAX`.
+/// Returns the sum of the numbers of bytes of some terms, at most `usize::MAX`.
 #[cycle(size)]
 fn sizes_of(items: &[Term]) -> usize
     ensures { result ≡ min (length (joined (map encode items.now))) usize.MAX }

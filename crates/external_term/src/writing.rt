@@ -109,7 +109,8 @@ pub(crate) fn append_chars(items: &[Term], out: &mut Vec<u8>)
     }
 }
 
-/// Appends a list as LIST_EXT: the elements, and then the empty list as the tail.
+/// Appends a list in the long form, LIST_EXT: the elements, and then the empty list as the tail. This form is for any
+/// nonempty list that STRING_EXT cannot hold, also for a short one with an element that is not a byte.
 #[cycle(append)]
 fn append_long_list(items: &[Term], out: &mut Vec<u8>)
     requires { vec_len out.old + length (long_list_bytes (map encode items.now)) ≤ vec_capacity out.old }

@@ -1,3 +1,5 @@
+//! The errors of a table with fixes: of a fix, and of `next` with a key that has no slot. Both convert to a `Refusal`,
+//! the error of the calls on objects.
 use std::alloc::AllocError;
 use table_ops::Refusal;
 

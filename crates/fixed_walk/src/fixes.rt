@@ -1,3 +1,5 @@
+//! How many fixes each process has of one table. A fix is a process's hold on a table by `safe_fixtable`; a table with
+//! a fix is fixed.
 ghost use Rattle.std.specs.Prelude.{◌≡◌, ◌+◌, ◌-◌, ◌<◌, OnOk, OnErr};
 ghost use Rattle.std.specs.FinMap as map;
 ghost use Rattle.fixed_walk.specs.Fixes.{max_fixes, fix_count, is_fixed, with_count, IsFixedBySome};
@@ -84,7 +86,7 @@ impl Fixes {
         Ok(())
     }
 
-    /// Removes all fixes of a process.
+    /// Removes all fixes of one process. The fixes of all other processes stay.
     pub fn clear(&mut self, pid: u32)
         ensures { self.new ≡ with_count self.old pid 0 }
     {

@@ -1,3 +1,5 @@
+//! A table with its fixes. A slot is a key with its objects; while the table is fixed, a deleted key keeps its slot
+//! without objects: a tombstone.
 ghost use Rattle.std.specs.Prelude.{◌≡◌, ◌<◌, ◌^◌, length, not, position, IfOk, OnErr};
 ghost use Rattle.std.specs.FinMap as map;
 ghost use Rattle.bucket_table.specs.Buckets.{IsGrown, IsReadied};

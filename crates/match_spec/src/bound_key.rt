@@ -1,3 +1,5 @@
+//! Why a search may test the objects of one key only: all objects that match have the same element at keypos. A part of
+//! a pattern is ground if it has neither a variable nor `'_'`.
 // The bound key of a pattern or match specification: the key that every matching object has.
 ghost use Rattle.std.specs.Prelude.{◌≡◌, if◌then◌else◌, Some, None, map, drop, option_copied};
 ghost use Rattle.std.specs.Option.{option_map};

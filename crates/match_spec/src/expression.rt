@@ -1,3 +1,5 @@
+//! An expression of a condition or body as a tree. A variable is already replaced by a path, the element indices that
+//! lead to its value in the object.
 // Compiled expressions.
 // The modules: `check` whether a term is an expression, `compile` it and `evaluate` it. The functions: their names
 // (`function`), how to `apply` them, `arithmetic`, `comparison`, `connectives`, type tests (`guards`), and elements and
@@ -40,7 +42,7 @@ pub(crate) enum Expression {
     List(Items<Expression>),
     /// A call of a function with its arguments.
     Apply(Function, Items<Expression>),
-    /// `and` or `or`, which evaluate all arguments.
+    /// `and` or `or`, which evaluate arguments also after one that decides their value.
     Strict(Connective, Items<Expression>),
     /// `andalso` or `orelse`, which stop at the first argument that decides their value.
     ShortCircuit(Connective, Items<Expression>),

@@ -1,3 +1,5 @@
+//! A compiled pattern, and the values of its variables in an object that matches. Contracts see only its raw term, from
+//! which it was compiled.
 ghost use Rattle.std.specs.Prelude.{◌≡◌, ◌↔◌, true, false, Some, is_some, map, option_copied, IfOk, IfSome, IsErrOf};
 ghost use Rattle.std.specs.Option.{option_map};
 ghost use Rattle.ets_term.specs.Data.{data_of};

@@ -1,3 +1,5 @@
+//! A compiled match specification: its clauses, with a cheap quick test that may reject an object first. Contracts see
+//! only its raw term, from which it was compiled.
 ghost use Rattle.std.specs.Prelude.{◌≡◌, [], ◌∷◌, ◌++◌, true, false, None, map, option_copied, IfOk, OnOk, IfSome, IsErrOf};
 ghost use Rattle.std.specs.Option.{option_map, option_map_or};
 ghost use Rattle.ets_term.specs.Data.{list, data_of, data_list};

@@ -1,3 +1,4 @@
+//! The names of the calls of `ets` as an enum, and how its values are read from texts.
 ghost use Rattle.std.specs.Prelude.{◌≡◌};
 ghost use Rattle.node_core.specs.CallName.{call_name};
 

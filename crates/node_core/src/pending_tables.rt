@@ -1,3 +1,5 @@
+//! The queue of the tables that may have a pending growth step. The dirty table need not be in the queue, so several
+//! changes of one table in a row leave the queue as it is.
 ghost use Rattle.std.specs.Prelude.{◌≡◌, ◌≤◌, ◌<◌, ℕ, [], length, drop, slice_get, OnOk, None, Some, true};
 ghost use Rattle.node_core.specs.inside.PendingTables.{Ascends, IsAmong, AreBelow, HasRoomFor};
 

@@ -1,3 +1,4 @@
+//! The position in a tuple that an argument of a call names.
 ghost use Rattle.std.specs.Prelude.{◌≡◌};
 ghost use Rattle.node_core.specs.Positions.{position_of};
 

@@ -1,4 +1,4 @@
-// Copies of terms, and their equality.
+//! Copies and comparisons of lists of terms, for the arguments of calls and for replies.
 ghost use Rattle.std.specs.Prelude.{◌≡◌, IfOk};
 ghost use Rattle.std.specs.Bool.{Decides};
 

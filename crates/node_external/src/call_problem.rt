@@ -9,7 +9,8 @@ pub enum CallProblem {
     Truncated,
     /// The first byte is not the version, 131.
     BadVersion,
-    /// A byte where a tag is expected is not a known tag.
+    /// A byte where a tag must be is not a supported tag. The format also has tags that are not supported, such as
+    /// those of floats (70) and maps (116).
     UnknownTag,
     /// A term, or a character of a string, is at level 129.
     TooDeep,

@@ -1,3 +1,5 @@
+//! The two arrays of nodes, the slab of headers and the array of slots: how they grow, and how one element is written.
+//! A slot has an item, or a placeholder where there is no item.
 ghost use Rattle.std.specs.Prelude.{◌≡◌, ◌<◌, ◌≤◌, ◌-◌, ◌^◌, Some, OnOk, vec_capacity};
 ghost use Rattle.slab.specs.Slab.{get, with_value, ContainsKey, HasRoomFor};
 ghost use Rattle.node_list.specs.inside.Slots.{WritesItem};

@@ -1,3 +1,5 @@
+//! A chain: the objects of one key, in order, which are called terms here. The first is inline, because a key of a set
+//! has at most one object.
 ghost use Rattle.std.specs.Prelude.{◌≡◌, ◌+◌, ◌<◌, ◌≤◌, vec_len, vec_capacity, [], ◌∷◌, ◌++◌, length, take, slice_get, slice_set, Some, IsOk, OnOk, OnErr, MatchOption};
 ghost use Rattle.node_list.specs.Chains.{all_but, with_element, with_element_in_first};
 

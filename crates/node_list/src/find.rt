@@ -1,3 +1,5 @@
+//! The search for the item with a split key and a key (a term). It reads nodes through the counting reader only, so it
+//! counts each node that it reads.
 ghost use Rattle.std.specs.Prelude.{◌≡◌, Some, length};
 ghost use Rattle.node_list.specs.Cells.{Sorted};
 ghost use Rattle.node_list.specs.Search.{place_of, passed};
@@ -8,8 +10,8 @@ use crate::reader::CountingReader;
 use crate::steps::Steps;
 use ets_term::Term;
 
-/// Returns the place of the first node from `start` on whose split key is `key` and whose item has the key `term`.
-/// Counts each node that it reads. Ends at the first node with a greater split key.
+/// Returns the place of the first node from `start` on with the split key `key` whose item has the key `term`. Counts
+/// each node that it reads. Ends at the first node with a greater split key.
 pub fn find_from(
     nodes: CountingReader<'_>,
     start: usize,

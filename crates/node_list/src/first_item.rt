@@ -1,3 +1,5 @@
+//! The first-item bound, a place below which there is no item: a scan of all items starts there. An item that is
+//! inserted below the bound lowers it. A removal may raise it, by a short scan.
 ghost use Rattle.std.specs.Prelude.{◌≡◌, ◌≤◌, true};
 ghost use Rattle.slab.specs.Slab.{get};
 ghost use Rattle.node_list.specs.inside.Slots.{HasNoItemBetween, has_item_at};

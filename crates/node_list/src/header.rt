@@ -1,3 +1,5 @@
+//! The header of a node, unpacked: all that a search reads of a node that it passes. `PackedHeader` is its form in
+//! memory.
 use crate::link::Link;
 
 /// The header of a node: its split key `key` and the link `next` to the next node. A search reads only this of each

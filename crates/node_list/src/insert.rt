@@ -1,3 +1,6 @@
+//! The insertion of a node after the last node whose split key is at most its own. A split key is the `u64` that sorts
+//! the list. A node is an item (a key with its objects) or a dummy (the first node of a bucket). A place is the index
+//! of a node.
 ghost use Rattle.std.specs.Prelude.{◌≡◌, ◌+◌, ◌-◌, ◌^◌, ◌<◌, Some};
 ghost use Rattle.slab.specs.Slab.{get, slab_len, HasRoomFor};
 ghost use Rattle.node_list.specs.Cells.{Sorted, new_cell};

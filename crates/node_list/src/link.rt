@@ -1,3 +1,4 @@
+//! A link: the place (index) of the next node, or none, in one word.
 ghost use Rattle.std.specs.Prelude.{◌≡◌, ◌<◌, ◌-◌, ◌^◌, Some, None};
 
 use std::marker::Model;

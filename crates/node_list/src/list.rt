@@ -1,3 +1,5 @@
+//! The list of nodes, with its public operations. A node is an item (a key with its objects) or a dummy (the first node
+//! of a bucket). Contracts see the nodes in their order, as *cells*. The objects of an item are its *chain*.
 ghost use Rattle.std.specs.Prelude.{◌≡◌, ℕ, ◌+◌, ◌-◌, ◌^◌, ◌<◌, ◌≤◌, Some, None, [], ◌∷◌, length, IfOk, OnOk, IsOk, MatchOption, option_map};
 ghost use Rattle.std.specs.Borrow.{sem};
 

@@ -1,3 +1,5 @@
+//! A node with all its parts, as it is inserted and removed. It is an item (a key with its objects) or a dummy (the
+//! first node of a bucket). In memory, a slot has an item, or a placeholder where there is no item.
 ghost use Rattle.std.specs.Prelude.{◌≡◌, is_some};
 ghost use Rattle.node_list.specs.inside.Slots.{placeholder, item_if};
 
@@ -6,10 +8,12 @@ use crate::link::Link;
 use ets_term::Term;
 use std::alloc::Global;
 
-/// A key, `term`, and its objects, `chain`.
+/// An item: a key of the table, `term`, and the objects with this key, `chain`.
 #[derive(Drop)]
 pub struct Item {
+    /// The key, a term.
     pub term: Term,
+    /// The objects with this key.
     pub chain: Chain,
 }
 

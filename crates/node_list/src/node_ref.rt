@@ -1,3 +1,5 @@
+//! A node as a search sees it: its header by value, and its slot by reference. A slot has an item (a key with its
+//! objects), or a placeholder where there is no item.
 ghost use Rattle.std.specs.Prelude.{◌≡◌};
 ghost use Rattle.node_list.specs.Search.{holds};
 ghost use Rattle.node_list.specs.inside.NodeRef.{node_of_ref};

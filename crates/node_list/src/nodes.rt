@@ -1,3 +1,6 @@
+//! The nodes of a list by place (the index of a node), in two arrays. A header is the split key, the kind and the link
+//! of a node. An item is a key (a term) with its objects. Headers are apart from items because a search that passes a
+//! node reads only its header.
 ghost use Rattle.std.specs.Prelude.{◌≡◌, ℕ, ◌+◌, ◌<◌, ◌≤◌, ◌-◌, ◌^◌, [], Some, None, IsOk, OnOk, OnErr, option_copied};
 ghost use Rattle.std.specs.Borrow.{sem};
 ghost use Rattle.slab.specs.Slab.{get, slab_len, ContainsKey, HasRoomFor, SameValues, Updates};
@@ -25,15 +28,16 @@ use std::mem;
 /// next. A header packs a place with a tag of two bits, so a place has 62 bits at most.
 #[derive(Drop)]
 pub struct Nodes {
+    /// The headers of all places: the split key, the kind (item, dummy or free place) and the link of each.
     nodes: Slab<PackedHeader>,
-    /// The slots, with capacity for one at each place of the slab. A place without an item has a placeholder, or is
-    /// past their end.
+    /// The items, each in the slot of its place: the key (a term) and the chain of its objects. There is capacity for
+    /// a slot at each place of the slab. A place without an item has a placeholder, or is past the end.
     items: Vec<Item>,
-    /// The first-item bound: no place below it has an item.
+    /// The first-item bound of `items`: no place below it has an item.
     first_item_bound: usize,
-    /// The first free place; each free place leads to the next.
+    /// The first free place. The header of each free place has the link to the next.
     free_head: Link,
-    /// The number of nodes.
+    /// The number of nodes: the headers of items and dummies, without free places.
     len: usize,
 }
 
@@ -115,7 +119,7 @@ impl Nodes {
         Ok(())
     }
 
-    /// Inserts a node at the first free place and returns that place.
+    /// Inserts a node at the first free place and returns that place. The `key` of the node is its split key.
     #[inline(always)]
     pub fn insert_reserved(&mut self, node: ListNode) -> usize
         requires room { HasRoomFor self.old 1 }

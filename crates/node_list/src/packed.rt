@@ -1,3 +1,5 @@
+//! The header of a node in memory: the split key, and one word with the link and a tag. The tag is the kind of the
+//! place: an item, a dummy (the first node of a bucket), or a free place.
 ghost use Rattle.std.specs.Prelude.{◌≡◌, ◌<◌, ◌%◌, true, false};
 ghost use Rattle.node_list.specs.inside.PackedHeader.{next_in, is_item, is_free, Fits};
 ghost use Rattle.node_list.specs.inside.Slots.{item_if};
@@ -41,7 +43,7 @@ impl PackedHeader {
         PackedHeader::with_tag(0, next, 2)
     }
 
-    /// Packs a split key, a link and a tag.
+    /// Packs the split key `key`, a link and a tag.
     #[inline(always)]
     fn with_tag(key: u64, next: Link, tag: usize) -> PackedHeader
         requires fits { Fits next }

@@ -1,3 +1,4 @@
+//! The counting reader: the only way for a search to read a node, so that a search counts the nodes that it reads.
 ghost use Rattle.std.specs.Prelude.{◌≡◌, Some};
 ghost use Rattle.slab.specs.Slab.{get, ContainsKey};
 ghost use Rattle.node_list.specs.inside.NodeRef.{node_of_ref};

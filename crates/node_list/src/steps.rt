@@ -1,3 +1,4 @@
+//! The counter of the nodes that a search reads. The contract of a search states the count after it.
 ghost use Rattle.std.specs.Prelude.{◌≡◌};
 ghost use Rattle.node_list.specs.Ticks.{tick};
 

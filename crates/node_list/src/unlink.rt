@@ -1,3 +1,5 @@
+//! The removal of a node: its predecessor, which is found from a start node, gets its link. `unlink_from` returns the
+//! node; `delete_from` drops its item without moving it. A place is the index of a node.
 ghost use Rattle.std.specs.Prelude.{◌≡◌, ◌+◌, Some};
 ghost use Rattle.slab.specs.Slab.{get, slab_len};
 ghost use Rattle.node_list.specs.Places.{all_but_first, cells_after};

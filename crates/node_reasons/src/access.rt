@@ -1,4 +1,5 @@
-// Finds the table that a call names, and the reason why the process may not use it.
+//! The rules with which most calls begin: the table exists, and the process may read it, may write to it, or owns it. A
+//! function `needs_*` returns the reason for such a broken rule, or else the reason that was passed.
 ghost use Rattle.std.specs.Prelude.{◌≡◌, option_copied};
 ghost use Rattle.ownership.specs.World.{metadata_of};
 ghost use Rattle.node_core.specs.declared.node.access.Access.TheVariants.{Read, Write};

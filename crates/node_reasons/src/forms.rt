@@ -1,4 +1,5 @@
-// Checks of the form of updates, which copy nothing.
+//! Whether an argument of `update_counter` or `update_element` has the form of an update that leaves the key as it is.
+//! These checks copy nothing.
 ghost use Rattle.std.specs.Prelude.{◌≡◌, is_some};
 ghost use Rattle.std.specs.List.{list_all};
 ghost use Rattle.ets_term.specs.Depth.{elements};

@@ -1,4 +1,4 @@
-// Checks of the form of the options of a new table, which copy nothing.
+//! Whether the second argument of `new` is a list of options. The check copies nothing.
 ghost use Rattle.std.specs.Prelude.{◌≡◌, is_some};
 ghost use Rattle.std.specs.List.{list_all};
 ghost use Rattle.ets_term.specs.declared.term.Term.{out-Term};

@@ -1,3 +1,5 @@
+//! The rules that a step can break, and the reason of a refused step: its first broken rule, with the number of the
+//! argument.
 ghost use Rattle.std.specs.Prelude.{◌≡◌};
 ghost use Rattle.node_reasons.specs.Reasons.{about_whole_call, argument};
 

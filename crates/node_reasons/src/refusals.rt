@@ -1,4 +1,5 @@
-// Why a step was refused.
+//! The function `why`, which returns the reason of a refused step. A function `last_rule_*` does not try the last rule
+//! of its call: it is broken if all others hold.
 ghost use Rattle.std.specs.Prelude.{◌≡◌, is_some, not, position};
 ghost use Rattle.ets_term.specs.Depth.{is_too_deep};
 ghost use Rattle.node_core.specs.Machine.{step};

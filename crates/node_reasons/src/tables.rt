@@ -1,4 +1,5 @@
-// The reasons of refused calls on tables, their owners and their names.
+//! The reasons of refused calls of `new`, `info`, `safe_fixtable` and `give_away`. The last rule of each is not tried:
+//! it is broken if all others hold.
 ghost use Rattle.std.specs.Prelude.{◌≡◌, option_copied};
 ghost use Rattle.node_reasons.specs.inside.LastRules.{last_rule_of_new, last_rule_of_info, last_rule_of_safe_fixtable, last_rule_of_give_away};
 
@@ -9,8 +10,8 @@ use bucket_table::Rows;
 use ets_term::Term;
 use ownership::InfoItem;
 
-/// Returns the reason of a refused `new`: the first broken rule of these. The name is an atom. The options are
-/// well-formed. The name is not taken.
+/// Returns the reason of a refused `new`: the first broken rule of those that remain to be checked. They are, in this
+/// order: the name is an atom; the options are well-formed; the name is not taken.
 pub fn last_rule_of_new(name: &Term, options: &Term) -> Reason
     ensures { result ≡ last_rule_of_new name.now options.now }
 {
@@ -24,7 +25,8 @@ pub fn last_rule_of_new(name: &Term, options: &Term) -> Reason
     }
 }
 
-/// Returns the reason of a refused `info`: argument 2 is not an item, or else argument 1 cannot name a table.
+/// Returns the reason of a refused `info`: the first broken rule of those that remain to be checked. They are, in this
+/// order: argument 2 is an item; argument 1 can name a table.
 pub fn last_rule_of_info(item: &Term) -> Reason
     ensures { result ≡ last_rule_of_info item.now }
 {
@@ -34,8 +36,8 @@ pub fn last_rule_of_info(item: &Term) -> Reason
     }
 }
 
-/// Returns the reason of a refused `safe_fixtable`: the flag is not a boolean, or else the process may not read the
-/// table.
+/// Returns the reason of a refused `safe_fixtable`: the first broken rule of those that remain to be checked. They are,
+/// in this order: the flag is a boolean; the table exists; the process may read it.
 pub fn last_rule_of_safe_fixtable<R: Rows>(used: &TableUse<R>, flag: &Term) -> Reason
     ensures { result ≡ last_rule_of_safe_fixtable used.now.pid (option_copied used.now.metadata) flag.now }
 {
@@ -48,8 +50,8 @@ pub fn last_rule_of_safe_fixtable<R: Rows>(used: &TableUse<R>, flag: &Term) -> R
     }
 }
 
-/// Returns the reason of a refused `give_away`: the first broken rule of these. The table exists. Argument 2 is a pid.
-/// The process owns the table. The other process may get it.
+/// Returns the reason of a refused `give_away`: the first broken rule of those that remain to be checked. They are, in
+/// this order: the table exists; argument 2 is a pid; the process owns the table; the other process may get it.
 pub fn last_rule_of_give_away<R: Rows>(used: &TableUse<R>, to: &Term) -> Reason
     ensures { result ≡ last_rule_of_give_away used.now.pid (option_copied used.now.metadata) to.now }
 {

@@ -1,4 +1,5 @@
-// The reasons of refused calls that examine the objects of a key.
+//! The reasons of refused calls of `lookup_element`, `update_counter` and `update_element`. The last rule of each is
+//! not tried: it is broken if all others hold.
 ghost use Rattle.std.specs.Prelude.{◌≡◌, option_copied};
 ghost use Rattle.table_ops.specs.Update.{is_set, default_is_object};
 ghost use Rattle.node_core.specs.Positions.{position_of};

@@ -1,4 +1,4 @@
-// The text of each reason.
+//! The text of each rule, and the text of a reason: the number of the argument, if any, and the text of the rule.
 ghost use Rattle.std.specs.Prelude.{◌≡◌};
 ghost use Rattle.node_reasons.specs.Words.{words_of};
 

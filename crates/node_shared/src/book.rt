@@ -1,3 +1,5 @@
+//! The book of a shared node: the node and the journal of its steps, under the lock of a `Shared`. Its ledger counts
+//! the journal's entries of processes: the total here, and a part in the share of each process.
 ghost use Rattle.std.specs.Prelude.{◌≡◌, true, ◌+◌, [], IfOk, OnErr, IfErr};
 ghost use Rattle.node_core.specs.State.{State, empty};
 ghost use Rattle.node_core.specs.Woven.{is_step_of};

@@ -1,3 +1,5 @@
+//! A caller of a server: it makes the calls of one process. Its writer is a token of the server's history that knows,
+//! in proofs only, the entries which this caller added.
 ghost use Rattle.std.specs.Prelude.{◌≡◌, ◌≤◌, [], length, vec_capacity, IfOk, IfErr, OnErr};
 ghost use Rattle.node_core.specs.declared.step.Step.TheVariants.{End, Ask};
 ghost use Rattle.node_shared.specs.Records.{with_entry};
@@ -16,9 +18,9 @@ use std::alloc::{AllocError, Global};
 use std::marker::Model;
 use std::sync::Wait;
 
-/// Makes the calls of one process of a server. A contract sees the process, and its own steps with their replies, which are
-/// in the server's history in this order. These entries exist in proofs only. `seen` is the length of the history after
-/// the last of them.
+/// Makes the calls of one process of a server. A contract sees the process, and its own steps with their replies, which
+/// are in the server's history in this order. These entries exist in proofs only. `seen` is the length of the history
+/// after the last of them.
 #[derive(Drop)]
 pub struct Caller<B: HistoryId> {
     pid: u32,

@@ -1,3 +1,5 @@
+//! A client of a shared node: it makes the calls of one process, and keeps a record of its steps with their replies.
+//! Its share is the right to run steps of that process.
 ghost use Rattle.std.specs.Prelude.{◌≡◌, true, length, OnErr, IfOk};
 ghost use Rattle.node_core.specs.declared.step.Reply.{Reply};
 ghost use Rattle.node_core.specs.declared.step.Step.TheVariants.{End, Ask};

@@ -1,3 +1,5 @@
+//! An entry: a step of a node with its reply. Journals, records of clients and histories of servers are lists of
+//! entries.
 ghost use Rattle.std.specs.Prelude.{◌≡◌};
 ghost use Rattle.std.specs.Bool.{Decides};
 ghost use Rattle.node_shared.specs.Journal.{is_entry_of, process_of};

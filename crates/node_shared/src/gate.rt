@@ -1,9 +1,12 @@
-/// Callbacks around each call of a client, in its thread, without a lock. Clients, and the calls of each, are numbered
+//! Callbacks that `run_clients` calls before and after each job of a client: they can observe jobs, or delay them.
+
+/// Callbacks around each job of a client, in its thread, without a lock. Clients, and the jobs of each, are numbered
 /// from 0.
 pub trait Gate {
-    /// Runs before a client's job with the number `call`.
+    /// Runs before a job of a client. `call` is the number of the job.
     fn before(&self, client: usize, call: usize);
 
-    /// Runs after a client's job with the number `call`. The reply is in the client's record.
+    /// Runs after a job of a client, unless the job ran out of memory. `call` is the number of the job. The reply is in
+    /// the client's record.
     fn after(&self, client: usize, call: usize);
 }

@@ -1,3 +1,4 @@
+//! The jobs that `run_clients` runs for a client. Each job is one step of the client's process.
 ghost use Rattle.std.specs.Prelude.{◌≡◌, true};
 ghost use Rattle.node_core.specs.Woven.{is_step_of};
 ghost use Rattle.node_shared.specs.Working.{job_step};

@@ -1,3 +1,5 @@
+//! The served node: what is under the lock of a server, a node and the token that knows its history. The history has
+//! all steps with their replies in proofs only; at run time its length is stored.
 ghost use Rattle.std.specs.Prelude.{◌≡◌, true, false, if◌then◌else◌, Some, None, [], ◌∷◌, ◌++◌, IfOk, OnErr, IfErr};
 ghost use Rattle.ets_term.specs.declared.term.Term.TheVariants.{Pid};
 ghost use Rattle.node_core.specs.declared.step.Reply.TheVariants.{NoProcess, Value};

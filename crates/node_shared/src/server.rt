@@ -1,3 +1,5 @@
+//! A server: a node that threads share through a lock, and that stores no journal. Its history, all steps with their
+//! replies, exists only in proofs, as what tokens of one atomic word know.
 ghost use Rattle.std.specs.Prelude.{◌≡◌, ◌≤◌, true, false, IfOk, IfErr};
 ghost use Rattle.ets_term.specs.declared.term.Term.TheVariants.{Pid};
 ghost use Rattle.node_core.specs.declared.step.Reply.TheVariants.{Value};
@@ -89,8 +91,9 @@ impl<B: HistoryId, H: KeyHash + Copy + Drop> Server<B, H> {
         Ok(Caller::new(pid, writer, served.count()))
     }
 
-    /// Runs at most `turns` pending growth steps, and takes the lock anew for each. Stops earlier if no step is
-    /// pending, or memory runs out. Returns the number of steps that it ran. It may wait for the lock.
+    /// Runs up to `turns` pending growth steps, and takes the lock anew for each. Such a step doubles the buckets of a
+    /// table, or readies one bucket. Stops earlier if no step is pending, or memory runs out. Returns the number of
+    /// steps that it ran. It may wait for the lock.
     pub fn keep<R: Wait>(&self, rt: &R, turns: u32) -> u32
         ensures { result ≤ turns }
     {

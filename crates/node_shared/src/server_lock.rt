@@ -1,3 +1,4 @@
+//! The lock of a server, single or sharded: a read of a sharded lock takes one of eight shards, and a write takes all.
 use crate::history::HistoryId;
 use crate::served::ServedNode;
 use crossbeam_utils::sync::ShardedLock;

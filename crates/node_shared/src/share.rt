@@ -1,3 +1,5 @@
+//! The share of a process: its part of the ledger that counts a journal's entries, and the right to run the steps of
+//! that process.
 ghost use Rattle.std.specs.Prelude.{◌≡◌};
 
 use std::marker::Model;

@@ -1,3 +1,5 @@
+//! A node that threads share through one lock, with a journal of all its steps and their replies. A client is created
+//! from a drawn process number, and makes the calls of that process.
 ghost use Rattle.std.specs.Prelude.{◌≡◌, ◌≤◌, true, ◌+◌, IfOk, IfErr, IfSome};
 ghost use Rattle.std.specs.Bool.{Decides};
 ghost use Rattle.ets_term.specs.declared.term.Term.TheVariants.{Pid};
@@ -90,8 +92,9 @@ impl<L: Ledger, H: KeyHash + Copy + Drop> Shared<L, H> {
     }
 }
 
-/// Runs at most `turns` pending growth steps, and takes the lock anew for each. Stops earlier if no step is pending, or
-/// memory runs out. Returns the number of steps that it ran. It may wait for the lock.
+/// Runs up to `turns` pending growth steps, and takes the lock anew for each. Such a step doubles the buckets of a
+/// table, or readies one bucket. Stops earlier if no step is pending, or memory runs out. Returns the number of steps
+/// that it ran. It may wait for the lock.
 pub fn keep<L: Ledger, H: KeyHash + Copy + Drop, R: Wait>(
     rt: &R,
     shared: &Shared<L, H>,

@@ -1,3 +1,5 @@
+//! The end of sharing: `close` compares the record of each client with the journal, and returns the journal. A record
+//! has the steps of one client, each with its reply.
 ghost use Rattle.std.specs.Prelude.{◌≡◌, map, IfOk};
 ghost use Rattle.std.specs.Bool.{Decides};
 ghost use Rattle.node_shared.specs.Journal.{IsRun, of};

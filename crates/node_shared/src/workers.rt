@@ -1,3 +1,5 @@
+//! The threads that run the jobs of clients, one thread for each client. The list of clients is halved until one client
+//! is left, because `thread::join` runs two closures.
 ghost use Rattle.std.specs.Prelude.{◌≡◌, IfOk, OnOk, OnErr};
 ghost use Rattle.std.specs.Thread.{IsSync};
 ghost use Rattle.node_shared.specs.Working.{HasWorked, AllWorked, DidJob};

@@ -38,7 +38,7 @@ keypos_option n options =
 abbrev pub tuning_word : List ℕ → NewOptions → Option NewOptions
 tuning_word word options = if bytes_eq word (codes "compressed") then Some options else None
 
--- the options after a word that sets the protection or names the table; None for a word that is not an option
+-- the options after a word that sets the protection or names the table, or is `compressed`; None for any other word
 abbrev pub access_word : List ℕ → NewOptions → Option NewOptions
 access_word word options =
     if bytes_eq word (codes "public") then Some (record options { protection = Public })

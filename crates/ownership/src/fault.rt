@@ -1,3 +1,4 @@
+//! Why a call on processes and tables fails: it is refused, or memory runs out.
 use std::alloc::AllocError;
 
 /// Why a call fails. A failed call changes nothing.

@@ -1,3 +1,4 @@
+//! The items of `ets:info/2`: which term names an item, and the terms that are values of items.
 ghost use Rattle.std.specs.Prelude.{◌≡◌, IfOk};
 ghost use Rattle.ets_term.specs.Character.{IsAtomText};
 ghost use Rattle.ets_term.specs.declared.term.Term.TheVariants as term;

@@ -1,4 +1,5 @@
-// Messages to processes.
+//! The message `'ETS-TRANSFER'` to the new owner of a table. It enters the mailbox of the process, and leaves it again
+//! if memory runs out later in the same step.
 ghost use Rattle.std.specs.Prelude.{◌≡◌, List, ℕ, OnOk, OnErr, IfOk};
 ghost use Rattle.ownership.specs.Messages.{name_or_identifier, transfer_message, push_message, push_messages};
 ghost use Rattle.ownership.specs.declared.process.Process as model;

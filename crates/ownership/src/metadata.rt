@@ -1,3 +1,4 @@
+//! The metadata of a table: its name, owner, heir and protection, and which access a process has by them.
 ghost use Rattle.std.specs.Prelude.{◌≡◌};
 ghost use Rattle.ownership.specs.Access.{is_owner, may_read, may_write};
 

@@ -1,3 +1,4 @@
+//! The options of `ets:new/2` and the heir options of `ets:setopts/2`, as they are read from terms.
 ghost use Rattle.std.specs.Prelude.{◌≡◌, ◌≤◌, IfOk};
 ghost use Rattle.ownership.specs.Options.{options_of};
 ghost use Rattle.ownership.specs.Outcomes.{Reads};

@@ -1,3 +1,4 @@
+//! A table with its fixes and its metadata, in one box, as the array of all tables stores it.
 ghost use Rattle.std.specs.Prelude.{◌≡◌, IfOk};
 ghost use Rattle.std.specs.Borrow.{sem};
 ghost use Rattle.ownership.specs.Tables.{with_owner, with_heir};

@@ -1,3 +1,5 @@
+//! The world: all processes and tables, without the calls of `ets`. A process is enrolled at its start, and stays in
+//! the world after its exit.
 ghost use Rattle.std.specs.Prelude.{◌≡◌};
 ghost use Rattle.ownership.specs.World.{empty};
 

@@ -1,4 +1,5 @@
-// The text that says why a line was refused.
+//! The message about a refused line of a script. It begins with the call, the command or the offset, unless the line is
+//! too long or memory ran out.
 ghost use Rattle.std.specs.Prelude.{◌≡◌};
 ghost use Rattle.script_reasons.specs.Diagnostics.{name_text};
 
@@ -60,7 +61,8 @@ impl fmt::Display for Diagnostic<'_> {
     }
 }
 
-/// Displays as the name of a step: the command's word, or the call.
+/// Displays as the beginning of a message about a broken rule, before its `: `. This is the command's word, such as
+/// `spawn`, or what `CallSubject` displays.
 #[derive(Clone, Copy)]
 struct StepSubject<'a> {
     step: &'a Step,
@@ -83,7 +85,8 @@ impl fmt::Display for StepSubject<'_> {
     }
 }
 
-/// Displays as the name of a call with its number of arguments: `lookup/2`.
+/// Displays as the beginning of a message about a call, before its `: `. This is the call's name with its number of
+/// arguments, such as `lookup/2`.
 #[derive(Clone, Copy)]
 struct CallSubject<'a> {
     call: &'a Call,

@@ -1,4 +1,4 @@
-// The text of what is wrong at a syntax error.
+//! The text of each syntax problem, which is a guess, at a syntax error, at what the writer meant.
 ghost use Rattle.std.specs.Prelude.{◌≡◌};
 ghost use Rattle.script_reasons.specs.Words.{words_of};
 

@@ -1,3 +1,4 @@
+//! The bucket of a hash (its low bits), and the parent of a bucket: the bucket that a doubling split to create it.
 ghost use Rattle.std.specs.Prelude.{◌≡◌, ◌%◌, ◌<◌};
 ghost use Rattle.split_key.specs.Keys.{IsPowerOfTwo, IsWithoutTopBit};
 

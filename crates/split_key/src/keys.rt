@@ -1,3 +1,5 @@
+//! Split keys, which sort the list that all buckets share: a number with its 32 bits reversed, and one last bit. An
+//! item (a key with its objects) has its hash, then 1. A dummy (the first node of a bucket) has its bucket, then 0.
 ghost use Rattle.std.specs.Prelude.{◌≡◌};
 ghost use Rattle.split_key.specs.Keys.{rev, key_of_item, key_of_dummy};
 

@@ -21,6 +21,6 @@ abbrev pub refuse_none : {X R A : Type 0} → A → Option X → R → (X → Ou
 refuse_none old found refusal otherwise given new =
     MatchOption found (gives refusal old given new) (λ x. otherwise x given new)
 
--- the call returns this value, or is refused memory
+-- if the result is Ok, it is this value
 abbrev pub Returns : {X E : Type 0} → Result X E → X → Type 0
 Returns result wanted = IfOk result (λ answer. answer ≡ wanted)

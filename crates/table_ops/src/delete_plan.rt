@@ -1,3 +1,5 @@
+//! What a deletion by a query will change: the slots that lose objects, by their places (indices), with the objects
+//! that stay. `looks` counts the tested objects, and a chain is the list of objects of one slot.
 ghost use Rattle.std.specs.Prelude.{◌≡◌, ◌≤◌, ◌++◌, [], ℕ, Option, Some, length, OnOk};
 ghost use Rattle.ets_term.specs.declared.term.Term.{Term};
 ghost use Rattle.node_list.specs.Ticks.{ticks};

@@ -1,9 +1,12 @@
+//! A counter of the objects that searches test. It exists at run time, as one `u64`.
 ghost use Rattle.std.specs.Prelude.{◌≡◌};
 ghost use Rattle.node_list.specs.Ticks.{tick};
 
 use std::marker::Model;
 
-/// A counter of the objects that searches test. Each test of an object adds 1, up to the greatest `u64`.
+/// A counter of tested objects. Each test of an object by a pattern or match specification adds 1, up to the greatest
+/// `u64`. By this count, the contracts of searches bound how many objects a search tests. A search without a counter as
+/// an argument makes one and drops it.
 #[derive(Drop)]
 pub struct Looks {
     count: u64,

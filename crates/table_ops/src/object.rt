@@ -1,3 +1,5 @@
+//! The tests of a term before it is inserted as an object: its key at keypos, and its depth. Also copies of keys, and
+//! the search for an equal object.
 ghost use Rattle.std.specs.Prelude.{◌≡◌, IfOk, option_copied};
 ghost use Rattle.std.specs.List.{list_any, list_all};
 ghost use Rattle.ets_term.specs.Depth.{is_too_deep};

@@ -1,3 +1,5 @@
+//! The objects of one slot, split by a query into removed and kept objects: a step of a delete plan. `looks` counts the
+//! tested objects, and a chain is the list of objects of one slot.
 ghost use Rattle.std.specs.Prelude.{◌≡◌, ◌≤◌, ◌<◌, ◌^◌, ◌++◌, ◌+◌, [], take, length, OnOk};
 ghost use Rattle.node_list.specs.Ticks.{tick, ticks};
 ghost use Rattle.table_ops.specs.Queries.{CountsLooks};
@@ -45,7 +47,7 @@ impl Partition {
         ensures at_most { looks.new ≤ ticks (length objects.now) looks.old }
         ensures at_least { looks.old ≤ looks.new }
     {
-        // The call changes nothing. It gives the proof that the count is a `u64`.
+        // Reads the counter only for the proof, which learns that the count is a `u64`.
         let _before = looks.count();
         for i in 0..objects.len() {
             self.add(query, objects, i, looks)?;

@@ -1,3 +1,4 @@
+//! Which objects a query, a pattern or match specification, chooses. The calls that count or delete objects use it.
 ghost use Rattle.std.specs.Prelude.{Bool};
 ghost use Rattle.ets_term.specs.declared.term.Term.{Term};
 ghost use Rattle.table_ops.specs.Outcomes.{Returns};

@@ -1,3 +1,4 @@
+//! Why a call on a table is refused, and which refusal a fault of counters or of a match specification becomes.
 use counters::CounterFault;
 use match_spec::SpecFault;
 use std::alloc::AllocError;

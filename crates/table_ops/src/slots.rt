@@ -1,3 +1,5 @@
+//! An iterator over the slots of a table, each a key with its objects. It goes from place to place: a place is the
+//! index of a slot in its rows.
 ghost use Rattle.std.specs.Prelude.{◌≡◌};
 ghost use Rattle.std.specs.Iterator.{YieldsFirstBy, item_count};
 

@@ -1,3 +1,5 @@
+//! The type of a table: rows (all slots, each a key with its objects) and a count of objects. Here are its settings,
+//! its sizes and the growth of its buckets, apart from the calls on objects.
 ghost use Rattle.std.specs.Prelude.{◌≡◌, ◌<◌, ◌≤◌, ◌^◌, [], length, not, position, IfOk, OnErr};
 ghost use Rattle.bucket_table.specs.Buckets.{IsGrown, IsReadied};
 ghost use Rattle.bucket_table.specs.Slots.{object_count};

@@ -1,3 +1,5 @@
+//! The rows of a table (all slots, each a key with its objects) with its settings. Its methods change slots; the count
+//! of objects is in `Table`.
 use crate::kind::Kind;
 use bucket_table::Rows;
 use std::alloc::Global;

@@ -1,3 +1,5 @@
+//! The wrapper of a query, by which scans test objects. Each test adds 1 to `looks`, the counter of tested objects, up
+//! to the greatest `u64`.
 ghost use Rattle.std.specs.Prelude.{◌≡◌};
 ghost use Rattle.node_list.specs.Ticks.{tick};
 ghost use Rattle.table_ops.specs.Outcomes.{Returns};

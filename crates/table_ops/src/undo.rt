@@ -1,3 +1,5 @@
+//! How to undo one insertion; the undo log of a list of objects has one part for each. A chain is the list of objects
+//! of one slot.
 ghost use Rattle.std.specs.Prelude.{◌≡◌};
 ghost use Rattle.table_ops.specs.inside.Undo.{added_objects};
 

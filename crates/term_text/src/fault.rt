@@ -1,3 +1,4 @@
+//! Why a text does not begin with a term: a syntax error with its offset, or memory that ran out.
 ghost use Rattle.std.specs.Prelude.{◌≡◌};
 ghost use Rattle.term_text.specs.Faults.{offset};
 

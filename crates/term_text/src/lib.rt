@@ -17,8 +17,8 @@
 #![tactic(auto)]
 
 // The modules of the reader: `reading`, classes of `bytes`, a `bracket`, a `number`, an `integer`, an atom without
-// quotes (`name`), a text in quotes (`quoted`, `quote_form`), a `binary`, and faults (`fault`). Of the printer:
-// `print`, `printer` and `sink`. Of both: `laws`.
+// quotes (`name`), a text in quotes (`quoted`, `quote_form`), a `binary`, and faults (`fault`). Of the printer: the
+// public functions (`print`), the text of a term (`printer`), and where it is printed (`sink`). Of both: `laws`.
 mod binary;
 mod bracket;
 mod bytes;

@@ -1,4 +1,5 @@
-//! Prints terms into strings and writers.
+//! The public functions that print a term: into a string, into bytes in memory, or into a writer. `printer` makes the
+//! text; here a print into memory that fails is undone.
 ghost use Rattle.std.specs.Prelude.{◌≡◌, ◌++◌, OnOk, OnErr, string_bytes};
 ghost use Rattle.term_text.specs.Printed.{printed};
 ghost use Rattle.term_text.specs.Sent.{AppendsOrFront};

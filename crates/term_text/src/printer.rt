@@ -1,4 +1,5 @@
-//! Prints terms into any sink.
+//! The text of a term, appended piece by piece to a sink, which is any destination of text. The public functions that
+//! choose the sink are in `print`.
 ghost use Rattle.std.specs.Prelude.{◌≡◌, ◌++◌, ◌-◌, ◌≤◌, ◌==◌, ◌||◌, length, take, drop, ◌∷◌, [], List, ℕ, map, decimal, codes, true, false};
 ghost use Rattle.std.specs.Fmt.{signed_decimal};
 ghost use Rattle.std.specs.List.{list_all, flat_map};

@@ -1,3 +1,5 @@
+//! The kinds of texts in quotes: an atom, a string, and a string in a binary. They differ in the quote, and in the
+//! limit on characters: the length of an atom, the depth of a string.
 ghost use Rattle.std.specs.Prelude.{◌≡◌, ◌+◌, None};
 ghost use Rattle.term_text.specs.inside.Reader.{quote};
 ghost use Rattle.term_text.specs.inside.Parts.{IsShort, RefusesNext};

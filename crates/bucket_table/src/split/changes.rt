@@ -1,3 +1,5 @@
+//! The insertion of a slot and the sweep of all slots: both keep the number of slots and the tombstone log correct. A
+//! sweep is a scan that removes or empties slots. A tombstone is a slot without objects.
 ghost use Rattle.std.specs.Prelude.{◌≡◌, ◌+◌, ◌<◌, ◌≤◌, None, IsOk, OnOk};
 ghost use Rattle.bucket_table.specs.Slots.{Enters, objects_of};
 ghost use Rattle.bucket_table.specs.inside.Sweeps.{swept};

@@ -1,3 +1,5 @@
+//! The directory: the place of each ready bucket's dummy, the first node of the bucket. It is an array in segments, so
+//! that a doubling copies at most the first segment.
 ghost use Rattle.std.specs.Prelude.{◌≡◌, ◌∷◌, ◌++◌, ◌<◌, ◌≤◌, ◌-◌, ◌^◌, [], Some, None, IfOk, OnOk, OnErr, length, get_or, set, replicate, vec_capacity};
 ghost use Rattle.bucket_table.specs.inside.Segments.{SetsLink, AddsSegments};
 

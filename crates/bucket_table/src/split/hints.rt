@@ -1,3 +1,6 @@
+//! The hints, a cache by which a search starts near its goal. An interval is an eighth of a bucket's split keys. Its
+//! hint is the place of its first item, *empty* or *unknown*. The *previous* hints are from before the last doubling. A
+//! rehash splits them into *current* hints.
 ghost use Rattle.std.specs.Prelude.{◌≡◌, ◌⊎◌, ◌<◌, ◌/◌, ◌^◌, [], Some, None, IfOk, IfSome, replicate};
 ghost use Rattle.bucket_table.specs.inside.Intervals.{IsNearestBelow};
 

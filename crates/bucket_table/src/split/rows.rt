@@ -1,3 +1,5 @@
+//! The trait `Rows` for rows in hash buckets. A slot is an item of the node list. Methods that change slots also keep
+//! the number of slots and the tombstone log correct.
 ghost use Rattle.bucket_table.specs.SplitRowsState.{key_of_place};
 
 use super::SplitRows;

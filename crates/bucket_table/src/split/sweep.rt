@@ -1,3 +1,6 @@
+//! The modes and actions of a sweep: a scan over slots that removes or empties some. A tombstone is a slot without
+//! objects.
+
 /// What a sweep does: remove the tombstones, remove the slots with objects, or make each slot a tombstone.
 #[derive(Clone, Copy, PartialEq, Eq)]
 pub enum SweepMode {

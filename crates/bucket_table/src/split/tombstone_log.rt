@@ -1,3 +1,5 @@
+//! The tombstone log: the hashes by which a purge finds the tombstones (slots without objects) instead of by a scan of
+//! all slots.
 ghost use Rattle.std.specs.Prelude.{◌≡◌, [], false};
 ghost use Rattle.bucket_table.specs.inside.TombstoneLog.{LogsHash};
 ghost use Rattle.bucket_table.specs.declared.split.sweep.SweepMode.TheVariants.{RemoveTombstones};

@@ -1,4 +1,5 @@
-// Parts of a line: blanks, words, a bucket, and what separates arguments.
+//! The parsers of the parts of a line, of which the parsers of commands are composed. A fault is the rest of the text,
+//! from the syntax error on.
 ghost use Rattle.std.specs.Prelude.{[], IfOk};
 ghost use Rattle.ets_term.specs.Character.{IsAtomText};
 ghost use Rattle.ets_script.specs.Reads.{read};

@@ -1,4 +1,5 @@
-// Makes the calls of a script's processes, and runs the steps of its node.
+//! The calls of a script's processes, which most lines make. A call reuses the memory of earlier arguments and of the
+//! earlier answer, to allocate less.
 ghost use Rattle.std.specs.Prelude.{◌≡◌, ◌⊎◌, [], Some, IfSome};
 ghost use Rattle.ets_script.specs.Commands as spec;
 ghost use Rattle.ets_script.specs.declared.answer.Answer.TheVariants.{NoMemory};
@@ -28,7 +29,7 @@ impl<H: KeyHash + Copy + Drop> Script<H> {
         }
     }
 
-    /// Returns an empty list for the arguments of a call, with the memory of the previous call's arguments.
+    /// Returns an empty list for the arguments of a call, with the memory of earlier arguments, if any is kept.
     #[inline(always)]
     pub(super) fn take_arguments(&mut self, alloc: Global) -> Items<Term>
         ensures empty { result ≡ [] }
@@ -80,7 +81,7 @@ impl<H: KeyHash + Copy + Drop> Script<H> {
         pid
     }
 
-    /// Returns the process of the previous call, if this is its name.
+    /// Returns the process in `last_caller`, if this is its name.
     #[inline(always)]
     fn last_caller_named(&self, name: &[u8]) -> Option<u32>
         ensures { IfSome result (λ p. pid_of self.now name.now ≡ Some p) }

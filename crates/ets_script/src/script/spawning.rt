@@ -1,4 +1,5 @@
-// Processes that a script spawns.
+//! The command `spawn`: it enrols a process on the node, and adds its name to the names of the script. The number of a
+//! process is the index of its name.
 ghost use Rattle.std.specs.Prelude.{◌≡◌, ◌≤◌, ◌<◌, ◌+◌, ◌⊎◌, false, map, vec_items};
 ghost use Rattle.std.specs.Str.{bytes_eq};
 ghost use Rattle.indexmap.specs.IndexSet.{spare, contains_by, index_set_len};
@@ -25,6 +26,8 @@ impl<H: KeyHash + Copy + Drop> Script<H> {
             Some(_) => return Answer::Replied(Reply::Badarg),
             None => {}
         }
+        // No script gets to `NoMemory` here: each name has an enrolled process, and the limit of processes is a `u32`.
+        // The invariant of a script says only that it has at most 2^32 names.
         let Ok(number) = u32::try_from(self.names.len()) else {
             return Answer::NoMemory;
         };

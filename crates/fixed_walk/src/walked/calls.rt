@@ -1,3 +1,5 @@
+//! Lookups, insertions, updates and deletions in a table with fixes. In a fixed table, a key that loses its last object
+//! keeps its slot as a tombstone, which an insertion of the key fills again.
 ghost use Rattle.std.specs.Prelude.{◌≡◌, [], ◌∷◌, None, option_copied, OnOk, OnErr};
 ghost use Rattle.counters.specs.declared.ops.Ops.TheVariants.{One};
 ghost use Rattle.counters.specs.declared.elements.ElementSpecs.TheVariants as elements;

@@ -1,3 +1,5 @@
+//! How a process fixes and releases a table, as `ets:safe_fixtable/2` does. The release of the last fix purges the
+//! tombstones, the slots of keys that were deleted meanwhile.
 ghost use Rattle.std.specs.Prelude.{◌≡◌};
 ghost use Rattle.fixed_walk.specs.Fixes.{is_fixed};
 ghost use Rattle.fixed_walk.specs.TableState.{IncrementsFix, after_release, after_release_all};

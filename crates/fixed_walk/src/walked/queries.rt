@@ -1,3 +1,5 @@
+//! The calls with patterns and match specifications on a table with fixes. Those that delete leave tombstones, slots
+//! without objects, if the table is fixed.
 ghost use Rattle.std.specs.Prelude.{◌≡◌, ◌<◌, ◌^◌, IfOk, OnOk, OnErr};
 ghost use Rattle.table_ops.specs.Outcomes.{Returns};
 ghost use Rattle.table_ops.specs.Queries.{bound_in, matches, spec_result, is_chosen, answers_in, matching_in, chosen_in, ReturnsAllData};

@@ -1,3 +1,5 @@
+//! The calls of a traversal: the first key, and the key after another, in the order of the slots. They pass over
+//! tombstones, the slots without objects.
 ghost use Rattle.std.specs.Prelude.{◌≡◌, Some, None, option_copied, option_map, IfOk, OnErr};
 ghost use Rattle.std.specs.Map.Iter.{deref_pair};
 ghost use Rattle.fixed_walk.specs.Walk.{first_key, next_key, first_slot, next_slot};

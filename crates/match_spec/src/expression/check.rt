@@ -1,3 +1,5 @@
+//! The check of an expression before it is compiled: the clause's pattern has its variables, and its calls have known
+//! names and numbers of arguments.
 // The check of whether a term is an expression.
 ghost use Rattle.std.specs.Prelude.{◌≡◌, ◌&&◌, ◌||◌, drop, map};
 ghost use Rattle.ets_term.specs.Data.{tuple, data_of, data_list};

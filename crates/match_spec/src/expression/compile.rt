@@ -1,3 +1,5 @@
+//! The step from the checked raw term of an expression to a tree that is evaluated. A variable becomes the path
+//! (element indices) of its value in the object.
 // The compilation of expressions.
 ghost use Rattle.std.specs.Prelude.{◌≡◌, drop, length, map, IfOk};
 ghost use Rattle.ets_term.specs.Data.{tuple, data_of, data_list};

@@ -1,3 +1,5 @@
+//! The value of an expression for an object: a part of the object or expression, which is borrowed, or a new term.
+//! `None` means that the expression fails, and an error that memory ran out.
 // The evaluation of compiled expressions.
 ghost use Rattle.std.specs.Prelude.{◌≡◌, [], ◌∷◌, Some, map, IfOk, IfSome};
 ghost use Rattle.std.specs.Option.{option_map, option_and_then};
@@ -170,7 +172,8 @@ fn eval_call<'a>(
     }
 }
 
-/// Evaluates `and` or `or`: evaluates all arguments. Returns `None` if one is not a boolean.
+/// Evaluates `and` or `or`: evaluates the arguments from the left, also after one that decides. Stops with `None` at
+/// the first that fails or is not a boolean.
 #[cycle(evaluate)]
 fn eval_strict(
     env: Env,

@@ -1,3 +1,5 @@
+//! The calls that an expression can make: found by name and number of arguments, and computed from the values of the
+//! arguments. `hd` and `element` are computed in `apply`, because their values can be borrowed.
 // The functions of expressions: their names and values.
 ghost use Rattle.std.specs.Prelude.{◌≡◌, ◌≢◌, [], ◌∷◌, IfOk};
 ghost use Rattle.std.specs.Option.{option_map};
@@ -81,7 +83,7 @@ fn binary_function_of(name: &str) -> Option<Function>
     }
 }
 
-/// Returns the connective with this name, if it evaluates all arguments.
+/// Returns the connective with this name, if it evaluates arguments also after one that decides.
 pub(crate) fn strict_connective(name: &str) -> Option<Connective>
     ensures { result ≡ strict_connective name.now }
 {

@@ -1,4 +1,4 @@
-// Finds the table that a call names, and checks the access of the process.
+//! How a call finds the table that its first argument names, if the protection lets the process read it or write to it.
 ghost use Rattle.std.specs.Prelude.{◌≡◌, option_copied, option_map};
 ghost use Rattle.std.specs.Option.{option_copied_mut};
 ghost use Rattle.std.specs.Borrow.{sem};

@@ -1,4 +1,5 @@
-// Makes and reads the calls of processes: their early refusals, and refusals as replies.
+//! A call from its text to its reply: first the refusals that do not depend on its name, then its method. `read` makes
+//! only calls that change nothing, so a `&Node` is enough for it.
 ghost use Rattle.std.specs.Prelude.{◌≡◌, false, if◌then◌else◌, Some, None, Err, IfOk, OnOk, OnErr};
 ghost use Rattle.std.specs.List.{list_any};
 ghost use Rattle.ets_term.specs.Depth.{is_too_deep};

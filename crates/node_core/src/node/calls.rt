@@ -1,4 +1,6 @@
-// The calls: each name, by the number of its arguments, with its method. Those that change nothing come first.
+//! The dispatch from a call's name and number of arguments to its method. Calls that change nothing come first. Six
+//! frequent calls are tried before the others: `lookup`, `member`, `insert`, `delete/2`, `update_counter/3` and
+//! `update_element/3`.
 ghost use Rattle.std.specs.Prelude.{◌≡◌, [], ◌∷◌, false};
 ghost use Rattle.node_core.specs.Calls.{call};
 ghost use Rattle.node_core.specs.Reads.{reads_only};
@@ -13,8 +15,8 @@ use ets_term::{KeyHash, Term};
 use table_ops::Refusal;
 
 impl<H: KeyHash + Copy + Drop> Node<H> {
-    /// Makes a call, and writes its reply. The most frequent calls come first. The others are out of their way, in
-    /// functions of their own.
+    /// Makes a call, and writes its reply. The six frequent calls come first. The others are out of their way, in
+    /// `make_rare_call`, which is not inlined.
     #[inline(always)]
     pub(crate) fn make_call(
         &mut self,
@@ -49,7 +51,8 @@ impl<H: KeyHash + Copy + Drop> Node<H> {
         }
     }
 
-    /// Makes any call. The frequent calls are here too: a contract holds for each name.
+    /// Makes any call, and writes its reply. Frequent calls have functions of their own, which `make_call` tries before
+    /// this one. It makes them too, because its contract holds for each name.
     #[inline(never)]
     fn make_rare_call(
         &mut self,
@@ -146,7 +149,7 @@ impl<H: KeyHash + Copy + Drop> Node<H> {
         }
     }
 
-    /// Makes any other call, and writes its reply.
+    /// Makes a call that may change the node, and writes its reply. Refuses a call that does not exist with `Badarg`.
     fn change_call(
         &mut self,
         pid: u32,

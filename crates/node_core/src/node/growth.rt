@@ -1,4 +1,5 @@
-// Doubling the buckets of a table, and readying them.
+//! The two steps of growth of a table. One doubles the number of buckets; the other readies a bucket: it inserts the
+//! bucket's dummy, the node at its start.
 ghost use Rattle.std.specs.Prelude.{◌≡◌, IfOk, OnErr};
 ghost use Rattle.node_core.specs.rules.Growth.{in_table, Grows, Readies};
 

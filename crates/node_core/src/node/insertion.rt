@@ -1,4 +1,4 @@
-// Calls that insert objects.
+//! The calls `insert` and `insert_new`, which copy the objects into the table.
 ghost use Rattle.std.specs.Prelude.{◌≡◌};
 ghost use Rattle.node_core.specs.Access.{writes};
 ghost use Rattle.node_core.specs.rules.Insertion.{objects_in, Insert, InsertNew};

@@ -1,4 +1,5 @@
-// Steps that a node takes by value: an inserted single object moves into its table, and is not copied.
+//! Steps whose call the node may take apart: an insertion moves its single object out of the call into the table. All
+//! other steps run as `step_into` runs them.
 ghost use Rattle.std.specs.Prelude.{◌≡◌, true, [], ◌∷◌, Some, OnOk, OnErr};
 ghost use Rattle.node_core.specs.Access.{writes};
 ghost use Rattle.node_core.specs.CallName.{call_name};
@@ -35,8 +36,8 @@ impl<H: KeyHash + Copy + Drop> Node<H> {
         self.drain_step(&mut event, reply)
     }
 
-    /// Like `step_own`, but borrows the step, so that its memory can be used again. An inserted single object has been
-    /// moved out of it.
+    /// Like `step_own`, but borrows the step, whose memory can be used again. Moves an inserted single object out of
+    /// the call into its table instead of copying it.
     pub fn drain_step(&mut self, event: &mut Step, reply: &mut Reply) -> Result<(), AllocError>
         ensures ok { OnOk result
             (step (observable self.old) event.old reply.new (observable self.new)) }
@@ -51,7 +52,8 @@ impl<H: KeyHash + Copy + Drop> Node<H> {
         self.step_into(event, reply)
     }
 
-    /// Runs a call that inserts a single object, and moves the object out of the call.
+    /// Runs a call that inserts a single object. Moves the object out of the call into its table instead of copying it.
+    /// If the insertion fails, the object may be dropped.
     #[inline(never)]
     fn drain_insertion(
         &mut self,
@@ -107,7 +109,8 @@ impl<H: KeyHash + Copy + Drop> Node<H> {
         write_true(self.alloc, result, reply)
     }
 
-    /// Inserts a single object, which moves into the table.
+    /// Inserts a single object that was taken out of the call. Moves it into the table that a term names instead of
+    /// copying it. A refused object is dropped.
     fn insert_own(&mut self, pid: u32, table: &Term, object: Term) -> Result<(), Refusal>
         requires { objects_in object ≡ object ∷ [] }
         ensures { RefinesReply (writes self.old pid table.now (Insert object))

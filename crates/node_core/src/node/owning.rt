@@ -1,4 +1,5 @@
-// Calls on owners, heirs, names and mailboxes.
+//! The calls `give_away`, `setopts`, `receive`, `whereis` and `info`. They return or change metadata of a table or a
+//! mailbox, and leave all objects as they are.
 ghost use Rattle.std.specs.Prelude.{◌≡◌, IfOk};
 ghost use Rattle.ets_term.specs.declared.term.Term.{out-Term};
 ghost use Rattle.node_core.specs.rules.Owning.{GiveAway, SetOptions, Receive, Whereis, Info, value_or_undefined, names_form};

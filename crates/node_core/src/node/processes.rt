@@ -1,4 +1,4 @@
-// The start and the end of processes.
+//! The steps that start a process, here called enrolling, and that end it.
 ghost use Rattle.std.specs.Prelude.{◌≡◌, IfOk, OnErr};
 ghost use Rattle.node_core.specs.Machine.{step};
 ghost use Rattle.node_core.specs.declared.step.Step.TheVariants.{Enrol, End};

@@ -1,4 +1,4 @@
-// Calls that read a table.
+//! The calls that read the objects of a key, or all objects: `lookup`, `member`, `lookup_element` and `tab2list`.
 ghost use Rattle.node_core.specs.Access.{reads};
 ghost use Rattle.node_core.specs.rules.Reading.{lookup_reply, member_reply, lookup_element_reply, lookup_element_or_reply, tab2list_reply};
 ghost use Rattle.node_core.specs.rules.Replies.{truth_reply};

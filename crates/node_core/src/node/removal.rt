@@ -1,4 +1,5 @@
-// Calls that remove objects.
+//! The calls that remove objects by key, by equality, or all of them: `take`, `delete/2`, `delete_object` and
+//! `delete_all_objects`.
 ghost use Rattle.node_core.specs.Access.{writes};
 ghost use Rattle.node_core.specs.rules.Removal.{Take, Delete, DeleteObject, DeleteAllObjects};
 ghost use Rattle.node_core.specs.rules.Replies.{true_reply};

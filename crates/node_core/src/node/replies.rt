@@ -1,4 +1,6 @@
-// Makes replies, or writes them over earlier ones. An atom of at most 22 characters takes no memory.
+//! The terms of replies. A reply can be written over an earlier reply: an equal atom stays, and a list of the same
+//! length is overwritten in place.
+// An atom of at most 22 characters takes no memory.
 ghost use Rattle.std.specs.Prelude.{◌≡◌, ◌≤◌, length, IfOk, OnOk};
 ghost use Rattle.ets_term.specs.Character.{IsAtomText};
 ghost use Rattle.ets_term.specs.declared.term.Term.TheVariants as term;

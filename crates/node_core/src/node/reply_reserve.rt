@@ -1,4 +1,5 @@
-// Memory for a second copy of a step's reply, reserved before the step changes anything.
+//! The copy of a reply must not run out of memory after the step has changed the node. So the copy is predicted, or its
+//! capacity is reserved, before the step.
 ghost use Rattle.std.specs.Prelude.{◌≡◌, ℕ, true, false, ◌≤◌, [], ◌∷◌, length, vec_capacity, IfOk, OnErr, MatchOption};
 ghost use Rattle.std.specs.List.{list_all};
 ghost use Rattle.node_core.specs.Access.{writes};

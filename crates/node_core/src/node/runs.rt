@@ -1,4 +1,4 @@
-// Runs of several steps.
+//! How a node runs a list of steps. `run` stops at a step that runs out of memory, and `run_through` skips such steps.
 ghost use Rattle.std.specs.Prelude.{◌≡◌, IfOk, IfErr, OnErr, length, take};
 ghost use Rattle.node_core.specs.Observable.{observable};
 ghost use Rattle.node_core.specs.Machine.{run};

@@ -1,4 +1,5 @@
-// Calls that search a table by a pattern or a match specification.
+//! The calls `match`, `match_object`, `match_delete`, `select`, `select_count` and `select_delete`. Each compiles its
+//! pattern or match specification, and then searches the table.
 ghost use Rattle.std.specs.Prelude.{◌≡◌, ◌<◌, ◌^◌, true, false, map, IfOk, OnOk, IsErrOf};
 ghost use Rattle.ets_term.specs.Data.{data_of};
 ghost use Rattle.match_spec.specs.Specifications.{is_pattern, is_spec};

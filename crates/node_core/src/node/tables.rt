@@ -1,4 +1,5 @@
-// Calls that create and delete tables.
+//! The calls `new` and `delete/1`. Before `new` adds a table, it reserves capacity for it in the queue of tables that
+//! may have a pending growth step.
 ghost use Rattle.std.specs.Prelude.{◌≡◌, ◌≤◌, IfOk};
 ghost use Rattle.ownership.specs.Outcomes as outcomes;
 ghost use Rattle.ownership.specs.Tables as tables;

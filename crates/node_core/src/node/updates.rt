@@ -1,4 +1,5 @@
-// Calls that update counters and elements.
+//! The calls `update_counter` and `update_element`. Both try the frequent form first: one update, without a Default,
+//! which is the object for a missing key.
 ghost use Rattle.std.specs.Prelude.{option_copied};
 ghost use Rattle.table_ops.specs.Refusals as table_refusals;
 ghost use Rattle.node_core.specs.Access.{writes};

@@ -1,4 +1,5 @@
-// What `walk_among` does with its table: it fixes the table, finds keys, and releases the fix.
+//! The node's part of `walk_among`, a traversal among steps of other processes: it fixes the table, finds keys, and
+//! releases the fix. It is here because it uses the private fields of `Node`.
 ghost use Rattle.std.specs.Prelude.{◌≡◌, Some, option_copied, IsTrue};
 ghost use Rattle.fixed_walk.specs.TableState.{IncrementsFix};
 ghost use Rattle.fixed_walk.specs.laws.Walks.{walk_answer};

@@ -1,4 +1,5 @@
-// Calls that fix a table and traverse it.
+//! The calls `safe_fixtable`, `first`, `next`, `first_lookup` and `next_lookup`. While a process fixes a table, its
+//! traversals can continue after a deleted key.
 ghost use Rattle.std.specs.Prelude.{◌≡◌, option_copied, option_map, IfOk};
 ghost use Rattle.std.specs.Map.Iter.{deref_pair};
 ghost use Rattle.node_core.specs.declared.node.access.Access.TheVariants.{Read};

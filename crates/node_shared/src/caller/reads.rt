@@ -1,4 +1,5 @@
-// Calls that only read, which callers make in parallel.
+//! The calls of a caller that only read: they take the lock as readers, and add no entry to the history. `seen` is the
+//! history's length after the caller's last own step. A read observes a state of a run that is at least as long.
 ghost use Rattle.std.specs.Prelude.{◌≡◌, ◌≤◌, false, if◌then◌else◌, Some, None, IfOk, OnOk, OnErr};
 ghost use Rattle.node_core.specs.declared.step.Reply.TheVariants.{NoProcess};
 ghost use Rattle.node_shared.specs.Serving.{AnswersRead, AnswersReads};

@@ -1,9 +1,11 @@
-//! The one word of the numbers, and the two atomic steps on it: a seat is split off, a number is drawn.
+//! The rule of the atomic word that hands out process numbers, and its two atomic steps: a seat is split off, a number
+//! is drawn. A seat is a token of this word. The word has the next number to be drawn.
 use atomic_table::{Play, Split, TableRule};
 
-/// What a seat has observed. No value of this type exists at run time.
+/// What one seat knows: how many seats can be split off it, or which number it drew, if any. No value of this type
+/// exists at run time.
 pub enum View {
-    /// The seat that the atomic word was made with. This number of seats can still be split off it.
+    /// The seat that was made with the atomic word. This number of seats can still be split off it.
     Opening(u64),
     /// A seat that has not drawn a number yet.
     Undrawn,
@@ -11,7 +13,8 @@ pub enum View {
     Drawn(u64),
 }
 
-/// The rule of the word: the numbers drawn are distinct, and they are those below the word.
+/// The rule of the word, which holds after each atomic step. The numbers that seats drew are distinct, and they are all
+/// numbers below the word. The word and the numbers that can still be drawn add up to a fixed total of at most 4,096.
 pub struct Numbers;
 
 impl TableRule<(), View, u64> for Numbers {

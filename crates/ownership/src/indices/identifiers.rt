@@ -1,4 +1,5 @@
-// Identifiers of tables, in ascending order.
+//! How the identifier of a table enters a sorted list. The index by owner and the list of fixed tables consist of such
+//! lists.
 ghost use Rattle.std.specs.Prelude.{◌≡◌, ◌<◌, ◌≤◌, ℕ, OnOk, OnErr, IsOk, vec_capacity};
 ghost use Rattle.ownership.specs.inside.Indices.{AscendsBetween, InsertsSorted};
 

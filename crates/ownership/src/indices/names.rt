@@ -1,4 +1,5 @@
-// The index by name.
+//! The hash map from the names of named tables to their identifiers. A search tries the last entry first, without a
+//! hash of the name.
 ghost use Rattle.std.specs.Prelude.{◌≡◌, ◌++◌, ◌∷◌, ℕ, [], true, List, Option, Some, None, IfSome, OnOk, OnErr, length, slice_set};
 ghost use Rattle.indexmap.specs.IndexMap.{get_by_text};
 ghost use Rattle.ownership.specs.declared.metadata.Metadata as model;

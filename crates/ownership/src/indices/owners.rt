@@ -1,4 +1,5 @@
-// The index by owner: for each process, the tables that it owns or once owned. Its entry is removed when it ends.
+//! The index by owner: for each process, the tables that it owns or once owned. The exit of the process visits these
+//! tables, and removes the entry.
 ghost use Rattle.std.specs.Prelude.{◌≡◌, OnOk, IfOk};
 ghost use Rattle.ownership.specs.inside.Indices.{IsAmong, AddsUnderOwners, RemovesOwner, HeirsAreIndexed, HeirIsIndexed, ids_under};
 

@@ -1,4 +1,5 @@
-// The tables after the end of a process.
+//! What the exit of a process does to tables: it releases fixes, and passes tables to heirs or deletes them. It visits
+//! only the tables in the process's index entry and the fixed ones.
 ghost use Rattle.std.specs.Prelude.{◌≡◌, ℕ, None, map, false, slice_set};
 ghost use Rattle.ownership.specs.World.{Tables, lives, table_at};
 ghost use Rattle.ownership.specs.End.{table_after_exit};

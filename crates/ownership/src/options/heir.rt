@@ -1,4 +1,4 @@
-// Options that name an heir.
+//! The options `{heir,none}` and `{heir,Pid,Data}`, as they are read from terms. `new` and `setopts` share them.
 ghost use Rattle.std.specs.Prelude.{◌≡◌, Option, IfOk};
 ghost use Rattle.ets_term.specs.declared.term.Term.{out-Term};
 ghost use Rattle.ownership.specs.declared.metadata.Heir as model;

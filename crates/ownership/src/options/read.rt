@@ -1,3 +1,5 @@
+//! How the list of options of `ets:new/2` is read. It begins with the defaults, and each option overwrites a part of
+//! them.
 ghost use Rattle.std.specs.Prelude.{◌≡◌, ◌≤◌, IfOk};
 ghost use Rattle.ets_term.specs.declared.term.Term.{out-Term};
 ghost use Rattle.ownership.specs.Options.{default_options, option_form, options_from, word_option, access_word, tuning_word, tuple_option, plain_tuple, pair_option, keypos_option, is_tuning, is_boolean};
@@ -49,8 +51,8 @@ fn is_tuning(name: &Term, value: &Term) -> bool
     }
 }
 
-/// Each of these methods, except `default`, applies one option to `self`. It returns `false` or `Badarg` if the option
-/// does not exist.
+/// Each of these methods, except `default`, applies one option to `self`. It returns `false` or `Badarg` if the option or
+/// its value is not valid, and `Memory` if an allocation fails.
 impl NewOptions {
     /// Returns the options of an empty list.
     fn default() -> NewOptions

@@ -1,3 +1,5 @@
+//! The exit of a process, which releases its fixes and passes its tables to their heirs or deletes them. Whatever takes
+//! memory, as the transfer messages to heirs do, comes before the tables change.
 ghost use Rattle.std.specs.Prelude.{◌≡◌, ◌==◌, Some, is_some, true, OnOk, OnErr, option_copied};
 ghost use Rattle.std.specs.Map.{set_value};
 ghost use Rattle.ownership.specs.World as model;

@@ -1,3 +1,4 @@
+//! How a process starts, here called enrolling, and whether it lives. A process number is enrolled at most once.
 ghost use Rattle.std.specs.Prelude.{◌≡◌, None, OnOk, OnErr, nat_le, is_some, length};
 ghost use Rattle.ownership.specs.World.{process_at, lives};
 ghost use Rattle.ownership.specs.Outcomes.{RefinesWorld};

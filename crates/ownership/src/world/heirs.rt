@@ -1,3 +1,5 @@
+//! The calls that change the owner or the heir of a table. A new owner gets a transfer message with a gift: data that
+//! the old owner chose.
 ghost use Rattle.std.specs.Prelude.{◌≡◌, OnOk, OnErr};
 ghost use Rattle.ownership.specs.Tables.{GiveAway, SetHeir, SetOptions, with_changed, after_set_heir, after_transfer, with_owner};
 ghost use Rattle.ownership.specs.Outcomes.{RefinesWorld};

@@ -1,3 +1,4 @@
+//! The values of the items of `ets:info/2` for one table.
 ghost use Rattle.std.specs.Prelude.{◌≡◌, IfOk, option_map};
 ghost use Rattle.ownership.specs.World.{table_at};
 ghost use Rattle.ownership.specs.Info.{info_of};

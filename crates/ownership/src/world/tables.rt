@@ -1,3 +1,5 @@
+//! The tables by identifier and by name: how they are created, found, borrowed for a change, and deleted. Identifiers
+//! count from 0 in order of creation.
 ghost use Rattle.std.specs.Prelude.{◌≡◌, ◌+◌, ◌<◌, ◌^◌, ◌&&◌, false, OnOk, OnErr, nat_le, length, is_some, option_copied, IfOk};
 ghost use Rattle.std.specs.Option.{option_copied_mut};
 ghost use Rattle.std.specs.Borrow.{sem};
@@ -186,8 +188,8 @@ impl<R: Rows> World<R> {
         Ok(())
     }
 
-    /// Deletes the table with this identifier, with its name and its fixes (stdlib manual, ets:delete/1). Does nothing
-    /// if the table does not exist. This takes no memory.
+    /// Deletes a table with its name and its fixes, as `ets:delete/1` does (stdlib manual), or as at its owner's exit
+    /// without a living heir. Does nothing if the table does not exist. This takes no memory.
     pub fn drop_table(&mut self, id: u32)
         ensures { self.new ≡ without_table self.old id }
     {

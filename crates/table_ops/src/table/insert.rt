@@ -1,3 +1,5 @@
+//! The calls `insert` and `insert_new`, which insert all objects of a list or none. A single object takes one search,
+//! whose result is its entry, and no undo log.
 ghost use Rattle.std.specs.Prelude.{◌≡◌, [], ◌∷◌, true, false, Err, MatchOption};
 ghost use Rattle.std.specs.List.{list_all, list_any};
 ghost use Rattle.ets_term.specs.Depth.{is_too_deep};

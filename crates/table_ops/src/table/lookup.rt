@@ -1,3 +1,4 @@
+//! The calls that read the objects of a key or of the whole table, without a pattern.
 ghost use Rattle.std.specs.Prelude.{◌≡◌, ◌≤◌, ◌+◌, ◌++◌, length, vec_len, vec_capacity, OnOk};
 ghost use Rattle.table_ops.specs.declared.kind.Kind.TheVariants.{Set, Bag};
 ghost use Rattle.table_ops.specs.Content.{objects_under, is_present};

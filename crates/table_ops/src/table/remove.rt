@@ -1,3 +1,5 @@
+//! The calls that delete or take objects without a pattern. `hold` keeps an emptied slot as a tombstone, a slot without
+//! objects, and the purge removes all tombstones.
 ghost use Rattle.std.specs.Prelude.{◌≡◌, OnOk, OnErr};
 ghost use Rattle.table_ops.specs.Content.{objects_under};
 ghost use Rattle.table_ops.specs.Drop.{without_those, without_held, has_key, every_object, DeletesObject};

@@ -1,3 +1,5 @@
+//! The calls that update counters or elements of a set's object in place. A Default is the object for a missing key,
+//! and an entry is the result of the search for the key.
 ghost use Rattle.std.specs.Prelude.{◌≡◌, ◌&&◌, None, option_copied};
 ghost use Rattle.counters.specs.declared.ops.Ops.TheVariants.{One};
 ghost use Rattle.counters.specs.declared.elements.ElementSpecs.TheVariants as elements;

@@ -1,3 +1,5 @@
+//! The results of a query, a pattern or match specification, for the objects of one key or of all keys. `looks` counts
+//! the tested objects.
 ghost use Rattle.std.specs.Prelude.{◌≡◌, ◌≤◌, [], length, is_some, option_copied};
 ghost use Rattle.bucket_table.specs.Slots.{HasDistinctKeys, object_count};
 ghost use Rattle.node_list.specs.Ticks.{tick, ticks};
@@ -67,7 +69,7 @@ impl<R: Rows> TableRows<R> {
         ensures at_most { looks.new ≤ ticks (object_count (R.content self.now.rows)) looks.old }
         ensures at_least { looks.old ≤ looks.new }
     {
-        // The call changes nothing. It gives the proof that the count is a `u64`.
+        // Reads the counter only for the proof, which learns that the count is a `u64`.
         let _before = looks.count();
         for (_, objects) in all_of(&self.rows) {
             self.collect_from(query, objects, found, looks)?;
@@ -92,7 +94,7 @@ impl<R: Rows> TableRows<R> {
         ensures at_most { looks.new ≤ ticks (length objects.now) looks.old }
         ensures at_least { looks.old ≤ looks.new }
     {
-        // The call changes nothing. It gives the proof that the count is a `u64`.
+        // Reads the counter only for the proof, which learns that the count is a `u64`.
         let _before = looks.count();
         for object in objects {
             self.collect_one(query, object, found, looks)?;

@@ -1,3 +1,5 @@
+//! The number of objects that a query chooses, among the objects of one key or of all keys. `looks` counts the tested
+//! objects.
 ghost use Rattle.std.specs.Prelude.{◌≡◌, ◌≤◌, ◌<◌, ◌^◌, [], ◌∷◌, length, option_copied, IfOk};
 ghost use Rattle.bucket_table.specs.Slots.{object_count};
 ghost use Rattle.node_list.specs.Ticks.{tick, ticks};
@@ -55,7 +57,7 @@ impl<R: Rows> TableRows<R> {
         ensures at_most { looks.new ≤ ticks (object_count (R.content self.now.rows)) looks.old }
         ensures at_least { looks.old ≤ looks.new }
     {
-        // The call changes nothing. It gives the proof that the count is a `u64`.
+        // Reads the counter only for the proof, which learns that the count is a `u64`.
         let _before = looks.count();
         let mut total = 0;
         for (_, objects) in all_of(&self.rows) {
@@ -78,7 +80,7 @@ impl<R: Rows> TableRows<R> {
         ensures at_most { looks.new ≤ ticks (length objects.now) looks.old }
         ensures at_least { looks.old ≤ looks.new }
     {
-        // The call changes nothing. It gives the proof that the count is a `u64`.
+        // Reads the counter only for the proof, which learns that the count is a `u64`.
         let _before = looks.count();
         let mut count = 0;
         for i in 0..objects.len() {

@@ -1,3 +1,5 @@
+//! The deletion of the objects that a query chooses: a plan takes all memory, and then the changes of slots take none.
+//! `looks` counts the tested objects, and `hold` keeps an emptied slot as a tombstone.
 ghost use Rattle.std.specs.Prelude.{◌≡◌, ◌≤◌, ◌<◌, ◌^◌, ◌++◌, [], Some, true, is_some, length, option_copied, OnOk};
 ghost use Rattle.bucket_table.specs.Slots.{object_count};
 ghost use Rattle.node_list.specs.Ticks.{ticks};
@@ -70,7 +72,7 @@ impl<R: Rows> TableRows<R> {
             (planned_at (R.key_at self.now.rows) plan.new.list.items
             ≡ plan_of (P.tests query.now.query.now) (R.content self.now.rows)) }
     {
-        // The call changes nothing. It gives the proof that the count is a `u64`.
+        // Reads the counter only for the proof, which learns that the count is a `u64`.
         let _before = looks.count();
         let Some(place) = self.find(key) else {
             return Ok(0);
@@ -96,7 +98,7 @@ impl<R: Rows> TableRows<R> {
             ≡ planned_at (R.key_at self.now.rows) plan.old.list.items
             ++ plan_of (P.tests query.now.query.now) (R.content self.now.rows)) }
     {
-        // The call changes nothing. It gives the proof that the count is a `u64`.
+        // Reads the counter only for the proof, which learns that the count is a `u64`.
         let _before = looks.count();
         self.rows.reveal_invariant();
         let mut total = 0;

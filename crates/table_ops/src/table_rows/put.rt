@@ -1,3 +1,5 @@
+//! The insertion of one object by the kind of the table, which returns how to undo it. An entry is the result of the
+//! search before it: the place (index) of the key's slot, or the hash of a missing key.
 ghost use Rattle.std.specs.Prelude.{◌≡◌, ◌||◌, None, IsSome};
 ghost use Rattle.bucket_table.specs.Slots.{objects_of, has_objects};
 ghost use Rattle.bucket_table.specs.Entries.{IsEntry};

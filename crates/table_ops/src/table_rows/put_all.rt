@@ -1,3 +1,5 @@
+//! The insertion of a list of objects, all or none, and of a single object. An undo log records how to undo each
+//! insertion, and a place is the index of a slot.
 ghost use Rattle.std.specs.Prelude.{◌≡◌, ◌≤◌, ◌∷◌, [], true, false, length};
 ghost use Rattle.std.specs.List.{list_all, list_any};
 ghost use Rattle.ets_term.specs.Depth.{is_too_deep};

@@ -1,3 +1,5 @@
+//! The removal of objects from the slot at a place, which is its index. `hold` keeps an emptied slot as a tombstone, a
+//! slot without objects.
 ghost use Rattle.std.specs.Prelude.{◌≡◌, ◌||◌, [], Some, IsSome};
 ghost use Rattle.bucket_table.specs.Slots.{HasDistinctKeys, has_objects};
 ghost use Rattle.bucket_table.specs.Entries.{objects_in};

@@ -1,3 +1,5 @@
+//! Updates of a slot's only object in place, and the insertion of a Default, the object for a missing key. An entry is
+//! the place (index) of a key's slot, or the hash of a missing key.
 ghost use Rattle.std.specs.Prelude.{◌≡◌, ◌&&◌, [], ◌∷◌, true, Some, Ok, OnOk, OnErr, option_copied};
 ghost use Rattle.std.specs.List.{list_all};
 ghost use Rattle.bucket_table.specs.Entries.{IsEntry, HasOneObject};
@@ -188,8 +190,8 @@ impl<R: Rows> TableRows<R> {
         written
     }
 
-    /// Inserts an object made from the Default, if the key has no object. `below_limit` says whether the table may have
-    /// one more object.
+    /// Inserts `object` under a key without objects, as the caller has checked. `below_limit` says whether the table
+    /// may have one more object.
     pub(crate) fn insert_default(
         &mut self,
         below_limit: bool,

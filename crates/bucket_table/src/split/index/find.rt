@@ -1,3 +1,7 @@
+//! A search starts at a known hint: the current or previous hint of the key's interval, or a hint of a lower interval.
+//! Without one it starts at a dummy. A hint caches the place of the first item of an interval. A dummy is the first
+//! node of a bucket.
+
 // A search for a key's item.
 ghost use Rattle.std.specs.Prelude.{◌≡◌};
 ghost use Rattle.bucket_table.specs.inside.Search.{CanStartSearch};
