@@ -1,7 +1,7 @@
 """The record .ci/tried: the crates whose mutants were all rejected, and at which text.
 
-The line of a crate has a checksum over the kit, the modules that decide on a mutant, the crate with its mutants, and what the crate sees
-of those below it: visible.py says what that is. Lines that are comments only are left out of crates."""
+The line of a crate has a checksum over the logic of the kit, the modules that decide on a mutant, the crate with its mutants, and what the
+crate sees of those below it: visible.py says what that is. Lines that are comments only are left out of crates."""
 import hashlib
 import os
 
@@ -19,11 +19,17 @@ def program():
     return [read(f"{folder}/{name}.py") for name in DECIDES]
 
 
+def logic_of(kit):
+    """Returns the logic in the line of a kit, `NAME logic SUM`, or the whole line if it has another form. Kits with one logic accept the
+    same proofs, so a mutant that breaks its contract has a proof with none of them."""
+    return kit.partition(" logic ")[2] or kit
+
+
 def sums_of(crates, named, kit):
-    """Returns the checksums of the crates in `named` by their names, for this kit."""
-    items, decides = {it.name: items_of(it) for it in crates.values()}, program()
+    """Returns the checksums of the crates in `named` by their names, for the logic of this kit."""
+    items, decides, logic = {it.name: items_of(it) for it in crates.values()}, program(), logic_of(kit)
     parts = lambda it: (it.sum(*PARTS, "must-fail"), [(low.name, low.kind, low.uses) for low in it.below], visible(it, items))
-    return {it.name: hashlib.sha256(repr((kit, decides, parts(it))).encode()).hexdigest() for it in named}
+    return {it.name: hashlib.sha256(repr((logic, decides, parts(it))).encode()).hexdigest() for it in named}
 
 
 class Record:

@@ -10,7 +10,7 @@ from .checks import OWN, UNANSWERED
 from .crates import without_comments
 from .functions import functions
 from .lanes import fate
-from .record import Record
+from .record import Record, logic_of
 from .visible import items_of_definitions, items_of_source
 
 # Each planted edit: its file, the text before and after, and the verdict that it must get.
@@ -55,6 +55,10 @@ FATES = {
     "rt: split_key_more proved\n": None,
     "rt: node_list proved\n3 passed, 1 failed\n": False,
 }
+
+
+# Lines of kits, and the logic in each.
+KITS = {"rattle-kit-13b logic dac8": "dac8", "rattle-kit-13f logic dac8": "dac8", "a kit": "a kit"}
 
 
 # Files, and what the record has of them.
@@ -141,6 +145,8 @@ def self_test(top):
         expect(member.has_cycle(folder) == is_its, "a cycle of calls", folder)
     for text, is_proved in FATES.items():
         expect(fate("split_key", text) == is_proved, "what rt ci says", text)
+    for line, logic in KITS.items():
+        expect(logic_of(line) == logic, "the logic of a kit", line)
     for path, text, left in COMMENTED:
         expect(without_comments(path, text) == left, "a text without comments", text)
     seen = list(items_of_source(SOURCE.split("\n")))
