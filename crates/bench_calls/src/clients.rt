@@ -100,7 +100,7 @@ fn build_work<L: Ledger, R: Wait>(
     Ok(work)
 }
 
-/// Returns a number of clients whose processes are enrolled in a node.
+/// Enrols this many processes in a node, and returns the client of each.
 fn enrol_clients<L: Ledger, R: Wait>(
     rt: &R,
     alloc: Global,

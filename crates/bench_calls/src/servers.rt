@@ -86,7 +86,7 @@ fn build_work<B: HistoryId, R: Wait>(
     Ok(work)
 }
 
-/// Returns a number of callers whose processes are enrolled in a server.
+/// Enrols this many processes in a server, and returns the caller of each.
 fn enrol_callers<B: HistoryId, R: Wait>(
     rt: &R,
     alloc: Global,

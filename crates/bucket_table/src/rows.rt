@@ -40,7 +40,7 @@ pub trait Rows: Drop {
         ensures { option_copied result ≡ objects_of (content self.now) key.now };
 
     /// Inserts a slot for each pair of a key and its objects. The keys must be distinct and must not have slots. If
-    /// memory runs out, no slot is inserted and the rows are dropped.
+    /// memory runs out, no slot is inserted and the argument is dropped.
     fn put(&mut self, rows: Vec<(Term, Chain)>) -> Result<(), AllocError>
         requires distinct { HasDistinctKeys rows.items }
         requires new { AreNew (content self.old) rows.items }

@@ -5,8 +5,9 @@
 //!
 //! *Guarantee.* A call on a handle runs the step that its text or term spells, as the specification says, or it is
 //! refused and changes nothing. The status, the number of the reply's bytes and the bytes in the caller's buffer are
-//! those of the reply. `yoyoash_why` returns why the last call was refused. On a closed handle, every
-//! function but `yoyoash_open` and `yoyoash_close` returns `CLOSED`.
+//! those of the reply. The status is `UNTOLD` if the step was run, but memory ran out for the bytes of its reply.
+//! `yoyoash_why` returns why the last call was refused. On a closed handle, every function but `yoyoash_open` and
+//! `yoyoash_close` returns `CLOSED`.
 //!
 //! *Weakness.* Nothing checks what a caller in C must do: move a handle and never copy it, pass buffers that do not
 //! overlap, and let one call at a time use a handle. A handle may move to another thread, since a store is `Send`; the
@@ -112,7 +113,7 @@ pub extern "C" fn yoyoash_call(
     status
 }
 
-/// Returns the last reply again, as `yoyoash_call` returned it.
+/// Returns the status of the reply to the last step that was run, and writes its text, as `yoyoash_call` does.
 #[unsafe(no_mangle)]
 pub extern "C" fn yoyoash_reply(
     alloc: Global,
@@ -156,7 +157,7 @@ pub extern "C" fn yoyoash_call_external(
     status
 }
 
-/// Returns the last reply again, as `yoyoash_call_external` returned it.
+/// Returns the status of the reply to the last step that was run, and writes its bytes, as `yoyoash_call_external` does.
 #[unsafe(no_mangle)]
 pub extern "C" fn yoyoash_reply_external(
     alloc: Global,

@@ -30,8 +30,8 @@ struct Server {
     payload: Vec<u8>,
 }
 
-/// Answers each packet of the input by a new store with these limits, until the input ends. All replies so far are
-/// written before each read, and at the end.
+/// Makes a store with these limits, and answers each packet of the input by it, until the input ends. All replies so far
+/// are written before each read, and at the end.
 pub fn run_packets<R: Read, W: Write>(
     alloc: Global,
     input: &mut R,

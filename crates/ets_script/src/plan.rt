@@ -77,7 +77,7 @@ impl Plan {
         }
     }
 
-    /// Returns the planned answers and the work, with one growth step for each line.
+    /// Returns the planned answers and the work, with at most one growth step for each line.
     pub fn into_parts(self) -> (PlannedAnswers, ProcessJobs)
         ensures parts { AreParts result.0 result.1 self.plan }
         ensures named { length result.0.names ≡ length result.1.jobs }
@@ -118,7 +118,7 @@ impl Plan {
         self.add_answer(Answer::TooLong)
     }
 
-    /// Adds a command.
+    /// Adds a command. `grow` and `ready` are skipped: a thread of its own does the growth steps.
     fn add_command(&mut self, command: Command<'_>) -> Result<(), AllocError>
         ensures { IfOk result (λ _. self.new ≡ with_command (command_view command.entry) self.old) }
     {
@@ -188,7 +188,8 @@ impl Plan {
     }
 }
 
-/// Adds a new name, for which there is capacity.
+/// Adds a new name after the others. There must be capacity for it. In contracts, `keys` has the members of the set in
+/// their order.
 fn add_name(names: &mut IndexSet<Vec<u8>>, name: Vec<u8>)
     requires room { 0 < spare names.old }
     requires new { contains_by (λ k. bytes_eq name.items k.items) names.old ≡ false }

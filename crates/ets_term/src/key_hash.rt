@@ -6,6 +6,7 @@ use crate::term::Term;
 
 /// A hasher of terms. Equal terms have equal hashes, and all hashes are below 2^32.
 pub trait KeyHash {
+    /// The hash of a term, as contracts see it: what `hash32` returns.
     ghost hash: { Self → declared.Term → ℕ };
 
     /// Returns the hash of a term, a number of 32 bits.

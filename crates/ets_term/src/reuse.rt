@@ -7,7 +7,7 @@ use std::alloc::{AllocError, Global};
 
 impl Term {
     /// Makes `target` equal to this term. A tuple of `target` is reused for a tuple of the same length, and a list for
-    /// a list: their memory is not allocated again.
+    /// a list of the same length: their memory is not allocated again.
     ///
     /// If memory is refused, `target` is still a term, but some of its parts may be replaced already.
     pub fn clone_into(&self, alloc: Global, target: &mut Term) -> Result<(), AllocError>

@@ -12,7 +12,7 @@ use std::sync::ledger::Ledger;
 use std::thread;
 use std::thread::Threads;
 
-/// A gate that does nothing.
+/// A gate that does nothing. `run_clients` needs a gate, and calls it before and after each job of a client.
 #[derive(Drop)]
 struct NoGate;
 

@@ -1,5 +1,5 @@
 //! Writes bytes, and terms that contain no other terms, to a writer in the External Term Format. Each term is encoded in
-//! a buffer, the block, and then sent.
+//! a buffer, the block, and then sent. Of a binary only the header goes through the block.
 ghost use Rattle.std.specs.Prelude.{◌≤◌, vec_capacity};
 ghost use Rattle.external_term.specs.Encoding.{integer_bytes, atom_bytes, pid_bytes, reference_bytes, binary_bytes};
 ghost use Rattle.external_term.specs.Sent.{AppendsOrPrefix};

@@ -1,6 +1,5 @@
-//! Why a search may test the objects of one key only: all objects that match have the same element at keypos. A part of
-//! a pattern is ground if it has neither a variable nor `'_'`.
-// The bound key of a pattern or match specification: the key that every matching object has.
+//! The bound key of a pattern or match specification: the key that every matching object has. A search with a bound key
+//! tests only the objects of this key. A part of a pattern is ground if it has neither a variable nor `'_'`.
 ghost use Rattle.std.specs.Prelude.{◌≡◌, if◌then◌else◌, Some, None, map, drop, option_copied};
 ghost use Rattle.std.specs.Option.{option_map};
 ghost use Rattle.ets_term.specs.Data.{atom, list, data_of, data_list};

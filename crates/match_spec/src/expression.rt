@@ -1,6 +1,5 @@
 //! An expression of a condition or body as a tree. A variable is already replaced by a path, the element indices that
 //! lead to its value in the object.
-// Compiled expressions.
 // The modules: `check` whether a term is an expression, `compile` it and `evaluate` it. The functions: their names
 // (`function`), how to `apply` them, `arithmetic`, `comparison`, `connectives`, type tests (`guards`), and elements and
 // sizes (`lists`).

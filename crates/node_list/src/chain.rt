@@ -1,4 +1,4 @@
-//! A chain: the objects of one key, in order, which are called terms here. The first is inline, because a key of a set
+//! A chain: the objects of one key, in order. They are called terms here. The first is inline, because a key of a set
 //! has at most one object.
 ghost use Rattle.std.specs.Prelude.{◌≡◌, ◌+◌, ◌<◌, ◌≤◌, vec_len, vec_capacity, [], ◌∷◌, ◌++◌, length, take, slice_get, slice_set, Some, IsOk, OnOk, OnErr, MatchOption};
 ghost use Rattle.node_list.specs.Chains.{all_but, with_element, with_element_in_first};
@@ -69,7 +69,7 @@ impl Chain {
         ensures err { OnErr result (self.new ≡ self.old) }
         ensures succeeds { self.old ≡ [] → IsOk result }
     {
-        // The call gives the proof a bound of the length. It changes nothing.
+        // The call gives the proof a bound on the length. It changes nothing.
         let _room = self.terms.capacity();
         self.terms.push(term)?;
         Ok(())

@@ -1,5 +1,6 @@
-//! The removal of a node: its predecessor, which is found from a start node, gets its link. `unlink_from` returns the
-//! node; `delete_from` drops its item without moving it. A place is the index of a node.
+//! The removal of a node: a search from a start node finds its predecessor, which gets the node's link. `unlink_from`
+//! returns the node; `delete_from` drops its item without moving it. A place is the index of a node. The head of the
+//! list is at place 0, so `cells_from nodes (Some 0)` is the whole list.
 ghost use Rattle.std.specs.Prelude.{◌≡◌, ◌+◌, Some};
 ghost use Rattle.slab.specs.Slab.{get, slab_len};
 ghost use Rattle.node_list.specs.Places.{all_but_first, cells_after};
@@ -42,7 +43,8 @@ pub fn unlink_from(nodes: &mut Nodes, start: usize, at: usize) -> ListNode
     node
 }
 
-/// Drops the item at `at`, which must be after `start`, without moving it. Returns the number of terms in its chain.
+/// Removes the node at `at`, which must be after `start`, and drops its item without moving it. Returns the number of
+/// terms in the item's chain.
 pub fn delete_from(nodes: &mut Nodes, start: usize, at: usize) -> usize
     requires linked { IsLinked nodes.old (Some 0) }
     requires after { HasPlace at (cells_after start (cells_from nodes.old (Some 0))) }

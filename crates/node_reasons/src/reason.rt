@@ -81,7 +81,7 @@ pub struct Reason {
 }
 
 impl Reason {
-    /// Returns the reason that the step, or its whole call, breaks a rule.
+    /// Returns a reason about the step or the whole call, and not about one argument.
     pub(crate) fn about_whole_call(rule: Rule) -> Reason
         ensures { result ≡ about_whole_call rule }
     {

@@ -36,7 +36,8 @@ impl HistoryId for Brand {
 /// The atomic word of a history, which stays 0.
 pub type HistoryWord = Table<Entry, HistoryView, (), HistoryRule, Global>;
 
-/// An empty history, which no type names yet.
+/// An empty history for a new server, which gives it a name `B`. At run time it is one atomic word, which takes an
+/// allocation, and the seat of the owner: the kit's token for a user of the word.
 #[derive(Drop)]
 pub struct NewHistory {
     pub(crate) word: HistoryWord,

@@ -81,7 +81,8 @@ fn run_from<
     Ok(done)
 }
 
-/// Runs the jobs of one client in order, until one is refused memory. Calls `before` and `after` around each.
+/// Runs the jobs of one client in order, until one is refused memory. Calls `gate.before` before each job, and
+/// `gate.after` after each that was run.
 fn run_one<L: Ledger, H: KeyHash + Copy + Drop, G: Gate, R: Wait>(
     rt: &R,
     shared: &Shared<L, H>,

@@ -30,7 +30,7 @@ pub struct Store {
     node: Node<Fnv>,
     reply: Reply,
     refusal: Option<LastRefusal>,
-    /// The previous value of `reply`, over which the next step writes.
+    /// The reply that the next step writes over. After the step it is swapped with `reply`.
     previous: Reply,
     /// The vector in which a reply's bytes are made, kept for its memory.
     bytes: Vec<u8>,

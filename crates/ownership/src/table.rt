@@ -10,7 +10,7 @@ use fixed_walk::Walked;
 use std::alloc::{AllocError, Global};
 use std::marker::Model;
 
-/// A table with its metadata, in a box. So the empty place that a deleted table leaves is small.
+/// A table with its metadata, in a box, so that the empty place that a deleted table leaves is small.
 #[derive(Drop)]
 pub struct OwnedTable<R: Rows> {
     parts: Box<Parts<R>>,
@@ -23,7 +23,8 @@ struct Parts<R: Rows> {
     table: Walked<R>,
 }
 
-// The value that contracts see of this type (`view`).
+// The value that contracts see of this type (`view`). Its field `fixed` is the table with its fixes, whether or not a
+// process fixes it.
 impl<R: Rows> Model for OwnedTable<R> {
     ghost use Rattle.ownership.specs.World.{Table};
     ghost use Rattle.ownership.specs.inside.Codes.{table_code};

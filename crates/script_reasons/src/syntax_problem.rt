@@ -46,7 +46,7 @@ pub enum SyntaxProblem {
     IntegerOutOfRange,
     LongName,
     TooDeep,
-    /// A whole term that is not a call.
+    /// A text that begins as a term does, and not as a call.
     NotACall,
     Other(u8),
 }

@@ -1,4 +1,4 @@
-//! What a query, a pattern or match specification, returns for an object. `match` returns the values of variables,
+//! What a query (a pattern or a match specification) returns for an object. `match` returns the values of variables,
 //! `match_object` the object itself, and `select` the result of the first clause that applies.
 ghost use Rattle.std.specs.Prelude.{Option};
 ghost use Rattle.ets_term.specs.declared.term.Term.{Term};

@@ -124,7 +124,8 @@ fn client_of_worker<L: Ledger>(worker: Worked<L>) -> Option<Client<L>> {
     Some(worker.client)
 }
 
-/// Closes a `Shared` with its clients, if there are any. Returns the transcript, which has the journal.
+/// Closes a `Shared` with the clients of a run. Returns the transcript, which has the journal. `clients` is `None` if the
+/// run failed; then drops the `Shared` and returns `None`.
 fn close_all<L: Ledger, H: KeyHash + Copy + Drop>(
     shared: Shared<L, H>,
     clients: Option<Vec<Client<L>>>,
@@ -135,7 +136,8 @@ fn close_all<L: Ledger, H: KeyHash + Copy + Drop>(
     }
 }
 
-/// Closes a `Shared` with its clients. Returns how many entries of this process the transcript has.
+/// Closes a `Shared` with the clients of a run, as `close_all` does. Returns how many entries of this process the
+/// transcript has.
 fn count_entries<L: Ledger, H: KeyHash + Copy + Drop>(
     shared: Shared<L, H>,
     clients: Option<Vec<Client<L>>>,

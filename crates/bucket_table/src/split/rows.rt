@@ -15,7 +15,8 @@ use split_key::dummy_key;
 use std::alloc::AllocError;
 use std::mem;
 
-// The trait `Rows` documents these methods. The place of a slot is that of its item in the list of nodes.
+// The trait `Rows` documents these methods. The place of a slot is that of its item in the list of nodes. For a
+// tombstone, `get` returns an empty slice.
 impl<H: KeyHash + Copy + Drop> Rows for SplitRows<H> {
     ghost content = { λ s. s.slots };
 

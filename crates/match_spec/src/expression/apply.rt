@@ -1,6 +1,5 @@
 //! The value of a call whose arguments have values already. It computes `hd` and `element` apart from the other
 //! functions: an element of a borrowed list or tuple is borrowed too.
-// Calls of functions of one or two values.
 ghost use Rattle.std.specs.Prelude.{◌≡◌, [], ◌∷◌, IfOk};
 ghost use Rattle.std.specs.Option.{option_map};
 ghost use Rattle.ets_term.specs.Data.{data_of};

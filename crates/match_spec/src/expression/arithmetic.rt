@@ -1,6 +1,5 @@
 //! The operators `+`, `-`, `*`, `div` and `rem`, and `abs`. They return `None` where the call fails: also if the result
 //! does not fit 128 bits, as integers of this store are bounded.
-// Arithmetic of integers.
 ghost use Rattle.std.specs.Prelude.{◌≡◌};
 ghost use Rattle.std.specs.Option.{option_map};
 ghost use Rattle.ets_term.specs.Data.{int, data_of};

@@ -1,6 +1,5 @@
 //! The check of an expression before it is compiled: the clause's pattern has its variables, and its calls have known
 //! names and numbers of arguments.
-// The check of whether a term is an expression.
 ghost use Rattle.std.specs.Prelude.{◌≡◌, ◌&&◌, ◌||◌, drop, map};
 ghost use Rattle.ets_term.specs.Data.{tuple, data_of, data_list};
 ghost use Rattle.match_spec.specs.Expressions.{is_expression, are_expressions, is_constant, is_bound};
@@ -49,7 +48,8 @@ pub(crate) fn are_expressions(terms: &[Term], start: usize, bound_variables: &Fi
     true
 }
 
-/// Checks whether a tuple of these elements is an expression: `{{..}}`, `{const,T}` or a call.
+/// Checks whether a tuple of these elements is an expression: `{{..}}`, `{const,T}` or a call. It may use the variables
+/// of the clause's pattern.
 #[cycle(checked)]
 fn is_tuple_expression(terms: &[Term], bound_variables: &FirstPaths) -> bool
     ensures { result ≡ is_expression (numbers_of bound_variables.now.entries) (tuple (data_list (map data_of terms.now))) }

@@ -1,6 +1,5 @@
 //! The operators `>`, `>=`, `<`, `=<`, `=:=`, `==`, `=/=` and `/=`. `=:=` and `==` agree, as do `=/=` and `/=`, because
 //! the store has no floats.
-// The comparison operators. All compare by the order of terms.
 ghost use Rattle.std.specs.Prelude.{◌≡◌};
 ghost use Rattle.ets_term.specs.Data.{int, data_of};
 ghost use Rattle.ets_term.specs.Order.{data_order};

@@ -1,6 +1,5 @@
-//! The step from the checked raw term of an expression to a tree that is evaluated. A variable becomes the path
-//! (element indices) of its value in the object.
-// The compilation of expressions.
+//! Compiles the checked raw term of an expression to a tree that is evaluated. A variable becomes the path (element
+//! indices) of its value in the object.
 ghost use Rattle.std.specs.Prelude.{◌≡◌, drop, length, map, IfOk};
 ghost use Rattle.ets_term.specs.Data.{tuple, data_of, data_list};
 ghost use Rattle.match_spec.specs.Variables.{variable};
@@ -56,8 +55,8 @@ pub(crate) fn expressions_of(
     Ok(Items::from_vec(compiled))
 }
 
-/// Compiles a tuple: `{{..}}` makes a tuple, and any other tuple is a call. A tuple that is not an expression never
-/// gets here; it is compiled to `Object`.
+/// Compiles a tuple: `{{..}}` makes a tuple, and any other tuple is a call. The check refuses a tuple that is not an
+/// expression. For the case that does not occur, the result is `Object`.
 #[cycle(expression)]
 fn tuple_expression(
     alloc: Global,

@@ -1,6 +1,5 @@
 //! The logic of `and`, `or`, `andalso` and `orelse` on values of type `bool`. The order in which arguments are
 //! evaluated is in `evaluate`.
-// How connectives combine truth values.
 ghost use Rattle.std.specs.Prelude.{◌≡◌};
 ghost use Rattle.match_spec.specs.inside.Functions.{neutral, combine, decides};
 

@@ -1,6 +1,5 @@
 //! The value of an expression for an object: a part of the object or expression, which is borrowed, or a new term.
 //! `None` means that the expression fails, and an error that memory ran out.
-// The evaluation of compiled expressions.
 ghost use Rattle.std.specs.Prelude.{◌≡◌, [], ◌∷◌, Some, map, IfOk, IfSome};
 ghost use Rattle.std.specs.Option.{option_map, option_and_then};
 ghost use Rattle.ets_term.specs.Data.{data_of};

@@ -1,6 +1,5 @@
 //! The calls that an expression can make: found by name and number of arguments, and computed from the values of the
 //! arguments. `hd` and `element` are computed in `apply`, because their values can be borrowed.
-// The functions of expressions: their names and values.
 ghost use Rattle.std.specs.Prelude.{◌≡◌, ◌≢◌, [], ◌∷◌, IfOk};
 ghost use Rattle.std.specs.Option.{option_map};
 ghost use Rattle.ets_term.specs.Data.{data_of};

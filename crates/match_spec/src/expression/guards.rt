@@ -1,6 +1,5 @@
 //! The guard functions that test the type of a term, the conversions between `bool` and the atoms `true` and `false`,
 //! and `xor`.
-// Booleans as atoms, and the type tests `is_atom`, `is_integer` and so on.
 ghost use Rattle.std.specs.Prelude.{◌≡◌, IfOk};
 ghost use Rattle.ets_term.specs.Data.{data_of};
 ghost use Rattle.match_spec.specs.Functions.{truth, boolean, exclusive};

@@ -1,5 +1,4 @@
 //! The functions `hd`, `tl`, `length`, `size` and `element` on terms. They return `None` where the call fails.
-// Elements and sizes of lists and tuples.
 ghost use Rattle.std.specs.Prelude.{◌≡◌, drop, map, IfOk, option_copied};
 ghost use Rattle.std.specs.Option.{option_map};
 ghost use Rattle.ets_term.specs.Data.{int, list, data_of, data_list};

@@ -1,6 +1,5 @@
 //! The step from the raw term of a pattern to its parts. A variable becomes a wildcard at its first path (to its first
 //! occurrence), and elsewhere a comparison with the subterm at that path.
-// The compilation of patterns.
 ghost use Rattle.std.specs.Prelude.{◌≡◌, map, IfOk, OnOk};
 ghost use Rattle.ets_term.specs.Data.{atom, data_of, data_list};
 ghost use Rattle.match_spec.specs.inside.CompiledPatterns.{part_of, parts_from, variable_part};

@@ -1,6 +1,5 @@
 //! A compiled pattern as a tree, and the test whether an object fits it. The test stores no bindings: it compares a
 //! repeated variable with the subterm at the path (element indices) of its first occurrence.
-// The parts of compiled patterns.
 ghost use Rattle.std.specs.Prelude.{◌≡◌, map};
 ghost use Rattle.ets_term.specs.Data.{data_of, data_list};
 ghost use Rattle.match_spec.specs.inside.CompiledPatterns.{part_fits, all_fit};

@@ -1,6 +1,5 @@
 //! The way from a term to a subterm: a path is a list of element indices, counted from 0. The first path of a variable
 //! leads to its first occurrence in the pattern.
-// Paths in terms, and the first paths of a pattern's variables.
 ghost use Rattle.std.specs.Prelude.{◌≡◌, [], ◌∷◌, map, IfOk, OnOk};
 ghost use Rattle.ets_term.specs.Data.{data_of, data_list};
 ghost use Rattle.match_spec.specs.Paths.{subterm_at, element_or};

@@ -1,6 +1,5 @@
 //! The step from the raw term of a clause to its pattern, conditions and body, which are checked before they are
 //! compiled. A raw term is the term that a user passes.
-// The three parts of a clause, and the check of whether they form a valid clause.
 ghost use Rattle.std.specs.Prelude.{◌≡◌, nat_lt, map};
 ghost use Rattle.std.specs.Option.{option_map};
 ghost use Rattle.ets_term.specs.Data.{tuple, data_of, data_list};

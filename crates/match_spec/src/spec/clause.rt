@@ -1,6 +1,5 @@
 //! A compiled clause of a match specification, and the first clause that applies to an object: its pattern matches, and
 //! its conditions are true. The body of this clause computes the result.
-// Compiled clauses.
 ghost use Rattle.std.specs.Prelude.{◌≡◌, false, map, option_copied, IfOk};
 ghost use Rattle.std.specs.Option.{option_map, option_map_or};
 ghost use Rattle.ets_term.specs.Data.{data_of};

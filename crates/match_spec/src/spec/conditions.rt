@@ -1,6 +1,5 @@
 //! The test of a clause's conditions (guards) on an object. It is apart from evaluation, because a comparison in a
 //! condition needs no atom for its truth value.
-// The conditions of compiled clauses.
 ghost use Rattle.std.specs.Prelude.{◌≡◌, [], ◌∷◌, false, map, IfOk};
 ghost use Rattle.std.specs.Option.{option_map, option_map_or};
 ghost use Rattle.ets_term.specs.Data.{data_of};

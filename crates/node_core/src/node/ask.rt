@@ -1,5 +1,5 @@
-//! A call from its text to its reply: first the refusals that do not depend on its name, then its method. `read` makes
-//! only calls that change nothing, so a `&Node` is enough for it.
+//! How a `Call` gets its reply: first the refusals that do not depend on its name, then its method. `read` makes only
+//! calls that change nothing, so a `&Node` is enough for it.
 ghost use Rattle.std.specs.Prelude.{◌≡◌, false, if◌then◌else◌, Some, None, Err, IfOk, OnOk, OnErr};
 ghost use Rattle.std.specs.List.{list_any};
 ghost use Rattle.ets_term.specs.Depth.{is_too_deep};
@@ -103,7 +103,7 @@ impl<H: KeyHash + Copy + Drop> Node<H> {
     }
 }
 
-/// Returns whether a call with these arguments changes nothing.
+/// Returns whether a call with this name and these arguments only reads.
 fn reads_only(name: CallName, args: &[Term]) -> bool
     ensures { result ≡ reads_only name args.now }
 {

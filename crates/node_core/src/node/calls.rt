@@ -1,6 +1,6 @@
-//! The dispatch from a call's name and number of arguments to its method. Calls that change nothing come first. Six
-//! frequent calls are tried before the others: `lookup`, `member`, `insert`, `delete/2`, `update_counter/3` and
-//! `update_element/3`.
+//! The dispatch from a call's name and number of arguments to its method. Six frequent calls are tried first: `lookup`,
+//! `member`, `insert`, `delete/2`, `update_counter/3` and `update_element/3`. Of the others, those that change nothing
+//! come first.
 ghost use Rattle.std.specs.Prelude.{◌≡◌, [], ◌∷◌, false};
 ghost use Rattle.node_core.specs.Calls.{call};
 ghost use Rattle.node_core.specs.Reads.{reads_only};
@@ -123,7 +123,8 @@ impl<H: KeyHash + Copy + Drop> Node<H> {
         }
     }
 
-    /// Makes a call of two arguments that changes nothing. Returns `None` if the name has no such call.
+    /// Makes a call of two arguments that changes nothing. Returns `None` if the name has no such call. `read_call`
+    /// tries `lookup` and `member` before. They are here too, because the contract holds for each name.
     #[inline(never)]
     fn read_call_of_two(
         &self,

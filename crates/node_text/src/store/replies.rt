@@ -14,7 +14,7 @@ use node_core::Reply;
 use std::alloc::Global;
 use term_text::print_term;
 
-/// The vector for a reply's bytes is kept for the next reply if its capacity is at most this.
+/// The greatest capacity of the vector for a reply's bytes that is kept for the next reply.
 const MAX_KEPT: usize = 65536;
 
 impl Store {
@@ -61,6 +61,7 @@ impl Store {
         };
         let status = write_term(term, &mut self.bytes, out, len);
         if self.bytes.capacity() > MAX_KEPT {
+            self.bytes.clear();
             self.bytes.shrink_to_fit();
         }
         status
@@ -85,7 +86,7 @@ impl Store {
 }
 
 /// Writes as many of a term's bytes in the external format as fit to `out`, and the total number of bytes to `len`.
-/// Makes the bytes in the vector, in place of what it has.
+/// Makes the bytes in the vector, in place of what it has. Returns `VALUE`, or `UNTOLD` if memory runs out for the bytes.
 fn write_term(term: &Term, bytes: &mut Vec<u8>, out: &mut [u8], len: &mut usize) -> i32
     requires { len.old ≡ 0 }
     ensures { WritesText (written term.now) (written_reply result len.new out.old out.new) }

@@ -1,4 +1,5 @@
-//! The calls that match, select, count or delete objects by a pattern or match specification. `looks` counts the tested
+//! The calls that match, select, count or delete objects by a pattern or match specification. A pattern *chooses* the
+//! objects that match it, and a match specification those for which its result is `true`. `looks` counts the tested
 //! objects, and `hold` keeps an emptied slot as a tombstone, a slot without objects.
 ghost use Rattle.std.specs.Prelude.{◌≡◌, ◌≤◌, ◌<◌, ◌^◌, is_some, IfOk, OnOk, OnErr, option_copied};
 ghost use Rattle.node_list.specs.Ticks.{ticks};

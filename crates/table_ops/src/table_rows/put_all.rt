@@ -103,8 +103,8 @@ impl<R: Rows> TableRows<R> {
         self.put(below_limit, entry, key, object)
     }
 
-    /// Undoes the insertions in an undo log, the last first. The log has one part for each of the first `objects`, in
-    /// their order.
+    /// Undoes the insertions in an undo log, the last first. Element `i` of the log undoes the insertion of
+    /// `objects[i]`. The log may be shorter than `objects`.
     fn roll_back(&mut self, objects: &[Term], mut undo_log: Vec<Undo>)
         requires objects { list_all (is_object self.old.keypos) objects.now ≡ true }
         requires long { length undo_log.items ≤ length objects.now }

@@ -45,7 +45,8 @@ enum StepText<'a> {
     Ready(Tid, Bucket),
 }
 
-/// A step, and its wanted reply: a term, a list after `any order: `, or a refusal such as `** badarg`.
+/// A step, and its wanted reply: a term, a list after `any order: `, or a refusal such as `** badarg`. In the tests of
+/// `why`, the text is the wanted reason.
 type Row = (StepText<'static>, &'static str);
 
 /// Builds the step of a call that a process makes, such as `lookup(t,a)`. A text that is not a call is a fault of the

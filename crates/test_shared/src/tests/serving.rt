@@ -40,8 +40,8 @@ fn fill_table<B: HistoryId, R: Wait>(
     Some(())
 }
 
-/// Makes a table, inserts nine objects and runs three growth steps under one lock, by `ask_all`. Returns the number of
-/// replies.
+/// Makes a table, inserts nine objects and runs three growth steps, by `ask_all`, which holds the lock once. Returns the
+/// number of replies.
 fn fill_table_at_once<B: HistoryId, R: Wait>(
     rt: &R,
     alloc: Global,
@@ -55,8 +55,8 @@ fn fill_table_at_once<B: HistoryId, R: Wait>(
     Some(replies.len())
 }
 
-/// Fills three tables. Returns whether four growth steps are pending after each, of which `keep` runs one in each of at
-/// most 3 or 9 turns. Of the third table `ask_all` runs three, and `keep` the last one.
+/// Fills three tables. Returns whether each then has four pending growth steps. Of the first two tables `keep` runs all
+/// four, at most 3 or 9 in a call. Of the third `ask_all` runs three, and `keep` the last one.
 fn pending_steps_run_in_turns<B: HistoryId, R: Wait>(
     rt: &R,
     alloc: Global,

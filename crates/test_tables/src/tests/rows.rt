@@ -63,13 +63,13 @@ impl Draws {
 /// run.
 pub fn new_rows_with_retry<H: KeyHash + Copy + Drop>(
     alloc: Global,
-    hash: H,
+    hasher: H,
 ) -> Result<SplitRows<H>, AllocError>
     ensures { IfOk result (λ rows. rows.slots ≡ []) }
 {
-    match SplitRows::new(alloc, hash) {
+    match SplitRows::new(alloc, hasher) {
         Ok(rows) => Ok(rows),
-        Err(_) => SplitRows::new(alloc, hash),
+        Err(_) => SplitRows::new(alloc, hasher),
     }
 }
 

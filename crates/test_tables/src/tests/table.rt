@@ -178,11 +178,11 @@ fn plain_table(alloc: Global, empty: EmptyTable) -> Table<PlainRows> {
 /// Creates a table over split rows with this hasher. `None` means that memory ran out twice.
 fn split_table<H: KeyHash + Copy + Drop>(
     alloc: Global,
-    hash: H,
+    hasher: H,
     empty: EmptyTable,
 ) -> Option<Table<SplitRows<H>>> {
     let EmptyTable(kind, keypos, limit) = empty;
-    let rows = new_rows_with_retry(alloc, hash).ok()?;
+    let rows = new_rows_with_retry(alloc, hasher).ok()?;
     // `max`, because `Table::new` requires a keypos of at least 1.
     Some(Table::new(alloc, rows, kind, keypos.0.max(1), limit.0))
 }

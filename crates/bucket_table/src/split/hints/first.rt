@@ -1,7 +1,6 @@
 //! A hint caches the place of the first item of an interval. It changes if an insertion gives the interval a new first
 //! item, or if a removal takes the first item.
 
-// The effect of an insertion or a removal on the hint of the item's interval.
 ghost use Rattle.std.specs.Prelude.{◌≡◌, ◌/◌, ◌^◌, true, false, None, get_or};
 ghost use Rattle.bucket_table.specs.inside.Directory.{HaveParity};
 ghost use Rattle.bucket_table.specs.inside.Intervals.{HintsAreSound, IsNewFirst, KeepsFirst, IsItemIn, IsHintAfterRemoval};

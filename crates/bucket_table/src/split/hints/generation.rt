@@ -1,7 +1,6 @@
 //! The hints of a new number of buckets: a doubling creates some of them, and later insertions the rest. A hint caches
 //! the place of the first item of an interval (an eighth of a bucket). At first it is unknown.
 
-// A generation: the hints of one number of buckets. They are set to unknown in small parts.
 ghost use Rattle.std.specs.Prelude.{◌≡◌, ◌/◌, ◌^◌, ◌<◌, OnOk, OnErr};
 ghost use Rattle.bucket_table.specs.inside.Intervals.{AreUnknown, HaveSameHints};
 

@@ -1,7 +1,6 @@
 //! An insertion sets the hint of its interval, if that is unknown, by a scan of the list up to the interval. A hint
 //! caches the place of the first item of an interval (an eighth of a bucket).
 
-// The refresh of an unknown hint by an insertion.
 ghost use Rattle.std.specs.Prelude.{◌≡◌, ◌/◌, ◌^◌};
 ghost use Rattle.bucket_table.specs.inside.Directory.{HaveParity, HasKeyBelow};
 ghost use Rattle.bucket_table.specs.inside.Intervals.{HintsAreSound, IsBeforeInterval, IsSoundHint};

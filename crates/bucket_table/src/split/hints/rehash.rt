@@ -1,7 +1,6 @@
 //! After a doubling, each insertion splits a few of the previous hints: those of the old number of buckets. A hint
 //! caches the place of the first item of an interval. A previous interval is two current intervals, a *pair*.
 
-// The rehash: previous hints are split into current hints.
 ghost use Rattle.std.specs.Prelude.{◌≡◌, ◌+◌, ◌*◌, ◌/◌, ◌^◌, None, get_or};
 ghost use Rattle.bucket_table.specs.inside.Intervals.{HintsAreSound, IsSoundHint};
 

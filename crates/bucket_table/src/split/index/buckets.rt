@@ -1,7 +1,6 @@
 //! A bucket is ready if the directory has the place of its dummy, the first node of the bucket. A search without a hint
 //! starts at the nearest ready bucket: the bucket of its hash, or the first ready one among that bucket's ancestors.
 
-// Ready buckets and the places of their dummies.
 ghost use Rattle.std.specs.Prelude.{◌≡◌, ℕ, ◌%◌, ◌<◌, ◌≤◌, ◌^◌, length};
 ghost use Rattle.split_key.specs.Keys.{key_of_item};
 ghost use Rattle.bucket_table.specs.inside.Directory.{IsNearestReady, AllReadyBelow, IsFirstUnready};

@@ -2,7 +2,6 @@
 //! Without one it starts at a dummy. A hint caches the place of the first item of an interval. A dummy is the first
 //! node of a bucket.
 
-// A search for a key's item.
 ghost use Rattle.std.specs.Prelude.{◌≡◌};
 ghost use Rattle.bucket_table.specs.inside.Search.{CanStartSearch};
 ghost use Rattle.bucket_table.specs.inside.SplitIndex.{RowsInvariant, FindsItem, CountsVisits};

@@ -1,7 +1,6 @@
 //! An insertion also does its part of the work on hints. It rehashes some hints from before the last doubling. Then it
 //! refreshes the hint of its interval: it sets the hint if that is unknown.
 
-// The insertion of an item.
 ghost use Rattle.std.specs.Prelude.{◌≡◌, ◌+◌, None, length};
 ghost use Rattle.std.specs.Map.{lookup};
 ghost use Rattle.ets_term.specs.Order.{same};

@@ -1,7 +1,6 @@
 //! When a bucket becomes ready, one scan sets all its hints, and one those of its parent if that is ready. The parent
 //! is the bucket that a doubling split to create this bucket. A hint caches the place of the first item of an interval.
 
-// The rebuild of hints when a bucket becomes ready.
 ghost use Rattle.std.specs.Prelude.{◌≡◌, ◌<◌, Some, None, length, get_or};
 ghost use Rattle.bucket_table.specs.inside.SplitIndex.{RowsInvariant, KeepsDirectory};
 

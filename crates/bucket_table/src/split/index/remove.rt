@@ -1,7 +1,6 @@
 //! A removal rehashes the interval of its item, and replaces the interval's hint if the item is the first. `remove`
 //! returns the objects; `delete` drops them without moving them.
 
-// The removal of an item.
 ghost use Rattle.std.specs.Prelude.{◌≡◌, ◌+◌, ◌/◌, ◌^◌, Some, None, length, get_or, option_map};
 ghost use Rattle.node_list.specs.Cells.{new_item};
 ghost use Rattle.node_list.specs.Changes.{without};

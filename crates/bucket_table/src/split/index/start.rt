@@ -1,7 +1,6 @@
 //! A change starts at a node before its goal: the first item of an interval by a hint, or else a dummy. A hint caches
 //! the place of the first item of an interval (an eighth of a bucket). A dummy is the first node of a bucket.
 
-// The nodes from which a change starts.
 ghost use Rattle.std.specs.Prelude.{◌≡◌, ℕ, ◌<◌, ◌^◌, IfSome, length};
 ghost use Rattle.split_key.specs.Keys.{key_of_item, key_of_dummy};
 ghost use Rattle.node_list.specs.Places.{HasKeyAtMost};

@@ -1,7 +1,6 @@
 //! A sweep scans all nodes of the list, or those around one hash, and removes or empties slots. A tombstone is a slot
 //! without objects.
 
-// Sweeps of many nodes.
 ghost use Rattle.std.specs.Prelude.{◌≡◌, ℕ, ◌+◌, ◌≤◌, List, ◌∷◌, Some, length};
 ghost use Rattle.node_list.specs.Places.{IsPlaceOf, place_after};
 ghost use Rattle.bucket_table.specs.declared.split.sweep.SweepMode.TheVariants.{RemoveTombstones};

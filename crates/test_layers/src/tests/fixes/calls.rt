@@ -5,7 +5,8 @@ use super::answers::Step::{DeleteObject, InsertNew, Take};
 use super::answers::{count_objects, is_answered, second_element};
 use super::*;
 
-/// How many keys the test inserts. `grow` runs once for each key, which is enough to reach `MAX_BUCKETS`.
+/// How many keys the test inserts. `grow` runs once for each key, which is enough to reach the 4,096 buckets at which it
+/// stops.
 const KEYS: u32 = 5_000;
 
 /// How many processes fix a table at the same time.

@@ -102,7 +102,7 @@ pub(super) fn all_rows_hold<R: Rows>(alloc: Global, table: &mut Walked<R>, rows:
     true
 }
 
-/// Returns whether all rows hold on a set over plain rows, and on a set over split rows with one bucket.
+/// Returns whether all rows hold on a set over plain rows, and on a set over split rows with one hash for all keys.
 fn hold_on_both_tables(alloc: Global, rows: &'static [Row]) -> Option<bool> {
     let check = Check::Tombstones(rows);
     Some(plain_rows_pass(alloc, Kind::Set, check)? && one_bucket_passes(alloc, Kind::Set, check)?)

@@ -57,10 +57,10 @@ fn passes<R: Rows>(rows: &mut R, alloc: Global, check: Check) -> Result<bool, Al
 /// Returns whether new split rows with this hasher pass a check.
 pub(super) fn split_rows_pass<H: KeyHash + Copy + Drop>(
     alloc: Global,
-    hash: H,
+    hasher: H,
     check: Check,
 ) -> Result<bool, AllocError> {
-    let mut rows = new_rows_with_retry(alloc, hash)?;
+    let mut rows = new_rows_with_retry(alloc, hasher)?;
     let passed = passes(&mut rows, alloc, check);
     drop(rows);
     passed

@@ -136,6 +136,7 @@ pub(super) fn refuses_too_many_slots<R: Rows>(
     Ok(put && refused && hash_of_rows(rows) == before)
 }
 
+// Plain rows have one bucket and cannot grow, so only split rows run all calls.
 #[test]
 fn a_refused_call_succeeds_when_repeated(rt: HostRuntime) {
     assert!(rt; split_rows_pass(rt.alloc(), Fnv, Check::RunWithRetry) == Ok(true));

@@ -10,9 +10,9 @@ const MOMENTS: usize = 1_000;
 const SEARCHES: usize = 334;
 
 /// Returns the bucket of a key: its hash modulo the number of buckets, which is a power of two.
-fn bucket_of<H: KeyHash + Copy + Drop>(hash: H, number: u32, buckets: u32) -> u32 {
+fn bucket_of<H: KeyHash + Copy + Drop>(hasher: H, number: u32, buckets: u32) -> u32 {
     let key = Term::Int(Integer::from(number));
-    let bucket = hash.hash32(&key).checked_rem(buckets).unwrap_or(0);
+    let bucket = hasher.hash32(&key).checked_rem(buckets).unwrap_or(0);
     drop(key);
     bucket
 }
@@ -37,9 +37,9 @@ fn zeros(alloc: Global, count: usize) -> Result<Vec<u64>, AllocError> {
 }
 
 /// Adds to the count of each bucket the number of its slots, if the keys are the integers below `slots`.
-fn count_slots<H: KeyHash + Copy + Drop>(counts: &mut [u64], hash: H, buckets: u32, slots: u32) {
+fn count_slots<H: KeyHash + Copy + Drop>(counts: &mut [u64], hasher: H, buckets: u32, slots: u32) {
     for number in 0..slots {
-        count_in(counts, bucket_of(hash, number, buckets));
+        count_in(counts, bucket_of(hasher, number, buckets));
     }
 }
 
@@ -60,14 +60,14 @@ fn max_visits(counts: &[u64], bucket: u32) -> u64 {
 /// visit a node, and a search in a ready bucket of n keys at most n + `MAX_EXTRA_VISITS` nodes.
 fn search_is_right<H: KeyHash + Copy + Drop>(
     rows: &SplitRows<H>,
-    hash: H,
+    hasher: H,
     counts: &[u64],
     slots: u32,
     key_number: u32,
 ) -> bool {
     let mut visited = Steps::new();
     let found = is_found(rows, key_number, &mut visited);
-    let bucket = bucket_of(hash, key_number, rows.buckets());
+    let bucket = bucket_of(hasher, key_number, rows.buckets());
     let visits_few_nodes = visited.count() <= max_visits(counts, bucket) || !rows.is_ready(bucket);
     found == (key_number < slots) && visits_few_nodes && (visited.count() >= 1 || !found)
 }
@@ -75,7 +75,7 @@ fn search_is_right<H: KeyHash + Copy + Drop>(
 /// Searches for random keys, about half of them missing, and returns whether each search is right.
 fn searches_are_right<H: KeyHash + Copy + Drop>(
     rows: &SplitRows<H>,
-    hash: H,
+    hasher: H,
     counts: &[u64],
     slots: u32,
     draws: &mut Draws,
@@ -84,7 +84,7 @@ fn searches_are_right<H: KeyHash + Copy + Drop>(
     for _ in 0..SEARCHES {
         // `max`, because `random_below` requires a bound above 0.
         let number = draws.random_below(slots.wrapping_mul(2).max(1));
-        all_right = search_is_right(rows, hash, counts, slots, number) && all_right;
+        all_right = search_is_right(rows, hasher, counts, slots, number) && all_right;
     }
     all_right
 }
@@ -113,14 +113,14 @@ fn insert_some_and_grow<R: Rows>(
 fn searches_are_right_now<H: KeyHash + Copy + Drop>(
     rows: &SplitRows<H>,
     alloc: Global,
-    hash: H,
+    hasher: H,
     slots: u32,
     draws: &mut Draws,
 ) -> Result<bool, AllocError> {
     let buckets = rows.buckets();
     let mut counts = zeros(alloc, buckets as usize)?;
-    count_slots(counts.as_mut_slice(), hash, buckets, slots);
-    let right = searches_are_right(rows, hash, counts.as_slice(), slots, draws);
+    count_slots(counts.as_mut_slice(), hasher, buckets, slots);
+    let right = searches_are_right(rows, hasher, counts.as_slice(), slots, draws);
     drop(counts);
     Ok(right)
 }
@@ -129,7 +129,7 @@ fn searches_are_right_now<H: KeyHash + Copy + Drop>(
 fn searches_are_right_as_rows_grow<H: KeyHash + Copy + Drop>(
     rows: &mut SplitRows<H>,
     alloc: Global,
-    hash: H,
+    hasher: H,
     max_slots: u32,
 ) -> Result<bool, AllocError> {
     let mut draws = Draws::new();
@@ -137,7 +137,7 @@ fn searches_are_right_as_rows_grow<H: KeyHash + Copy + Drop>(
     let mut all_right = true;
     for _ in 0..MOMENTS {
         slots = insert_some_and_grow(rows, alloc, slots, max_slots, &mut draws)?;
-        all_right = searches_are_right_now(rows, alloc, hash, slots, &mut draws)? && all_right;
+        all_right = searches_are_right_now(rows, alloc, hasher, slots, &mut draws)? && all_right;
     }
     Ok(all_right)
 }
@@ -145,11 +145,11 @@ fn searches_are_right_as_rows_grow<H: KeyHash + Copy + Drop>(
 /// Returns whether searches in new split rows with this hasher are right as the rows grow to `max_slots` slots.
 fn searches_are_right_as_new_rows_grow<H: KeyHash + Copy + Drop>(
     alloc: Global,
-    hash: H,
+    hasher: H,
     max_slots: u32,
 ) -> Result<bool, AllocError> {
-    let mut rows = SplitRows::new(alloc, hash)?;
-    let found = searches_are_right_as_rows_grow(&mut rows, alloc, hash, max_slots);
+    let mut rows = SplitRows::new(alloc, hasher)?;
+    let found = searches_are_right_as_rows_grow(&mut rows, alloc, hasher, max_slots);
     drop(rows);
     found
 }

@@ -68,11 +68,11 @@ pub fn plain_table_passes(alloc: Global, empty: EmptyTable, check: Check) -> Opt
 /// Returns whether a table over split rows with this hasher passes a check. `None` means out of memory.
 pub fn split_table_passes<H: KeyHash + Copy + Drop>(
     alloc: Global,
-    hash: H,
+    hasher: H,
     empty: EmptyTable,
     check: Check,
 ) -> Option<bool> {
-    let mut table = split_table(alloc, hash, empty)?;
+    let mut table = split_table(alloc, hasher, empty)?;
     let passed = passes(alloc, &mut table, check);
     drop(table);
     passed

@@ -29,7 +29,8 @@ const OBJECTS: u32 = 10_000;
 /// More objects than any table here has.
 const MAX_OBJECTS: MaxObjects = MaxObjects(1_000_000);
 
-/// The factor of Knuth's multiplicative hash: 2^32 divided by the golden ratio. It spreads consecutive numbers.
+/// The factor of Knuth's multiplicative hash: a prime near 2^32 divided by the golden ratio. It spreads consecutive
+/// numbers.
 const SPREAD: u32 = 2_654_435_761;
 
 /// The steps use the keys below this number.
@@ -39,7 +40,8 @@ const KEYS: Integer = 97;
 const VALUES: Integer = 10;
 
 /// Returns the step on one key that a number chooses. The five highest bits of the spread number choose the kind of the
-/// step, and lower bits its key and value. In the first 16 of each 64 numbers, deletions leave tombstones.
+/// step, the 16 highest its key, and the 24 highest its value. In the first 16 of each 64 numbers, deletions leave
+/// tombstones.
 fn step_on_key_at(number: u32) -> Step {
     let spread = number.wrapping_mul(SPREAD);
     let key = (spread >> 16) as Integer % KEYS;
