@@ -4,8 +4,9 @@
     .ci/dist TREE --write   replaces the committed ones
     .ci/dist --sources      fails if the committed ones were built from other sources; builds nothing
 
-All tools are the kit's, so the files depend on the sources and the kit alone. `rt ci` left the program in its crate's out/, and the
-checked library for C, which is compiled here."""
+All tools are the kit's, so the files depend on the sources and the kit alone. SHA256SUMS names the kit that built the committed ones; a
+run with another kit must build the same files. `rt ci` left the program in its crate's out/, and the checked library for C, which is compiled
+here."""
 import filecmp
 import hashlib
 import os
@@ -38,6 +39,19 @@ def sources(tree):
 def checksum(file):
     with open(file, "rb") as it:
         return hashlib.sha256(it.read()).hexdigest()
+
+
+def without_kit(file):
+    """Returns the lines of a SHA256SUMS, without the name of the kit."""
+    return [it for it in read(file).split("\n") if not it.startswith("# kit ")]
+
+
+def is_committed(name, tree):
+    """Returns whether the committed file of this name is that of a tree."""
+    committed, made = f"{DIST}/{name}", f"{built(tree)}/{name}"
+    if not os.path.isfile(committed):
+        return False
+    return without_kit(committed) == without_kit(made) if name == "SHA256SUMS" else filecmp.cmp(committed, made, shallow=False)
 
 
 def described(file):
@@ -96,7 +110,7 @@ def write(tree):
 
 def compare(tree):
     """Compares the committed files with those of a tree, bit for bit."""
-    differ = [it for it in [*FILES, "SHA256SUMS"] if not os.path.isfile(f"{DIST}/{it}") or not filecmp.cmp(f"{DIST}/{it}", f"{built(tree)}/{it}", shallow=False)]
+    differ = [it for it in [*FILES, "SHA256SUMS"] if not is_committed(it, tree)]
     for name in differ:
         print(f"dist: {name} differs: committed {described(f'{DIST}/{name}')}; built here {described(f'{built(tree)}/{name}')}")
     if differ:
