@@ -28,7 +28,8 @@ use std::{env, io};
 const COUNT: u32 = 1_000;
 
 /// Runs one part of the benchmark. For `clients`, `server`, `reads` and `lists`, `count` is the number of threads, each
-/// of which makes `calls` calls. For `alone`, `count` is the number of calls, and for the others the number of objects.
+/// of which makes `calls` calls. For `alone`, `count` is the number of calls, and for the others the number of objects;
+/// for `check` also the number of calls of each client and caller.
 fn run<R: Print + Alloc<A = Global> + Clock + Threads + Wait + Sync>(
     rt: &R,
     part: &str,

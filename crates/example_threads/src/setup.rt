@@ -12,7 +12,8 @@ use std::sync::ledger::Ledger;
 /// The number of clients. The traverser creates the tables and traverses the bag; the other four count and insert.
 pub(crate) const CLIENTS: usize = 5;
 
-/// How often each client adds to the counter, and how often it inserts. The bag starts with the keys below this number.
+/// How often each client but the traverser adds to the counter, and how often it inserts. The bag starts with the keys
+/// below this number.
 pub(crate) const TIMES: u32 = 100;
 
 /// Returns the traverser, which has created the tables, and the four other clients with their jobs.

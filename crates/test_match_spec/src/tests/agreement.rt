@@ -127,7 +127,8 @@ impl Tally {
 }
 
 /// Returns whether `OBJECTS` random objects, each with a pattern and a match specification, give no mismatch, and
-/// enough of them match and give results. Each of the four tests has its own seed.
+/// enough of them match and give results. If memory runs out, `done` is `None`. Each of the four tests has its own
+/// seed.
 fn random_terms_agree(alloc: Global, seed: u64) -> bool {
     let mut tally = Tally {
         matches: 0,

@@ -111,7 +111,7 @@ fn many_clauses_have_results(alloc: Global, numbers: &[Integer]) -> Option<bool>
 
 #[test]
 fn thousands_of_clauses_are_tried_in_order(rt: HostRuntime) {
-    // The first keys, the last one, and some powers of two.
+    // The first keys, the last one, some powers of two, and one below a power of two.
     let numbers = [0, 1, 2, 255, 256, 4_096, 8_192, 9_999];
     assert!(rt; many_clauses_have_results(rt.alloc(), &numbers) == Some(true));
 }

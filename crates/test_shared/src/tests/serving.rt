@@ -1,4 +1,5 @@
-//! Tests of a server, which runs the calls of its callers, and pending growth steps if `keep` is called.
+//! Tests of a server, which runs the calls of its callers, and pending growth steps in `keep` and at the end of
+//! `ask_all`.
 // Callers in threads may call it at the same time. Nine objects in a new table make four growth steps pending. `B`
 // names the history and the limits of a server. In contracts, the table is the kit's table of shared words, which has
 // the word of the history.
@@ -40,8 +41,8 @@ fn fill_table<B: HistoryId, R: Wait>(
     Some(())
 }
 
-/// Makes a table, inserts nine objects and runs three growth steps, by `ask_all`, which holds the lock once. Returns the
-/// number of replies.
+/// Makes a table, inserts nine objects and runs three growth steps, by `ask_all`, which holds the lock once. Returns
+/// the number of replies.
 fn fill_table_at_once<B: HistoryId, R: Wait>(
     rt: &R,
     alloc: Global,

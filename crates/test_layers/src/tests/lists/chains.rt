@@ -46,7 +46,7 @@ fn length_then_drop(chain: Chain) -> usize {
 }
 
 #[test]
-fn a_chain_may_be_empty(rt: HostRuntime) {
+fn a_new_chain_has_no_term_or_one(rt: HostRuntime) {
     assert!(rt; length_then_drop(Chain::new(rt.alloc())) == 0);
     assert!(rt; length_then_drop(Chain::one(rt.alloc(), Term::Int(1))) == 1);
 }

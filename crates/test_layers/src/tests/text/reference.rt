@@ -28,7 +28,7 @@ struct Reader<'t> {
     at: usize,
     /// The part of the term that is printed so far.
     out: String,
-    /// The characters between the last quotes.
+    /// The characters between the last quotes, or the bytes of the last binary.
     quoted: Vec<u8>,
     /// The closing bracket of each open one.
     closing: Vec<u8>,

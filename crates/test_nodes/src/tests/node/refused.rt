@@ -124,7 +124,7 @@ fn first_wrong_row_with_retry_in(
 }
 
 /// Runs the rows in a new node, each a second time if memory runs out. Returns the index of the first row with another
-/// reply.
+/// reply. The first reply is written over `NoProcess`, each later one over the reply before it.
 fn first_wrong_row_with_retry(
     alloc: Global,
     runner: Runner,
@@ -138,8 +138,8 @@ fn first_wrong_row_with_retry(
     index
 }
 
-/// Steps, each with the reply that it must have when memory suffices. The long name does not fit into the place of an
-/// atom, so that it takes memory.
+/// Steps, each with the reply that it must have when memory suffices. The long name is not stored inline in its atom,
+/// so it takes memory.
 static STEPS: [Row; 27] = [
     (Enrol(Pid(0)), "<0.0.0>"),
     (

@@ -72,7 +72,8 @@ fn resolve_text(alloc: Global, named: &str) -> Result<Option<Tid>, AllocError> {
     resolved
 }
 
-/// Texts of terms, and the table that each names in a node with `TWO_TABLES`.
+/// Texts of terms, and the table that each names in a node with `TWO_TABLES`. A table was made as `u`, but it is not a
+/// named table.
 static NAMED: [(&str, Option<Tid>); 7] = [
     ("t", Some(Tid(0))),
     ("#Tid<0>", Some(Tid(0))),

@@ -11,8 +11,8 @@ use ownership::WorldFault;
 use std::alloc::{AllocError, Global};
 use std::process::Abort;
 
-/// Calls, each with the answer that it must have when memory suffices. The long name does not fit into the place of an
-/// atom, so that it takes memory.
+/// Calls, each with the answer that it must have when memory suffices. The long name is not stored inline in its atom,
+/// so it takes memory.
 static CALLS: [Row; 28] = [
     (Enrol(Pid(0)), DONE),
     (Enrol(Pid(1)), DONE),
