@@ -20,8 +20,8 @@ def program():
 
 
 def logic_of(kit):
-    """Returns the logic in the line of a kit, `NAME logic SUM`, or the whole line if it has another form. Kits with one logic accept the
-    same proofs, so a mutant that breaks its contract has a proof with none of them."""
+    """Returns the logic in the line of a kit, `NAME logic SUM`, or the whole line if it has another form. A mutant that was rejected with
+    one kit counts as rejected with each kit of the same logic: it is assumed, not tried, that none of them proves it."""
     return kit.partition(" logic ")[2] or kit
 
 

@@ -37,7 +37,7 @@ fn end_of_digits(text: &[u8], from: usize) -> usize {
     text.len()
 }
 
-/// Returns the number that these decimal digits spell, or the greatest number of 128 bits if it is greater than that.
+/// Returns the number that these decimal digits spell, or the greatest number of 128 bits if that is smaller.
 fn number_of(digits: &[u8]) -> u128 {
     let mut n: u128 = 0;
     for digit in digits {
