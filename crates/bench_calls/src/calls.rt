@@ -10,7 +10,7 @@ const TABLE: u32 = 0;
 const NEW_VALUE: Integer = 7;
 
 /// Builds the call that makes a table to which every process may write.
-pub(crate) fn new_table(alloc: Global) -> Result<Call, AllocError> {
+pub(crate) fn new_table_call(alloc: Global) -> Result<Call, AllocError> {
     let options = vec![in alloc; atom_term(alloc, "public")?]?;
     let args = vec![in alloc;
         atom_term(alloc, "t")?,
@@ -20,26 +20,26 @@ pub(crate) fn new_table(alloc: Global) -> Result<Call, AllocError> {
 }
 
 /// Builds the call that inserts the object `{K,1}`.
-pub(crate) fn insert(alloc: Global, k: u64) -> Result<Call, AllocError> {
+pub(crate) fn insert_call(alloc: Global, k: u64) -> Result<Call, AllocError> {
     let elements = vec![in alloc; key_term(k), Term::Int(1)]?;
     let object = Term::Tuple(Items::from_vec(elements));
     build_call(alloc, "insert", vec![in alloc; Term::Tid(TABLE), object]?)
 }
 
 /// Builds the call that adds one to the value of the key's object.
-pub(crate) fn count_up(alloc: Global, k: u64) -> Result<Call, AllocError> {
+pub(crate) fn count_up_call(alloc: Global, k: u64) -> Result<Call, AllocError> {
     let args = vec![in alloc; Term::Tid(TABLE), key_term(k), Term::Int(1)]?;
     build_call(alloc, "update_counter", args)
 }
 
 /// Builds the call that writes `NEW_VALUE` into the key's object.
-pub(crate) fn write(alloc: Global, k: u64) -> Result<Call, AllocError> {
+pub(crate) fn write_call(alloc: Global, k: u64) -> Result<Call, AllocError> {
     let args = vec![in alloc; Term::Tid(TABLE), key_term(k), new_value(alloc)?]?;
     build_call(alloc, "update_element", args)
 }
 
 /// Builds the call that writes `NEW_VALUE` into the key's object, with a default object for a key without an object.
-pub(crate) fn write_with_default(alloc: Global, k: u64) -> Result<Call, AllocError> {
+pub(crate) fn write_with_default_call(alloc: Global, k: u64) -> Result<Call, AllocError> {
     let elements = vec![in alloc; key_term(k), Term::Int(1)]?;
     let default = Term::Tuple(Items::from_vec(elements));
     let args = vec![in alloc; Term::Tid(TABLE), key_term(k), new_value(alloc)?, default]?;

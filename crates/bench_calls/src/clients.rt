@@ -1,7 +1,7 @@
 //! Clients of one `Shared`, a node under a lock. Each client is in a thread of its own.
 ghost use Rattle.std.specs.Prelude.{◌≡◌, ◌+◌, ◌<◌, All, vec_len};
 
-use crate::calls::{has_object, insert, new_table};
+use crate::calls::{has_object, insert_call, new_table_call};
 use crate::mixture::{GROWTH_STEPS, KEYS, Timing, mixture};
 use crate::report::nanoseconds;
 use ets_term::Fnv;
@@ -78,7 +78,7 @@ fn time_work<L: Ledger + Send + Sync, R: Alloc<A = Global> + Clock + Threads + W
     Ok(Timing { nanoseconds, found })
 }
 
-/// Returns the clients, each with its jobs, and fills the table with all keys.
+/// Enrols the clients, makes the table and fills it with all keys. Returns each client with its jobs.
 fn build_work<L: Ledger, R: Wait>(
     rt: &R,
     alloc: Global,
@@ -112,11 +112,12 @@ fn enrol_clients<L: Ledger, R: Wait>(
     let Ok((pids, seats)) = Pids::open(alloc, clients as usize) else {
         return Err(AllocError);
     };
-    clients_of_seats(rt, alloc, shared, &pids, seats)
+    enrol_client_of_each_seat(rt, alloc, shared, &pids, seats)
 }
 
-/// Returns a client for each seat, which is the right to draw one process number.
-fn clients_of_seats<L: Ledger, R: Wait>(
+/// Draws a process number with each seat, enrols the process, and returns the clients. A seat is the right to draw one
+/// number.
+fn enrol_client_of_each_seat<L: Ledger, R: Wait>(
     rt: &R,
     alloc: Global,
     shared: &Shared<L, Fnv>,
@@ -151,9 +152,9 @@ fn fill<L: Ledger, R: Wait>(
     shared: &Shared<L, Fnv>,
     client: &mut Client<L>,
 ) -> Result<(), AllocError> {
-    client.ask(rt, shared, &new_table(alloc)?)?;
+    client.ask(rt, shared, &new_table_call(alloc)?)?;
     for k in 0..KEYS {
-        client.ask(rt, shared, &insert(alloc, k)?)?;
+        client.ask(rt, shared, &insert_call(alloc, k)?)?;
         keep(rt, shared, GROWTH_STEPS);
     }
     Ok(())

@@ -1,7 +1,7 @@
 //! Times whole calls of a node, made by one caller or by clients in threads. Prints lines `WHO OPERATION FIGURE`.
 //!
-//! Usage: `bench_calls times|into|run|walks|alone|clients|server|reads|lists|check COUNT CALLS`. `run` below says what
-//! each part does.
+//! Usage: `bench_calls times|into|run|keyed|walks|alone|clients|server|reads|lists|check COUNT CALLS`. `run` below says
+//! what each part does.
 #![tactic(auto)]
 
 mod calls; // the calls that are timed
@@ -15,6 +15,7 @@ mod report; // times and counts, printed
 mod servers; // callers of a `Server`, in threads
 mod walks; // traversals of a whole table
 
+use ets_term::{Fnv, Keyed};
 use phases::Way;
 use plans::Load;
 use report::{print_alone, print_clients, print_counts, print_servers, print_times};
@@ -37,9 +38,10 @@ fn run<R: Print + Alloc<A = Global> + Clock + Threads + Wait + Sync>(
     calls: u32,
 ) -> io::Result<()> {
     match part {
-        "times" => print_times(rt, Way::Step, count),
-        "into" => print_times(rt, Way::StepInto, count),
-        "run" => print_times(rt, Way::Run, count),
+        "times" => print_times(rt, "calls", Way::Step, Fnv, count),
+        "into" => print_times(rt, "calls-into", Way::StepInto, Fnv, count),
+        "run" => print_times(rt, "calls-run", Way::Run, Fnv, count),
+        "keyed" => print_times(rt, "calls-keyed", Way::StepInto, Keyed::new(1), count),
         "walks" => walks::print_times(rt, count),
         "alone" => print_alone(rt, count),
         "clients" => print_clients(rt, count.max(1), calls),

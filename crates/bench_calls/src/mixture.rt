@@ -1,5 +1,5 @@
 //! A mixture of calls on a table that has all keys: nine lookups, then an insertion, again and again.
-use crate::calls::{call_of_key, insert};
+use crate::calls::{call_of_key, insert_call};
 use crate::order::shuffle;
 use node_core::Call;
 use std::alloc::{AllocError, Global};
@@ -18,7 +18,7 @@ pub(crate) fn mixture(alloc: Global, calls: u32, seed: u64) -> Result<Vec<Call>,
         let k = k % KEYS;
         // Every tenth call is an insertion.
         let call = if at % 10 == 9 {
-            insert(alloc, k)?
+            insert_call(alloc, k)?
         } else {
             call_of_key(alloc, "lookup", k)?
         };

@@ -1,33 +1,39 @@
 //! A node with one process, which has one table.
-use crate::calls::{has_object, insert, new_table};
+use crate::calls::{has_object, insert_call, new_table_call};
 use crate::mixture::{KEYS, mixture};
-use ets_term::Fnv;
+use ets_term::{Fnv, KeyHash};
 use node_core::{Call, Limits, Node, Step};
 use std::alloc::{AllocError, Global};
 
 /// The process that makes the calls.
 const PID: u32 = 0;
 
-/// Builds a node, and makes the table in its only process.
-pub(crate) fn node_with_table(alloc: Global) -> Result<Node<Fnv>, AllocError> {
+/// Builds a node with this hasher, and makes the table in its only process.
+pub(crate) fn node_with_table<H: KeyHash + Copy + Drop>(
+    alloc: Global,
+    hasher: H,
+) -> Result<Node<H>, AllocError> {
     let limits = Limits {
         processes: 1,
         tables: 1,
         objects: u32::MAX,
     };
-    let mut node = Node::new(alloc, limits, Fnv);
+    let mut node = Node::new(alloc, limits, hasher);
     make_table(alloc, &mut node)?;
     Ok(node)
 }
 
 /// Enrols the process, and makes the table.
-fn make_table(alloc: Global, node: &mut Node<Fnv>) -> Result<(), AllocError> {
+fn make_table<H: KeyHash + Copy + Drop>(
+    alloc: Global,
+    node: &mut Node<H>,
+) -> Result<(), AllocError> {
     run_step(node, Step::Enrol(PID))?;
-    run_step(node, ask_step(new_table(alloc)?))
+    run_step(node, ask_step(new_table_call(alloc)?))
 }
 
 /// Runs a step, and drops the reply.
-fn run_step(node: &mut Node<Fnv>, step: Step) -> Result<(), AllocError> {
+fn run_step<H: KeyHash + Copy + Drop>(node: &mut Node<H>, step: Step) -> Result<(), AllocError> {
     match node.step(&step) {
         Ok(_) => Ok(()),
         Err(fault) => Err(fault),
@@ -40,7 +46,7 @@ pub(crate) fn ask_step(call: Call) -> Step {
 }
 
 /// Runs at most two pending growth steps: as many as `GROWTH_STEPS` says.
-pub(crate) fn grow(node: &mut Node<Fnv>) -> Result<(), AllocError> {
+pub(crate) fn grow<H: KeyHash + Copy + Drop>(node: &mut Node<H>) -> Result<(), AllocError> {
     node.run_pending()?;
     node.run_pending()?;
     Ok(())
@@ -52,7 +58,7 @@ pub(crate) fn insert_and_grow(
     node: &mut Node<Fnv>,
     k: u64,
 ) -> Result<(), AllocError> {
-    run_step(node, ask_step(insert(alloc, k)?))?;
+    run_step(node, ask_step(insert_call(alloc, k)?))?;
     grow(node)
 }
 

@@ -1,8 +1,11 @@
 //! The phases of the benchmark: one step for each key, in an order of the phase's own. A table goes through all phases.
-use crate::calls::{call_of_key, count_up, has_object, insert, is_atom, write, write_with_default};
+use crate::calls::{
+    call_of_key, count_up_call, has_object, insert_call, is_atom, write_call,
+    write_with_default_call,
+};
 use crate::node::{ask_step, grow};
 use crate::order::shuffle;
-use ets_term::{Fnv, Term};
+use ets_term::{KeyHash, Term};
 use node_core::{Call, Node, Reply, Step};
 use std::alloc::{AllocError, Global};
 
@@ -50,17 +53,6 @@ pub enum Way {
     Run,
 }
 
-impl Way {
-    /// Returns the first word of the lines that report the times.
-    pub(crate) fn name(self) -> &'static str {
-        match self {
-            Way::Step => "calls",
-            Way::StepInto => "calls-into",
-            Way::Run => "calls-run",
-        }
-    }
-}
-
 impl Phase {
     /// Returns the name of the phase in a report.
     pub(crate) fn name(self) -> &'static str {
@@ -85,10 +77,10 @@ impl Phase {
     }
 
     /// Runs the steps. Each insertion is followed by at most two growth steps. Returns the number of right replies.
-    pub(crate) fn run(
+    pub(crate) fn run<H: KeyHash + Copy + Drop>(
         self,
         way: Way,
-        node: &mut Node<Fnv>,
+        node: &mut Node<H>,
         steps: &[Step],
     ) -> Result<u64, AllocError> {
         let mut reply = Reply::NoProcess;
@@ -100,7 +92,11 @@ impl Phase {
     }
 
     /// Runs the steps one by one, each with a new reply. Returns the number of right replies.
-    fn run_steps(self, node: &mut Node<Fnv>, steps: &[Step]) -> Result<u64, AllocError> {
+    fn run_steps<H: KeyHash + Copy + Drop>(
+        self,
+        node: &mut Node<H>,
+        steps: &[Step],
+    ) -> Result<u64, AllocError> {
         let mut right_count: u64 = 0;
         for step in steps {
             right_count = right_count.wrapping_add(u64::from(self.is_step_right(node, step)?));
@@ -112,15 +108,19 @@ impl Phase {
     }
 
     /// Runs a step. Returns whether the reply is right.
-    fn is_step_right(self, node: &mut Node<Fnv>, step: &Step) -> Result<bool, AllocError> {
+    fn is_step_right<H: KeyHash + Copy + Drop>(
+        self,
+        node: &mut Node<H>,
+        step: &Step,
+    ) -> Result<bool, AllocError> {
         let reply = node.step(step)?;
         Ok(self.is_right(&reply))
     }
 
     /// Runs the steps one by one. Each writes its reply over the previous reply. Returns the number of right replies.
-    fn run_steps_into(
+    fn run_steps_into<H: KeyHash + Copy + Drop>(
         self,
-        node: &mut Node<Fnv>,
+        node: &mut Node<H>,
         steps: &[Step],
         reply: &mut Reply,
     ) -> Result<u64, AllocError> {
@@ -136,7 +136,11 @@ impl Phase {
     }
 
     /// Runs the steps in lists of `LIST_LEN`. Returns the number of right replies.
-    fn run_lists(self, node: &mut Node<Fnv>, steps: &[Step]) -> Result<u64, AllocError> {
+    fn run_lists<H: KeyHash + Copy + Drop>(
+        self,
+        node: &mut Node<H>,
+        steps: &[Step],
+    ) -> Result<u64, AllocError> {
         let mut right_count: u64 = 0;
         for list in steps.chunks(LIST_LEN) {
             right_count = right_count.wrapping_add(self.run_list(node, list)?);
@@ -150,7 +154,11 @@ impl Phase {
     }
 
     /// Runs a list of steps. Returns the number of right replies.
-    fn run_list(self, node: &mut Node<Fnv>, list: &[Step]) -> Result<u64, AllocError> {
+    fn run_list<H: KeyHash + Copy + Drop>(
+        self,
+        node: &mut Node<H>,
+        list: &[Step],
+    ) -> Result<u64, AllocError> {
         let Ok(replies) = node.run(list) else {
             return Err(AllocError);
         };
@@ -177,12 +185,12 @@ impl Phase {
     /// Builds the call of a key. `Miss` takes keys that are not in the table: those from `count` on.
     fn call(self, alloc: Global, k: u64, count: u32) -> Result<Call, AllocError> {
         match self {
-            Phase::Insert => insert(alloc, k),
+            Phase::Insert => insert_call(alloc, k),
             Phase::Hit => call_of_key(alloc, "lookup", k),
             Phase::Miss => call_of_key(alloc, "member", k.wrapping_add(u64::from(count))),
-            Phase::Counter => count_up(alloc, k),
-            Phase::Write => write(alloc, k),
-            Phase::WriteWithDefault => write_with_default(alloc, k),
+            Phase::Counter => count_up_call(alloc, k),
+            Phase::Write => write_call(alloc, k),
+            Phase::WriteWithDefault => write_with_default_call(alloc, k),
             Phase::Delete => call_of_key(alloc, "delete", k),
         }
     }

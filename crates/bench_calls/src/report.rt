@@ -8,7 +8,7 @@ use crate::phases::{PHASES, Phase, Way};
 use crate::plans::{Load, Plan};
 use crate::servers::time_server;
 use crate::walks;
-use ets_term::Fnv;
+use ets_term::{Fnv, KeyHash, Keyed};
 use node_core::Node;
 use node_shared::Locking;
 use std::alloc::{AllocError, Global};
@@ -39,11 +39,11 @@ struct PhaseTime {
 impl PhaseTime {
     /// Runs the phase once more, and stores its time if that is the least so far. The steps are built before the clock
     /// runs.
-    fn run_once(
+    fn run_once<H: KeyHash + Copy + Drop>(
         &mut self,
         rt: &(impl Print + Alloc<A = Global> + Clock),
         way: Way,
-        node: &mut Node<Fnv>,
+        node: &mut Node<H>,
         count: u32,
     ) -> io::Result<()> {
         let steps = self.phase.steps(rt.alloc(), count)?;
@@ -70,22 +70,23 @@ fn all_phases(alloc: Global) -> Result<Vec<PhaseTime>, AllocError> {
     Ok(times)
 }
 
-/// Times all phases on a new table.
-fn time_new_table(
+/// Times all phases on a new table, whose node has this hasher.
+fn time_new_table<H: KeyHash + Copy + Drop>(
     rt: &(impl Print + Alloc<A = Global> + Clock),
     way: Way,
+    hasher: H,
     phases: &mut [PhaseTime],
     count: u32,
 ) -> io::Result<()> {
-    let mut node = node_with_table(rt.alloc())?;
+    let mut node = node_with_table(rt.alloc(), hasher)?;
     time_phases(rt, way, &mut node, phases, count)
 }
 
 /// Times all phases on the table of the node.
-fn time_phases(
+fn time_phases<H: KeyHash + Copy + Drop>(
     rt: &(impl Print + Alloc<A = Global> + Clock),
     way: Way,
-    node: &mut Node<Fnv>,
+    node: &mut Node<H>,
     phases: &mut [PhaseTime],
     count: u32,
 ) -> io::Result<()> {
@@ -95,21 +96,24 @@ fn time_phases(
     Ok(())
 }
 
-/// Prints the nanoseconds per step of each phase, on tables with `count` objects.
-pub(crate) fn print_times(
+/// Prints the nanoseconds per step of each phase, on tables with `count` objects, whose nodes have this hasher. Each
+/// phase makes `count` steps. The lines begin with `name`.
+pub(crate) fn print_times<H: KeyHash + Copy + Drop>(
     rt: &(impl Print + Alloc<A = Global> + Clock),
+    name: &str,
     way: Way,
+    hasher: H,
     count: u32,
 ) -> io::Result<()> {
     let mut phases = all_phases(rt.alloc())?;
     for _turn in 0..repeat_count(count) {
-        time_new_table(rt, way, phases.as_mut_slice(), count)?;
+        time_new_table(rt, way, hasher, phases.as_mut_slice(), count)?;
     }
     for time in phases.as_slice() {
         let tenths = time.least_nanoseconds.saturating_mul(10) / u64::from(count.max(1));
         println!(rt;
             "{} {} {}.{}",
-            way.name(),
+            name,
             time.phase.name(),
             tenths / 10,
             tenths % 10
@@ -123,7 +127,7 @@ pub(crate) fn print_alone(
     rt: &(impl Print + Alloc<A = Global> + Clock),
     calls: u32,
 ) -> io::Result<()> {
-    let mut node = node_with_table(rt.alloc())?;
+    let mut node = node_with_table(rt.alloc(), Fnv)?;
     print_mixture(rt, &mut node, calls)
 }
 
@@ -193,14 +197,16 @@ pub(crate) fn nanoseconds(spent: Duration) -> u64 {
     u64::try_from(spent.as_nanos()).unwrap_or(u64::MAX)
 }
 
-/// Prints how many steps of each phase, and lookups of clients and callers, did what they should.
+/// Prints how many steps of each phase had the right reply, how many objects each walk found, and how many lookups of
+/// clients and callers found an object. `count` is the number of objects, and of calls of each client and caller.
 pub(crate) fn print_counts<R: Print + Alloc<A = Global> + Clock + Threads + Wait + Sync>(
     rt: &R,
     count: u32,
 ) -> io::Result<()> {
-    print_phase_counts(rt, Way::Step, count)?;
-    print_phase_counts(rt, Way::StepInto, count)?;
-    print_phase_counts(rt, Way::Run, count)?;
+    print_phase_counts(rt, "calls", Way::Step, Fnv, count)?;
+    print_phase_counts(rt, "calls-into", Way::StepInto, Fnv, count)?;
+    print_phase_counts(rt, "calls-run", Way::Run, Fnv, count)?;
+    print_phase_counts(rt, "calls-keyed", Way::StepInto, Keyed::new(1), count)?;
     walks::print_counts(rt, count)?;
     let timing = time_clients(rt, CLIENTS, count)?;
     println!(rt; "clients found {}", timing.found)?;
@@ -218,27 +224,31 @@ pub(crate) fn print_counts<R: Print + Alloc<A = Global> + Clock + Threads + Wait
     Ok(())
 }
 
-/// Prints how many steps of each phase have right replies, on a new table.
-fn print_phase_counts(
+/// Prints how many steps of each phase have right replies, on a new table, whose node has this hasher. The lines begin
+/// with `name`.
+fn print_phase_counts<H: KeyHash + Copy + Drop>(
     rt: &(impl Print + Alloc<A = Global>),
+    name: &str,
     way: Way,
+    hasher: H,
     count: u32,
 ) -> io::Result<()> {
-    let mut node = node_with_table(rt.alloc())?;
-    print_table_counts(rt, way, &mut node, count)
+    let mut node = node_with_table(rt.alloc(), hasher)?;
+    print_table_counts(rt, name, way, &mut node, count)
 }
 
 /// Prints how many steps of each phase have right replies, on the table of the node.
-fn print_table_counts(
+fn print_table_counts<H: KeyHash + Copy + Drop>(
     rt: &(impl Print + Alloc<A = Global>),
+    name: &str,
     way: Way,
-    node: &mut Node<Fnv>,
+    node: &mut Node<H>,
     count: u32,
 ) -> io::Result<()> {
     for phase in PHASES {
         let steps = phase.steps(rt.alloc(), count)?;
         let right_count = phase.run(way, node, steps.as_slice())?;
-        println!(rt; "{} {} {}", way.name(), phase.name(), right_count)?;
+        println!(rt; "{} {} {}", name, phase.name(), right_count)?;
     }
     Ok(())
 }

@@ -2,7 +2,7 @@
 ghost use Rattle.std.specs.Prelude.{◌≡◌, ◌<◌, All, vec_len};
 ghost use Rattle.std.specs.Thread.{IsSync};
 
-use crate::calls::{has_object, insert, new_table};
+use crate::calls::{has_object, insert_call, new_table_call};
 use crate::mixture::{GROWTH_STEPS, KEYS, Timing};
 use crate::plans::{LIST_LEN, Plan};
 use crate::report::nanoseconds;
@@ -63,8 +63,8 @@ fn time_calls<B: HistoryId + Send + Sync, R: Alloc<A = Global> + Clock + Threads
     Ok(Timing { nanoseconds, found })
 }
 
-/// Fills the table with all keys. Returns each caller with its calls, and how many of them it makes each time it takes
-/// the lock.
+/// Enrols the callers, makes the table and fills it with all keys. Returns each caller with its calls, and how many of
+/// them it makes each time it takes the lock.
 fn build_work<B: HistoryId, R: Wait>(
     rt: &R,
     alloc: Global,
@@ -98,11 +98,12 @@ fn enrol_callers<B: HistoryId, R: Wait>(
     let Ok((pids, seats)) = Pids::open(alloc, caller_count as usize) else {
         return Err(AllocError);
     };
-    callers_of_seats(rt, alloc, server, &pids, seats)
+    enrol_caller_of_each_seat(rt, alloc, server, &pids, seats)
 }
 
-/// Returns a caller for each seat, which is the right to draw one process number.
-fn callers_of_seats<B: HistoryId, R: Wait>(
+/// Draws a process number with each seat, enrols the process, and returns the callers. A seat is the right to draw one
+/// number.
+fn enrol_caller_of_each_seat<B: HistoryId, R: Wait>(
     rt: &R,
     alloc: Global,
     server: &Server<B, Fnv>,
@@ -137,9 +138,9 @@ fn fill<B: HistoryId, R: Wait>(
     server: &Server<B, Fnv>,
     caller: &mut Caller<B>,
 ) -> Result<(), AllocError> {
-    caller.ask(rt, server, new_table(alloc)?)?;
+    caller.ask(rt, server, new_table_call(alloc)?)?;
     for k in 0..KEYS {
-        caller.ask(rt, server, insert(alloc, k)?)?;
+        caller.ask(rt, server, insert_call(alloc, k)?)?;
         server.keep(rt, GROWTH_STEPS);
     }
     Ok(())

@@ -92,7 +92,7 @@ pub(crate) fn print_times(
     rt: &(impl Print + Alloc<A = Global> + Clock),
     count: u32,
 ) -> io::Result<()> {
-    let mut node = node_with_table(rt.alloc())?;
+    let mut node = node_with_table(rt.alloc(), Fnv)?;
     print_walk_times(rt, &mut node, count)
 }
 
@@ -132,7 +132,7 @@ fn time_steps(
 
 /// Prints how many objects each walk finds, over a new table with `count` objects.
 pub(crate) fn print_counts(rt: &(impl Print + Alloc<A = Global>), count: u32) -> io::Result<()> {
-    let mut node = node_with_table(rt.alloc())?;
+    let mut node = node_with_table(rt.alloc(), Fnv)?;
     print_walk_counts(rt, &mut node, count)
 }
 

@@ -1,6 +1,6 @@
 -- FNV-1a over the leading zero bytes of a small number: one product in place of one for each byte.
 use Rattle.std.proofs.Common.{rules, pos, ◌≡◌, ◌<◌, ◌≤◌, ◌+◌, ◌*◌, ◌^◌, ◌%◌, ◌∙◌, arith, refl, sym, ap, ℕ, zero, suc, fold}
-use Rattle.std.specs.Int.{cast_unsigned, byte_at, bytes_high_first, to_be_bytes, w32, w64, w128}
+use Rattle.std.specs.Int.{cast_unsigned, byte_at, bytes_high_first, to_be_bytes, w16, w32, w64, w128}
 use Rattle.std.specs.Int.Bits.{xor_zero_r}
 use Rattle.std.proofs.Math.Nat.{div-eq_of_lt, mod-eq_of_lt, mul-one, mul_assoc, pow-succ', pow-le-pow_right}
 use Rattle.std.proofs.lemmas.Nat.{mul-mod_first, mul-mod_second}
@@ -42,6 +42,13 @@ module _ (low start : ℕ) (below : start < 2 ^ 32) where
   -- the bytes of a small integer are zeros, then its low bytes
   in-bytes : low < 2 ^ 64 → cast_unsigned w128 (pos low) ≡ low
   in-bytes small = search rules
+
+  pub fourteen-zeros : low < 2 ^ 16 → fold fnv_step ((start * 3631439385) % 2 ^ 32) (to_be_bytes w16 low) ≡ fold fnv_step start (integer_bytes (pos low))
+  unfolding integer_bytes
+  fourteen-zeros small =
+      ap (λ s. fold fnv_step s (to_be_bytes w16 low)) (mul-mod_second start (prime ^ 14) (2 ^ 32))
+      ∙ sym (zeros-first 14 16 2 low start refl (omega arith) small below)
+      ∙ ap (λ m. fold fnv_step start (to_be_bytes w128 m)) (sym (in-bytes (omega (arith, small))))
 
   pub twelve-zeros : low < 2 ^ 32 → fold fnv_step ((start * 3549196337) % 2 ^ 32) (to_be_bytes w32 low) ≡ fold fnv_step start (integer_bytes (pos low))
   unfolding integer_bytes

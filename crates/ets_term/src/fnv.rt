@@ -8,6 +8,9 @@ use crate::integer::{Integer, integer_bytes};
 use crate::key_hash::KeyHash;
 use crate::term::Term;
 
+/// The prime of FNV-1a to the fourteenth power, modulo 2^32. Hashing fourteen zero bytes multiplies the hash by it.
+const FOURTEEN_ZEROS: u32 = 3631439385;
+
 /// The prime of FNV-1a to the twelfth power, modulo 2^32. Hashing twelve zero bytes multiplies the hash by it.
 const TWELVE_ZEROS: u32 = 3549196337;
 
@@ -70,8 +73,20 @@ fn fnv_items(start: u32, items: &[Term]) -> u32
 }
 
 /// Continues the hash `start` with the bytes of an integer. The leading zero bytes of an integer from 0 to 2^64-1 take
-/// one multiplication.
+/// one multiplication. Only an integer below 2^16 is hashed here, so that the compiler inlines little.
+#[inline(always)]
 fn fnv_integer(start: u32, n: Integer) -> u32
+    ensures { result ≡ fold fnv_step start (bytes_of n) }
+{
+    if let Ok(low) = u16::try_from(n) {
+        return fnv_bytes(start.wrapping_mul(FOURTEEN_ZEROS), &low.to_be_bytes());
+    }
+    fnv_wide_integer(start, n)
+}
+
+/// Continues the hash `start` with the bytes of any integer, as `fnv_integer` does.
+#[inline(never)]
+fn fnv_wide_integer(start: u32, n: Integer) -> u32
     ensures { result ≡ fold fnv_step start (bytes_of n) }
 {
     if let Ok(low) = u32::try_from(n) {

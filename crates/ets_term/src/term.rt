@@ -158,15 +158,16 @@ fn is_deeper(levels: usize, term: &Term) -> bool
     ensures { result ≡ nat_lt levels (depth term.now) }
 {
     match term {
-        Term::Tuple(items) => any_deeper(levels, items.as_slice()),
-        Term::List(items) => any_deeper(levels, items.as_slice()),
+        Term::Tuple(items) => is_deeper_with_items(levels, items.as_slice()),
+        Term::List(items) => is_deeper_with_items(levels, items.as_slice()),
         _ => levels == 0,
     }
 }
 
-/// Returns whether a tuple or list of these items has more than `levels` levels.
+/// Returns whether the tuple or list of these items has more than `levels` levels. That is true of 0 levels, even if
+/// there are no items.
 #[cycle(deeper)]
-fn any_deeper(levels: usize, items: &[Term]) -> bool
+fn is_deeper_with_items(levels: usize, items: &[Term]) -> bool
     ensures { result ≡ nat_le levels (largest (map depth items.now)) }
 {
     if levels == 0 {

@@ -18,8 +18,8 @@ stays_below (x ∷ xs) h b = stays_below xs (fnv_step h x) (omega arith)
 pub fnv-below : (bytes : List ℕ) → fnv bytes < 2 ^ 32
 fnv-below bytes = stays_below bytes 2166136261 (omega arith)
 
-pub keyed-below : (seed : ℕ) (ws : List ℕ) → keyed seed ws < 2 ^ 32
-keyed-below seed ws = omega arith
+pub keyed-below : (by : ℕ) (ws : List ℕ) → keyed by ws < 2 ^ 32
+keyed-below by ws = omega arith
 
 -- the published hashes of no bytes, `a` and `foobar`
 pub fnv-of-none : fnv [] ≡ 2166136261

@@ -21,8 +21,10 @@ fn build_binary(alloc: Global) -> Option<Term> {
     Some(Term::Binary(Items::from_vec([0, 255].to_vec(alloc).ok()?)))
 }
 
-/// Pushes a term of each kind: `a`, -2^64-1, a pid, an identifier of a table, a tuple, a list and a binary.
+/// Pushes an integer of one word, and a term of each kind: `a`, -2^64-1, a pid, an identifier of a table, a tuple, a
+/// list and a binary.
 fn push_terms(alloc: Global, terms: &mut Items<Term>) -> Option<()> {
+    terms.push(Term::Int(-1234567890123)).ok()?;
     push_pair(alloc, terms)?;
     terms.push(Term::Pid(7)).ok()?;
     terms.push(Term::Tid(7)).ok()?;
@@ -45,21 +47,21 @@ fn have_hashes(hasher: Keyed, terms: &[Term], wanted: &[u32]) -> bool {
 fn have_hashes_by_seed(alloc: Global, seed: u64, wanted: &[u32]) -> Option<bool> {
     let mut terms = Items::new(alloc);
     let pushed = push_terms(alloc, &mut terms);
-    let hashed = have_hashes(Keyed(seed), terms.as_slice(), wanted);
+    let hashed = have_hashes(Keyed::new(seed), terms.as_slice(), wanted);
     drop(terms);
     pushed?;
     Some(hashed)
 }
 
-/// The hashes of the terms of `push_terms` by the least seed: of `a`, -2^64-1, the pid, the identifier, the tuple, the
-/// list and the binary.
-const HASHES_BY_LEAST: [u32; 7] = [
-    3020293046, 4059663398, 1234998835, 1461041013, 751183608, 4116343985, 1269847963,
+/// The hashes of the terms of `push_terms` by the least seed: of the integer of one word, `a`, -2^64-1, the pid, the
+/// identifier, the tuple, the list and the binary.
+const HASHES_BY_LEAST: [u32; 8] = [
+    2148618418, 2690377353, 1177630858, 3151374797, 3674489283, 66044220, 1383136696, 67764636,
 ];
 
 /// The hashes of the same terms by the greatest seed.
-const HASHES_BY_GREATEST: [u32; 7] = [
-    3212429134, 1991252696, 160548916, 3176778760, 509562988, 4265502097, 1497524047,
+const HASHES_BY_GREATEST: [u32; 8] = [
+    2024830561, 3982370948, 311267150, 2456716419, 4180416107, 84722687, 2600002187, 2097526356,
 ];
 
 /// Checks the hashes of a term of each kind by the least and by the greatest seed.
