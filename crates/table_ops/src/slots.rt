@@ -1,18 +1,27 @@
 //! An iterator over the slots of a table, each a key with its objects. It goes from place to place: a place is the
 //! index of a slot in its rows.
-ghost use Rattle.std.specs.Prelude.{◌≡◌};
+ghost use Rattle.std.specs.Prelude.{◌≡◌, IfSome, IsSome, option_map};
 ghost use Rattle.std.specs.Iterator.{YieldsFirstBy, item_count};
+ghost use Rattle.table_ops.specs.inside.SlotsLeft.{IsPlaced};
 
 use bucket_table::{Place, Rows};
 use ets_term::Term;
 use std::marker::Model;
 
-/// An iterator over the slots of rows, in their order. `at` is the place of the next slot, and `passed` the number of
-/// slots that it has returned.
+/// A slot with its place.
+#[derive(Clone, Copy)]
+pub struct PlacedSlot<'a> {
+    place: Place,
+    key: &'a Term,
+    objects: &'a [Term],
+}
+
+/// An iterator over the slots of rows, in their order. It reads each slot one call ahead: `next_slot` is the slot that
+/// the next call returns, and `passed` the number of slots that it has returned.
 #[derive(Drop)]
 pub struct Slots<'a, R: Rows> {
     rows: &'a R,
-    at: Option<Place>,
+    next_slot: Option<PlacedSlot<'a>>,
     passed: usize,
 }
 
@@ -29,7 +38,7 @@ impl<'a, R: Rows> Model for Slots<'a, R> {
 
     ghost view = { λ it. drop it.passed (R.content it.rows.now) };
 
-    ghost invariant = { λ it. SlotsInvariant (R.key_at it.rows.now) (R.content it.rows.now) it.passed it.at };
+    ghost invariant = { λ it. SlotsInvariant (R.key_at it.rows.now) (R.content it.rows.now) it.passed it.next_slot };
 }
 
 impl<'a, R: Rows> Iterator for Slots<'a, R> {
@@ -40,14 +49,29 @@ impl<'a, R: Rows> Iterator for Slots<'a, R> {
     ghost remaining = { item_count (λ rest. rest) };
 
     fn next(&mut self) -> Option<(&'a Term, &'a [Term])> {
-        let Some(place) = self.at else {
+        let Some(slot) = self.next_slot else {
             return None;
         };
-        let slot = self.rows.slot_at(place);
-        self.at = self.rows.next_place(place);
+        self.next_slot = slot_at(self.rows, self.rows.next_place(slot.place));
         self.passed += 1;
-        Some(slot)
+        Some((slot.key, slot.objects))
     }
+}
+
+/// Returns the slot at a place, with the place, if there is a place.
+#[inline(always)]
+fn slot_at<R: Rows>(rows: &R, place: Option<Place>) -> Option<PlacedSlot<'_>>
+    requires { IfSome place (λ p. IsSome (R.key_at rows.now p)) }
+    ensures place { option_map (λ slot. slot.place) result ≡ place }
+    ensures placed { IfSome result (IsPlaced (R.key_at rows.now) (R.content rows.now)) }
+{
+    let place = place?;
+    let (key, objects) = rows.slot_at(place);
+    Some(PlacedSlot {
+        place,
+        key,
+        objects,
+    })
 }
 
 /// Returns an iterator over all slots of `rows`.
@@ -59,7 +83,7 @@ pub fn all_of<R: Rows>(rows: &R) -> Slots<'_, R>
     let _len = rows.len();
     Slots {
         rows,
-        at: rows.first_place(),
+        next_slot: slot_at(rows, rows.first_place()),
         passed: 0,
     }
 }

@@ -1,12 +1,19 @@
 -- The invariant of the iterator over slots.
-use Rattle.std.specs.Prelude.{◌<◌, ◌^◌, ℕ, List, Option, drop, length}
+use Rattle.std.specs.Prelude.{◌≡◌, ◌<◌, ◌^◌, ℕ, List, Option, Some, IfSome, drop, length, option_map}
 use Rattle.ets_term.specs.declared.term.Term.{Term}
-use Rattle.bucket_table.specs.Slots.{Slot, HasDistinctKeys}
+use Rattle.bucket_table.specs.Slots.{Slot, HasDistinctKeys, objects_of}
 use Rattle.bucket_table.specs.Walks.{IsFirstPlace}
+use Rattle.table_ops.specs.declared.slots.PlacedSlot.{PlacedSlot}
 
--- the first `passed` slots were yielded, and the next slot, if any, is at the place `at`
+-- the slot is at its place
+pub record IsPlaced (key_at : ℕ → Option Term) (slots : List Slot) (slot : PlacedSlot) : Type 0 where
+  pub key : key_at slot.place ≡ Some slot.key.now
+  pub objects : objects_of slots slot.key.now ≡ Some slot.objects.now
+
+-- the first `passed` slots were yielded, and `next` is the slot after them, if there is one
 pub record SlotsInvariant (key_at : ℕ → Option Term) (slots : List Slot)
-    (passed : ℕ) (at : Option ℕ) : Type 0 where
+    (passed : ℕ) (next : Option PlacedSlot) : Type 0 where
   pub distinct : HasDistinctKeys slots
-  pub here : IsFirstPlace key_at (drop passed slots) at
+  pub here : IsFirstPlace key_at (drop passed slots) (option_map (λ slot. slot.place) next)
+  pub placed : IfSome next (IsPlaced key_at slots)
   pub fits : length slots < 2 ^ 64
