@@ -10,19 +10,17 @@ use slab::Slab;
 use std::alloc::AllocError;
 use std::mem;
 
-/// The least number of nodes by which the slab grows.
-const MIN_EXTRA_CAPACITY: usize = 4;
-
 /// Returns the number of nodes by which to grow: at least `additional`, and at least the present number `len`. So the
-/// cost of growth is constant per node, on average.
+/// cost of growth is constant per node, on average, and an empty list takes memory for its one dummy only.
 fn extra_capacity(len: usize, additional: usize) -> usize
     ensures { additional ≤ result }
 {
-    additional.max(len).max(MIN_EXTRA_CAPACITY)
+    additional.max(len)
 }
 
-/// Reserves capacity for one more place in both arrays. A full array grows in place, the slab by at least `more`
-/// nodes. If the second array is refused memory, the first keeps its new capacity, but no place is added.
+/// Reserves capacity for one more place in both arrays. If the slab has capacity for fewer than `more` further nodes,
+/// it grows by at least `more`. If the second array is refused memory, the first keeps its new capacity, but no place
+/// is added.
 pub fn reserve_both(
     nodes: &mut Slab<PackedHeader>,
     items: &mut Vec<Item>,

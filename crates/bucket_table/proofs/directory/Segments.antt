@@ -61,48 +61,48 @@ links-double segments others n unready same =
     ]))
 
 module _ (first : List (Option ℕ)) (later : Segments) where
-  pub link-first : (k : ℕ) → k < 16384 → link_of (first ∷ later) k ≡ get_or first k None
+  pub link-first : (k : ℕ) → k < 32768 → link_of (first ∷ later) k ≡ get_or first k None
   link-first k lt =
-      let segment : k / 16384 ≡ 0 = omega (arith, lt) in
-      let index : k % 16384 ≡ k = omega (arith, lt) in
+      let segment : k / 32768 ≡ 0 = omega (arith, lt) in
+      let index : k % 32768 ≡ k = omega (arith, lt) in
       ap₂ (λ (p i : ℕ). get_or (get_or (first ∷ later) p []) i None) segment index
 
-  pub link-later : (k : ℕ) → 16384 ≤ k → link_of (first ∷ later) k ≡ get_or (get_or later (k / 16384 - 1) []) (k % 16384) None
+  pub link-later : (k : ℕ) → 32768 ≤ k → link_of (first ∷ later) k ≡ get_or (get_or later (k / 32768 - 1) []) (k % 32768) None
   link-later k ge =
-      let segment : k / 16384 ≡ suc (k / 16384 - 1) = omega (arith, ge) in
-      ap (λ (p : ℕ). get_or (get_or (first ∷ later) p []) (k % 16384) None) segment
+      let segment : k / 32768 ≡ suc (k / 32768 - 1) = omega (arith, ge) in
+      ap (λ (p : ℕ). get_or (get_or (first ∷ later) p []) (k % 32768) None) segment
 
 -- A link of the first segment is set.
-module _ (first after : List (Option ℕ)) (later : Segments) (bucket at : ℕ) (below : bucket < 16384) (sets : SetsLink bucket at first after) where
+module _ (first after : List (Option ℕ)) (later : Segments) (bucket at : ℕ) (below : bucket < 32768) (sets : SetsLink bucket at first after) where
   pub first-here : link_of (after ∷ later) bucket ≡ Some at
   first-here = link-first after later bucket below ∙ sets.here
 
   pub first-others : (k : ℕ) → k ≢ bucket → link_of (after ∷ later) k ≡ link_of (first ∷ later) k
   first-others k other =
-      elim (cases_lt k 16384) [
+      elim (cases_lt k 32768) [
         | inl lt ↦ link-first after later k lt ∙ (sets.others k other ∙ sym (link-first first later k lt))
         | inr ge ↦ link-later after later k ge ∙ sym (link-later first later k ge)
       ]
 
 -- A link of a later segment is set.
-module _ (first segment : List (Option ℕ)) (later : Segments) (bucket at : ℕ) (past : 16384 ≤ bucket) (has : bucket / 16384 - 1 < length later) (sets : SetsLink (bucket % 16384) at (get_or later (bucket / 16384 - 1) []) segment) where
-  pub later-here : link_of (first ∷ set later (bucket / 16384 - 1) segment) bucket ≡ Some at
+module _ (first segment : List (Option ℕ)) (later : Segments) (bucket at : ℕ) (past : 32768 ≤ bucket) (has : bucket / 32768 - 1 < length later) (sets : SetsLink (bucket % 32768) at (get_or later (bucket / 32768 - 1) []) segment) where
+  pub later-here : link_of (first ∷ set later (bucket / 32768 - 1) segment) bucket ≡ Some at
   later-here =
-      link-later first (set later (bucket / 16384 - 1) segment) bucket past
-      ∙ (ap (λ (zs : List (Option ℕ)). get_or zs (bucket % 16384) None) (get_or-set_same later (bucket / 16384 - 1) segment [] has) ∙ sets.here)
+      link-later first (set later (bucket / 32768 - 1) segment) bucket past
+      ∙ (ap (λ (zs : List (Option ℕ)). get_or zs (bucket % 32768) None) (get_or-set_same later (bucket / 32768 - 1) segment [] has) ∙ sets.here)
 
-  pub later-others : (k : ℕ) → k ≢ bucket → link_of (first ∷ set later (bucket / 16384 - 1) segment) k ≡ link_of (first ∷ later) k
+  pub later-others : (k : ℕ) → k ≢ bucket → link_of (first ∷ set later (bucket / 32768 - 1) segment) k ≡ link_of (first ∷ later) k
   later-others k other =
-      elim (cases_lt k 16384) [
-        | inl lt ↦ link-first first (set later (bucket / 16384 - 1) segment) k lt ∙ sym (link-first first later k lt)
+      elim (cases_lt k 32768) [
+        | inl lt ↦ link-first first (set later (bucket / 32768 - 1) segment) k lt ∙ sym (link-first first later k lt)
         | inr ge ↦
-            link-later first (set later (bucket / 16384 - 1) segment) k ge ∙ (
-            elim (cases_eq (k / 16384 - 1) (bucket / 16384 - 1)) [
+            link-later first (set later (bucket / 32768 - 1) segment) k ge ∙ (
+            elim (cases_eq (k / 32768 - 1) (bucket / 32768 - 1)) [
               | inl is ↦
-                  let P : ℕ → Type 0 = λ p. get_or (get_or (set later (bucket / 16384 - 1) segment) p []) (k % 16384) None ≡ get_or (get_or later p []) (k % 16384) None in
-                  let index : k % 16384 ≢ bucket % 16384 = λ same. other (omega (arith, is, same, ge, past)) in
-                  subst P (sym is) (ap (λ (zs : List (Option ℕ)). get_or zs (k % 16384) None) (get_or-set_same later (bucket / 16384 - 1) segment [] has) ∙ sets.others (k % 16384) index)
-              | inr apart ↦ ap (λ (zs : List (Option ℕ)). get_or zs (k % 16384) None) (get_or-set_other later (bucket / 16384 - 1) (k / 16384 - 1) segment [] apart)
+                  let P : ℕ → Type 0 = λ p. get_or (get_or (set later (bucket / 32768 - 1) segment) p []) (k % 32768) None ≡ get_or (get_or later p []) (k % 32768) None in
+                  let index : k % 32768 ≢ bucket % 32768 = λ same. other (omega (arith, is, same, ge, past)) in
+                  subst P (sym is) (ap (λ (zs : List (Option ℕ)). get_or zs (k % 32768) None) (get_or-set_same later (bucket / 32768 - 1) segment [] has) ∙ sets.others (k % 32768) index)
+              | inr apart ↦ ap (λ (zs : List (Option ℕ)). get_or zs (k % 32768) None) (get_or-set_other later (bucket / 32768 - 1) (k / 32768 - 1) segment [] apart)
             ] ∙ sym (link-later first later k ge))
       ]
 
@@ -126,9 +126,9 @@ link-empty : (first : List (Option ℕ)) (later after : Segments) (m : ℕ) → 
 link-empty first later after m is k =
     let more : Segments = later ++ replicate m no_links in
     ap (λ (segments : Segments). link_of (first ∷ segments) k) is ∙ (
-    elim (cases_lt k 16384) [
+    elim (cases_lt k 32768) [
       | inl lt ↦ link-first first more k lt ∙ sym (link-first first later k lt)
-      | inr ge ↦ link-later first more k ge ∙ (ap (λ (zs : List (Option ℕ)). get_or zs (k % 16384) None) (get-empty later m (k / 16384 - 1)) ∙ sym (link-later first later k ge))
+      | inr ge ↦ link-later first more k ge ∙ (ap (λ (zs : List (Option ℕ)). get_or zs (k % 32768) None) (get-empty later m (k / 32768 - 1)) ∙ sym (link-later first later k ge))
     ])
 
 module _ {A : Type 0} where
@@ -137,23 +137,23 @@ module _ {A : Type 0} where
       link-empty first.items (links_in old) (links_in new) (length adds.added) (ap links_in adds.is ∙ (map-append (λ segment. segment.items) old adds.added ∙ ap (λ (zs : Segments). links_in old ++ zs) adds.empty))
 
   -- The capacities after segments are added.
-  room-added : (old new : List (Vec (Option ℕ) A)) → AddsSegments old new → ((segment : ℕ) → segment < length old → 16384 ≤ get_or (map vec_capacity old) segment 0) → (segment : ℕ) → segment < length new → 16384 ≤ get_or (map vec_capacity new) segment 0
+  room-added : (old new : List (Vec (Option ℕ) A)) → AddsSegments old new → ((segment : ℕ) → segment < length old → 32768 ≤ get_or (map vec_capacity old) segment 0) → (segment : ℕ) → segment < length new → 32768 ≤ get_or (map vec_capacity new) segment 0
   room-added old new adds room segment lt =
       let count = length adds.added in
-      let caps : map vec_capacity new ≡ map vec_capacity old ++ replicate count 16384 = ap (map vec_capacity) adds.is ∙ (map-append vec_capacity old adds.added ∙ ap (λ (zs : List ℕ). map vec_capacity old ++ zs) adds.room) in
-      let P : List ℕ → Type 0 = λ zs. 16384 ≤ get_or zs segment 0 in
+      let caps : map vec_capacity new ≡ map vec_capacity old ++ replicate count 32768 = ap (map vec_capacity) adds.is ∙ (map-append vec_capacity old adds.added ∙ ap (λ (zs : List ℕ). map vec_capacity old ++ zs) adds.room) in
+      let P : List ℕ → Type 0 = λ zs. 32768 ≤ get_or zs segment 0 in
       let long = length-map old vec_capacity in
       let all : length new ≡ length old + count = ap length adds.is ∙ length-append old adds.added in
       subst P (sym caps) (
       elim (cases_lt segment (length old)) [
-        | inl less ↦ subst (λ (z : ℕ). 16384 ≤ z) (sym (get_or_append_left (map vec_capacity old) (replicate count 16384) 0 segment (omega (arith, less, long)))) (room segment less)
+        | inl less ↦ subst (λ (z : ℕ). 32768 ≤ z) (sym (get_or_append_left (map vec_capacity old) (replicate count 32768) 0 segment (omega (arith, less, long)))) (room segment less)
         | inr past ↦
-            let here : get_or (map vec_capacity old ++ replicate count 16384) segment 0 ≡ 16384 = get_or-append_right (map vec_capacity old) (replicate count 16384) (length (map vec_capacity old)) segment 0 refl (omega (arith, past, long)) ∙ get_or-replicate count (segment - length (map vec_capacity old)) 16384 0 (omega (arith, lt, all, past, long)) in
+            let here : get_or (map vec_capacity old ++ replicate count 32768) segment 0 ≡ 32768 = get_or-append_right (map vec_capacity old) (replicate count 32768) (length (map vec_capacity old)) segment 0 refl (omega (arith, past, long)) ∙ get_or-replicate count (segment - length (map vec_capacity old)) 32768 0 (omega (arith, lt, all, past, long)) in
             omega (arith, here)
       ])
 
   -- The first segment has more capacity, and segments are added, for at least as many buckets.
-  pub room-more : (first after : Vec (Option ℕ) A) (old new : List (Vec (Option ℕ) A)) (n m : ℕ) → HasRoom first old n → after.items ≡ first.items → AddsSegments old new → n ≤ m → ((bucket : ℕ) → bucket < m → bucket < 16384 → bucket < vec_capacity after) → m ≤ 16384 * (1 + length new) → HasRoom after new m
+  pub room-more : (first after : Vec (Option ℕ) A) (old new : List (Vec (Option ℕ) A)) (n m : ℕ) → HasRoom first old n → after.items ≡ first.items → AddsSegments old new → n ≤ m → ((bucket : ℕ) → bucket < m → bucket < 32768 → bucket < vec_capacity after) → m ≤ 32768 * (1 + length new) → HasRoom after new m
   room-more first after old new n m room same adds less first_room segments = record {
     unready = λ bucket ge. ap (λ (zs : List (Option ℕ)). link_of (zs ∷ links_in new) bucket) same ∙ (link-added first old new adds bucket ∙ room.unready bucket (omega (arith, ge, less)));
     first_room = first_room;
@@ -162,7 +162,7 @@ module _ {A : Type 0} where
   }
 
   -- A link of the first segment is set.
-  pub room-first : (first after : Vec (Option ℕ) A) (later : List (Vec (Option ℕ) A)) (n bucket at : ℕ) → HasRoom first later n → bucket < n → bucket < 16384 → SetsLink bucket at first.items after.items → vec_capacity first ≤ vec_capacity after → HasRoom after later n
+  pub room-first : (first after : Vec (Option ℕ) A) (later : List (Vec (Option ℕ) A)) (n bucket at : ℕ) → HasRoom first later n → bucket < n → bucket < 32768 → SetsLink bucket at first.items after.items → vec_capacity first ≤ vec_capacity after → HasRoom after later n
   room-first first after later n bucket at room below small sets more = record {
     unready = λ k ge. first-others first.items after.items (links_in later) bucket at small sets k (λ same. lt_irrefl n (omega (arith, same, ge, below))) ∙ room.unready k ge;
     first_room = λ k lt in_first. omega (arith, room.first_room k lt in_first, more);
@@ -174,9 +174,9 @@ module _ {A : Type 0} where
   links-set later p segment = map-set (λ segment. segment.items) later p segment
 
   -- A link of a later segment is set.
-  pub room-later : (first segment : Vec (Option ℕ) A) (later : List (Vec (Option ℕ) A)) (n bucket at : ℕ) → HasRoom first later n → bucket < n → 16384 ≤ bucket → bucket / 16384 - 1 < length later → SetsLink (bucket % 16384) at (get_or (links_in later) (bucket / 16384 - 1) []) segment.items → 16384 ≤ vec_capacity segment → HasRoom first (set later (bucket / 16384 - 1) segment) n
+  pub room-later : (first segment : Vec (Option ℕ) A) (later : List (Vec (Option ℕ) A)) (n bucket at : ℕ) → HasRoom first later n → bucket < n → 32768 ≤ bucket → bucket / 32768 - 1 < length later → SetsLink (bucket % 32768) at (get_or (links_in later) (bucket / 32768 - 1) []) segment.items → 32768 ≤ vec_capacity segment → HasRoom first (set later (bucket / 32768 - 1) segment) n
   room-later first segment later n bucket at room below past has sets more =
-      let p = bucket / 16384 - 1 in
+      let p = bucket / 32768 - 1 in
       let long = length-map later (λ (segment : Vec (Option ℕ) A). segment.items) in
       record {
         unready = λ k ge.
@@ -185,14 +185,14 @@ module _ {A : Type 0} where
             ∙ room.unready k ge);
         first_room = room.first_room;
         later_room = λ q lt.
-            let P : List ℕ → Type 0 = λ zs. 16384 ≤ get_or zs q 0 in
+            let P : List ℕ → Type 0 = λ zs. 32768 ≤ get_or zs q 0 in
             let wide = length-map later vec_capacity in
             subst P (sym (map-set vec_capacity later p segment)) (
             elim (cases_eq q p) [
               | inl is ↦
-                  let Q : ℕ → Type 0 = λ z. 16384 ≤ get_or (set (map vec_capacity later) p (vec_capacity segment)) z 0 in
-                  subst Q (sym is) (subst (λ (z : ℕ). 16384 ≤ z) (sym (get_or-set_same (map vec_capacity later) p (vec_capacity segment) 0 (omega (arith, has, wide)))) more)
-              | inr other ↦ subst (λ (z : ℕ). 16384 ≤ z) (sym (get_or-set_other (map vec_capacity later) p q (vec_capacity segment) 0 other)) (room.later_room q (omega (arith, lt, length-set later p segment)))
+                  let Q : ℕ → Type 0 = λ z. 32768 ≤ get_or (set (map vec_capacity later) p (vec_capacity segment)) z 0 in
+                  subst Q (sym is) (subst (λ (z : ℕ). 32768 ≤ z) (sym (get_or-set_same (map vec_capacity later) p (vec_capacity segment) 0 (omega (arith, has, wide)))) more)
+              | inr other ↦ subst (λ (z : ℕ). 32768 ≤ z) (sym (get_or-set_other (map vec_capacity later) p q (vec_capacity segment) 0 other)) (room.later_room q (omega (arith, lt, length-set later p segment)))
             ]);
         segments = omega (arith, room.segments, length-set later p segment);
       }
@@ -200,7 +200,7 @@ module _ {A : Type 0} where
   pub below : (first : Vec (Option ℕ) A) (later : List (Vec (Option ℕ) A)) (n bucket : ℕ) (now : List (Option ℕ)) → links_of first later n ≡ now → bucket < length now → bucket < n
   below first later n bucket now is lt = omega (arith, lt, ap length is, length-written (links_in (first ∷ later)) n)
 
-  pub later-has : (first : Vec (Option ℕ) A) (later : List (Vec (Option ℕ) A)) (n bucket : ℕ) → HasRoom first later n → bucket < n → 16384 ≤ bucket → bucket / 16384 - 1 < length later
+  pub later-has : (first : Vec (Option ℕ) A) (later : List (Vec (Option ℕ) A)) (n bucket : ℕ) → HasRoom first later n → bucket < n → 32768 ≤ bucket → bucket / 32768 - 1 < length later
   later-has first later n bucket room lt past = omega (arith, lt, past, room.segments)
 
   -- A later segment that is read.
@@ -208,7 +208,7 @@ module _ {A : Type 0} where
     pub segment-links : now.items ≡ get_or (links_in later) segment []
     segment-links = ap (λ segment. segment.items) is ∙ sym (get_or-map (λ segment. segment.items) later segment now [] has)
 
-    pub segment-room : (first : Vec (Option ℕ) A) (n : ℕ) → HasRoom first later n → 16384 ≤ vec_capacity now
+    pub segment-room : (first : Vec (Option ℕ) A) (n : ℕ) → HasRoom first later n → 32768 ≤ vec_capacity now
     segment-room first n room = omega (arith, room.later_room segment has, get_or-map vec_capacity later segment now 0 has, ap vec_capacity is)
 
   pub adds-none : (segments : List (Vec (Option ℕ) A)) → AddsSegments segments segments

@@ -7,8 +7,8 @@ use node_list::{At, Link};
 use std::alloc::{AllocError, Global};
 use std::marker::Model;
 
-/// The greatest number of links in a segment of the directory, one link per bucket: 128 KiB.
-const LINKS_PER_SEGMENT: usize = 16384;
+/// The greatest number of links in a segment of the directory, one link per bucket: 256 KiB.
+const LINKS_PER_SEGMENT: usize = 32768;
 
 /// The directory: for each bucket the place of its dummy, or none if the bucket is not ready. It is stored in segments,
 /// so that a doubling copies at most the first one. In each segment only the links up to its last ready bucket are

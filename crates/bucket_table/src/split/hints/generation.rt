@@ -7,8 +7,8 @@ ghost use Rattle.bucket_table.specs.inside.Intervals.{AreUnknown, HaveSameHints}
 use super::{Hints, SPLIT_KEY_BITS};
 use std::alloc::AllocError;
 
-/// The greatest number of hints that a doubling sets to unknown, 64 KiB. So no doubling takes long.
-const HINTS_SET_AT_DOUBLING: usize = 16384;
+/// The greatest number of hints that a doubling sets to unknown, 16 KiB. So no doubling takes long.
+const HINTS_SET_AT_DOUBLING: usize = 4096;
 
 /// The greatest number of further hints that one insertion sets to unknown, 1 KiB.
 const HINTS_SET_AT_INSERTION: usize = 256;
@@ -44,8 +44,8 @@ impl Hints {
         let intervals = self.intervals();
         let len = self.current.len();
         if len < intervals {
-            let more = len.saturating_add(HINTS_SET_AT_INSERTION).min(intervals);
-            self.current.extend_unknown(more);
+            let new_len = len.saturating_add(HINTS_SET_AT_INSERTION).min(intervals);
+            self.current.extend_unknown(new_len);
         }
     }
 }

@@ -15,7 +15,7 @@ pub(super) fn ready_answers<R: Rows>(
 }
 
 /// Calls `grow` a number of times, and returns whether it gives this answer each time.
-pub(super) fn each_grow_answers<R: Rows>(
+pub(super) fn each_doubling_answers<R: Rows>(
     rows: &mut R,
     times: usize,
     answer: Growth,
@@ -48,8 +48,8 @@ const DOUBLINGS: usize = 19;
 /// Returns whether rows double from 2 buckets to `MAX_BUCKETS`, and two more calls of `grow` then change nothing.
 pub(super) fn doubles_to_most_buckets<R: Rows>(rows: &mut R) -> Result<bool, AllocError> {
     let starts_with_two = rows.buckets() == 2;
-    let grown = each_grow_answers(rows, DOUBLINGS, Growth::Grown)?;
-    let stopped = each_grow_answers(rows, 2, Growth::AtMost)?;
+    let grown = each_doubling_answers(rows, DOUBLINGS, Growth::Grown)?;
+    let stopped = each_doubling_answers(rows, 2, Growth::AtMost)?;
     Ok(starts_with_two && grown && stopped && rows.buckets() == MAX_BUCKETS)
 }
 
@@ -79,7 +79,7 @@ fn readies_past_first<R: Rows>(
 
 /// Doubles rows to `MAX_BUCKETS`, and returns whether `ready` then gives `READY_ANSWERS`.
 pub(super) fn readies_among_most_buckets<R: Rows>(rows: &mut R) -> Result<bool, AllocError> {
-    let grown = each_grow_answers(rows, DOUBLINGS, Growth::Grown)?;
+    let grown = each_doubling_answers(rows, DOUBLINGS, Growth::Grown)?;
     let readied = readies_past_first(rows, &READY_ANSWERS)?;
     Ok(grown && readied)
 }
@@ -95,7 +95,7 @@ const ONE_BUCKET: [(u32, Readying); 2] = [(0, Readying::AlreadyReady), (1, Ready
 /// Returns whether rows have one bucket, which is ready, and do not grow.
 pub(super) fn has_one_ready_bucket<R: Rows>(rows: &mut R) -> Result<bool, AllocError> {
     let readied = each_ready_answers(rows, &ONE_BUCKET)?;
-    let grown = each_grow_answers(rows, 1, Growth::AtMost)?;
+    let grown = each_doubling_answers(rows, 1, Growth::AtMost)?;
     Ok(readied && grown && rows.buckets() == 1 && rows.first_unready() == None)
 }
 
@@ -104,15 +104,15 @@ fn plain_rows_have_one_bucket(rt: HostRuntime) {
     assert!(rt; plain_rows_pass(rt.alloc(), Check::HaveOneBucket) == Ok(true));
 }
 
-/// The number of doublings from 2 buckets to 65,536.
-const DOUBLINGS_TO_MANY: usize = 15;
+/// The number of doublings from 2 buckets to 131,072.
+const DOUBLINGS_TO_MANY: usize = 16;
 
-/// Some of 65,536 buckets, in the order in which they are made ready. All but 1 are at the start or the end of a
-/// segment of the directory. A segment has 16,384 buckets.
-const READIED: [u32; 6] = [32_768, 1, 65_535, 16_384, 32_767, 16_383];
+/// Some of 131,072 buckets, in the order in which they are made ready. All but 1 are at the start or the end of a
+/// segment of the directory. A segment has 32,768 buckets.
+const READIED: [u32; 6] = [65_536, 1, 131_071, 32_768, 65_535, 32_767];
 
 /// Some buckets that stay unready.
-const UNREADIED: [u32; 3] = [2, 16_385, 49_152];
+const UNREADIED: [u32; 3] = [2, 32_769, 98_304];
 
 /// Returns whether none of these buckets is ready.
 fn none_is_ready<R: Rows>(rows: &R, buckets: &[u32]) -> bool {
@@ -159,14 +159,14 @@ fn are_all_ready<R: Rows>(rows: &R, buckets: u32) -> bool {
         && rows.first_unready() == Some(2)
 }
 
-/// Makes the buckets of `READIED` ready among 65,536. Returns whether `is_ready` is right then, and after one more
+/// Makes the buckets of `READIED` ready among 131,072. Returns whether `is_ready` is right then, and after one more
 /// doubling.
 pub(super) fn keeps_ready_buckets<R: Rows>(rows: &mut R) -> Result<bool, AllocError> {
-    let grown = each_grow_answers(rows, DOUBLINGS_TO_MANY, Growth::Grown)?;
+    let grown = each_doubling_answers(rows, DOUBLINGS_TO_MANY, Growth::Grown)?;
     let readied = readies_in_order(rows)?;
-    let are_ready = are_all_ready(rows, 65_536);
-    let grown_again = each_grow_answers(rows, 1, Growth::Grown)?;
-    Ok(grown && readied && are_ready && grown_again && are_all_ready(rows, 131_072))
+    let are_ready = are_all_ready(rows, 131_072);
+    let grown_again = each_doubling_answers(rows, 1, Growth::Grown)?;
+    Ok(grown && readied && are_ready && grown_again && are_all_ready(rows, 262_144))
 }
 
 #[test]

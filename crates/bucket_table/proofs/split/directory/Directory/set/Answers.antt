@@ -25,9 +25,9 @@ set_link-requires-else-bucket-lt-LINKS_PER_SEGMENT-clause-room c =
     let n = c.self.inside.buckets in
     let bucket = c.args.bucket in
     let lt = below first later n bucket c.args.self.now c.self.view_is c.requires.below in
-    let past : 16384 ≤ bucket = omega (arith, c.if-bucket-lt-LINKS_PER_SEGMENT.false) in
+    let past : 32768 ≤ bucket = omega (arith, c.if-bucket-lt-LINKS_PER_SEGMENT.false) in
     let has = later-has first later n bucket c.self.invariant lt past in
-    let segment = bucket / 16384 - 1 in
+    let segment = bucket / 32768 - 1 in
     omega (arith, segment-room later segment c.index_mut.result.now has c.index_mut.ensures.value first n c.self.invariant)
 
 pub invariant_of-self-else-bucket-lt-LINKS_PER_SEGMENT : goal.invariant_of-self-else-bucket-lt-LINKS_PER_SEGMENT
@@ -37,12 +37,12 @@ invariant_of-self-else-bucket-lt-LINKS_PER_SEGMENT c =
     let n = c.self.inside.buckets in
     let bucket = c.args.bucket in
     let lt = below first later n bucket c.args.self.now c.self.view_is c.requires.below in
-    let past : 16384 ≤ bucket = omega (arith, c.if-bucket-lt-LINKS_PER_SEGMENT.false) in
+    let past : 32768 ≤ bucket = omega (arith, c.if-bucket-lt-LINKS_PER_SEGMENT.false) in
     let has = later-has first later n bucket c.self.invariant lt past in
-    let segment = bucket / 16384 - 1 in
+    let segment = bucket / 32768 - 1 in
     let call = c.set_link-else-bucket-lt-LINKS_PER_SEGMENT in
     let links = segment-links later segment c.index_mut.result.now has c.index_mut.ensures.value in
-    let sets = subst (λ (zs : List (Option ℕ)). SetsLink (bucket % 16384) c.args.at zs call.new.segment.items) links call.ensures.link in
+    let sets = subst (λ (zs : List (Option ℕ)). SetsLink (bucket % 32768) c.args.at zs call.new.segment.items) links call.ensures.link in
     room-later first call.new.segment later n bucket c.args.at c.self.invariant lt past has sets (omega (arith, segment-room later segment c.index_mut.result.now has c.index_mut.ensures.value first n c.self.invariant, call.ensures.capacity))
 
 pub returns-then-bucket-lt-LINKS_PER_SEGMENT : goal.returns-then-bucket-lt-LINKS_PER_SEGMENT
@@ -52,7 +52,7 @@ returns-then-bucket-lt-LINKS_PER_SEGMENT c =
     let n = c.self.inside.buckets in
     let bucket = c.args.bucket in
     let lt = below c.self.inside.first_segment c.self.inside.later_segments.items n bucket c.args.self.now c.self.view_is c.requires.below in
-    let small : bucket < 16384 = omega (arith, c.if-bucket-lt-LINKS_PER_SEGMENT.true) in
+    let small : bucket < 32768 = omega (arith, c.if-bucket-lt-LINKS_PER_SEGMENT.true) in
     let after = c.set_link.new.segment.items in
     let P : List (Option ℕ) → Type 0 = λ v. written (after ∷ later) n ≡ set v bucket (Some c.args.at) in
     subst P c.self.view_is (link-set (first ∷ later) (after ∷ later) n bucket (Some c.args.at) lt
@@ -66,13 +66,13 @@ returns-else-bucket-lt-LINKS_PER_SEGMENT c =
     let n = c.self.inside.buckets in
     let bucket = c.args.bucket in
     let lt = below first later n bucket c.args.self.now c.self.view_is c.requires.below in
-    let past : 16384 ≤ bucket = omega (arith, c.if-bucket-lt-LINKS_PER_SEGMENT.false) in
+    let past : 32768 ≤ bucket = omega (arith, c.if-bucket-lt-LINKS_PER_SEGMENT.false) in
     let has = later-has first later n bucket c.self.invariant lt past in
-    let segment = bucket / 16384 - 1 in
+    let segment = bucket / 32768 - 1 in
     let call = c.set_link-else-bucket-lt-LINKS_PER_SEGMENT in
     let after = call.new.segment in
     let links = segment-links later segment c.index_mut.result.now has c.index_mut.ensures.value in
-    let sets = subst (λ (zs : List (Option ℕ)). SetsLink (bucket % 16384) c.args.at zs after.items) links call.ensures.link in
+    let sets = subst (λ (zs : List (Option ℕ)). SetsLink (bucket % 32768) c.args.at zs after.items) links call.ensures.link in
     let inside : segment < length (links_in later) = omega (arith, has, length-map later (λ segment. segment.items)) in
     let P : List (Option ℕ) → Type 0 = λ v. written (first.items ∷ links_in (set later segment after)) n ≡ set v bucket (Some c.args.at) in
     subst P c.self.view_is (
