@@ -11,7 +11,7 @@ use crate::names::Names;
 use crate::plan::PlannedAnswers;
 use crate::processes::RunResult;
 use ets_packets::{Output, WriteFault};
-use node_shared::Entry;
+use node_shared::{Entry, SharedEntry};
 use std::io::Write;
 
 /// Prints the planned answers and the results of the processes, and flushes.
@@ -83,7 +83,7 @@ fn print_answers<W: Write>(answers: &[Answer], output: &mut Output<'_, W>) -> Re
 /// Prints the line of each entry of a process, in order.
 fn print_entries<W: Write>(
     names: &Names,
-    entries: &[Entry],
+    entries: &[SharedEntry],
     output: &mut Output<'_, W>,
 ) -> Result<(), WriteFault>
     ensures same_writer { HasWriterOf output.old output.new }
@@ -93,7 +93,7 @@ fn print_entries<W: Write>(
         (flat_map (entry_text names.now) entries.now)) }
 {
     for entry in entries {
-        print_entry(names, entry, output)?;
+        print_entry(names, entry.get(), output)?;
     }
     Ok(())
 }

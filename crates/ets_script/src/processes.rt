@@ -10,7 +10,7 @@ use crate::node_settings::NodeSettings;
 use crate::plan::ProcessJobs;
 use ets_term::{Items, KeyHash};
 use node_shared::{
-    Client, CloseFault, Drawn, Entry, Gate, Job, Pids, Seat, Shared, Worked, close, keep,
+    Client, CloseFault, Drawn, Gate, Job, Pids, Seat, Shared, SharedEntry, Worked, close, keep,
     run_clients,
 };
 use std::alloc::{AllocError, Global};
@@ -24,7 +24,7 @@ use std::thread::Threads;
 /// ran out.
 #[derive(Drop)]
 pub struct RunResult {
-    pub entries: Vec<Entry>,
+    pub entries: Vec<SharedEntry>,
     pub left: Vec<usize>,
 }
 

@@ -16,7 +16,7 @@ use denote.Param.Send.{AllSend}
 use denote.Struct.Declared.{shape}
 use Rattle.std.specs.declared.clone.Clone as Clone
 use Rattle.std.specs.declared.sync.ledger.Ledger as Ledger
-use Rattle.std.proofs.Crossing.{crosses, Vec-send}
+use Rattle.std.proofs.Crossing.{crosses, Arc-send, Vec-send}
 use Rattle.std.proofs.alloc.Global.TheSendSync as global
 use Rattle.std.proofs.sync.ledger.Book.TheSendSync as total
 use Rattle.std.proofs.sync.ledger.Share.TheSendSync as share
@@ -26,6 +26,8 @@ use Rattle.node_core.proofs.limits.Limits.TheSendSync as limits
 use Rattle.node_core.proofs.Sent.{node_send}
 use Rattle.node_shared.proofs.share.Share.TheSendSync as own
 use Rattle.node_shared.specs.contracts.entry.Entry as Entry
+use Rattle.node_shared.specs.contracts.shared_entry.SharedEntry as SharedEntry
+use Rattle.node_shared.specs.contracts.shared_entry.SharedEntry.TheInside as shared_entry
 use Rattle.node_shared.specs.contracts.book.Book as Book
 use Rattle.node_shared.specs.contracts.book.Book.TheInside as book
 use Rattle.node_shared.specs.contracts.shared.Shared as Shared
@@ -35,6 +37,13 @@ use Rattle.node_shared.specs.contracts.job.Job as Job
 
 pub entry_send : IsSend Entry.the_row
 entry_send = search (crosses, terms.crosses, sendable) depth 60 fits 20000
+
+entry_sync : IsSync Entry.the_row
+entry_sync = search (crosses, terms.crosses, sendable) depth 60 fits 20000
+
+shared_entry_send : IsSend SharedEntry.the_row
+shared_entry_send =
+    view_send shared_entry.the_row _ _ _ _ (recorded_send shared_entry.the_field.row _ _ shared_entry.the_type.to_one (struct_send (shape shared_entry.the_type) (Arc-send _ entry_send entry_sync, tt)))
 
 pub job_send : IsSend Job.the_row
 job_send = search (crosses, terms.crosses, sendable) depth 60 fits 20000
@@ -49,7 +58,7 @@ module _ (L H : RattleType) (l : Ledger.Ghosts L.Denot) (k : KeyHash.Ghosts H.De
           (
             node_send H k c s,
             (
-              Vec-send _ entry_send,
+              Vec-send _ shared_entry_send,
               (
                 total.the_send L l,
                 (share.the_send L l, tt),
@@ -68,7 +77,7 @@ client_send L l =
       global.the_field_send,
       (
         own.the_send L l,
-        (Vec-send _ entry_send, tt),
+        (Vec-send _ shared_entry_send, tt),
       ),
     )))
 

@@ -8,20 +8,20 @@ ghost use Rattle.node_core.specs.rules.Replies.{is_value};
 ghost use Rattle.node_core.specs.declared.step.Reply.{Reply};
 ghost use Rattle.node_core.specs.declared.step.Reply.TheVariants.{Value};
 ghost use Rattle.node_core.specs.declared.step.Step.TheVariants.{Enrol};
-ghost use Rattle.node_shared.specs.Journal.{IsRun, process_entries};
+ghost use Rattle.node_shared.specs.Journal.{entry, IsRun, process_entries};
 ghost use Rattle.node_shared.specs.Records.{Enters, Tends, TriesGrowth};
 ghost use Rattle.node_shared.specs.Running.{EndsRun, RefusesEnrol};
 ghost use Rattle.node_shared.specs.Faults.{Refuses, RefusesWith};
 ghost use Rattle.node_shared.specs.declared.book.BookFault.TheVariants.{Refused};
 
-use crate::entry::Entry;
 use crate::share::Share;
+use crate::shared_entry::SharedEntry;
 use ets_term::KeyHash;
 use node_core::{Limits, Node, Reply, Step};
 use std::alloc::{AllocError, Global};
 use std::marker::Model;
-use std::sync::ledger;
 use std::sync::ledger::{Blank, Ledger};
+use std::sync::{Wait, ledger};
 
 /// What is under the lock: the node, the journal of the steps that were run, and the ledger that counts the entries of
 /// processes. A contract sees the node's state, the journal and the ledger's total. The journal is a run of the node
@@ -31,7 +31,7 @@ pub struct Book<L: Ledger, H: KeyHash + Copy + Drop> {
     alloc: Global,
     limits: Limits,
     node: Node<H>,
-    journal: Vec<Entry>,
+    journal: Vec<SharedEntry>,
     ledger: ledger::Book<L>,
     unissued: ledger::Share<L>,
 }
@@ -90,23 +90,34 @@ impl<L: Ledger, H: KeyHash + Copy + Drop> Book<L, H> {
         ensures err { OnErr result ((self.new ≡ self.old) × (share.new ≡ share.old)) }
     {
         let step = event.try_clone(self.alloc)?;
-        self.enter(share, step)
+        let draft = SharedEntry::draft(self.alloc, step)?;
+        self.journal.reserve(1)?;
+        let (entry, reply) = draft.run_and_reply(&mut self.node)?;
+        self.journal.push_reserved(entry);
+        self.ledger.add(&mut share.tokens, 1);
+        Ok(reply)
     }
 
-    /// Like `step`, but moves the step into its entry, and does not copy it.
-    pub(crate) fn enter(&mut self, share: &mut Share<L>, step: Step) -> Result<Reply, AllocError>
-        requires { is_step_of share.old.pid step ≡ true }
-        ensures entry { IfOk result (λ r. Enters self.old step r self.new) }
-        ensures run { IfOk result (EndsRun L.parts step) }
+    /// Like `step`, but runs the step of a draft, and returns the entry, which the journal shares.
+    pub(crate) fn enter<R: Wait>(
+        &mut self,
+        rt: &R,
+        share: &mut Share<L>,
+        draft: SharedEntry,
+    ) -> Result<SharedEntry, AllocError>
+        requires { is_step_of share.old.pid draft.step ≡ true }
+        ensures same { IfOk result (λ done. done ≡ entry draft.step done.reply) }
+        ensures entry { IfOk result (λ done. Enters self.old draft.step done.reply self.new) }
+        ensures run { IfOk result (λ done. EndsRun L.parts draft.step done.reply) }
         ensures total { IfOk result (λ _. self.new.total ≡ self.old.total + 1) }
         ensures share { IfOk result (λ _. share.new ≡ record share.old { amount = share.old.amount + 1 }) }
         ensures err { OnErr result ((self.new ≡ self.old) × (share.new ≡ share.old)) }
     {
         self.journal.reserve(1)?;
-        let (answer, reply) = self.node.step_twice(&step)?;
-        self.journal.push_reserved(Entry { step, reply });
+        let done = draft.run(&mut self.node)?;
+        self.journal.push_reserved(done.share(rt));
         self.ledger.add(&mut share.tokens, 1);
-        Ok(answer)
+        Ok(done)
     }
 
     /// Enrols a process, adds the entry to the journal, and returns its share and the reply. A fault changes nothing.
@@ -121,20 +132,22 @@ impl<L: Ledger, H: KeyHash + Copy + Drop> Book<L, H> {
         ensures refused { IfErr result (Refuses self.old.state pid) }
         ensures refused_run { IfErr result (RefusesWith (RefusesEnrol L.parts pid)) }
     {
+        let Ok(draft) = SharedEntry::draft(self.alloc, Step::Enrol(pid)) else {
+            return Err(BookFault::Memory);
+        };
         if self.journal.reserve(1).is_err() {
             return Err(BookFault::Memory);
         }
-        let enrol = Step::Enrol(pid);
-        let Ok((answer, reply)) = self.node.step_twice(&enrol) else {
+        let Ok((entry, reply)) = draft.run_and_reply(&mut self.node) else {
             return Err(BookFault::Memory);
         };
-        if !answer.is_value() {
-            return Err(refusal(answer, reply));
+        if !reply.is_value() {
+            return Err(refusal(reply, entry));
         }
-        self.journal.push_reserved(Entry { step: enrol, reply });
+        self.journal.push_reserved(entry);
         let mut tokens = self.unissued.split_off(1, 0);
         self.ledger.add(&mut tokens, 1);
-        Ok((Share { tokens, pid }, answer))
+        Ok((Share { tokens, pid }, reply))
     }
 
     /// Runs the pending growth step, if any, and adds its entry to the journal. Returns whether it ran one. Running out
@@ -147,9 +160,10 @@ impl<L: Ledger, H: KeyHash + Copy + Drop> Book<L, H> {
         let Some(event) = self.node.due() else {
             return Ok(false);
         };
+        let draft = SharedEntry::draft(self.alloc, event)?;
         self.journal.reserve(1)?;
-        let reply = self.node.step(&event)?;
-        self.journal.push_reserved(Entry { step: event, reply });
+        let done = draft.run(&mut self.node)?;
+        self.journal.push_reserved(done);
         Ok(true)
     }
 
@@ -163,7 +177,7 @@ impl<L: Ledger, H: KeyHash + Copy + Drop> Book<L, H> {
 
     /// Returns the journal: a run of the node from its empty state to its present state. The total counts its entries
     /// of processes. It takes no memory.
-    pub fn journal(&self) -> &[Entry]
+    pub fn journal(&self) -> &[SharedEntry]
         ensures entries { result.now ≡ self.now.journal }
         ensures run { IsRun self.now.state.limits self.now.journal self.now.state }
         ensures total { self.now.total ≡ process_entries self.now.journal }
@@ -179,7 +193,7 @@ impl<L: Ledger, H: KeyHash + Copy + Drop> Book<L, H> {
     }
 
     /// Returns the journal, and drops all else.
-    pub(crate) fn into_journal(self) -> Vec<Entry>
+    pub(crate) fn into_journal(self) -> Vec<SharedEntry>
         ensures journal { result.items ≡ self.journal }
         ensures run { IsRun self.state.limits self.journal self.state }
     {
@@ -195,8 +209,8 @@ impl<L: Ledger, H: KeyHash + Copy + Drop> Book<L, H> {
     }
 }
 
-/// Makes the fault of a refused enrolment from its reply, and drops the copy of the reply.
-fn refusal(reply: Reply, _again: Reply) -> BookFault
+/// Makes the fault of a refused enrolment from its reply, and drops the entry.
+fn refusal(reply: Reply, _entry: SharedEntry) -> BookFault
     ensures { result ≡ Refused reply }
 {
     BookFault::Refused(reply)

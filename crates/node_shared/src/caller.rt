@@ -112,13 +112,13 @@ impl<B: HistoryId> Caller<B> {
         if replies.reserve(calls.len()).is_err() {
             return Err(fault_after(replies));
         }
-        let asked = self.ask_each(word, served, calls, replies)?;
+        let replies = self.ask_each(word, served, calls, replies)?;
         for _ in 0..max_growth_steps {
             if !served.try_tend(word) {
                 break;
             }
         }
-        Ok(asked)
+        Ok(replies)
     }
 
     /// Makes the calls in order, until one runs out of memory.

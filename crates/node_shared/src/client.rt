@@ -7,9 +7,9 @@ ghost use Rattle.node_core.specs.Woven.{is_step_of};
 ghost use Rattle.node_shared.specs.Records.{Begins, IsLast, with_entry};
 ghost use Rattle.node_shared.specs.Running.{AllEndRuns};
 
-use crate::entry::Entry;
 use crate::share::Share;
 use crate::shared::Shared;
+use crate::shared_entry::SharedEntry;
 use ets_term::KeyHash;
 use node_core::{Call, Reply, Step};
 use std::alloc::{AllocError, Global};
@@ -24,7 +24,7 @@ use std::sync::ledger::Ledger;
 pub struct Client<L: Ledger> {
     alloc: Global,
     share: Share<L>,
-    entries: Vec<Entry>,
+    entries: Vec<SharedEntry>,
 }
 
 impl<L: Ledger> Model for Client<L> {
@@ -48,7 +48,7 @@ impl<L: Ledger> Client<L> {
     ghost use Rattle.node_shared.specs.Asking.{Answers};
 
     /// Creates the client of a process that was enrolled.
-    pub(crate) fn of(alloc: Global, share: Share<L>, entries: Vec<Entry>) -> Self
+    pub(crate) fn of(alloc: Global, share: Share<L>, entries: Vec<SharedEntry>) -> Self
         requires count { length entries.items ≡ share.amount }
         requires begins { Begins share.pid entries.items }
         requires runs { AllEndRuns L.parts entries.items }
@@ -69,7 +69,7 @@ impl<L: Ledger> Client<L> {
     }
 
     /// Returns the record, from the enrolment on. It takes no memory.
-    pub fn entries(&self) -> &[Entry]
+    pub fn entries(&self) -> &[SharedEntry]
         ensures entries { result.now ≡ self.now.entries }
         ensures begins { Begins self.now.pid self.now.entries }
         ensures runs { AllEndRuns L.parts self.now.entries }
@@ -106,8 +106,8 @@ impl<L: Ledger> Client<L> {
         Ok(self.last_reply())
     }
 
-    /// Runs a step of the process, and adds it to the record with its reply. The journal's copy of the step is made
-    /// before the lock is taken.
+    /// Runs a step of the process, and adds it to the record with its reply. The entry, which the journal shares, is
+    /// allocated before the lock is taken.
     pub(crate) fn step<H: KeyHash + Copy + Drop, R: Wait>(
         &mut self,
         rt: &R,
@@ -118,10 +118,10 @@ impl<L: Ledger> Client<L> {
         ensures ok { IfOk result (λ _. (r : Reply) × (self.new ≡ with_entry self.old event r)) }
         ensures err { OnErr result (self.new ≡ self.old) }
     {
-        let copy = event.try_clone(self.alloc)?;
+        let draft = SharedEntry::draft(self.alloc, event)?;
         self.entries.reserve(1)?;
-        let reply = shared.book.lock(rt).enter(&mut self.share, copy)?;
-        self.entries.push_reserved(Entry { step: event, reply });
+        let done = shared.book.lock(rt).enter(rt, &mut self.share, draft)?;
+        self.entries.push_reserved(done);
         Ok(())
     }
 
@@ -129,6 +129,6 @@ impl<L: Ledger> Client<L> {
     fn last_reply(&self) -> &Reply
         ensures { IsLast self.now.entries result.now }
     {
-        &self.entries[self.entries.len() - 1].reply
+        &self.entries[self.entries.len() - 1].get().reply
     }
 }

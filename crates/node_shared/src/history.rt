@@ -122,7 +122,8 @@ impl NewHistory {
 }
 
 impl<B: HistoryId> HistoryOwner<B> {
-    /// Creates another writer, which has added nothing.
+    /// Creates a writer, which has added nothing. It takes a part of the owner's token, but the owner knows as much as
+    /// before.
     pub(crate) fn new_writer(&mut self, word: &HistoryWord) -> HistoryWriter<B>
         requires table { word.now.shared.table_id ≡ B.table }
         requires one { word.now.shared.table_id.words ≡ 1 }
@@ -159,8 +160,8 @@ impl<B: HistoryId> HistoryOwner<B> {
         let _zero = word
             .shared
             .compare_exchange_with::<AppendEntry>(&mut self.seat, 0, 0, 0, &added);
-        let given = word.shared.split_seat::<OwnEntries>(&mut self.seat);
-        writer.seat = given;
+        let seat = word.shared.split_seat::<OwnEntries>(&mut self.seat);
+        writer.seat = seat;
         let Entry { step: _, reply } = added;
         reply
     }

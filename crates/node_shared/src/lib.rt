@@ -34,6 +34,7 @@ mod server;
 mod server_lock;
 mod share;
 mod shared;
+mod shared_entry;
 mod transcript;
 mod workers;
 
@@ -50,5 +51,6 @@ pub use server::Server;
 pub use server_lock::Locking;
 pub use share::Share;
 pub use shared::{JoinFault, Shared, keep};
+pub use shared_entry::SharedEntry;
 pub use transcript::{CloseFault, Transcript, close};
 pub use workers::run_clients;

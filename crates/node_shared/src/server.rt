@@ -20,8 +20,9 @@ use node_core::Limits;
 use std::alloc::{AllocError, Global};
 use std::sync::Wait;
 
-/// A node that threads share. It stores nothing of a call after the reply, so it can be shared for any time. Readers
-/// run in parallel. `Locking` chooses its lock.
+/// A node that threads share. It stores nothing of a call after the reply, so it can be shared for any length of time.
+/// Readers run in parallel. `Locking` chooses its lock. `B` names the history and the limits, in proofs only, and `H`
+/// is the hasher of keys.
 #[derive(Drop)]
 pub struct Server<B: HistoryId, H: KeyHash + Copy + Drop> {
     pub(crate) word: HistoryWord,

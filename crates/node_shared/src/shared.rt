@@ -1,20 +1,22 @@
 //! A node that threads share through one lock, with a journal of all its steps and their replies. A client is created
 //! from a drawn process number, and makes the calls of that process.
-ghost use Rattle.std.specs.Prelude.{◌≡◌, ◌≤◌, true, ◌+◌, IfOk, IfErr, IfSome};
+ghost use Rattle.std.specs.Prelude.{◌≡◌, ◌≤◌, true, ◌+◌, [], ◌∷◌, IfOk, IfErr, IfSome};
 ghost use Rattle.std.specs.Bool.{Decides};
 ghost use Rattle.ets_term.specs.declared.term.Term.TheVariants.{Pid};
 ghost use Rattle.node_core.specs.declared.step.Reply.TheVariants.{Value};
+ghost use Rattle.node_core.specs.declared.step.Step.TheVariants.{Enrol};
+ghost use Rattle.node_shared.specs.Journal.{entry};
 ghost use Rattle.node_shared.specs.Records.{IsEnrolled, enrolled_record};
 ghost use Rattle.node_shared.specs.Running.{RefusesEnrol};
 ghost use Rattle.node_shared.specs.Faults.{HandsBack, JoinRefusesWith};
 
 use crate::book::{Book, BookFault};
 use crate::client::Client;
-use crate::entry::Entry;
 use crate::pids::Drawn;
-use ets_term::KeyHash;
+use crate::shared_entry::SharedEntry;
+use ets_term::{KeyHash, Term};
 use node_core::{Limits, Reply, Step};
-use std::alloc::Global;
+use std::alloc::{AllocError, Global};
 use std::sync::ledger::{Blank, Ledger};
 use std::sync::{Mutex, Wait};
 
@@ -57,17 +59,13 @@ impl<L: Ledger, H: KeyHash + Copy + Drop> Shared<L, H> {
         ensures err { IfErr result (HandsBack drawn) }
         ensures refused { IfErr result (JoinRefusesWith (RefusesEnrol L.parts drawn.number)) }
     {
-        let Ok(mut entries) = Vec::with_capacity(self.alloc, 1) else {
+        let pid = drawn.pid();
+        let Ok(entries) = new_record(self.alloc, pid) else {
             return Err(JoinFault::Memory(drawn));
         };
-        let pid = drawn.pid();
         let joined = self.book.lock(rt).join(pid);
         match joined {
-            Ok((share, reply)) => {
-                let step = Step::Enrol(pid);
-                entries.push_reserved(Entry { step, reply });
-                Ok(Client::of(self.alloc, share, entries))
-            }
+            Ok((share, _reply)) => Ok(Client::of(self.alloc, share, entries)),
             Err(BookFault::Refused(reply)) => Err(JoinFault::Refused(reply, drawn)),
             Err(BookFault::Memory) => Err(JoinFault::Memory(drawn)),
         }
@@ -90,6 +88,16 @@ impl<L: Ledger, H: KeyHash + Copy + Drop> Shared<L, H> {
             None
         }
     }
+}
+
+/// Allocates the record of a process that is to be enrolled: the enrolment, with the reply if it is not refused.
+fn new_record(alloc: Global, pid: u32) -> Result<Vec<SharedEntry>, AllocError>
+    ensures { IfOk result (λ entries. entries.items ≡ entry (Enrol pid) (Value (Pid pid)) ∷ []) }
+{
+    let mut entries = Vec::with_capacity(alloc, 1)?;
+    let reply = Reply::Value(Term::Pid(pid));
+    entries.push_reserved(SharedEntry::new(alloc, Step::Enrol(pid), reply)?);
+    Ok(entries)
 }
 
 /// Runs up to `turns` pending growth steps, and takes the lock anew for each. Such a step doubles the buckets of a

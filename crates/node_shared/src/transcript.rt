@@ -10,6 +10,7 @@ use crate::book::Book;
 use crate::client::Client;
 use crate::entry::Entry;
 use crate::shared::Shared;
+use crate::shared_entry::SharedEntry;
 use ets_term::KeyHash;
 use std::alloc::AllocError;
 use std::sync::ledger::Ledger;
@@ -17,7 +18,7 @@ use std::sync::ledger::Ledger;
 /// The journal of a node that is no longer shared.
 #[derive(Drop)]
 pub struct Transcript {
-    pub entries: Vec<Entry>,
+    pub entries: Vec<SharedEntry>,
 }
 
 /// Why `close` returns no journal.
@@ -27,7 +28,8 @@ pub enum CloseFault {
     Differs(u32),
     /// The lowest process that has entries and no client.
     Missing(u32),
-    /// Out of memory.
+    /// Cannot happen: it means that the limits under the lock are not those of the `Shared`. No contract says that they
+    /// are the same.
     Memory,
 }
 
@@ -58,7 +60,10 @@ impl<L: Ledger, H: KeyHash + Copy + Drop> Book<L, H> {
 }
 
 /// Compares the journal with the records of the clients.
-fn compare<L: Ledger>(journal: Vec<Entry>, clients: &[Client<L>]) -> Result<Transcript, CloseFault>
+fn compare<L: Ledger>(
+    journal: Vec<SharedEntry>,
+    clients: &[Client<L>],
+) -> Result<Transcript, CloseFault>
     ensures comparison { Compares journal.items clients.now result }
     ensures decision { IsDecided result }
 {
@@ -72,7 +77,7 @@ fn compare<L: Ledger>(journal: Vec<Entry>, clients: &[Client<L>]) -> Result<Tran
 }
 
 /// Returns the process of the first client whose record is not its part of the journal.
-fn first_mismatch<L: Ledger>(journal: &[Entry], clients: &[Client<L>]) -> Option<u32>
+fn first_mismatch<L: Ledger>(journal: &[SharedEntry], clients: &[Client<L>]) -> Option<u32>
     ensures { FindsMismatch journal.now clients.now result }
 {
     for client in clients {
@@ -84,16 +89,16 @@ fn first_mismatch<L: Ledger>(journal: &[Entry], clients: &[Client<L>]) -> Option
 }
 
 /// Returns whether these are the entries of the process, in order.
-fn is_part(journal: &[Entry], pid: u32, own: &[Entry]) -> bool
+fn is_part(journal: &[SharedEntry], pid: u32, own: &[SharedEntry]) -> bool
     ensures { Decides result (of pid journal.now ≡ own.now) }
 {
     let mut at = 0;
     for entry in journal {
-        if entry.is_of(pid) {
+        if entry.get().is_of(pid) {
             if at >= own.len() {
                 return false;
             }
-            if !entry.equals(&own[at]) {
+            if !entry.get().equals(own[at].get()) {
                 return false;
             }
             at += 1;
@@ -103,12 +108,12 @@ fn is_part(journal: &[Entry], pid: u32, own: &[Entry]) -> bool
 }
 
 /// Returns the lowest process that has entries and no client.
-fn least_without_client<L: Ledger>(journal: &[Entry], clients: &[Client<L>]) -> Option<u32>
+fn least_without_client<L: Ledger>(journal: &[SharedEntry], clients: &[Client<L>]) -> Option<u32>
     ensures { FindsMissing journal.now clients.now result }
 {
     let mut least = None;
     for entry in journal {
-        least = least_after_entry(least, entry, clients);
+        least = least_after_entry(least, entry.get(), clients);
     }
     least
 }
@@ -147,8 +152,8 @@ impl Transcript {
     {
         let mut own = Vec::new(*self.entries.allocator());
         for entry in self.entries.as_slice() {
-            if entry.is_of(pid) {
-                own.push(entry)?;
+            if entry.get().is_of(pid) {
+                own.push(entry.get())?;
             }
         }
         Ok(own)

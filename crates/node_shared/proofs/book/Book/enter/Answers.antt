@@ -6,15 +6,15 @@ use Rattle.node_shared.proofs.book.Book.enter.Goals as goal
 
 pub invariant_of-self-2 : goal.invariant_of-self-2
 invariant_of-self-2 g c =
-    let both = c.in_ok-answer.ensures in
-    let s = invariant-step _ _ c.self.inside.journal.items c.self.inside.node c.step_twice.new.self c.self.inside.ledger.total c.self.inside.unissued.parts c.args.step c.in_ok-answer.answer 1 c.self.invariant (both.ok, both.buckets) (own-weighs _ _ c.requires) in
-    let journal : c.push_reserved.new.self.items ≡ c.self.inside.journal.items ++ entry c.args.step c.in_ok-answer.answer ∷ [] = grind (arith, common_steps) in
+    let does = c.in_ok-done.ensures.run in
+    let reply = c.in_ok-done.done.reply in
+    let s = invariant-step _ _ c.self.inside.journal.items c.self.inside.node c.run.new.node c.self.inside.ledger.total c.self.inside.unissued.parts c.args.draft.step reply 1 c.self.invariant does (own-weighs _ _ c.requires) in
+    let journal : c.push_reserved.new.self.items ≡ c.self.inside.journal.items ++ entry c.args.draft.step reply ∷ [] = grind (arith, common_steps) in
     let total = c.add.ensures.total in
     rw (journal, total) s
 
 pub returns-clause-run : goal.returns-clause-run
 returns-clause-run g c =
-    let both = c.in_ok-answer.ensures in
     let was = c.self.invariant in
-    ends-run c.self.inside.limits _ c.self.inside.node c.step_twice.new.self c.self.inside.journal.items c.args.step c.in_ok-answer.answer
-    was.most was.run (both.ok, both.buckets)
+    ends-run c.self.inside.limits _ c.self.inside.node c.run.new.node c.self.inside.journal.items c.args.draft.step c.in_ok-done.done.reply
+    was.most was.run c.in_ok-done.ensures.run

@@ -43,8 +43,8 @@ compare_exchange_with-zero-requires g c =
     let P : Me Entry HistoryView → Type 0 = λ m. Allows Holds slots id m 0 (λ n. either (n == 0) 0 n) (AppendsEntry (step slots 0 0 0 (some e)) m) in
     (j.0 ∙ (s.0 ∙ (i.0 ∙ sym c.requires.table)), omega (arith, c.requires.one), subst P (sym both) (adds slots id all own e))
 
-pub split_seat-given-requires : goal.split_seat-given-requires
-split_seat-given-requires g c =
+pub split_seat-seat-requires : goal.split_seat-seat-requires
+split_seat-seat-requires g c =
     let added = c.compare_exchange_with-zero.ensures in
     let at = c.join_seat.ensures.0 ∙ (c.split_seat-new_seat.ensures.0 ∙ (c.self.invariant.0 ∙ sym c.requires.table)) in
     (added.0 ∙ at, omega (arith, c.requires.one), splits c.compare_exchange_with-zero.new.seat.id c.compare_exchange_with-zero.new.seat.me.0)

@@ -1,9 +1,12 @@
 use denote.Exit
 use denote.Param.{param, copied}
-use denote.Param.Send.{IsSend, IsSync, param_send, param_sync, arg_send}
+use denote.Param.Send.{IsSend, IsSync, param_send, param_sync, arg_send, sendable}
 use mathlib.Core.List.{[], ◌∷◌}
 use mir.Syntax.{named}
 use Rattle.std.proofs.Common.{rules}
+use Rattle.std.proofs.Crossing.{crosses}
+use Rattle.ets_term.proofs.term.Term.TheLaws.TheKnot as terms
+use Rattle.node_shared.proofs.Sent.{client_send}
 use Rattle.test_shared.proofs.Sent.{drawing_send}
 use Rattle.test_shared.proofs.tests.drawing.visits.Goals as goal
 
@@ -17,3 +20,6 @@ join-one_client-requires-send-F g c κs within =
     (named 9) κs.1.1.1.1.1.1.1.1.1.0
     (116 ∷ 101 ∷ 115 ∷ 116 ∷ 95 ∷ 115 ∷ 104 ∷ 97 ∷ 114 ∷ 101 ∷ 100 ∷ 58 ∷ 58 ∷ 116 ∷ 101 ∷ 115 ∷ 116 ∷ 115 ∷ 58 ∷ 58 ∷ 100 ∷ 114 ∷ 97 ∷ 119 ∷ 105 ∷ 110 ∷ 103 ∷ 58 ∷ 58 ∷ 102 ∷ 110 ∷ 58 ∷ 58 ∷ 118 ∷ 105 ∷ 115 ∷ 105 ∷ 116 ∷ 115 ∷ 58 ∷ 58 ∷ 106 ∷ 111 ∷ 105 ∷ 110 ∷ 43 ∷ 97 ∷ 114 ∷ 103 ∷ 50 ∷ 43 ∷ 83 ∷ 101 ∷ 108 ∷ 102 ∷ [])
     (param_sync 2 g.row.R runs) hash))
+
+pub join-one_client-requires-send-A : goal.join-one_client-requires-send-A
+join-one_client-requires-send-A g c κs within = search (client_send, crosses, terms.crosses, sendable) depth 60 fits 20000
