@@ -15,7 +15,7 @@ pub fn order_len(count: u64) -> u64
 /// searched for in the order of their insertion. If `mask` is one less than a power of two, each number up to `mask`
 /// occurs once among the indices up to it. Each line maps these numbers one to one: a multiplication by an odd number
 /// does, and so does an exclusive or of a number with its shift. The multipliers are arbitrary.
-pub fn number_at(i: u64, seed: u64, mask: u64) -> u64 {
+pub fn shuffled_number(i: u64, seed: u64, mask: u64) -> u64 {
     let odd = seed.wrapping_mul(0xD6E8_FEB8_6659_FD92) | 1;
     let a = i.wrapping_mul(odd) & mask;
     let b = (a ^ (a >> 9)).wrapping_mul(0x85EB_CA6B ^ seed.wrapping_mul(0x2C1B_3C6C)) & mask;

@@ -5,14 +5,15 @@
 //! changes no slot. In a ready bucket of n keys, tombstones included, a search visits at most n + 2 nodes.
 //!
 //! *Weakness.* Keys of equal hashes share a bucket at every size, so a bad hasher makes searches long. `clear` visits
-//! all nodes. So does `purge`, if more slots became tombstones than the tombstone log had room for. A traversal also
-//! reads free places and the places of dummies.
+//! all nodes. So does `purge` after a `clear`, or if more slots became tombstones than the tombstone log had room for.
+//! A traversal also reads free places and the places of dummies.
 //!
 //! *Mechanism.* `SplitRows` is a split-ordered list (Shalev and Shavit): one list of nodes, sorted by split keys. A
 //! bucket is an interval of the list that starts at a sentinel, its dummy. The directory has the place of each dummy.
 //! The hints are a cache: for each eighth of a bucket, an *interval*, they give the place of its first item. A hint may
-//! also say that the interval is empty, or that it is unknown. A search starts at a hint, or without one at the
-//! dummy of the nearest ready bucket. An insertion refreshes the hint of its interval if that is unknown.
+//! also say that the interval is empty, or be unknown. A search starts at a hint, or without one at the dummy of the
+//! nearest ready bucket, which is the key's bucket or an ancestor of it. An insertion refreshes the hint of its
+//! interval if that is unknown.
 //!
 //! A doubling moves no node. It keeps the old hints as previous hints, and each insertion rehashes a few of them. The
 //! directory is written when buckets become ready. The order of the slots is that of their places, and a traversal

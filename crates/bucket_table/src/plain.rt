@@ -71,8 +71,8 @@ impl Rows for PlainRows {
     }
 
     fn replace(&mut self, key: &Term, objects: Chain) -> Option<Chain> {
-        let place = self.slots.get_mut(key)?;
-        Some(mem::replace(place, objects))
+        let chain = self.slots.get_mut(key)?;
+        Some(mem::replace(chain, objects))
     }
 
     fn remove(&mut self, key: &Term) -> Option<Chain> {
@@ -200,7 +200,7 @@ impl Rows for PlainRows {
         }
     }
 
-    fn drop_at(&mut self, place: Place) -> usize {
+    fn delete_at(&mut self, place: Place) -> usize {
         let (_key, objects) = self.remove_at(place);
         objects.len()
     }

@@ -145,8 +145,8 @@ pub trait Rows: Drop {
         ensures hash { hash_of self.new ≡ hash_of self.old }
         ensures buckets { readiness self.new ≡ readiness self.old };
 
-    /// Sets an element of the only object of the slot at a place, counted from 0. Changes nothing if the object is
-    /// not a tuple or has no such element.
+    /// Sets the element at `index`, counted from 0, of the only object of the slot at a place. Changes nothing if the
+    /// object is not a tuple or has no such element.
     fn set_element_at(&mut self, place: Place, index: usize, value: Term)
         requires { HasOneObject (content self.old) (key_at self.old place) }
         ensures now { content self.new ≡ with_element_in (content self.old) (key_at self.old place) index value }
@@ -169,7 +169,7 @@ pub trait Rows: Drop {
 
     /// Removes the slot at a place, drops its objects and returns their number. `SplitRows` drops them without moving
     /// them. The slots before it keep their places.
-    fn drop_at(&mut self, place: Place) -> usize
+    fn delete_at(&mut self, place: Place) -> usize
         requires { IsSome (key_at self.old place) }
         ensures count { option_map length (objects_in (content self.old) (key_at self.old place)) ≡ Some result }
         ensures now { (key : Term) → key_at self.old place ≡ Some key → content self.new ≡ without (content self.old) key }

@@ -2,9 +2,9 @@
 //!
 //! An update is read once from a term (`read_ops`, `read_element_specs`) and then done on an object: in place
 //! (`update_counter`, `write_elements`) or on a copy (`apply_ops`, `apply_elements`). `counter_value` and
-//! `element_value` return the new element of a single update and change nothing; `read_increment` and `read_pair` read
-//! such an update without memory. If a key has no object, a new object is made from the Default, an argument of the
-//! call (`start_counter`, `start_with_elements`). The contract of each call refers to its definition in
+//! `copy_for_element` return the new element of a single update and change nothing; `read_increment` and `read_pair`
+//! read such an update without memory. If a key has no object, a new object is made from the Default, an argument of
+//! the call (`start_counter`, `start_with_elements`). The contract of each call refers to its definition in
 //! `specs/Counters.antt`, `specs/Elements.antt` or `specs/Defaults.antt`.
 //!
 //! *Guarantee.* Sums are exact. An update is refused if a new value is out of range, and a refused update changes
@@ -42,4 +42,4 @@ pub use defaults::{is_default, start_counter, start_with_elements, with_key};
 pub use elements::{ElementSpec, ElementSpecs, read_element_specs, read_pair};
 pub use fault::CounterFault;
 pub use ops::{Op, Ops, Threshold, read_increment, read_ops};
-pub use write::{apply_elements, element_value, write_elements};
+pub use write::{apply_elements, copy_for_element, write_elements};

@@ -49,11 +49,11 @@ pub fn write_elements(
     }
 }
 
-/// Returns a copy of `value`, which the caller can write to an element of `object`, and changes nothing. Refuses what
-/// `write_elements` refuses. If it returns a copy, the object has an element at the position, so the element's index
-/// fits a `usize`.
+/// Returns a copy of `value` for the element of `object` at `position`, and writes nothing. `object` is only checked:
+/// refuses what `write_elements` refuses. If it returns a copy, the object has that element, so the element's index fits
+/// a `usize`.
 #[inline(always)]
-pub fn element_value(
+pub fn copy_for_element(
     alloc: Global,
     object: &Term,
     position: Position,
@@ -71,13 +71,13 @@ pub fn element_value(
     let Term::Tuple(elements) = object else {
         return Err(CounterFault::Badarg);
     };
-    copied_value(alloc, elements.as_slice(), position, value)
+    copy_if_allowed(alloc, elements.as_slice(), position, value)
 }
 
-/// Does what `element_value` does, but for the elements of a tuple: returns a copy of `value` if `check_one` allows to
-/// write it. The caller writes the copy.
+/// Does what `copy_for_element` does, but for the elements of a tuple: returns a copy of `value` if `check_one` allows
+/// to write it. The caller writes the copy.
 #[inline(always)]
-fn copied_value(
+fn copy_if_allowed(
     alloc: Global,
     elements: &[Term],
     position: Position,
@@ -96,7 +96,7 @@ fn copied_value(
     Ok(copy_value(alloc, value)?)
 }
 
-/// Returns a copy of any value, without the checks of `copied_value`. An integer is copied without a further call.
+/// Returns a copy of any value, without the checks of `copy_if_allowed`. An integer is copied without a further call.
 #[inline(always)]
 fn copy_value(alloc: Global, value: &Term) -> Result<Term, AllocError>
     ensures { IfOk result (λ copy. copy ≡ value.now) }
@@ -107,7 +107,7 @@ fn copy_value(alloc: Global, value: &Term) -> Result<Term, AllocError>
     }
 }
 
-/// Writes a copy of the value of `spec`, which is not in a list, into the element that `spec` names. `copied_value`
+/// Writes a copy of the value of `spec`, which is not in a list, into the element that `spec` names. `copy_if_allowed`
 /// checks the value and copies it. If it refuses, the elements stay.
 fn copy_one(
     alloc: Global,
@@ -119,7 +119,7 @@ fn copy_one(
     ensures limit { FailsJustAs result CounterFault.SystemLimit (write_values (spec.now ∷ []) elements.old) }
     ensures kept { OnErr result (elements.new ≡ elements.old) }
 {
-    let value = copied_value(alloc, elements.as_slice(), spec.position, &spec.value)?;
+    let value = copy_if_allowed(alloc, elements.as_slice(), spec.position, &spec.value)?;
     write(elements, spec.position, value);
     Ok(())
 }

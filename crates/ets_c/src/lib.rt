@@ -91,7 +91,7 @@ fn step(alloc: Global, handle: &mut Handle, event: &Step) -> i32
 }
 
 /// Makes the call that a text spells, for the process with this number. The text is a tuple of the call's name and its
-/// arguments, such as `{lookup,t,a}`. Writes as much of the reply's text as fits to `out`, and its full length to
+/// arguments, such as `{lookup,t,a}`. Writes as much of the reply's text as fits into `out`, and its full length to
 /// `len`. After `SYNTAX`, `len` is the offset of the syntax error.
 #[unsafe(no_mangle)]
 pub extern "C" fn yoyoash_call(
@@ -135,7 +135,7 @@ pub extern "C" fn yoyoash_reply(
 
 /// Makes the call that a term in Erlang's External Term Format spells, for the process with this number. The term is a
 /// tuple of the call's name and the list of its arguments, such as `{lookup,[t,a]}`. Writes as many of the reply's
-/// bytes in this format as fit to `out`, and their total number to `len`. After `SYNTAX`, `len` is the offset of the
+/// bytes in this format as fit into `out`, and their total number to `len`. After `SYNTAX`, `len` is the offset of the
 /// fault.
 #[unsafe(no_mangle)]
 pub extern "C" fn yoyoash_call_external(

@@ -21,17 +21,17 @@ use std::io::{Read, Write};
 /// The memory of a reply is kept for the next reply if it has at most this many bytes.
 const MAX_KEPT: usize = 65_536;
 
-/// A store that answers packets.
+/// A store that answers packets, and the memory of its replies.
 #[derive(Drop)]
-struct Server {
+struct Responder {
     alloc: Global,
     store: Store,
     /// The body of a reply after its status byte. Its memory is kept for the next reply.
     payload: Vec<u8>,
 }
 
-/// Makes a store with these limits, and answers each packet of the input by it, until the input ends. All replies so far
-/// are written before each read, and at the end.
+/// Makes a store with these limits, and answers each packet of the input by it, until the input ends. Before each read
+/// and at the end, all replies so far are written.
 pub fn run_packets<R: Read, W: Write>(
     alloc: Global,
     input: &mut R,
@@ -47,12 +47,12 @@ pub fn run_packets<R: Read, W: Write>(
     let mut buffer = Buffer::new(alloc)?;
     let mut bytes = output_buffer(alloc)?;
     let mut output = Output::new(&mut bytes, output);
-    let mut server = Server {
+    let mut responder = Responder {
         alloc,
         store: Store::new(alloc, limits),
         payload: Vec::new(alloc),
     };
-    answer_all(input, &mut output, &mut buffer, &mut server)?;
+    answer_all(input, &mut output, &mut buffer, &mut responder)?;
     Ok(())
 }
 
@@ -61,21 +61,21 @@ fn answer_all<R: Read, W: Write>(
     reader: &mut R,
     output: &mut Output<'_, W>,
     buffer: &mut Buffer,
-    server: &mut Server,
+    responder: &mut Responder,
 ) -> Result<(), PacketFault>
     requires waiting { buffered_bytes output.old ≡ [] }
     requires buffer { buffer.old ≡ [] }
     ensures same_writer { HasWriterOf output.old output.new }
-    ensures ok { OnOk result (Completes server.old.store
+    ensures ok { OnOk result (Completes responder.old.store
         (traffic (flow R.remaining reader.old reader.new) (writer_flow W.contents output.old output.new))) }
-    ensures err { IfErr result (Stops server.old.store
+    ensures err { IfErr result (Stops responder.old.store
         (traffic (flow R.remaining reader.old reader.new) (writer_flow W.contents output.old output.new))) }
 {
     for _read in 0..u64::MAX {
         if buffer.refill(reader)? == 0 {
             return end_after(buffer.bytes());
         }
-        let is_long = answer_buffered(output, buffer, server)?;
+        let is_long = answer_buffered(output, buffer, responder)?;
         output.flush()?;
         if is_long {
             return Err(PacketFault::TooLong);
@@ -99,13 +99,14 @@ fn end_after(part: &[u8]) -> Result<(), PacketFault>
 fn answer_buffered<W: Write>(
     output: &mut Output<'_, W>,
     buffer: &mut Buffer,
-    server: &mut Server,
+    responder: &mut Responder,
 ) -> Result<bool, WriteFault>
     ensures same_writer { HasWriterOf output.old output.new }
     ensures ok { IfOk result (AnswersBufferedPackets (writer_flow W.contents output.old output.new)
-        (buffered_bytes output.old) (buffered_bytes output.new) buffer.old buffer.new server.old.store server.new.store) }
+        (buffered_bytes output.old) (buffered_bytes output.new) buffer.old buffer.new
+        responder.old.store responder.new.store) }
     ensures err { OnErr result (BreaksBufferedPackets (writer_flow W.contents output.old output.new)
-        (buffered_bytes output.old) buffer.old server.old.store) }
+        (buffered_bytes output.old) buffer.old responder.old.store) }
 {
     loop {
         let len = match first_packet(buffer.bytes()) {
@@ -114,7 +115,7 @@ fn answer_buffered<W: Write>(
             Front::TooLong => return Ok(true),
         };
         // The first four bytes are the length of the body.
-        answer_packet(&buffer.bytes()[4..len + 4], output, server)?;
+        answer_packet(&buffer.bytes()[4..len + 4], output, responder)?;
         buffer.consume(len + 4);
     }
 }
@@ -123,17 +124,22 @@ fn answer_buffered<W: Write>(
 fn answer_packet<W: Write>(
     body: &[u8],
     output: &mut Output<'_, W>,
-    server: &mut Server,
+    responder: &mut Responder,
 ) -> Result<(), WriteFault>
     ensures same_writer { HasWriterOf output.old output.new }
     ensures ok { OnOk result (AnswersPacket (writer_flow W.contents output.old output.new)
-        (buffered_bytes output.old) (buffered_bytes output.new) body.now server.old.store server.new.store) }
+        (buffered_bytes output.old) (buffered_bytes output.new) body.now responder.old.store responder.new.store) }
     ensures err { OnErr result (BreaksPacket (writer_flow W.contents output.old output.new)
-        (buffered_bytes output.old) body.now server.old.store server.new.store) }
+        (buffered_bytes output.old) body.now responder.old.store responder.new.store) }
 {
-    clear(server.alloc, &mut server.payload);
-    let status = answer(server.alloc, &mut server.store, body, &mut server.payload);
-    add_reply(status, &server.payload, output)
+    clear(responder.alloc, &mut responder.payload);
+    let status = answer(
+        responder.alloc,
+        &mut responder.store,
+        body,
+        &mut responder.payload,
+    );
+    add_reply(status, &responder.payload, output)
 }
 
 /// Removes all bytes, and frees the memory if it is more than `MAX_KEPT`.

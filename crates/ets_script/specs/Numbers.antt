@@ -6,7 +6,7 @@ use Rattle.ets_script.specs.declared.run.TheConstants.{MAX_READS}
 
 -- The greatest number of bytes of a line before its LF. The greatest number of reads of a script: if none of these
 -- finds the end of the input, that is a read fault. The greatest number of processes of a script in threads.
-pub record AreTheNumbers : Type 0 where
+pub record ConstantsHaveValues : Type 0 where
   pub line : MAX_LINE ≡ 65536
   pub reads : MAX_READS ≡ 1000000000
   pub pids : MAX_PIDS ≡ 4096

@@ -76,15 +76,16 @@ pub fn print_reply<W: Write>(reply: &Reply, output: &mut Output<'_, W>) -> Resul
     }
 }
 
-/// Checks whether the term is `true`, which is the reply to most calls.
+/// Checks whether the term is `true`, which `insert` and other frequent calls reply. It is printed without the printer of
+/// terms, which is faster.
 #[inline(always)]
 fn is_true(term: &Term) -> bool
     ensures { result ≡ true → text.printed term.now ≡ codes "true" }
 {
     match term {
         Term::Atom(name) => {
-            let known: &[u8] = b"true";
-            name.text().as_bytes() == known
+            let characters: &[u8] = b"true";
+            name.text().as_bytes() == characters
         }
         _ => false,
     }

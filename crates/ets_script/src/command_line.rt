@@ -67,7 +67,7 @@ fn is_conflict(request: &Request) -> bool
     }
 }
 
-/// Returns which options exclude each other, if some do.
+/// Returns which options exclude each other. It is called only if some do.
 fn conflict_words(request: &Request) -> &'static str {
     if !request.external {
         "the argument '--threads' cannot be used with '--why'"

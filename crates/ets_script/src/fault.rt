@@ -7,8 +7,8 @@ use thiserror::Error;
 /// Why a script stops before its end.
 #[derive(Debug, Drop, Error)]
 pub enum ScriptFault {
-    /// The reader failed, or there was no end of input in a billion reads. The answers to all whole lines that were
-    /// read are written.
+    /// The reader failed, or there was no end of input in a billion reads, or in those that `run_within` allows. The
+    /// answers to all whole lines that were read are written. In threads, nothing is written.
     #[error("read fault")]
     Read,
     /// The writer failed, or took no byte. What was written is a prefix of the answers.

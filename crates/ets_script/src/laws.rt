@@ -4,9 +4,9 @@ ghost use Rattle.ets_term.specs.declared.term.Term.{Term};
 ghost use Rattle.ets_script.specs.Commands.{is_silent, spawn, exit, ask, grow, ready};
 ghost use Rattle.ets_script.specs.LineForms.{IsSilentLine, Means, IsPrintable, IsNameLine, IsCallLine, IsGrowLine, IsReadyLine};
 
-/// A line in one of the forms of docs/script.md's table is that command, or is silent. Terms are spelled as the grammar
-/// of terms says.
-pub fn forms_are_commands()
+/// A line in a form of the table in docs/script.md has the command of that form. A line of blanks, or with a comment
+/// only, is silent. Terms are spelled as the grammar of terms says.
+pub fn lines_of_forms_have_their_commands()
     ensures silent { (line : List ℕ) → IsSilentLine line → is_silent line ≡ true }
     ensures spawn { (line name : List ℕ) → IsPrintable line → IsNameLine (codes "spawn") name line
         → Means line (spawn name) }

@@ -2,9 +2,10 @@
 //!
 //! *Guarantee.* From the bytes read to the bytes written: each line is answered as the language of scripts says, by a
 //! node that starts empty, and all answers to lines read are written before the next read. A script that stops early
-//! has answered all whole lines that it read, or has written a prefix of their answers if a write failed. A law ties
-//! the parser of lines to the table of line forms in docs/script.md. With `--external` the program answers packets of
-//! calls, as `ets_packets` says, in place of lines.
+//! has answered all whole lines that it read, or has written a prefix of their answers if a write failed. With
+//! `--threads` the whole script is read before anything is written, and a script that stops early has written nothing,
+//! or a prefix of its text if a write failed. A law ties the parser of lines to the table of line forms in
+//! docs/script.md. With `--external` the program answers packets of calls, as `ets_packets` says, in place of lines.
 //!
 //! *Weakness.* Only tests show that answers are flushed before each read, what `refuse` prints, and that
 //! `run_script_with_reasons` reports each refused line. Private contracts say which text it writes for one.

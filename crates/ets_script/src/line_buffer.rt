@@ -125,7 +125,7 @@ impl LineBuffer {
     }
 }
 
-/// Moves the bytes from `start` to `end` to the buffer's front if no whole line fits after them, and returns their new
+/// Moves the bytes from `start` to `end` to the buffer's front, unless `MAX_LINE` bytes fit after them. Returns their
 /// start.
 fn shift(buffer: &mut Vec<u8>, start: usize, end: usize) -> usize
     requires part { start ≤ end }

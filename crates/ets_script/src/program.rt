@@ -25,7 +25,8 @@ use std::thread::Threads;
 const FAILED: u8 = 1;
 
 /// Answers a script with these settings, in threads or line by line, and returns the program's status: 0 at the end of
-/// the input; otherwise 1, with one line on standard error. In threads it may wait.
+/// the input; otherwise 1, with one line on standard error. `Err` means that this line was not written. In threads it may
+/// wait.
 pub fn answer_input<T: Threads + Wait + Sync, R: Read, W: Write, E: Write>(
     rt: &T,
     alloc: Global,
@@ -140,11 +141,11 @@ fn answer_lines<R: Read, W: Write, E: Write>(
         (flows R.remaining W.contents streams.old streams.new)) }
 {
     if request.settings.same {
-        let end = run_lines(alloc, request, AllSame, streams, errors);
-        return report(end, errors);
+        let run = run_lines(alloc, request, AllSame, streams, errors);
+        return report(run, errors);
     }
-    let end = run_lines(alloc, request, Fnv, streams, errors);
-    report(end, errors)
+    let run = run_lines(alloc, request, Fnv, streams, errors);
+    report(run, errors)
 }
 
 /// Runs a script line by line, and reports why lines were refused if an option says so.
@@ -185,20 +186,20 @@ fn answer_in_threads<T: Threads + Wait + Sync, R: Read, W: Write, E: Write>(
     let limits = limits_of(request);
     if request.settings.same {
         let hasher = AllSame;
-        let end = run_threads(rt, alloc, streams, NodeSettings { limits, hasher });
-        return report(end, errors);
+        let run = run_threads(rt, alloc, streams, NodeSettings { limits, hasher });
+        return report(run, errors);
     }
     let hasher = Fnv;
-    let end = run_threads(rt, alloc, streams, NodeSettings { limits, hasher });
-    report(end, errors)
+    let run = run_threads(rt, alloc, streams, NodeSettings { limits, hasher });
+    report(run, errors)
 }
 
 /// Returns the status of a run with this result. Prints its fault, if it has one, on a line of standard error.
-fn report<T: Drop, E: Write>(end: Result<T, ScriptFault>, errors: &mut E) -> io::Result<u8>
-    ensures ok { OnOk end (IfOk result (λ status. status ≡ 0)) }
-    ensures err { OnErr end (IfOk result (λ status. status ≡ 1)) }
+fn report<T: Drop, E: Write>(run: Result<T, ScriptFault>, errors: &mut E) -> io::Result<u8>
+    ensures ok { OnOk run (IfOk result (λ status. status ≡ 0)) }
+    ensures err { OnErr run (IfOk result (λ status. status ≡ 1)) }
 {
-    match end {
+    match run {
         Ok(_) => Ok(0),
         Err(fault) => {
             writeln!(errors, "{fault}")?;

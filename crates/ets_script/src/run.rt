@@ -4,7 +4,7 @@ ghost use Rattle.node_core.specs.Observable.{observable};
 ghost use Rattle.ets_packets.specs.Traffic.{flow, traffic};
 ghost use Rattle.ets_packets.specs.Output.{HasWriterOf, buffered_bytes, writer_flow};
 ghost use Rattle.ets_script.specs.Flows.{flows};
-ghost use Rattle.ets_script.specs.Numbers.{AreTheNumbers};
+ghost use Rattle.ets_script.specs.Numbers.{ConstantsHaveValues};
 ghost use Rattle.ets_script.specs.Script.{at_start};
 ghost use Rattle.ets_script.specs.Stops.{Completes, LeavesNode, Stops};
 ghost use Rattle.ets_script.specs.inside.Answered.{AnswersNext, AnswersPart, EndsAll, BreaksAtEnd};
@@ -38,7 +38,7 @@ pub fn run_script<R: Read, W: Write, H: KeyHash + Copy + Drop>(
         (flows R.remaining W.contents streams.old streams.new)) }
     ensures err { IfErr result (Stops (at_start settings.limits)
         (flows R.remaining W.contents streams.old streams.new)) }
-    ensures numbers { AreTheNumbers }
+    ensures numbers { ConstantsHaveValues }
 {
     run_within(alloc, streams, settings, MAX_READS)
 }

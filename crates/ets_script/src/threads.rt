@@ -3,7 +3,7 @@ ghost use Rattle.std.specs.Prelude.{◌≡◌, min, IfOk, IfErr, OnOk};
 ghost use Rattle.node_shared.specs.declared.pids.TheConstants.{MAX_PIDS};
 ghost use Rattle.ets_packets.specs.Traffic.{flow};
 ghost use Rattle.ets_script.specs.Flows.{flows};
-ghost use Rattle.ets_script.specs.Numbers.{AreTheNumbers};
+ghost use Rattle.ets_script.specs.Numbers.{ConstantsHaveValues};
 ghost use Rattle.ets_script.specs.Threads.{ThreadsEnd, ThreadsStop};
 ghost use Rattle.ets_script.specs.inside.Processes.{RunsInput, Stops};
 
@@ -41,7 +41,7 @@ pub fn run_threads<
         (flows R.remaining W.contents streams.old streams.new)) }
     ensures err { IfErr result (ThreadsStop settings.limits
         (flows R.remaining W.contents streams.old streams.new)) }
-    ensures numbers { AreTheNumbers }
+    ensures numbers { ConstantsHaveValues }
 {
     let Ok(mut bytes) = output_buffer(alloc) else {
         return Err(ScriptFault::Memory);
@@ -69,7 +69,7 @@ fn run_input<T: Threads + Wait + Sync, R: Read, H: KeyHash + Copy + Drop + Send 
     Ok((planned, run))
 }
 
-/// The greatest number of names that are spawned.
+/// Returns the greatest number of names that may be spawned.
 fn max_names(limits: Limits) -> u32
     ensures { result ≡ min limits.processes MAX_PIDS }
 {

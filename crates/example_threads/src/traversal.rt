@@ -8,8 +8,8 @@ use std::alloc::Global;
 use std::sync::Wait;
 use std::sync::ledger::Ledger;
 
-/// More keys than the bag has: a bound of the loop.
-const MOST_KEYS: u32 = 1_000;
+/// The greatest number of keys that the loop visits. The bag has fewer, so the loop ends at `'$end_of_table'`.
+const MAX_VISITS: u32 = 1_000;
 
 /// Fixes the bag and traverses it. Returns the client, and how many of the keys below `TIMES`, which were there before
 /// the others inserted, it visited.
@@ -44,7 +44,7 @@ fn count_old_keys<L: Ledger, H: KeyHash + Copy + Drop, R: Wait>(
 ) -> Option<usize> {
     let mut count = 0usize;
     let mut last = None;
-    for _ in 0..MOST_KEYS {
+    for _ in 0..MAX_VISITS {
         let Some(key) = ask_integer(rt, shared, client, visit(alloc, last)?) else {
             break;
         };

@@ -1,7 +1,7 @@
 -- Worked examples, computed: each tag once, and each fault once.
 use Rattle.std.proofs.Common.{◌≡◌, ℕ, List, [], ◌∷◌, pos, negsuc, refl, Ok, Err}
 use Rattle.ets_term.specs.declared.term.Term.TheVariants.{Int, Atom, Pid, Tid, Tuple, List as ListOf, Binary}
-use Rattle.external_term.specs.declared.fault.ExternalFault.TheVariants.{Truncated, BadVersion, UnknownTag, TooDeep, ImproperList, BadAtom, BadInteger, ForeignIdentifier}
+use Rattle.external_term.specs.declared.fault.ExternalFault.TheVariants.{Truncated, BadVersion, UnsupportedTag, TooDeep, ImproperList, BadAtom, BadInteger, ForeignIdentifier}
 use Rattle.external_term.specs.Reader.{read, term_at}
 
 small_integer : read (131 ∷ 97 ∷ 7 ∷ []) ≡ Ok (Int (pos 7), 3)
@@ -73,7 +73,7 @@ cut_off : read (131 ∷ 98 ∷ 0 ∷ 0 ∷ 0 ∷ []) ≡ Err (Truncated 2)
 unfolding term_at
 cut_off = refl
 
-a_float : read (131 ∷ 70 ∷ 0 ∷ []) ≡ Err (UnknownTag 1)
+a_float : read (131 ∷ 70 ∷ 0 ∷ []) ≡ Err (UnsupportedTag 1)
 unfolding term_at
 a_float = refl
 

@@ -3,7 +3,7 @@ use Rattle.std.proofs.Common.{◌≡◌, ℕ, zero, suc, ◌+◌, ◌-◌, ◌<�
 use Rattle.std.proofs.lemmas.Bool.Decides.{nat_tests}
 use Rattle.ets_term.specs.declared.term.Term.{Term}
 use Rattle.external_term.specs.declared.fault.ExternalFault.{ExternalFault}
-use Rattle.external_term.specs.declared.fault.ExternalFault.TheVariants.{Truncated, BadVersion, UnknownTag, TooDeep, ImproperList, BadAtom, BadInteger, ForeignIdentifier, Memory}
+use Rattle.external_term.specs.declared.fault.ExternalFault.TheVariants.{Truncated, BadVersion, UnsupportedTag, TooDeep, ImproperList, BadAtom, BadInteger, ForeignIdentifier, Memory}
 use Rattle.external_term.specs.Faults.{Fails, Returns}
 use Rattle.external_term.specs.Fields.{Read}
 use Rattle.external_term.specs.Reader.{items, items_if, items_at, form, form_if, term_at}
@@ -35,7 +35,7 @@ pub fails_too : {A B : Type 0} (r : Result A ExternalFault) (s : Result B Extern
     → ((g : ExternalFault) → r ≡ Err g → s ≡ Err g) → Fails r f → Fails s f
 fails_too r s (Truncated at) h e = h (Truncated at) e
 fails_too r s (BadVersion at) h e = h (BadVersion at) e
-fails_too r s (UnknownTag at) h e = h (UnknownTag at) e
+fails_too r s (UnsupportedTag at) h e = h (UnsupportedTag at) e
 fails_too r s (TooDeep at) h e = h (TooDeep at) e
 fails_too r s (ImproperList at) h e = h (ImproperList at) e
 fails_too r s (BadAtom at) h e = h (BadAtom at) e

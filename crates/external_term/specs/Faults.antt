@@ -1,13 +1,13 @@
 -- Faults, and results of calls that may run out of memory.
 use Rattle.std.specs.Prelude.{◌≡◌, ℕ, Option, Some, None, Result, Ok, Err}
 use Rattle.external_term.specs.declared.fault.ExternalFault.{ExternalFault}
-use Rattle.external_term.specs.declared.fault.ExternalFault.TheVariants.{Truncated, BadVersion, UnknownTag, TooDeep, ImproperList, BadAtom, BadInteger, ForeignIdentifier, Memory}
+use Rattle.external_term.specs.declared.fault.ExternalFault.TheVariants.{Truncated, BadVersion, UnsupportedTag, TooDeep, ImproperList, BadAtom, BadInteger, ForeignIdentifier, Memory}
 
 -- the offset of a fault, None for Memory
 abbrev pub offset : ExternalFault → Option ℕ
 offset (Truncated at) = Some at
 offset (BadVersion at) = Some at
-offset (UnknownTag at) = Some at
+offset (UnsupportedTag at) = Some at
 offset (TooDeep at) = Some at
 offset (ImproperList at) = Some at
 offset (BadAtom at) = Some at

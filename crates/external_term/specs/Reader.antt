@@ -7,7 +7,7 @@ use Rattle.external_term.specs.declared.field.Width.{Width}
 use Rattle.external_term.specs.declared.field.Width.TheVariants.{One, Four}
 use Rattle.external_term.specs.declared.tag.Tag.{Tag}
 use Rattle.external_term.specs.declared.tag.Tag.TheVariants.{SmallInteger, Integer, SmallBig, Atom, Tuple, Nil, String, List as ListTag, Binary, NewPid, Pid, NewerReference, NewReference, Reference, Unknown}
-use Rattle.external_term.specs.declared.fault.ExternalFault.TheVariants.{Truncated, BadVersion, UnknownTag, TooDeep, ImproperList}
+use Rattle.external_term.specs.declared.fault.ExternalFault.TheVariants.{Truncated, BadVersion, UnsupportedTag, TooDeep, ImproperList}
 use Rattle.external_term.specs.Fields.{Read, after, has, number_at}
 use Rattle.external_term.specs.Identifiers.{pid_at, old_reference_at, reference_at}
 use Rattle.external_term.specs.Integers.{small_integer_at, integer_at, big_at}
@@ -63,7 +63,7 @@ form bytes levels one at Pid = pid_at bytes at 5
 form bytes levels one at NewerReference = reference_at bytes at 4
 form bytes levels one at NewReference = reference_at bytes at 1
 form bytes levels one at Reference = old_reference_at bytes at
-form bytes levels one at Unknown = Err (UnknownTag at)
+form bytes levels one at Unknown = Err (UnsupportedTag at)
 
 -- reads a term if there is a byte for its tag, else gives the fault
 abbrev pub form_if : Bool → List ℕ → ℕ → (ℕ → Read Term) → ℕ → Read Term

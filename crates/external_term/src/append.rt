@@ -84,6 +84,7 @@ pub(crate) fn append_atom(name: &Atom, out: &mut Vec<u8>)
 
 /// Appends the name of the node, `NODE`, as SMALL_ATOM_UTF8_EXT.
 fn append_node(out: &mut Vec<u8>)
+    // 15 bytes: the tag, the length and the 13 characters of `NODE`.
     requires { vec_len out.old + 15 ≤ vec_capacity out.old }
     ensures items { out.new.items ≡ out.old.items ++ node_bytes }
     ensures capacity { vec_capacity out.old ≤ vec_capacity out.new }

@@ -8,24 +8,24 @@ use std::io::Error;
 /// Why bytes do not begin with a term. Offsets are in bytes, from 0.
 #[derive(Debug, Clone, Copy, PartialEq, Eq)]
 pub enum ExternalFault {
-    /// The bytes end inside the field that begins at this offset, or there are fewer bytes than items that must begin
-    /// there.
+    /// The bytes end inside the field that begins at this offset, or fewer bytes are left there than items must follow.
     Truncated(usize),
     /// The first byte is not the version, 131.
     BadVersion(usize),
     /// The byte at this offset is not a supported tag. The format also has tags that are not supported, such as those
     /// of floats (70) and maps (116).
-    UnknownTag(usize),
+    UnsupportedTag(usize),
     /// At this offset a term, or a character of a string, is at level 129.
     TooDeep(usize),
     /// The tail of a list, at this offset, is not the empty list.
     ImproperList(usize),
-    /// The atom at this offset has more than 255 characters, or a character that is not printable ASCII. Or the name of
-    /// a node must be here, but there is no atom.
+    /// The atom at this offset has more than 255 characters, or a character that is not printable ASCII; or there is no
+    /// atom at this offset, where the name of a node must be.
     BadAtom(usize),
     /// The integer at this offset does not fit 128 bits.
     BadInteger(usize),
-    /// The pid or reference at this offset is of another node, or a part of it other than its number is not 0.
+    /// The pid or reference at this offset is not of the Erlang node `nonode@nohost`, or a part of it other than its
+    /// number is not 0.
     ForeignIdentifier(usize),
     /// Memory ran out. The bytes may be correct.
     Memory,
@@ -61,7 +61,7 @@ impl ExternalFault {
         match self {
             ExternalFault::Truncated(at)
             | ExternalFault::BadVersion(at)
-            | ExternalFault::UnknownTag(at)
+            | ExternalFault::UnsupportedTag(at)
             | ExternalFault::TooDeep(at)
             | ExternalFault::ImproperList(at)
             | ExternalFault::BadAtom(at)

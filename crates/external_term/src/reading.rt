@@ -100,7 +100,7 @@ fn form_at(
         Tag::NewerReference => reference_at(bytes, at, 4),
         Tag::NewReference => reference_at(bytes, at, 1),
         Tag::Reference => old_reference_at(bytes, at),
-        Tag::Unknown => Err(ExternalFault::UnknownTag(at)),
+        Tag::Unknown => Err(ExternalFault::UnsupportedTag(at)),
     }
 }
 

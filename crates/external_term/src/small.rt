@@ -67,7 +67,7 @@ pub(crate) fn byte_of_term(term: &Term) -> u8
     }
 }
 
-/// Returns whether the elements are written as a string.
+/// Returns whether a list of these elements, if it is not empty, is written as STRING_EXT.
 pub(crate) fn is_string(items: &[Term]) -> bool
     ensures { result ≡ is_written_short (map encode items.now) }
 {

@@ -11,8 +11,8 @@
 //! number of fixes of each process that has some. A traversal remembers only the last key, and continues after its slot
 //! in the order of places.
 //!
-//! *Weakness.* Each call of a traversal visits the tombstones before its result. The last release removes all
-//! tombstones with `Rows::purge`, and takes as long as this does.
+//! *Weakness.* Each call of a traversal visits the tombstones before its result, and over `SplitRows` reads the places
+//! without a slot too. The last release removes all tombstones with `Rows::purge`, and takes as long as this does.
 //!
 //! *Limits.* A process has at most 4,294,967,295 fixes of a table. A traversal need not end: other processes may
 //! insert keys ahead of it without limit.

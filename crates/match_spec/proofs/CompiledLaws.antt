@@ -62,12 +62,12 @@ module _ (paths : List Path) where
 past_false : (a c d : Bool) → a ≡ false → ((a && c) || d) ≡ true → d ≡ true
 past_false a c d e h = rw e at h
 
-module _ (head object : Data) where
+module _ (pattern object : Data) where
   abbrev b : Bindings
-  b = occurrences head object
+  b = occurrences pattern object
 
   abbrev first : FirstPaths
-  first = first_paths_of head
+  first = first_paths_of pattern
 
   abbrev ps : List Path
   ps = paths_of first
@@ -75,14 +75,14 @@ module _ (head object : Data) where
   abbrev pub of : Expression → Data → Option Data
   of = expression_value ps
 
-  named : (a : List ℕ) (o : Option ℕ) → is_bound (variables head) o ≡ true → of (name_expression first a o) object ≡ name_value b object a o
-  named a (Some n) h = ap (λ f. f object) (of-Variable ps (first_path first n)) ∙ ap (λ (w : Path). Some (subterm_at w object)) (first_path-first head n) ∙ sym (found head object n (variables head) h)
+  named : (a : List ℕ) (o : Option ℕ) → is_bound (variables pattern) o ≡ true → of (name_expression first a o) object ≡ name_value b object a o
+  named a (Some n) h = ap (λ f. f object) (of-Variable ps (first_path first n)) ∙ ap (λ (w : Path). Some (subterm_at w object)) (first_path-first pattern n) ∙ sym (found pattern object n (variables pattern) h)
   named a None h = by (bytes_eq a (codes "$_")) (bytes_eq a (codes "$$"))
     where
       by : (c d : Bool) → of (if c then Object else if d then Bound else Constant (Atom a)) object
           ≡ (if c then Some object else if d then Some (list (data_list (values b))) else Some (atom a))
       by true d = ap (λ f. f object) (of-Object ps)
-      by false true = ap (λ f. f object) (of-Bindings ps) ∙ ap (λ ds. Some (list (data_list ds))) (subterms_at-first head object)
+      by false true = ap (λ f. f object) (of-Bindings ps) ∙ ap (λ ds. Some (list (data_list ds))) (subterms_at-first pattern object)
       by false false = ap (λ f. f object) (of-Constant ps (Atom a)) ∙ ap Some (data_of-Atom a)
 
   constant : (d : Data) → of (Constant (term_of d)) object ≡ Some d
@@ -147,7 +147,7 @@ module _ (head object : Data) where
         ∙ ap (by_connective f es (short_circuit_connective f)) (sym (strict_connective-is f))
 
   abbrev ns : List ℕ
-  ns = variables head
+  ns = variables pattern
 
   application : (f : List ℕ) (es : DataList) → (is_constant f (data_list_len es) || (is_function f (data_list_len es) && are_expressions ns es)) ≡ true
       → (are_expressions ns es ≡ true → all_of (map of (xs es)) object ≡ all_values b object es)

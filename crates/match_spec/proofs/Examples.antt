@@ -48,10 +48,10 @@ paths_by_number : option_map values (bindings_of (t (v2 ∷ v0 ∷ [])) (t (atom
 paths_by_number = refl
 
 abbrev clause : Data → List Data → List Data → Data
-clause head conditions body = t (head ∷ l conditions ∷ l body ∷ [])
+clause pattern conditions body = t (pattern ∷ l conditions ∷ l body ∷ [])
 
 abbrev spec : Data → List Data → List Data → Data
-spec head conditions body = l (clause head conditions body ∷ [])
+spec pattern conditions body = l (clause pattern conditions body ∷ [])
 
 abbrev b2 : Data
 b2 = t (atom (codes "b") ∷ numeral 2 ∷ [])

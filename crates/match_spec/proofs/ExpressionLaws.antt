@@ -114,31 +114,31 @@ module _ (ns : List ℕ) where
   is-other (u ∷ ts) t n at p q = rw at (by_kind t _ (data_of t) refl p q)
 
 -- the parts of a clause
-no_list : (head : Data) (ds : DataList) (t : Term) (d : Data) → data_of t ≡ d → ((es : List Term) → t ≡ Lst es → ⊥) → None ≡ clause_parts (tuple (term head (term d ds)))
-no_list head ds t (int n) e p = refl
-no_list head ds t (atom a) e p = refl
-no_list head ds t (pid n) e p = refl
-no_list head ds t (tid n) e p = refl
-no_list head ds t (tuple es) e p = refl
-no_list head ds t (list es) e p = absurd (p _ (sym (back t) ∙ ap term_of e))
-no_list head ds t (binary s) e p = refl
+no_list : (pattern : Data) (ds : DataList) (t : Term) (d : Data) → data_of t ≡ d → ((es : List Term) → t ≡ Lst es → ⊥) → None ≡ clause_parts (tuple (term pattern (term d ds)))
+no_list pattern ds t (int n) e p = refl
+no_list pattern ds t (atom a) e p = refl
+no_list pattern ds t (pid n) e p = refl
+no_list pattern ds t (tid n) e p = refl
+no_list pattern ds t (tuple es) e p = refl
+no_list pattern ds t (list es) e p = absurd (p _ (sym (back t) ∙ ap term_of e))
+no_list pattern ds t (binary s) e p = refl
 
-no_body : (head : Data) (cs : DataList) (t : Term) (d : Data) → data_of t ≡ d → ((es : List Term) → t ≡ Lst es → ⊥) → None ≡ clause_parts (tuple (term head (term (list cs) (term d no_terms))))
-no_body head cs t (int n) e p = refl
-no_body head cs t (atom a) e p = refl
-no_body head cs t (pid n) e p = refl
-no_body head cs t (tid n) e p = refl
-no_body head cs t (tuple es) e p = refl
-no_body head cs t (list es) e p = absurd (p _ (sym (back t) ∙ ap term_of e))
-no_body head cs t (binary s) e p = refl
+no_body : (pattern : Data) (cs : DataList) (t : Term) (d : Data) → data_of t ≡ d → ((es : List Term) → t ≡ Lst es → ⊥) → None ≡ clause_parts (tuple (term pattern (term (list cs) (term d no_terms))))
+no_body pattern cs t (int n) e p = refl
+no_body pattern cs t (atom a) e p = refl
+no_body pattern cs t (pid n) e p = refl
+no_body pattern cs t (tid n) e p = refl
+no_body pattern cs t (tuple es) e p = refl
+no_body pattern cs t (list es) e p = absurd (p _ (sym (back t) ∙ ap term_of e))
+no_body pattern cs t (binary s) e p = refl
 
-unlike_three : (head : Data) (d : Data) (ds : DataList) → (data_list_len ds ≡ 1 → ⊥) → None ≡ clause_parts (tuple (term head (term d ds)))
-unlike_three head (list cs) no_terms h = refl
-unlike_three head (list cs) (term (int n) no_terms) h = refl
-unlike_three head (list cs) (term b no_terms) h = absurd (h refl)
-unlike_three head (list cs) (term (list bs) (term x ds)) h = refl
-unlike_three head (list cs) (term b (term x ds)) h = refl
-unlike_three head d ds h = refl
+unlike_three : (pattern : Data) (d : Data) (ds : DataList) → (data_list_len ds ≡ 1 → ⊥) → None ≡ clause_parts (tuple (term pattern (term d ds)))
+unlike_three pattern (list cs) no_terms h = refl
+unlike_three pattern (list cs) (term (int n) no_terms) h = refl
+unlike_three pattern (list cs) (term b no_terms) h = absurd (h refl)
+unlike_three pattern (list cs) (term (list bs) (term x ds)) h = refl
+unlike_three pattern (list cs) (term b (term x ds)) h = refl
+unlike_three pattern d ds h = refl
 
 pub parts-length : (ts : List Term) → length ts ≢ 3 → None ≡ clause_parts (tuple (data_list (map data_of ts)))
 parts-length [] h = refl
@@ -158,7 +158,7 @@ parts-body (a ∷ b ∷ c ∷ []) t u cs n at is here p = rw (at, is, data_of-Li
 parts-body (a ∷ b ∷ c ∷ d ∷ ts) t u cs n at is here p = absurd (omega arith)
 
 pub parts-three : (ts : List Term) (h t u : Term) (cs bs : List Term) → length ts ≡ 3 → get_or ts 0 h ≡ h → get_or ts 1 t ≡ t → t ≡ Lst cs → get_or ts 2 u ≡ u → u ≡ Lst bs
-    → Some (record { head = data_of h; conditions = data_list (map data_of cs); body = data_list (map data_of bs) }) ≡ clause_parts (tuple (data_list (map data_of ts)))
+    → Some (record { pattern = data_of h; conditions = data_list (map data_of cs); body = data_list (map data_of bs) }) ≡ clause_parts (tuple (data_list (map data_of ts)))
 parts-three [] h t u cs bs n first at is here it = absurd (omega arith)
 parts-three (a ∷ []) h t u cs bs n first at is here it = absurd (omega arith)
 parts-three (a ∷ b ∷ []) h t u cs bs n first at is here it = absurd (omega arith)

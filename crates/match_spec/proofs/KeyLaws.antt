@@ -103,13 +103,13 @@ module _ (keypos : ℕ) where
     abbrev Has : Type 0
     Has = tuple_element keypos t ≡ Some k
 
-    clause_has : (o : Option RawClause) (rest : Option Data) → option_and_then (λ parts. bound_key keypos parts.head) o ≡ Some k → (is_some rest ≡ true → Has) → is_some (result_or o t rest) ≡ true → Has
+    clause_has : (o : Option RawClause) (rest : Option Data) → option_and_then (λ parts. bound_key keypos parts.pattern) o ≡ Some k → (is_some rest ≡ true → Has) → is_some (result_or o t rest) ≡ true → Has
     clause_has None rest e f h = absurd (None-Some e)
-    clause_has (Some c) rest e f h = by (bindings_of c.head t) refl h
+    clause_has (Some c) rest e f h = by (bindings_of c.pattern t) refl h
       where
-        by : (o : Option Bindings) → bindings_of c.head t ≡ o → is_some (clause_result_or o t c rest) ≡ true → Has
+        by : (o : Option Bindings) → bindings_of c.pattern t ≡ o → is_some (clause_result_or o t c rest) ≡ true → Has
         by None q i = f i
-        by (Some b) q i = match_key c.head t k e (ap is_some q)
+        by (Some b) q i = match_key c.pattern t k e (ap is_some q)
 
     same_key : (o : Option Data) → option_map_or (equal_terms k) o false ≡ true → o ≡ Some k
     same_key None h = absurd (clash h refl)

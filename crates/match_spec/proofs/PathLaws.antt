@@ -192,16 +192,16 @@ module _ (pattern : Data) where
       paths_at (variable_path pattern) (first_paths_of pattern) (subst Rising (sym numbers_of-first) (rising-fold (variable_numbers pattern) [] tt)) (λ n h. ap (λ (o : Option Path). unwrap_or o []) (sym (number-first n)))
       ∙ ap (map (variable_path pattern)) numbers_of-first
 
-module _ (head object : Data) where
+module _ (pattern object : Data) where
   abbrev pub found_in : List ℕ → Bindings
-  found_in ns = map (λ n. (n, value_at head object n)) ns
+  found_in ns = map (λ n. (n, value_at pattern object n)) ns
 
   found_here : (n m : ℕ) (ms : List ℕ) (c : Bool) → (n == m) ≡ c → (c || list_any (λ k. n == k) ms) ≡ true
-      → (list_any (λ k. n == k) ms ≡ true → lookup (λ k. n == k) (found_in ms) ≡ Some (value_at head object n))
-      → lookup (λ k. n == k) (found_in (m ∷ ms)) ≡ Some (value_at head object n)
-  found_here n m ms true e h rest = rw e (ap (λ k. Some (value_at head object k)) (sym (same_number n m e)))
+      → (list_any (λ k. n == k) ms ≡ true → lookup (λ k. n == k) (found_in ms) ≡ Some (value_at pattern object n))
+      → lookup (λ k. n == k) (found_in (m ∷ ms)) ≡ Some (value_at pattern object n)
+  found_here n m ms true e h rest = rw e (ap (λ k. Some (value_at pattern object k)) (sym (same_number n m e)))
   found_here n m ms false e h rest = rw e (rest h)
 
-  pub found : (n : ℕ) (ns : List ℕ) → list_any (λ m. n == m) ns ≡ true → lookup (λ m. n == m) (found_in ns) ≡ Some (value_at head object n)
+  pub found : (n : ℕ) (ns : List ℕ) → list_any (λ m. n == m) ns ≡ true → lookup (λ m. n == m) (found_in ns) ≡ Some (value_at pattern object n)
   found n [] h = cc
   found n (m ∷ ms) h = found_here n m ms (n == m) refl h (found n ms)

@@ -112,9 +112,9 @@ not-true false h = refl
 pub necessary : (q : QuickTest) (es : List Expression) (e : Expression) → 0 < length es → get_or es 0 e ≡ e → IsComparison q e → IsNecessary q es
 necessary q es e n is h paths object f = first_fails paths es e object _ n is (h paths object) f
 
-module _ (q : QuickTest) (c : Clause) (ps : List Part) (head : c.head ≡ Tuple ps) (len : q.len ≡ length ps) (need : IsNecessary q c.conditions) where
+module _ (q : QuickTest) (c : Clause) (ps : List Part) (pattern : c.pattern ≡ Tuple ps) (len : q.len ≡ length ps) (need : IsNecessary q c.conditions) where
   misfit : (object : Data) → part_fits (Tuple ps) object object ≡ false → applies c object ≡ false
-  misfit object h = left-false _ _ (ap (λ p. part_fits p object object) head ∙ h)
+  misfit object h = left-false _ _ (ap (λ p. part_fits p object object) pattern ∙ h)
 
   fails : (object : Data) → compares q.comparison (data_order (subterm_at (q.index ∷ []) object) (int q.value)) ≡ false → applies c object ≡ false
   fails object h = right-false _ _ (need c.paths object h)
@@ -162,9 +162,9 @@ pub of_conditions : (o : Option QuickTest) (es : List Expression) (e : Expressio
     → IfSome o (λ q. (q.len ≡ n) × IsComparison q e) → IfSome o (λ q. (q.len ≡ n) × IsNecessary q es)
 of_conditions o es e n some is = IfSome-map o _ _ (λ q h. (h.0, necessary q es e some is h.1))
 
-pub of_clause : (o : Option QuickTest) (c : Clause) (ps : List Part) (es : List Expression) (n : ℕ) → c.head ≡ Tuple ps → n ≡ length ps → es ≡ c.conditions
+pub of_clause : (o : Option QuickTest) (c : Clause) (ps : List Part) (es : List Expression) (n : ℕ) → c.pattern ≡ Tuple ps → n ≡ length ps → es ≡ c.conditions
     → IfSome o (λ q. (q.len ≡ n) × IsNecessary q es) → IfSome o (λ q. RejectsClause q c)
-of_clause o c ps es n head m same = IfSome-map o _ _ (λ q h. rejects-clause q c ps head (h.0 ∙ m) (subst (IsNecessary q) same h.1))
+of_clause o c ps es n pattern m same = IfSome-map o _ _ (λ q h. rejects-clause q c ps pattern (h.0 ∙ m) (subst (IsNecessary q) same h.1))
 
 pub of_all : (o : Option QuickTest) (cs : List Clause) (c : Clause) → length cs ≡ 1 → get_or cs 0 c ≡ c → IfSome o (λ q. RejectsClause q c) → IfSome o (λ q. RejectsAll q cs)
 of_all o cs c n is = IfSome-map o _ _ (λ q h. rejects-all q cs c n is h)

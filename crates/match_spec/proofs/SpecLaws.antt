@@ -22,24 +22,24 @@ use Rattle.match_spec.proofs.CompiledLaws.{compiled}
 use Rattle.match_spec.proofs.FitLaws.{fits-pattern}
 use Rattle.match_spec.proofs.PathLaws.{numbers_of-first}
 
-module _ (head object : Data) where
-  hold_compiled : (es : DataList) → are_expressions (variables head) es ≡ true → all_hold_of (map (expression_value (paths_of (first_paths_of head))) (expressions_of (first_paths_of head) es)) object ≡ all_hold (occurrences head object) object es
+module _ (pattern object : Data) where
+  hold_compiled : (es : DataList) → are_expressions (variables pattern) es ≡ true → all_hold_of (map (expression_value (paths_of (first_paths_of pattern))) (expressions_of (first_paths_of pattern) es)) object ≡ all_hold (occurrences pattern object) object es
   hold_compiled no_terms h = refl
-  hold_compiled (term e es) h = let p = both-true _ _ h in rw (compiled head object e p.0, hold_compiled es p.1) refl
+  hold_compiled (term e es) h = let p = both-true _ _ h in rw (compiled pattern object e p.0, hold_compiled es p.1) refl
 
-  last_compiled : (es : DataList) → are_expressions (variables head) es ≡ true → last_value_of (map (expression_value (paths_of (first_paths_of head))) (expressions_of (first_paths_of head) es)) object ≡ last_value (occurrences head object) object es
+  last_compiled : (es : DataList) → are_expressions (variables pattern) es ≡ true → last_value_of (map (expression_value (paths_of (first_paths_of pattern))) (expressions_of (first_paths_of pattern) es)) object ≡ last_value (occurrences pattern object) object es
   last_compiled no_terms h = refl
-  last_compiled (term e no_terms) h = let p = both-true _ _ h in compiled head object e p.0
-  last_compiled (term e (term x es)) h = let p = both-true _ _ h in rw (compiled head object e p.0, last_compiled (term x es) p.1) refl
+  last_compiled (term e no_terms) h = let p = both-true _ _ h in compiled pattern object e p.0
+  last_compiled (term e (term x es)) h = let p = both-true _ _ h in rw (compiled pattern object e p.0, last_compiled (term x es) p.1) refl
 
 module _ (object : Data) where
-  clause_result : (c : RawClause) (cs : List Clause) (rest : Option Data) → is_good c ≡ true → result_of_first cs object ≡ rest → result_of_first (clause_of c ∷ cs) object ≡ clause_result_or (bindings_of c.head object) object c rest
+  clause_result : (c : RawClause) (cs : List Clause) (rest : Option Data) → is_good c ≡ true → result_of_first cs object ≡ rest → result_of_first (clause_of c ∷ cs) object ≡ clause_result_or (bindings_of c.pattern object) object c rest
   clause_result c cs rest good e =
       let p = both-true _ _ (both-true _ _ good).1 in
-      rw (fits-pattern c.head object, hold_compiled c.head object c.conditions p.0, last_compiled c.head object c.body p.1, e) (by (matches (λ n. Some (value_at c.head object n)) c.head object))
+      rw (fits-pattern c.pattern object, hold_compiled c.pattern object c.conditions p.0, last_compiled c.pattern object c.body p.1, e) (by (matches (λ n. Some (value_at c.pattern object n)) c.pattern object))
     where
-      by : (m : Bool) → (if m && all_hold (occurrences c.head object) object c.conditions then Some (body_value (occurrences c.head object) object c.body) else rest)
-          ≡ clause_result_or (if m then Some (occurrences c.head object) else None) object c rest
+      by : (m : Bool) → (if m && all_hold (occurrences c.pattern object) object c.conditions then Some (body_value (occurrences c.pattern object) object c.body) else rest)
+          ≡ clause_result_or (if m then Some (occurrences c.pattern object) else None) object c rest
       by true = refl
       by false = refl
 
@@ -89,8 +89,8 @@ pub clauses_of-list : (t : Term) (ts : List Term) → t ≡ Lst ts → clauses_f
 clauses_of-list t ts e = rw (e, data_of-List ts) refl
 
 -- a term is a clause if its parts are good
-pub is_clause-parts : (d : Data) (o : Option ClauseParts) (parts : ClauseParts) (first : FirstPaths) (b : Bool) → option_map raw_clause_of o ≡ clause_parts d → o ≡ Some parts → first ≡ first_paths_of (data_of parts.head.now)
+pub is_clause-parts : (d : Data) (o : Option ClauseParts) (parts : ClauseParts) (first : FirstPaths) (b : Bool) → option_map raw_clause_of o ≡ clause_parts d → o ≡ Some parts → first ≡ first_paths_of (data_of parts.pattern.now)
     → b ≡ is_good_by (numbers_of first) (raw_clause_of parts) → is_clause d ≡ b
 is_clause-parts d o parts first b p q f e =
     ap (λ (w : Option RawClause). option_map_or is_good w false) (sym p ∙ ap (option_map raw_clause_of) q)
-    ∙ sym (e ∙ ap (λ ns. is_good_by ns (raw_clause_of parts)) (ap numbers_of f ∙ numbers_of-first (data_of parts.head.now)))
+    ∙ sym (e ∙ ap (λ ns. is_good_by ns (raw_clause_of parts)) (ap numbers_of f ∙ numbers_of-first (data_of parts.pattern.now)))

@@ -30,7 +30,7 @@ bound_key keypos pattern =
 
 -- the key that the pattern of a clause binds
 abbrev pub clause_key : ℕ → Data → Option Data
-clause_key keypos clause = option_and_then (λ parts. bound_key keypos parts.head) (clause_parts clause)
+clause_key keypos clause = option_and_then (λ parts. bound_key keypos parts.pattern) (clause_parts clause)
 
 -- whether the patterns of all clauses bind this key
 abbrev pub all_bind : ℕ → Data → DataList → Bool

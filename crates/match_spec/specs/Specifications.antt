@@ -14,29 +14,29 @@ is_pattern (atom a) = true
 is_pattern (tuple ps) = true
 is_pattern d = false
 
--- the parts of a clause: `head` is its pattern (MatchHead)
+-- the parts of a clause: the pattern (MatchHead), the conditions and the body
 pub record RawClause : Type 0 where
-  pub head : Data
+  pub pattern : Data
   pub conditions : DataList
   pub body : DataList
 
 -- the parts of a clause: a tuple `{Head,Conditions,Body}`, where Conditions and Body are lists; None for any other term
 abbrev pub clause_parts : Data → Option RawClause
-clause_parts (tuple (term head (term (list conditions) (term (list body) no_terms)))) =
-    Some (record { head = head; conditions = conditions; body = body })
+clause_parts (tuple (term pattern (term (list conditions) (term (list body) no_terms)))) =
+    Some (record { pattern = pattern; conditions = conditions; body = body })
 clause_parts d = None
 
--- whether a clause is valid if these variables may be used: its head is a pattern, its body is not empty, and its
--- conditions and its body are expressions in which no other variables occur
+-- whether a clause is valid if these variables may be used: its pattern is an atom or a tuple, its body is not empty,
+-- and its conditions and its body are expressions in which no other variables occur
 abbrev pub is_good_by : List ℕ → RawClause → Bool
 is_good_by ns c =
-    (is_pattern c.head && nat_lt 0 (data_list_len c.body))
+    (is_pattern c.pattern && nat_lt 0 (data_list_len c.body))
     && (are_expressions ns c.conditions && are_expressions ns c.body)
 
--- whether a clause is valid: its head is a pattern, its body is not empty, and its conditions and its body are
--- expressions in which only variables of the head occur
+-- whether a clause is valid: its pattern is an atom or a tuple, its body is not empty, and its conditions and its body
+-- are expressions in which only variables of the pattern occur
 abbrev pub is_good : RawClause → Bool
-is_good c = is_good_by (variables c.head) c
+is_good c = is_good_by (variables c.pattern) c
 
 -- whether a term is a valid clause
 abbrev pub is_clause : Data → Bool
@@ -72,7 +72,7 @@ last_value b object (term e es) = option_and_then (λ d. last_value b object es)
 abbrev pub body_value : Bindings → Data → DataList → Data
 body_value b object body = unwrap_or (last_value b object body) (atom (codes "EXIT"))
 
--- the result of a clause, if its head matched by bindings and its conditions hold; else `otherwise`
+-- the result of a clause, if its pattern matched by bindings and its conditions hold; else `otherwise`
 abbrev pub clause_result_or : Option Bindings → Data → RawClause → Option Data → Option Data
 clause_result_or None object c otherwise = otherwise
 clause_result_or (Some b) object c otherwise =
@@ -81,9 +81,9 @@ clause_result_or (Some b) object c otherwise =
 -- the result of a clause for an object, if the clause applies; else `otherwise`
 abbrev pub result_or : Option RawClause → Data → Option Data → Option Data
 result_or None object otherwise = otherwise
-result_or (Some c) object otherwise = clause_result_or (bindings_of c.head object) object c otherwise
+result_or (Some c) object otherwise = clause_result_or (bindings_of c.pattern object) object c otherwise
 
--- the result of the first clause whose head matches the object and whose conditions hold; None if there is none
+-- the result of the first clause whose pattern matches the object and whose conditions hold; None if there is none
 abbrev pub first_result : DataList → Data → Option Data
 first_result no_terms object = None
 first_result (term c cs) object = result_or (clause_parts c) object (first_result cs object)

@@ -73,7 +73,7 @@ fn clause_key(clause: &Term, keypos: Position) -> Option<&Term>
     ensures { option_map data_of (option_copied result) ≡ clause_key keypos (data_of clause.now) }
 {
     match clause_parts(clause) {
-        Some(parts) => bound_part(parts.head, keypos),
+        Some(parts) => bound_part(parts.pattern, keypos),
         None => None,
     }
 }

@@ -76,7 +76,7 @@ impl Spec {
     /// Returns the result for an object, or `None` if no clause applies. The result is `'EXIT'` if the body of the
     /// clause fails. Fails if an allocation fails.
     pub fn result(&self, alloc: Global, object: &Term) -> Result<Option<Term>, AllocError>
-        ensures { IfOk result (λ given. option_map data_of given ≡ result_of (data_of self.now) (data_of object.now)) }
+        ensures { IfOk result (λ value. option_map data_of value ≡ result_of (data_of self.now) (data_of object.now)) }
     {
         if self.rejects(object) {
             return Ok(None);
@@ -142,7 +142,7 @@ fn clause_of(alloc: Global, term: &Term) -> Result<Clause, SpecFault>
     let Some(parts) = clause_parts(term) else {
         return Err(SpecFault::Badarg);
     };
-    let first = first_paths(alloc, parts.head)?;
+    let first = first_paths(alloc, parts.pattern)?;
     if !is_good(parts, &first) {
         return Err(SpecFault::Badarg);
     }
@@ -150,7 +150,7 @@ fn clause_of(alloc: Global, term: &Term) -> Result<Clause, SpecFault>
 }
 
 /// Compiles the parts of a clause, which were checked. `first` has the first paths of the variables of its pattern,
-/// `parts.head`.
+/// `parts.pattern`.
 fn compile_clause(
     alloc: Global,
     parts: ClauseParts,
@@ -160,7 +160,7 @@ fn compile_clause(
 {
     let mut current_path = Vec::new(alloc);
     Ok(Clause {
-        head: part_of(alloc, parts.head, first, &mut current_path)?,
+        pattern: part_of(alloc, parts.pattern, first, &mut current_path)?,
         paths: paths_by_number(alloc, first)?,
         conditions: expressions_of(alloc, parts.conditions, 0, first)?,
         body: expressions_of(alloc, parts.body, 0, first)?,

@@ -1,8 +1,8 @@
-//! The names of the calls of `ets` as an enum, and how its values are read from texts.
+//! The names of the calls of `ets`, and `receive`, as an enum, and how its values are read from texts.
 ghost use Rattle.std.specs.Prelude.{◌≡◌};
 ghost use Rattle.node_core.specs.CallName.{call_name};
 
-/// The name of a call of the module `ets`. A call is a name with a number of arguments: `Delete` with one deletes a
+/// The name of a call of `ets`, or `receive`. A call is a name with a number of arguments: `Delete` with one deletes a
 /// table, and with two the objects of a key.
 #[derive(Clone, Copy, Debug, PartialEq, Eq)]
 pub enum CallName {

@@ -1,5 +1,5 @@
-//! A node: processes, their tables, and the calls of the module `ets`. Each step of a node is a step of the machine
-//! in specs/: its reply is one that the machine allows, and a refusal changes nothing.
+//! A node: processes, their tables, the calls of the module `ets`, and `receive`. Each step of a node is a step of the
+//! machine in specs/: its reply is one that the machine allows, and a refusal changes nothing.
 //!
 //! *Guarantee.* `Node::step` and `Node::run` have the machine of specs/Machine.antt as their contracts, word for word,
 //! over the observable state of a node (specs/Observable.antt). They also say what becomes of the buckets, which no

@@ -26,7 +26,7 @@ impl Model for PendingTables {
     ghost view = { λ s. record {
       ordered = s.ordered.items;
       dirty = s.dirty;
-      room = deque_capacity s.ordered;
+      capacity = deque_capacity s.ordered;
     } };
 
     ghost invariant = { λ s. Ascends s.ordered.items };
@@ -99,8 +99,8 @@ impl PendingTables {
     pub fn reserve(&mut self, len: usize) -> Result<(), AllocError>
         ensures same { self.new.ordered ≡ self.old.ordered }
         ensures dirty { self.new.dirty ≡ self.old.dirty }
-        ensures more { self.old.room ≤ self.new.room }
-        ensures ok { OnOk result (len ≤ self.new.room) }
+        ensures more { self.old.capacity ≤ self.new.capacity }
+        ensures ok { OnOk result (len ≤ self.new.capacity) }
     {
         self.ordered.reserve(len.saturating_sub(self.ordered.len()))
     }
@@ -115,7 +115,7 @@ impl PendingTables {
         ensures below { (bound : ℕ) → AreBelow self.old.ordered bound → id < bound
             → AreBelow self.new.ordered bound }
         ensures dirty { self.new.dirty ≡ self.old.dirty }
-        ensures room { self.old.room ≤ self.new.room }
+        ensures capacity { self.old.capacity ≤ self.new.capacity }
     {
         if let Err(index) = self.ordered.binary_search(&id) {
             if self.ordered.insert(index, id).is_err() {
@@ -128,7 +128,7 @@ impl PendingTables {
     pub fn pop_front(&mut self)
         ensures rest { self.new.ordered ≡ drop 1 self.old.ordered }
         ensures dirty { self.new.dirty ≡ self.old.dirty }
-        ensures room { self.new.room ≡ self.old.room }
+        ensures capacity { self.new.capacity ≡ self.old.capacity }
     {
         let _ = self.ordered.pop_front();
     }

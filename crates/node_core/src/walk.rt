@@ -80,12 +80,12 @@ impl From<FixFault> for WalkFault {
 
 /// Traverses a table for a process, which fixes it for that time (stdlib manual, ets:safe_fixtable/2): `first`, and
 /// then, after each key, the steps that the others add, in order, and `next` of the key. `table`, an identifier or
-/// a name, is looked up once, at the start. `limit` may be any number; with 0 an empty table can be traversed.
+/// a name, is looked up once, at the start. `limit` may be any number; with 0 only an empty table can be traversed.
 ///
 /// `Ok` says that the traversal reached the end: no key comes twice, each key that has objects all the time comes, each
-/// step of the others was run, and the fix is released, which takes no memory. `WalkFault` says when a traversal is refused
-/// or stops. The others get the keys that the traversal reached, in order, and no other. Only the steps of the others
-/// change buckets.
+/// step of the others was run, and the fix is released, which takes no memory. `WalkFault` says when a traversal is
+/// refused or stops. The others get the keys that the traversal reached, in order, and no other. Only the steps of the
+/// others change buckets.
 pub fn walk_among<H: KeyHash + Copy + Drop, O: Others>(
     node: &mut Node<H>,
     pid: u32,
@@ -114,7 +114,8 @@ struct Traversal {
     id: u32,
 }
 
-/// Traverses a table that the process has fixed once more, since some state `start`.
+/// Traverses a table that the process has fixed for the traversal. In the contract, `start` is the state before that
+/// fix.
 fn walk_fixed<H: KeyHash + Copy + Drop, O: Others>(
     node: &mut Node<H>,
     traversal: Traversal,
@@ -175,11 +176,11 @@ fn walk_turn<H: KeyHash + Copy + Drop, O: Others>(
 fn run_steps<H: KeyHash + Copy + Drop>(
     node: &mut Node<H>,
     pid: u32,
-    given: &[(usize, Step)],
+    steps: &[(usize, Step)],
 ) -> Result<(), WalkFault>
-    ensures { RunsOthers pid node.old given.now result node.new }
+    ensures { RunsOthers pid node.old steps.now result node.new }
 {
-    for (_, step) in given {
+    for (_, step) in steps {
         if step.is_of(pid) {
             return Err(WalkFault::OwnStep);
         }

@@ -35,7 +35,7 @@ call_from_term term = unwrap_or (option_map call_from_elements (as_tuple term)) 
 abbrev pub problem_of : ExternalFault → CallProblem
 problem_of (fault.Truncated at) = problem.Truncated
 problem_of (fault.BadVersion at) = problem.BadVersion
-problem_of (fault.UnknownTag at) = problem.UnknownTag
+problem_of (fault.UnsupportedTag at) = problem.UnsupportedTag
 problem_of (fault.TooDeep at) = problem.TooDeep
 problem_of (fault.ImproperList at) = problem.ImproperList
 problem_of (fault.BadAtom at) = problem.BadAtom

@@ -6,7 +6,7 @@ use Rattle.node_external.specs.declared.call_problem.CallProblem.TheVariants as 
 abbrev pub words_of : CallProblem → List ℕ
 words_of problem.Truncated = codes "the bytes end inside a term"
 words_of problem.BadVersion = codes "the first byte is not the version 131"
-words_of problem.UnknownTag = codes "unsupported tag"
+words_of problem.UnsupportedTag = codes "unsupported tag"
 words_of problem.TooDeep = codes "more than 128 levels deep"
 words_of problem.ImproperList = codes "improper lists are not supported"
 words_of problem.BadAtom = codes "not an atom of at most 255 printable ASCII characters"

@@ -11,7 +11,7 @@ pub enum CallProblem {
     BadVersion,
     /// A byte where a tag must be is not a supported tag. The format also has tags that are not supported, such as
     /// those of floats (70) and maps (116).
-    UnknownTag,
+    UnsupportedTag,
     /// A term, or a character of a string, is at level 129.
     TooDeep,
     /// The tail of a list is not the empty list.
@@ -20,7 +20,7 @@ pub enum CallProblem {
     BadAtom,
     /// An integer does not fit 128 bits.
     BadInteger,
-    /// A pid or reference is of another node, or a part of it other than its number is not 0.
+    /// A pid or reference is not of the Erlang node `nonode@nohost`, or a part of it other than its number is not 0.
     ForeignIdentifier,
     /// A whole term that is not a tuple of an atom and a list.
     NotACall,
@@ -36,7 +36,7 @@ impl CallProblem {
         match self {
             CallProblem::Truncated => "the bytes end inside a term",
             CallProblem::BadVersion => "the first byte is not the version 131",
-            CallProblem::UnknownTag => "unsupported tag",
+            CallProblem::UnsupportedTag => "unsupported tag",
             CallProblem::TooDeep => "more than 128 levels deep",
             CallProblem::ImproperList => "improper lists are not supported",
             CallProblem::BadAtom => "not an atom of at most 255 printable ASCII characters",

@@ -99,7 +99,7 @@ fn problem_of(fault: ExternalFault) -> CallProblem
         // `Memory` does not occur here: it has no offset, so `read_any` has returned `AllocError`.
         ExternalFault::Truncated(_) | ExternalFault::Memory => CallProblem::Truncated,
         ExternalFault::BadVersion(_) => CallProblem::BadVersion,
-        ExternalFault::UnknownTag(_) => CallProblem::UnknownTag,
+        ExternalFault::UnsupportedTag(_) => CallProblem::UnsupportedTag,
         ExternalFault::TooDeep(_) => CallProblem::TooDeep,
         ExternalFault::ImproperList(_) => CallProblem::ImproperList,
         ExternalFault::BadAtom(_) => CallProblem::BadAtom,

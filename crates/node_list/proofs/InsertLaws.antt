@@ -128,8 +128,8 @@ spliced-cells_from s t last x l p h n =
 
 -- ---- one step of the way to the last place
 pub record Hop (s : Slab ListNode) (key last place : ℕ) (m : ListNode) : Type 0 where
-  pub past : key < m.key → last_not_above_in key last (cells_from s (Some last)) ≡ last
-  pub on : m.key ≤ key → last_not_above_in key place (cells_from s (Some place)) ≡ last_not_above_in key last (cells_from s (Some last))
+  pub past : key < m.split_key → last_not_above_in key last (cells_from s (Some last)) ≡ last
+  pub on : m.split_key ≤ key → last_not_above_in key place (cells_from s (Some place)) ≡ last_not_above_in key last (cells_from s (Some last))
   pub linked : IsLinked s (Some place)
   pub smaller : length (cells_from s (Some place)) < length (cells_from s (Some last))
 
@@ -137,7 +137,7 @@ last_not_above_in-head : (s : Slab ListNode) (key last : ℕ) (n : ListNode) →
 last_not_above_in-head s key last n l u e =
     let st = cells_from-step_at s last n l e in
     let same : u.node ≡ n = cc (u.is, e) in
-    let low : n.key ≤ key = rw same at u.up_to in
+    let low : n.split_key ≤ key = rw same at u.up_to in
     ap (last_not_above_in key last) st.is ∙ last_not_above_in-on key last (cell_of last n) (cells_from s n.next) low
 
 pub last_not_above-end : (s : Slab ListNode) (key last : ℕ) (n : ListNode) → IsLinked s (Some last) → NodeHasKeyAtMost s last key → get s last ≡ Some n → n.next ≡ None → last_not_above_in key last (cells_from s (Some last)) ≡ last

@@ -132,19 +132,19 @@ read-slot ss k s h e =
     cc (a, b)
 
 -- a node is written, or gets another link
-pub packed-node : (p : PackedHeader) (s : Item) (m : ListNode) → p.key ≡ m.key → next_in p ≡ m.next → item_if (is_item p) s ≡ m.item → unpacked_node p s ≡ m
-packed-node p s m k n i = λ t. let z : ListNode = record { key = k t; next = n t; item = i t } in z
+pub packed-node : (p : PackedHeader) (s : Item) (m : ListNode) → p.split_key ≡ m.split_key → next_in p ≡ m.next → item_if (is_item p) s ≡ m.item → unpacked_node p s ≡ m
+packed-node p s m k n i = λ t. let z : ListNode = record { split_key = k t; next = n t; item = i t } in z
 
-pub set_next-node : (p q : PackedHeader) (s : Item) (next : Option ℕ) → q.key ≡ p.key → next_in q ≡ next → is_item q ≡ is_item p → unpacked_node q s ≡ record (unpacked_node p s) { next = next }
-set_next-node p q s next k n i = λ t. let z : ListNode = record { key = k t; next = n t; item = item_if (i t) s } in z
+pub set_next-node : (p q : PackedHeader) (s : Item) (next : Option ℕ) → q.split_key ≡ p.split_key → next_in q ≡ next → is_item q ≡ is_item p → unpacked_node q s ≡ record (unpacked_node p s) { next = next }
+set_next-node p q s next k n i = λ t. let z : ListNode = record { split_key = k t; next = n t; item = item_if (i t) s } in z
 
 -- a node reference shows the node
-pub node_ref-unpacked_node : (p : PackedHeader) (s : Item) (f : NodeHeader) (b : Bool) → f.key ≡ p.key → f.next ≡ next_in p → b ≡ is_item p → Some (unpacked_node p s) ≡ Some (let m : ListNode = record { key = f.key; next = f.next; item = item_if b s } in m)
-node_ref-unpacked_node p s f b k n i = λ t. Some (let m : ListNode = record { key = sym k t; next = sym n t; item = item_if (sym i t) s } in m)
+pub node_ref-unpacked_node : (p : PackedHeader) (s : Item) (f : NodeHeader) (b : Bool) → f.split_key ≡ p.split_key → f.next ≡ next_in p → b ≡ is_item p → Some (unpacked_node p s) ≡ Some (let m : ListNode = record { split_key = f.split_key; next = f.next; item = item_if b s } in m)
+node_ref-unpacked_node p s f b k n i = λ t. Some (let m : ListNode = record { split_key = sym k t; next = sym n t; item = item_if (sym i t) s } in m)
 
 -- the node gets another chain
 pub unpacked_node-with : (f : PackedHeader) (s : Item) (w : List Term) → unpacked_node f (record s { chain = w }) ≡ node_with (unpacked_node f s) w
-unpacked_node-with f s w = elim (is_item f) as (λ b. (let m : ListNode = record { key = f.key; next = next_in f; item = item_if b (record s { chain = w }) } in m) ≡ node_with (record { key = f.key; next = next_in f; item = item_if b s }) w) [ true ↦ refl | false ↦ refl ]
+unpacked_node-with f s w = elim (is_item f) as (λ b. (let m : ListNode = record { split_key = f.split_key; next = next_in f; item = item_if b (record s { chain = w }) } in m) ≡ node_with (record { split_key = f.split_key; next = next_in f; item = item_if b s }) w) [ true ↦ refl | false ↦ refl ]
 
 -- the chain of a node that is an item
 chain-if : (b : Bool) (s : Item) → IsSome (item_if b s) → option_map (λ (i : Item). i.chain) (item_if b s) ≡ Some s.chain

@@ -84,8 +84,8 @@ impl Chain {
         mem::replace(&mut self.terms.as_mut_slice()[index], term)
     }
 
-    /// Sets an element of the first term, counted from 0, and drops the old element. Changes nothing if the chain is
-    /// empty, the term is not a tuple or the tuple has no such element; `value` is then dropped.
+    /// Sets the element at `index`, counted from 0, of the first term, and drops the old element. Changes nothing if
+    /// the chain is empty, the term is not a tuple or the tuple has no such element; `value` is then dropped.
     #[inline]
     pub fn set_element(&mut self, index: usize, value: Term)
         ensures { self.new ≡ with_element_in_first index value self.old }
@@ -115,9 +115,9 @@ impl Chain {
         ensures rest { self.new ≡ all_but term.now self.old }
         ensures count { length self.new + result ≡ length self.old }
     {
-        let had = self.len();
+        let old_len = self.len();
         self.terms.retain(|t| *t != *term);
-        had - self.len()
+        old_len - self.len()
     }
 
     /// Moves the terms to the end of `list`, which must have capacity for them.
@@ -143,7 +143,7 @@ fn set_element(term: &mut Term, index: usize, value: Term)
     set_item(elements, index, value);
 }
 
-/// Sets the item at an index, counted from 0, and drops the old item. If the index is past the end, changes nothing.
+/// Sets the item at `index`, counted from 0, and drops the old item. If `index` is past the end, changes nothing.
 #[inline]
 fn set_item(items: &mut Items<Term>, index: usize, item: Term)
     ensures { items.new ≡ slice_set items.old index item }

@@ -10,28 +10,28 @@ use crate::reader::CountingReader;
 use crate::steps::Steps;
 use ets_term::Term;
 
-/// Returns the place of the first node from `start` on with the split key `key` whose item has the key `term`. Counts
-/// each node that it reads. Ends at the first node with a greater split key.
+/// Returns the place of the first node from `start` on with this split key whose item has the key `term`. Counts each
+/// node that it reads. Ends at the first node with a greater split key.
 pub fn find_from(
     nodes: CountingReader<'_>,
     start: usize,
-    key: u64,
+    split_key: u64,
     term: &Term,
     steps: &mut Steps,
 ) -> Option<usize>
     requires linked { IsLinked nodes.nodes.now (Some start) }
     requires sorted { Sorted (cells_from nodes.nodes.now (Some start)) }
-    ensures found { result ≡ place_of key term.now (cells_from nodes.entry.nodes.now (Some start)) }
+    ensures found { result ≡ place_of split_key term.now (cells_from nodes.entry.nodes.now (Some start)) }
     ensures ticks { steps.new
-        ≡ ticks (length (passed key term.now (cells_from nodes.entry.nodes.now (Some start)))) steps.old }
+        ≡ ticks (length (passed split_key term.now (cells_from nodes.entry.nodes.now (Some start)))) steps.old }
 {
     let mut at = Some(start);
     while let Some(place) = at {
         let node = nodes.read(place, steps);
-        if key < node.header.key {
+        if split_key < node.header.split_key {
             return None;
         }
-        if node.header.key == key && node.holds(term) {
+        if node.header.split_key == split_key && node.holds(term) {
             return Some(place);
         }
         at = node.header.next.get();

@@ -2,10 +2,10 @@
 //! memory.
 use crate::link::Link;
 
-/// The header of a node: its split key `key` and the link `next` to the next node. A search reads only this of each
-/// node that it passes; the items are in another array.
+/// The header of a node: its split key and the link to the next node. A search reads only this of each node that it
+/// passes; the items are in another array.
 #[derive(Clone, Copy)]
 pub struct NodeHeader {
-    pub key: u64,
+    pub split_key: u64,
     pub next: Link,
 }

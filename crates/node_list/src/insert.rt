@@ -12,15 +12,15 @@ use crate::link::Link;
 use crate::node::{Item, ListNode};
 use crate::nodes::Nodes;
 
-/// Returns the place of the last node from `start` on whose split key is at most the split key `key`.
-fn last_not_above(nodes: &Nodes, start: usize, key: u64) -> usize
+/// Returns the place of the last node from `start` on whose split key is at most `split_key`.
+fn last_not_above(nodes: &Nodes, start: usize, split_key: u64) -> usize
     requires linked { IsLinked nodes.now (Some start) }
-    requires up_to { NodeHasKeyAtMost nodes.now start key }
-    ensures { result ≡ last_not_above_in key start (cells_from nodes.now (Some start)) }
+    requires up_to { NodeHasKeyAtMost nodes.now start split_key }
+    ensures { result ≡ last_not_above_in split_key start (cells_from nodes.now (Some start)) }
 {
     let mut last = start;
     while let Some(place) = nodes.header(last).next.get() {
-        if key < nodes.header(place).key {
+        if split_key < nodes.header(place).split_key {
             return last;
         }
         last = place;
@@ -28,24 +28,29 @@ fn last_not_above(nodes: &Nodes, start: usize, key: u64) -> usize
     last
 }
 
-/// Inserts a node with the split key `key` after all nodes whose split keys are at most `key`, and returns its place.
-/// `start` is the place of a node whose split key is at most `key`.
+/// Inserts a node with this split key after all nodes whose split keys are at most `split_key`, and returns its place.
+/// `start` is the place of a node whose split key is at most `split_key`.
 #[inline(always)]
-pub fn insert_from(nodes: &mut Nodes, start: usize, key: u64, item: Option<Item>) -> usize
+pub fn insert_from(nodes: &mut Nodes, start: usize, split_key: u64, item: Option<Item>) -> usize
     requires room { HasRoomFor nodes.old 1 }
     requires linked { IsLinked nodes.old (Some 0) }
     requires sorted { Sorted (cells_from nodes.old (Some 0)) }
-    requires start { HasKeyAtMost key start (cells_from nodes.old (Some 0)) }
+    requires start { HasKeyAtMost split_key start (cells_from nodes.old (Some 0)) }
     ensures linked { IsLinked nodes.new (Some 0) }
-    ensures cells { cells_from nodes.new (Some 0) ≡ put_cell (new_cell result key item) (cells_from nodes.old (Some 0)) }
+    ensures cells { cells_from nodes.new (Some 0)
+        ≡ put_cell (new_cell result split_key item) (cells_from nodes.old (Some 0)) }
     ensures place { result < 2 ^ 64 - 1 }
     ensures fresh { IsFresh result (cells_from nodes.old (Some 0)) }
     ensures capacity { nodes.new.capacity ≡ nodes.old.capacity }
     ensures len { slab_len nodes.new ≡ slab_len nodes.old + 1 }
 {
-    let last = last_not_above(nodes, start, key);
+    let last = last_not_above(nodes, start, split_key);
     let next = nodes.header(last).next;
-    let place = nodes.insert_reserved(ListNode { key, next, item });
+    let place = nodes.insert_reserved(ListNode {
+        split_key,
+        next,
+        item,
+    });
     nodes.set_next(last, Link::to(place));
     place
 }

@@ -17,13 +17,14 @@
 //! placeholders at other places. Nobody reads a placeholder, so a slot needs no tag. A search that passes a node
 //! reads only the slab, and compares keys only if split keys are equal. `next_item_at` reads only the slab too: a scan
 //! of all items reads both arrays forward and skips dummies. A place is added to the slab only after there is
-//! capacity for its item. So both arrays grow in place, and a refusal of memory changes no node. Places without a
-//! node form a *free list*: each leads to the next, the first is used next, and no place goes back to the slab.
+//! capacity for its item. So a refusal of memory changes no node. Places without a node form a *free list*: each leads
+//! to the next, the first is used next, and no place goes back to the slab.
 //!
-//! *Limits.* A caller must know what each place number means: calls require that a node of the list has the place.
+//! *Limits.* A call that takes a place requires that a node of the list has it. So a caller must keep track of the
+//! places of its nodes.
 //!
-//! *Words.* A `key: u64` is a split key, by which the list is sorted. The `term` of an item is its key in the table,
-//! and the `chain` has the objects with this key.
+//! *Words.* A split key is the number by which the list is sorted. The `term` of an item is its key in the table, and
+//! the `chain` has the objects with this key.
 #![tactic(auto)]
 
 // The modules: the `list`, its `nodes` in two `arrays`, and the first-item bound (`first_item`). A node as it is

@@ -61,7 +61,7 @@ impl NodeList {
         let mut nodes = Nodes::new(alloc);
         nodes.add_free_place(1)?;
         nodes.insert_reserved(ListNode {
-            key: 0,
+            split_key: 0,
             next: Link::none(),
             item: None,
         });
@@ -117,45 +117,52 @@ impl NodeList {
         self.nodes.reserve(additional)
     }
 
-    /// Inserts a dummy with the split key `key`, after all nodes with an equal split key, and returns its place.
-    /// `start` must be the place of a node whose split key is at most `key`.
+    /// Inserts a dummy with this split key, after all nodes with an equal split key, and returns its place. `start`
+    /// must be the place of a node whose split key is at most `split_key`.
     #[inline(always)]
-    pub fn insert_dummy(&mut self, start: At, key: u64) -> At
+    pub fn insert_dummy(&mut self, start: At, split_key: u64) -> At
         requires room { HasRoom self.old 1 }
-        requires start { HasKeyAtMost key start self.old.cells }
-        ensures cells { self.new.cells ≡ put_cell (new_cell result key None) self.old.cells }
+        requires start { HasKeyAtMost split_key start self.old.cells }
+        ensures cells { self.new.cells ≡ put_cell (new_cell result split_key None) self.old.cells }
         ensures fresh { IsFresh result self.old.cells }
         ensures place { result < 2 ^ 64 - 1 }
         ensures len { length self.new.cells ≡ length self.old.cells + 1 }
         ensures capacity { self.new.capacity ≡ self.old.capacity }
     {
-        insert_from(&mut self.nodes, start, key, None)
+        insert_from(&mut self.nodes, start, split_key, None)
     }
 
-    /// Inserts an item with the split key `key`, after all nodes with an equal split key, and returns its place. `term`
-    /// is the item's key, and `start` must be the place of a node whose split key is at most `key`.
+    /// Inserts an item with this split key, after all nodes with an equal split key, and returns its place. `term` is
+    /// the item's key, and `start` must be the place of a node whose split key is at most `split_key`.
     #[inline(always)]
-    pub fn insert_item(&mut self, start: At, key: u64, term: Term, chain: Chain) -> At
+    pub fn insert_item(&mut self, start: At, split_key: u64, term: Term, chain: Chain) -> At
         requires room { HasRoom self.old 1 }
-        requires start { HasKeyAtMost key start self.old.cells }
-        ensures cells { self.new.cells ≡ put_cell (new_cell result key (Some (new_item term chain))) self.old.cells }
+        requires start { HasKeyAtMost split_key start self.old.cells }
+        ensures cells { self.new.cells
+            ≡ put_cell (new_cell result split_key (Some (new_item term chain))) self.old.cells }
         ensures fresh { IsFresh result self.old.cells }
         ensures place { result < 2 ^ 64 - 1 }
         ensures len { length self.new.cells ≡ length self.old.cells + 1 }
         ensures capacity { self.new.capacity ≡ self.old.capacity }
     {
-        insert_from(&mut self.nodes, start, key, Some(Item { term, chain }))
+        insert_from(
+            &mut self.nodes,
+            start,
+            split_key,
+            Some(Item { term, chain }),
+        )
     }
 
-    /// Returns the place of the first item from `start` on with the split key `key` and the key `term`. Adds the number
-    /// of nodes that it reads to `steps`. It reads up to the item found or the first node with a greater split key, or
+    /// Returns the place of the first item from `start` on with this split key and the key `term`. Adds the number of
+    /// nodes that it reads to `steps`. It reads up to the item found or the first node with a greater split key, or
     /// else to the end.
-    pub fn find(&self, start: At, key: u64, term: &Term, steps: &mut Steps) -> Option<At>
+    pub fn find(&self, start: At, split_key: u64, term: &Term, steps: &mut Steps) -> Option<At>
         requires { IsPlaceOf start self.now.cells }
-        ensures found { result ≡ place_of key term.now (from start self.now.cells) }
-        ensures ticks { steps.new ≡ ticks (length (passed key term.now (from start self.now.cells))) steps.old }
+        ensures found { result ≡ place_of split_key term.now (from start self.now.cells) }
+        ensures ticks { steps.new ≡ ticks (length (passed split_key term.now (from start self.now.cells))) steps.old }
     {
-        find_from(CountingReader::new(&self.nodes), start, key, term, steps)
+        let nodes = CountingReader::new(&self.nodes);
+        find_from(nodes, start, split_key, term, steps)
     }
 
     /// Removes an item and returns its key and chain. `start` must be the place of a node before it.
@@ -167,7 +174,7 @@ impl NodeList {
         ensures capacity { self.new.capacity ≡ self.old.capacity }
     {
         let ListNode {
-            key: _,
+            split_key: _,
             next: _,
             item,
         } = unlink_from(&mut self.nodes, start, at);
@@ -177,8 +184,8 @@ impl NodeList {
         }
     }
 
-    /// Drops an item without moving it and returns the number of terms in its chain. `start` must be the place of a
-    /// node before it.
+    /// Removes an item, drops it without moving it and returns the number of terms in its chain. `start` must be the
+    /// place of a node before it.
     pub fn delete_item(&mut self, start: At, at: At) -> usize
         requires { HasItem at (cells_after start self.old.cells) }
         ensures count { option_map (λ item. length item.chain) (item_at at self.old.cells) ≡ Some result }
@@ -198,11 +205,11 @@ impl NodeList {
     }
 
     /// Returns the split key of the node at a place.
-    pub fn key(&self, at: At) -> u64
+    pub fn split_key(&self, at: At) -> u64
         requires { IsPlaceOf at self.now.cells }
         ensures { key_at at self.now.cells ≡ Some result }
     {
-        self.nodes.header(at).key
+        self.nodes.header(at).split_key
     }
 
     /// Returns the key (a term) and the chain of an item, or `None` for a dummy.

@@ -40,11 +40,11 @@ impl Item {
     }
 }
 
-/// A list node as it is inserted and removed: its split key `key`, the link to the next node, and its item. A dummy has
-/// no item; it marks the start of a bucket.
+/// A list node as it is inserted and removed: its split key, the link to the next node, and its item. A dummy has no
+/// item; it marks the start of a bucket.
 #[derive(Drop)]
 pub struct ListNode {
-    pub key: u64,
+    pub split_key: u64,
     pub next: Link,
     pub item: Option<Item>,
 }

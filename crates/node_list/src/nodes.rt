@@ -101,8 +101,8 @@ impl Nodes {
         self.nodes.len() - self.len
     }
 
-    /// Adds a place to the slab and to the front of the free list. If an array is full, it grows, and the
-    /// slab grows by at least `more` nodes.
+    /// Adds a place to the slab and to the front of the free list. If the slab has capacity for fewer than `more`
+    /// further nodes, it grows by at least `more`.
     pub fn add_free_place(&mut self, more: usize) -> Result<(), AllocError>
         requires { 0 < more }
         ensures room { OnOk result (self.new.capacity ≡ self.old.capacity + 1) }
@@ -119,7 +119,7 @@ impl Nodes {
         Ok(())
     }
 
-    /// Inserts a node at the first free place and returns that place. The `key` of the node is its split key.
+    /// Inserts a node at the first free place and returns that place.
     #[inline(always)]
     pub fn insert_reserved(&mut self, node: ListNode) -> usize
         requires room { HasRoomFor self.old 1 }
@@ -131,13 +131,17 @@ impl Nodes {
         ensures in_range { result < 2 ^ 62 - 1 }
         ensures capacity { self.new.capacity ≡ self.old.capacity }
     {
-        let ListNode { key, next, item } = node;
+        let ListNode {
+            split_key,
+            next,
+            item,
+        } = node;
         let is_item = item.is_some();
         let slot = Item::or_placeholder(item, *self.items.allocator());
         let Some(at) = self.free_head.get() else {
             unreachable!()
         };
-        let header = PackedHeader::new(NodeHeader { key, next }, is_item);
+        let header = PackedHeader::new(NodeHeader { split_key, next }, is_item);
         let free = replace_at(&mut self.nodes, at, header);
         self.free_head = free.next();
         self.len += 1;
@@ -165,16 +169,16 @@ impl Nodes {
             self.first_item_bound,
             self.items.len(),
         );
-        let NodeHeader { key, next } = packed.header();
+        let NodeHeader { split_key, next } = packed.header();
         ListNode {
-            key,
+            split_key,
             next,
             item: packed.item_of(slot),
         }
     }
 
-    /// Drops the item at a place and returns the number of terms in its chain. The item is not moved: a placeholder is
-    /// written over it. The place becomes the first of the free list.
+    /// Removes the item at a place, drops it and returns the number of terms in its chain. The item is not moved: a
+    /// placeholder is written over it. The place becomes the first of the free list.
     pub fn discard(&mut self, at: usize) -> usize
         requires { HasItemIn self.old at }
         ensures count { HasChainLength self.old at result }

@@ -11,11 +11,11 @@ use crate::node::Item;
 /// The place number that encodes 'no place'. A place in a header has 62 bits.
 pub const NO_PLACE: usize = usize::MAX / 4;
 
-/// A header as it is stored: the split key `key`, and a word that is four times the place of the next node, plus a tag.
+/// A header as it is stored: the split key, and a word that is four times the place of the next node, plus a tag.
 /// The tag is 1 for an item, 2 for a free place and 0 for a dummy.
 #[derive(Clone, Copy)]
 pub struct PackedHeader {
-    key: u64,
+    split_key: u64,
     word: usize,
 }
 
@@ -24,12 +24,12 @@ impl PackedHeader {
     #[inline(always)]
     pub fn new(header: NodeHeader, has_item: bool) -> PackedHeader
         requires { Fits header.next }
-        ensures key { result.key ≡ header.key }
+        ensures key { result.split_key ≡ header.split_key }
         ensures next { next_in result ≡ header.next }
         ensures item { is_item result ≡ has_item }
         ensures live { is_free result ≡ false }
     {
-        PackedHeader::with_tag(header.key, header.next, usize::from(has_item))
+        PackedHeader::with_tag(header.split_key, header.next, usize::from(has_item))
     }
 
     /// Packs a free place, with the link to the next free place.
@@ -43,12 +43,12 @@ impl PackedHeader {
         PackedHeader::with_tag(0, next, 2)
     }
 
-    /// Packs the split key `key`, a link and a tag.
+    /// Packs a split key, a link and a tag.
     #[inline(always)]
-    fn with_tag(key: u64, next: Link, tag: usize) -> PackedHeader
+    fn with_tag(split_key: u64, next: Link, tag: usize) -> PackedHeader
         requires fits { Fits next }
         requires small { tag < 4 }
-        ensures key { result.key ≡ key }
+        ensures key { result.split_key ≡ split_key }
         ensures next { next_in result ≡ next }
         ensures tag { result.word % 4 ≡ tag }
     {
@@ -57,7 +57,7 @@ impl PackedHeader {
             None => NO_PLACE,
         };
         PackedHeader {
-            key,
+            split_key,
             word: place * 4 + tag,
         }
     }
@@ -65,12 +65,12 @@ impl PackedHeader {
     /// Returns the split key and the link.
     #[inline(always)]
     pub fn header(self) -> NodeHeader
-        ensures key { result.key ≡ self.key }
+        ensures key { result.split_key ≡ self.split_key }
         ensures next { result.next ≡ next_in self }
         ensures fits { Fits result.next }
     {
         NodeHeader {
-            key: self.key,
+            split_key: self.split_key,
             next: self.next(),
         }
     }
@@ -97,17 +97,17 @@ impl PackedHeader {
         self.word % 4 == 1
     }
 
-    /// Returns the same header with another link.
+    /// Returns the same header with another link. It must be the header of a node: a free place would become a dummy.
     pub fn with_next(self, next: Link) -> PackedHeader
         requires { Fits next }
-        ensures key { result.key ≡ self.key }
+        ensures key { result.split_key ≡ self.split_key }
         ensures next { next_in result ≡ next }
         ensures item { is_item result ≡ is_item self }
         ensures live { is_free result ≡ false }
     {
         PackedHeader::new(
             NodeHeader {
-                key: self.key,
+                split_key: self.split_key,
                 next,
             },
             self.is_item(),

@@ -24,12 +24,12 @@ pub fn are_ops(keypos: u32, term: &Term) -> bool
 
 /// Checks whether a term is an update of elements: an element value or a list of them.
 #[tactic(auto, using(crate::proofs::FormLaws::update_forms))]
-pub fn are_specs(keypos: u32, term: &Term) -> bool
+pub fn are_element_specs(keypos: u32, term: &Term) -> bool
     ensures { result ≡ is_some (specs_of keypos term.now) }
 {
     match term {
-        Term::Tuple(parts) => is_spec(keypos, parts.as_slice()),
-        Term::List(terms) => are_all_specs(keypos, terms.as_slice()),
+        Term::Tuple(parts) => is_element_spec(keypos, parts.as_slice()),
+        Term::List(terms) => are_all_element_specs(keypos, terms.as_slice()),
         _ => false,
     }
 }
@@ -42,10 +42,12 @@ fn are_all_ops(keypos: u32, terms: &[Term]) -> bool
 }
 
 /// Checks whether each term is an element value that does not change the key.
-fn are_all_specs(keypos: u32, terms: &[Term]) -> bool
+fn are_all_element_specs(keypos: u32, terms: &[Term]) -> bool
     ensures { result ≡ list_all (λ term. is_some (spec_of_parts keypos (elements term))) terms.now }
 {
-    terms.iter().all(|term| is_spec(keypos, parts_of(term)))
+    terms
+        .iter()
+        .all(|term| is_element_spec(keypos, parts_of(term)))
 }
 
 /// Returns the elements of a tuple, or an empty slice for any other term.
@@ -76,7 +78,7 @@ fn is_op(keypos: u32, parts: &[Term]) -> bool
 }
 
 /// Checks whether the elements form an element value that does not change the key.
-fn is_spec(keypos: u32, parts: &[Term]) -> bool
+fn is_element_spec(keypos: u32, parts: &[Term]) -> bool
     ensures { result ≡ is_some (spec_of_parts keypos parts.now) }
 {
     match parts {

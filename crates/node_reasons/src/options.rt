@@ -3,7 +3,7 @@ ghost use Rattle.std.specs.Prelude.{◌≡◌, is_some};
 ghost use Rattle.std.specs.List.{list_all};
 ghost use Rattle.ets_term.specs.declared.term.Term.{out-Term};
 ghost use Rattle.ownership.specs.Options.{parse_heir, is_tuning, is_boolean};
-ghost use Rattle.node_reasons.specs.inside.Forms.{is_access_word, is_word, is_keypos_form, is_pair, is_plain, is_option, are_options};
+ghost use Rattle.node_reasons.specs.inside.Forms.{is_other_word, is_word, is_keypos_form, is_option_pair, is_name_and_value, is_option, are_options};
 
 use ets_term::Term;
 
@@ -30,21 +30,23 @@ fn is_option(term: &Term) -> bool
 {
     match term {
         Term::Atom(word) => is_word(word.text()),
-        Term::Tuple(elements) => { is_heir(elements.as_slice()) || is_plain(elements.as_slice()) }
+        Term::Tuple(elements) => {
+            is_heir(elements.as_slice()) || is_name_and_value(elements.as_slice())
+        }
         _ => false,
     }
 }
 
-/// Checks whether a word is an option of `new`: a kind of table, or an option of `is_access_word`.
+/// Checks whether a word is an option of `new`: a kind of table, or another word.
 fn is_word(word: &str) -> bool
     ensures { result ≡ is_word word.now }
 {
-    word == "set" || word == "bag" || word == "duplicate_bag" || is_access_word(word)
+    word == "set" || word == "bag" || word == "duplicate_bag" || is_other_word(word)
 }
 
-/// Checks whether a word is an access right, `named_table` or `compressed`.
-fn is_access_word(word: &str) -> bool
-    ensures { result ≡ is_access_word word.now }
+/// Checks whether a word is an option of `new`, but no kind of table: a protection, `named_table` or `compressed`.
+fn is_other_word(word: &str) -> bool
+    ensures { result ≡ is_other_word word.now }
 {
     word == "public"
         || word == "protected"
@@ -66,18 +68,18 @@ fn is_heir(elements: &[Term]) -> bool
 }
 
 /// Checks whether the elements are those of an option `{Name,Value}`.
-fn is_plain(elements: &[Term]) -> bool
-    ensures { result ≡ is_plain elements.now }
+fn is_name_and_value(elements: &[Term]) -> bool
+    ensures { result ≡ is_name_and_value elements.now }
 {
     match elements {
-        [name, value] => is_pair(name, value),
+        [name, value] => is_option_pair(name, value),
         _ => false,
     }
 }
 
 /// Checks whether a name and its value are the option `keypos`, or an option that only tunes speed.
-fn is_pair(name: &Term, value: &Term) -> bool
-    ensures { result ≡ is_pair name.now value.now }
+fn is_option_pair(name: &Term, value: &Term) -> bool
+    ensures { result ≡ is_option_pair name.now value.now }
 {
     if name.is_atom("keypos") {
         is_keypos(value)

@@ -8,7 +8,7 @@ ghost use Rattle.node_reasons.specs.inside.LastRules.{last_rule_of_content, need
 ghost use Rattle.node_reasons.specs.inside.LastRuleOfCalls.{content_in};
 
 use crate::access::TableUse;
-use crate::forms::{are_ops, are_specs};
+use crate::forms::{are_element_specs, are_ops};
 use crate::reason::{Reason, Rule};
 use bucket_table::Rows;
 use counters::is_default;
@@ -81,7 +81,7 @@ pub fn last_rule_of_update_element<R: Rows>(
     let Some(table) = used.table else {
         return used.needs_write(Reason::argument(1, Rule::NoTable));
     };
-    let rest = if are_specs(table.keypos(), values) {
+    let rest = if are_element_specs(table.keypos(), values) {
         needs_set(table, key, default, Reason::argument(3, Rule::NoElement))
     } else {
         Reason::argument(3, Rule::NotAnUpdate)

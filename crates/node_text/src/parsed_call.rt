@@ -29,7 +29,8 @@ pub fn read_call(alloc: Global, text: &[u8]) -> Result<ParsedCall, AllocError>
     }
 }
 
-/// Returns the call that a term represents, if it is a tuple that begins with an atom.
+/// Returns the call that a term represents, if it is a tuple that begins with an atom. Otherwise the error is at offset
+/// 0.
 fn call_from_term(term: Term) -> ParsedCall
     ensures { result ≡ spec.call_from_term term }
 {

@@ -74,8 +74,9 @@ impl Store {
         }
     }
 
-    /// Makes the call that a text spells, and returns its status. Writes as much of the reply's text as fits to `out`,
-    /// and the full length of the text to `len`. After `SYNTAX`, `len` is the offset of the syntax error.
+    /// Makes the call that a text spells, and returns its status. If the status is `VALUE`, writes as much of the reply's
+    /// text as fits into `out`, and its full length to `len`. After `SYNTAX`, `len` is the offset of the error. After any
+    /// other status `len` is 0. Only `VALUE` changes `out`. Runs at most two pending growth steps after a call.
     pub fn call(
         &mut self,
         alloc: Global,
@@ -93,8 +94,10 @@ impl Store {
         }
     }
 
-    /// Makes the call that a term in the external format spells, and returns its status. Writes as many of the reply's
-    /// bytes as fit to `out`, and the total number of bytes to `len`. After `SYNTAX`, `len` is the offset of the fault.
+    /// Makes the call that a term in the external format spells, and returns its status. If the status is `VALUE`, writes
+    /// as many of the reply's bytes in this format as fit into `out`, and their number to `len`. After `SYNTAX`, `len` is
+    /// the offset of the error. After any other status `len` is 0. Only `VALUE` changes `out`. Runs at most two pending
+    /// growth steps after a call.
     pub fn call_external(
         &mut self,
         alloc: Global,
@@ -184,6 +187,7 @@ impl Store {
     fn run_pending_steps(&mut self)
         ensures { self.new ≡ self.old }
     {
+        // Two, so that the buckets keep up with insertions, and no call waits for more.
         if matches!(self.node.run_pending(), Ok(true)) {
             let _ = self.node.run_pending();
         }

@@ -39,8 +39,8 @@ abbrev pub tuning_word : List ℕ → NewOptions → Option NewOptions
 tuning_word word options = if bytes_eq word (codes "compressed") then Some options else None
 
 -- the options after a word that sets the protection or names the table, or is `compressed`; None for any other word
-abbrev pub access_word : List ℕ → NewOptions → Option NewOptions
-access_word word options =
+abbrev pub other_word : List ℕ → NewOptions → Option NewOptions
+other_word word options =
     if bytes_eq word (codes "public") then Some (record options { protection = Public })
     else if bytes_eq word (codes "protected") then Some (record options { protection = Protected })
     else if bytes_eq word (codes "private") then Some (record options { protection = Private })
@@ -53,7 +53,7 @@ word_option word options =
     if bytes_eq word (codes "set") then Some (record options { kind = Set })
     else if bytes_eq word (codes "bag") then Some (record options { kind = Bag })
     else if bytes_eq word (codes "duplicate_bag") then Some (record options { kind = DuplicateBag })
-    else access_word word options
+    else other_word word options
 
 -- the elements of {heir,none}, which name no heir, or of {heir,Pid,Data}, which name an heir; None for any other tuple
 abbrev pub parse_heir : List Term → Option (Option Heir)

@@ -39,17 +39,17 @@ new_metadata p name options =
 
 -- the world with a new table under the next identifier
 abbrev pub with_table : World → Metadata → TableState → World
-with_table w metadata fixed =
-    record w { tables = w.tables ++ Some (record { metadata = metadata; fixed = fixed }) ∷ [] }
+with_table w metadata state =
+    record w { tables = w.tables ++ Some (record { metadata = metadata; fixed = state }) ∷ [] }
 
 -- new: badarg if the table is to be named and another named table has the name; system limit if the greatest number of
 -- tables is reached; the answer is the name of a named table, else the identifier
 abbrev pub New : World → ℕ → List ℕ → NewOptions → TableState → Outcome (Result Term WorldFault) World
-New old p name options fixed =
+New old p name options state =
     refuse old (options.named && is_some (whereis old.tables name)) (Err Badarg) (
     refuse old (nat_le old.max_tables (length old.tables)) (Err SystemLimit) (
     gives (Ok (name_or_identifier options.named name (length old.tables)))
-    (with_table old (new_metadata p name options) fixed)))
+    (with_table old (new_metadata p name options) state)))
 
 -- the world after a table is deleted, with its name and its fixes
 abbrev pub without_table : World → ℕ → World

@@ -6,7 +6,8 @@
 //! same name. A call that is refused or runs out of memory changes nothing.
 //!
 //! *Weakness.* The end of a process visits the tables that it ever owned and those that are fixed. To insert an
-//! identifier in a sorted list shifts the larger identifiers. A deleted table leaves an empty place of 16 bytes.
+//! identifier in a sorted list shifts the larger identifiers. A deleted table leaves `None`, of 16 bytes, in the array
+//! of tables.
 //!
 //! *Mechanism.* Tables are in boxes, which are in an array by identifier. `Indices` has an index by name, an index by
 //! owner, and a list of the tables that may be fixed. A table that is borrowed for a change becomes the *dirty* table.
@@ -14,7 +15,7 @@
 //! change metadata, and the other two indices depend only on metadata. When a process ends, its transfer messages are
 //! posted one by one, and all are removed again if memory is refused.
 //!
-//! *Limits.* The numbers of processes and tables ever made are limited, as given to `new`. Identifiers are never used
+//! *Limits.* `World::new` sets the greatest numbers of processes and tables ever made. Identifiers are never used
 //! again.
 #![tactic(auto)]
 

@@ -16,7 +16,7 @@ pub enum Protection {
     Private,
 }
 
-/// The heir of a table: the process that gets the table when its owner ends, and the gift in the transfer message.
+/// The heir of a table: the process that gets the table when its owner exits, and the gift in the transfer message.
 #[derive(Drop)]
 pub struct Heir {
     pub pid: u32,

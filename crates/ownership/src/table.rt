@@ -10,7 +10,7 @@ use fixed_walk::Walked;
 use std::alloc::{AllocError, Global};
 use std::marker::Model;
 
-/// A table with its metadata, in a box, so that the empty place that a deleted table leaves is small.
+/// A table with its metadata, in a box, so that the `None` that a deleted table leaves in the array is small.
 #[derive(Drop)]
 pub struct OwnedTable<R: Rows> {
     parts: Box<Parts<R>>,

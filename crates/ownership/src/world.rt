@@ -29,7 +29,7 @@ pub struct World<R: Rows> {
     max_processes: u32,
     max_tables: u32,
     processes: IndexMap<u32, Process>,
-    // The tables by identifier. A deleted table leaves an empty place of 16 bytes.
+    // The tables by identifier. A deleted table leaves `None`, of 16 bytes.
     tables: Vec<Option<OwnedTable<R>>>,
     indices: Indices,
 }

@@ -17,12 +17,13 @@ pub enum Diagnostic<'a> {
     AlreadySpawned(&'a [u8]),
     /// The line makes a call as a name that was never spawned.
     CallByUnknownName(&'a [u8], Call),
-    /// The line ends a name that was never spawned.
+    /// The line ends the process of a name that was never spawned.
     ExitOfUnknownName(&'a [u8]),
     /// The line has a syntax error: its offset, and what is wrong there.
     SyntaxFault(usize, SyntaxProblem),
     /// The line is longer than `MAX_LINE` of `ets_script`, 65,536 bytes.
     TooLong,
+    /// Memory ran out, and the line changed nothing.
     NoMemory,
 }
 

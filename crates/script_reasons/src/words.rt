@@ -1,4 +1,4 @@
-//! The text of each syntax problem, which is a guess, at a syntax error, at what the writer meant.
+//! The text of each syntax problem. A problem is a guess at what the author meant.
 ghost use Rattle.std.specs.Prelude.{◌≡◌};
 ghost use Rattle.script_reasons.specs.Words.{words_of};
 

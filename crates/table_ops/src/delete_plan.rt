@@ -46,12 +46,12 @@ impl DeletePlan {
     /// are chosen, copies no object.
     pub fn plan_slot<P: Predicate>(
         &mut self,
-        query: &Trial<'_, P>,
+        trial: &Trial<'_, P>,
         place: Place,
         objects: &[Term],
         looks: &mut Looks,
     ) -> Result<usize, AllocError>
-        ensures count { Returns result (chosen_count (P.tests query.now.query.now) objects.now) }
+        ensures count { Returns result (chosen_count (P.tests trial.now.query.now) objects.now) }
         ensures looks { CountsLooks result (length objects.now) looks.old looks.new }
         ensures at_most { looks.new ≤ ticks (length objects.now) looks.old }
         ensures at_least { looks.old ≤ looks.new }
@@ -59,10 +59,10 @@ impl DeletePlan {
             ((key_at : ℕ → Option Term) (key : Term) → key_at place ≡ Some key
             → planned_at key_at self.new.list.items
             ≡ planned_at key_at self.old.list.items
-            ++ planned (P.tests query.now.query.now) (key, objects.now)) }
+            ++ planned (P.tests trial.now.query.now) (key, objects.now)) }
     {
         let mut partition = Partition::new(self.alloc);
-        partition.add_all(query, objects, looks)?;
+        partition.add_all(trial, objects, looks)?;
         let Partition { removed, kept, .. } = partition;
         if removed > 0 {
             self.list.push(SlotDelete { place, kept })?;

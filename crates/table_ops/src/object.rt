@@ -33,7 +33,7 @@ pub fn copy_key(alloc: Global, key: &Term) -> Result<Term, AllocError>
     }
 }
 
-/// Returns whether the term is an object of a table with this keypos.
+/// Returns whether the term can be an object of a table with this keypos.
 fn is_object(keypos: u32, term: &Term) -> bool
     ensures { result ≡ is_object keypos term.now }
 {
@@ -43,7 +43,7 @@ fn is_object(keypos: u32, term: &Term) -> bool
     }
 }
 
-/// Returns whether each of the terms is an object of a table with this keypos.
+/// Returns whether each of the terms can be an object of a table with this keypos.
 pub fn are_objects(keypos: u32, terms: &[Term]) -> bool
     ensures { result ≡ list_all (is_object keypos) terms.now }
 {

@@ -37,12 +37,12 @@ impl Partition {
     /// Tests all objects of a slot and adds them to the partition.
     pub fn add_all<P: Predicate>(
         &mut self,
-        query: &Trial<'_, P>,
+        trial: &Trial<'_, P>,
         objects: &[Term],
         looks: &mut Looks,
     ) -> Result<(), AllocError>
-        requires { IsPartition (P.tests query.now.query.now) [] self.old }
-        ensures partition { OnOk result (IsPartition (P.tests query.now.query.now) objects.now self.new) }
+        requires { IsPartition (P.tests trial.now.query.now) [] self.old }
+        ensures partition { OnOk result (IsPartition (P.tests trial.now.query.now) objects.now self.new) }
         ensures looks { CountsLooks result (length objects.now) looks.old looks.new }
         ensures at_most { looks.new ≤ ticks (length objects.now) looks.old }
         ensures at_least { looks.old ≤ looks.new }
@@ -50,7 +50,7 @@ impl Partition {
         // Reads the counter only for the proof, which learns that the count is a `u64`.
         let _before = looks.count();
         for i in 0..objects.len() {
-            self.add(query, objects, i, looks)?;
+            self.add(trial, objects, i, looks)?;
         }
         Ok(())
     }
@@ -59,20 +59,20 @@ impl Partition {
     /// objects before it, which are all kept.
     fn add<P: Predicate>(
         &mut self,
-        query: &Trial<'_, P>,
+        trial: &Trial<'_, P>,
         objects: &[Term],
         i: usize,
         looks: &mut Looks,
     ) -> Result<(), AllocError>
         requires few { length objects.now < 2 ^ 64 }
         requires within { i < length objects.now }
-        requires partition { IsPartition (P.tests query.now.query.now) (take i objects.now) self.old }
+        requires partition { IsPartition (P.tests trial.now.query.now) (take i objects.now) self.old }
         ensures partition { OnOk result
-            (IsPartition (P.tests query.now.query.now) (take (i + 1) objects.now) self.new) }
+            (IsPartition (P.tests trial.now.query.now) (take (i + 1) objects.now) self.new) }
         ensures looks { looks.new ≡ tick looks.old }
     {
         let object = &objects[i];
-        if query.chooses(self.alloc, object, looks)? {
+        if trial.chooses(self.alloc, object, looks)? {
             if self.removed == 0 {
                 self.copy_kept(&objects[..i])?;
                 self.removed = 1;

@@ -6,11 +6,11 @@ use std::alloc::AllocError;
 /// Why a call is refused. A refused call changes nothing.
 #[derive(Debug, Drop, PartialEq, Eq)]
 pub enum Refusal {
-    /// An argument is not of the form that the call takes.
+    /// An argument is not of the form that the call takes, or the key has no object (`lookup_element`).
     Badarg,
     /// The table would have more objects than its limit, an object would be too deep, or an integer would overflow.
     SystemLimit,
-    /// An allocation failed.
+    /// An allocation failed: no refusal of the specification and no reply, but the call fails and changes nothing.
     Memory,
 }
 

@@ -1,10 +1,10 @@
-//! Why a text does not begin with a term: a syntax error with its offset, or memory that ran out.
+//! Why no term is read at the beginning of a text: a syntax error with its offset, or memory that ran out.
 ghost use Rattle.std.specs.Prelude.{◌≡◌};
 ghost use Rattle.term_text.specs.Faults.{offset};
 
 use std::alloc::{AllocError, AllocFailed};
 
-/// A syntax error: why a text does not begin with a term. Offsets are in bytes, from 0.
+/// Why no term is read at the beginning of a text: a syntax error, or memory that ran out. Offsets are in bytes, from 0.
 #[derive(Debug, Clone, Copy, PartialEq, Eq)]
 pub enum TextFault {
     /// No text of a term continues with the byte at this offset.

@@ -15,6 +15,7 @@ pub(crate) fn name_at(alloc: Global, text: &[u8], at: usize) -> Result<(Term, us
     requires within { at < length text.now }
     requires small { is_lowercase (slice_index text.now at) ≡ true }
     ensures within { EndsWithin text.now at result }
+    // From the state after the first letter, in any open brackets `os`, the automaton reads the same atom, or fails.
     ensures reads { (os : List OpenBracket)
         → ReadsTerm text.now (at + 1) (reads_on (name at (slice_index text.now at ∷ [])) os) os result }
 {

@@ -34,7 +34,7 @@ fn with_digit(n: Magnitude, digit: Magnitude, limit: Magnitude) -> Option<Magnit
     Some(n * 10 + digit)
 }
 
-/// Reads decimal digits from this offset on, up to a number of at least `SHORT_BOUND`, so that it fits in 64 bits.
+/// Reads decimal digits from this offset on, until the number is at least `SHORT_BOUND`; it then still fits in 64 bits.
 /// Returns the number and the offset after the digits that were read.
 fn short_digits_at(text: &[u8], at: usize) -> (u64, usize)
     requires { at ≤ length text.now }

@@ -58,7 +58,8 @@ fn character_at(
     Ok((b, at + 1))
 }
 
-/// Reads the characters up to the closing quote, and returns them with the offset after it.
+/// Reads the characters up to the closing quote, and returns them with the offset after it. `out_of_levels` says that a
+/// string is at the last level, and so may not have characters.
 pub(crate) fn quoted_at(
     alloc: Global,
     text: &[u8],

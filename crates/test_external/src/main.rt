@@ -40,7 +40,7 @@ fn reply_to_line(alloc: Global, line: &[u8], output: &mut Vec<u8>) -> Result<(),
     reply_to(alloc, bytes.as_slice(), output)
 }
 
-/// Appends the answer to the bytes of a term: the term, written again, or the fault, such as `UnknownTag(1)`. Bytes
+/// Appends the answer to the bytes of a term: the term, written again, or the fault, such as `UnsupportedTag(1)`. Bytes
 /// after the term are ignored.
 fn reply_to(alloc: Global, bytes: &[u8], output: &mut Vec<u8>) -> Result<(), AllocError> {
     match read_external(alloc, bytes) {

@@ -15,7 +15,7 @@ impl<H: KeyHash + Copy + Drop> SplitRows<H> {
     pub(super) fn reserve_slots(&mut self, additional: usize) -> Result<(), AllocError>
         ensures room { OnOk result (additional ≤ self.new.room) }
         ensures succeeds { 0 < additional → additional ≤ self.old.room → IsOk result }
-        ensures grows { self.old.room ≤ self.new.room }
+        ensures room_kept { self.old.room ≤ self.new.room }
         ensures slots { self.new.slots ≡ self.old.slots }
         ensures places { self.new.places ≡ self.old.places }
         ensures hasher { self.new.hasher ≡ self.old.hasher }

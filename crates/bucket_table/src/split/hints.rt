@@ -24,8 +24,8 @@ const SPLIT_KEY_BITS: u32 = 33;
 /// The greatest number of intervals whose hints `nearest_below` reads.
 const MAX_INTERVALS_SCANNED: usize = 64;
 
-/// A cache of the first item of each interval of split keys, and the cache from before the last doubling. The
-/// interval of a split key is `split_key >> interval_bits`.
+/// A cache of the first item of each interval of split keys, and the cache from before the last doubling, of which
+/// the hint at `rehash_index` is to be rehashed next. The interval of a split key is `split_key >> interval_bits`.
 #[derive(Drop)]
 pub struct Hints {
     pub current: HintList,

@@ -142,7 +142,7 @@ impl<H: KeyHash + Copy + Drop> Rows for SplitRows<H> {
 
     fn replace_at(&mut self, place: Place, objects: Chain) -> Chain {
         self.index.list.reveal_invariant();
-        let hash = item_hash(self.index.list.key(place));
+        let hash = item_hash(self.index.list.split_key(place));
         // A slot without objects is a tombstone, which the next purge finds by its hash.
         self.log.log_hash(objects.len() == 0, hash);
         let chain = self.index.list.chain_mut(place);
@@ -167,7 +167,7 @@ impl<H: KeyHash + Copy + Drop> Rows for SplitRows<H> {
         slot
     }
 
-    fn drop_at(&mut self, place: Place) -> usize {
+    fn delete_at(&mut self, place: Place) -> usize {
         self.index.list.reveal_invariant();
         let count = self.index.delete(place);
         self.slots -= 1;
@@ -189,8 +189,8 @@ impl<H: KeyHash + Copy + Drop> Rows for SplitRows<H> {
         if buckets >= MAX_BUCKETS {
             return Ok(Growth::AtMost);
         }
-        // Both steps that may run out of memory come first. The new hints are put in `previous`; the swap makes them the
-        // current hints. There are twice as many intervals, so a split key is shifted by one bit less.
+        // Both steps that may run out of memory come first. The new hints are put in `previous`; the swap makes them
+        // the current hints. There are twice as many intervals, so a split key is shifted by one bit less.
         self.index
             .hints
             .start_generation(2 * INTERVALS_PER_BUCKET * buckets)?;

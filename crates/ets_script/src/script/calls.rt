@@ -130,6 +130,7 @@ impl<H: KeyHash + Copy + Drop> Script<H> {
     fn run_pending_steps(&mut self)
         ensures { self.new ≡ self.old }
     {
+        // Two, so that the buckets keep up with insertions, and no call waits for more.
         if matches!(self.node.run_pending(), Ok(true)) {
             let _ = self.node.run_pending();
         }

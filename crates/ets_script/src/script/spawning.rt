@@ -16,7 +16,8 @@ use node_core::{Node, Reply, Step};
 use std::alloc::Global;
 
 impl<H: KeyHash + Copy + Drop> Script<H> {
-    /// Enrols a process with the next number, under this name. Reserves capacity for the name first.
+    /// Enrols a process with the next number, under this name. Replies `Badarg` if the name was spawned before. Reserves
+    /// capacity for the name first.
     #[inline(never)]
     pub(super) fn spawn(&mut self, alloc: Global, name: &[u8]) -> Answer
         ensures { Spawns (pid_of self.old name.now) self.old name.now result self.new

@@ -17,7 +17,7 @@ impl<R: Rows> Walked<R> {
     }
 
     /// Adds one fix of a process (stdlib manual, ets:safe_fixtable/2). Refuses with `SystemLimit` if the process
-    /// already has 4,294,967,295. Its time does not depend on the number of fixes.
+    /// already has 4,294,967,295. Its time does not grow with the number of fixes that the process has.
     #[tactic(auto, using(crate::proofs::TombstoneLaws::no_tombstones))]
     pub fn fix(&mut self, pid: u32) -> Result<(), FixFault>
         ensures { IncrementsFix pid self.old result self.new }
@@ -29,7 +29,7 @@ impl<R: Rows> Walked<R> {
         Ok(())
     }
 
-    /// Removes one fix of a process, if it has one. If no process fixes the table then, removes all tombstones.
+    /// Removes one fix of a process, if it has one. If no process fixes the table afterwards, removes all tombstones.
     #[tactic(auto, using(crate::proofs::TombstoneLaws::no_tombstones))]
     pub fn release(&mut self, pid: u32)
         ensures { self.new ≡ after_release pid self.old }
@@ -43,7 +43,8 @@ impl<R: Rows> Walked<R> {
         }
     }
 
-    /// Removes all fixes of a process, as when it exits. If no process fixes the table then, removes all tombstones.
+    /// Removes all fixes of a process, as when it exits. If no process fixes the table afterwards, removes all
+    /// tombstones.
     #[tactic(auto, using(crate::proofs::TombstoneLaws::no_tombstones))]
     pub fn release_all(&mut self, pid: u32)
         ensures { self.new ≡ after_release_all pid self.old }

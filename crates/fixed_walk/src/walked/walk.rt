@@ -27,8 +27,8 @@ impl<R: Rows> Walked<R> {
             next_key self.now.content.slots key.now ≡ Some (option_copied found)) }
         ensures err { OnErr result (next_key self.now.content.slots key.now ≡ None) }
     {
-        let found = self.next_lookup(key)?;
-        Ok(key_of(found))
+        let slot = self.next_lookup(key)?;
+        Ok(key_of(slot))
     }
 
     /// Returns the first key that has objects, with its objects, oldest first, or `None` if no key has (stdlib manual,

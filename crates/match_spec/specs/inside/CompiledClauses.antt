@@ -26,7 +26,7 @@ abbrev pub body_value_by : Clause → Data → Data
 body_value_by c object = body_value_of (map (expression_value c.paths) c.body) object
 
 abbrev pub applies : Clause → Data → Bool
-applies c object = part_fits c.head object object && all_hold_of (map (expression_value c.paths) c.conditions) object
+applies c object = part_fits c.pattern object object && all_hold_of (map (expression_value c.paths) c.conditions) object
 
 abbrev pub result_of_first : List Clause → Data → Option Data
 result_of_first [] object = None
@@ -35,7 +35,7 @@ result_of_first (c ∷ cs) object = if applies c object then Some (body_value_by
 -- the three parts of a clause, from the program's references
 abbrev pub raw_clause_of : ClauseParts → RawClause
 raw_clause_of c = record {
-  head = data_of c.head.now;
+  pattern = data_of c.pattern.now;
   conditions = data_list (map data_of c.conditions.now);
   body = data_list (map data_of c.body.now);
 }
@@ -43,14 +43,14 @@ raw_clause_of c = record {
 -- compiles a clause by the head's first paths
 abbrev pub clause_with : FirstPaths → RawClause → Clause
 clause_with first c = record {
-  head = part_of first [] c.head;
+  pattern = part_of first [] c.pattern;
   paths = paths_of first;
   conditions = expressions_of first c.conditions;
   body = expressions_of first c.body;
 }
 
 abbrev pub clause_of : RawClause → Clause
-clause_of c = clause_with (first_paths_of c.head) c
+clause_of c = clause_with (first_paths_of c.pattern) c
 
 abbrev pub clause_else : Option RawClause → List Clause → List Clause
 clause_else None cs = cs

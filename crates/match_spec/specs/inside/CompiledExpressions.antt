@@ -66,7 +66,7 @@ expression_step paths (Expression-F.Apply f fs) object = apply_of f fs object
 expression_step paths (Expression-F.Strict connective fs) object = option_map truth (strict_of connective fs object)
 expression_step paths (Expression-F.ShortCircuit connective fs) object = short_circuit_of connective fs object
 
--- the value of a compiled expression, if the head binds its variables at these paths
+-- the value of a compiled expression, if the pattern binds its variables at these paths
 abbrev pub expression_value : List Path → Expression → Data → Option Data
 expression_value paths = fold-Expression (Data → Option Data) (expression_step paths)
 

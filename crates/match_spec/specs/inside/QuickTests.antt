@@ -22,7 +22,7 @@ abbrev pub rejects : QuickTest → Data → Bool
 rejects q (tuple ts) = not (data_list_len ts == q.len) || option_map_or (rejects_element q) (data_list_element ts q.index) false
 rejects q d = true
 
--- the condition compares the element with the integer, if the head binds its variables at any paths
+-- the condition compares the element with the integer, if the pattern binds its variables at any paths
 abbrev pub IsComparison : QuickTest → Expression → Type 0
 IsComparison q e =
     (paths : List Path) → (object : Data) → expression_value paths e object

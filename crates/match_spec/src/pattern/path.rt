@@ -58,19 +58,19 @@ pub(crate) fn clone_subterms(
     Ok(parts)
 }
 
-/// Collects the first paths of the pattern's variables.
+/// Returns the first paths of the pattern's variables.
 pub(crate) fn first_paths(alloc: Global, pattern: &Term) -> Result<FirstPaths, AllocError>
     ensures { IfOk result (λ first. first.entries ≡ first_paths_of (data_of pattern.now)) }
 {
     let mut current_path = Vec::new(alloc);
     let mut first = BTreeMap::new(alloc);
-    collect(alloc, pattern, &mut current_path, &mut first)?;
+    add_first_paths(alloc, pattern, &mut current_path, &mut first)?;
     Ok(first)
 }
 
-/// Collects the first paths of the variables in the part at the current path.
-#[cycle(collect)]
-fn collect(
+/// Adds the first paths of the variables in the part at the current path.
+#[cycle(add_first_paths)]
+fn add_first_paths(
     alloc: Global,
     part: &Term,
     current_path: &mut Vec<usize>,
@@ -85,16 +85,16 @@ fn collect(
             Some(number) => record_path(alloc, number, current_path.as_slice(), first),
             None => Ok(()),
         },
-        Term::Tuple(parts) => collect_all(alloc, parts.as_slice(), current_path, first),
-        Term::List(parts) => collect_all(alloc, parts.as_slice(), current_path, first),
+        Term::Tuple(parts) => add_first_paths_from(alloc, parts.as_slice(), current_path, first),
+        Term::List(parts) => add_first_paths_from(alloc, parts.as_slice(), current_path, first),
         _ => Ok(()),
     }
 }
 
-/// Collects the first paths of the variables in all parts. While it reads a part, the current path ends with the part's
+/// Adds the first paths of the variables in all parts. While it reads a part, the current path ends with the part's
 /// index.
-#[cycle(collect)]
-fn collect_all(
+#[cycle(add_first_paths)]
+fn add_first_paths_from(
     alloc: Global,
     parts: &[Term],
     current_path: &mut Vec<usize>,
@@ -106,7 +106,7 @@ fn collect_all(
 {
     for i in 0..parts.len() {
         current_path.push(i)?;
-        collect(alloc, &parts[i], current_path, first)?;
+        add_first_paths(alloc, &parts[i], current_path, first)?;
         current_path.pop();
     }
     Ok(())

@@ -13,10 +13,10 @@ use crate::pattern::is_pattern;
 use crate::pattern::path::FirstPaths;
 use ets_term::Term;
 
-/// The three parts of a clause, as terms: `head` is the pattern of the clause (MatchHead), then conditions and body.
+/// The three parts of a clause, as terms: its pattern (MatchHead), its conditions and its body.
 #[derive(Clone, Copy)]
 pub(crate) struct ClauseParts<'a> {
-    pub(crate) head: &'a Term,
+    pub(crate) pattern: &'a Term,
     pub(crate) conditions: &'a [Term],
     pub(crate) body: &'a [Term],
 }
@@ -45,20 +45,20 @@ fn three_parts(parts: &[Term]) -> Option<ClauseParts>
         return None;
     };
     Some(ClauseParts {
-        head: &parts[0],
+        pattern: &parts[0],
         conditions: conditions.as_slice(),
         body: body.as_slice(),
     })
 }
 
-/// Checks whether a clause is valid. Its pattern must be a pattern. Its conditions and its body, which must not be
-/// empty, must be expressions that use only the variables of the pattern, which are in `first`.
+/// Checks whether a clause is valid. Its pattern must be an atom or a tuple. Its conditions and its body, which must
+/// not be empty, must be expressions that use only the variables of the pattern, which are in `first`.
 pub(crate) fn is_good(parts: ClauseParts, first: &FirstPaths) -> bool
     ensures { result ≡ is_good_by (numbers_of first.now.entries) (raw_clause_of parts.entry) }
 {
     let conditions = are_expressions(parts.conditions, 0, first);
     let body = are_expressions(parts.body, 0, first);
-    (is_pattern(parts.head) && is_nonempty(parts.body)) && (conditions && body)
+    (is_pattern(parts.pattern) && is_nonempty(parts.body)) && (conditions && body)
 }
 
 /// Checks whether the slice has a term.

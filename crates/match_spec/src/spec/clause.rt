@@ -14,11 +14,11 @@ use crate::spec::conditions::{all_hold, is_true};
 use ets_term::{Atom, Items, Term};
 use std::alloc::{AllocError, Global};
 
-/// A compiled clause. `head` is the compiled pattern of the clause (MatchHead), and `paths` has the first path of each
-/// variable of the pattern, in order of their numbers.
+/// A compiled clause. `paths` has the first path of each variable of its pattern (MatchHead), in the order of their
+/// numbers.
 #[derive(Drop)]
 pub(crate) struct Clause {
-    pub(crate) head: Part,
+    pub(crate) pattern: Part,
     pub(crate) paths: Items<Items<usize>>,
     pub(crate) conditions: Items<Expression>,
     pub(crate) body: Items<Expression>,
@@ -75,7 +75,7 @@ fn first_matching<'a>(
 fn applies(alloc: Global, clause: &Clause, object: &Term) -> Result<bool, AllocError>
     ensures { IfOk result (λ b. b ≡ applies clause.now (data_of object.now)) }
 {
-    if !fits(&clause.head, object, object) {
+    if !fits(&clause.pattern, object, object) {
         return Ok(false);
     }
     all_hold(env_of(alloc, clause, object), clause.conditions.as_slice())

@@ -75,7 +75,7 @@ pub(crate) fn quick_test(clauses: &[Clause]) -> Option<QuickTest>
 fn clause_test(clause: &Clause) -> Option<QuickTest>
     ensures { IfSome result (λ q. RejectsClause q clause.now) }
 {
-    match &clause.head {
+    match &clause.pattern {
         Part::Tuple(parts) => conditions_test(parts.len(), clause.conditions.as_slice()),
         _ => None,
     }

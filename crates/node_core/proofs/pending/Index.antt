@@ -86,7 +86,7 @@ rehead tables index t change same is = replaced tables index t (option_map chang
     by (Some table) h = subst (λ f. is_some (pending_of t f) ≡ true) (same table) h
 
 -- the same identifiers, in more room
-pub roomier : (tables : Tables) (old new : PendingTablesState) → TracksPending tables old → new.ordered ≡ old.ordered → new.dirty ≡ old.dirty → old.room ≤ new.room → TracksPending tables new
+pub roomier : (tables : Tables) (old new : PendingTablesState) → TracksPending tables old → new.ordered ≡ old.ordered → new.dirty ≡ old.dirty → old.capacity ≤ new.capacity → TracksPending tables new
 roomier tables old new is same stays more = record {
   below = subst (λ ids. AreBelow ids (length tables)) (sym same) is.below;
   room = omega (arith, is.room, more);
@@ -94,7 +94,7 @@ roomier tables old new is same stays more = record {
 }
 
 -- another table is dirty, and the previously dirty table is queued
-pub dirty-queued : (tables : Tables) (old new : PendingTablesState) (last : ℕ) → TracksPending tables old → old.dirty ≡ Some last → AreBelow new.ordered (length tables) → old.room ≤ new.room → ((t : ℕ) → IsAmong old.ordered t → IsAmong new.ordered t) → IsAmong new.ordered last → TracksPending tables new
+pub dirty-queued : (tables : Tables) (old new : PendingTablesState) (last : ℕ) → TracksPending tables old → old.dirty ≡ Some last → AreBelow new.ordered (length tables) → old.capacity ≤ new.capacity → ((t : ℕ) → IsAmong old.ordered t → IsAmong new.ordered t) → IsAmong new.ordered last → TracksPending tables new
 dirty-queued tables old new last is dirty-last below more among here = record {
   below = below;
   room = omega (arith, is.room, more);
@@ -112,7 +112,7 @@ past-push n (y ∷ ys) x zero h e = omega (arith, h)
 past-push n (y ∷ ys) x (suc t) h e = past-push n ys x t (omega (arith, h)) e
 
 -- one more table, which is in the index
-pub added : (tables : Tables) (old new : PendingTablesState) (x : Option Table) → TracksPending tables old → AreBelow new.ordered (length tables + 1) → length tables + 1 ≤ new.room → IsAmong new.ordered (length tables) → ((t : ℕ) → IsAmong old.ordered t → IsAmong new.ordered t) → new.dirty ≡ old.dirty → TracksPending (tables ++ x ∷ []) new
+pub added : (tables : Tables) (old new : PendingTablesState) (x : Option Table) → TracksPending tables old → AreBelow new.ordered (length tables + 1) → length tables + 1 ≤ new.capacity → IsAmong new.ordered (length tables) → ((t : ℕ) → IsAmong old.ordered t → IsAmong new.ordered t) → new.dirty ≡ old.dirty → TracksPending (tables ++ x ∷ []) new
 added tables old new x is below room here among stays = record {
   below = subst (AreBelow new.ordered) (sym (length-append tables (x ∷ []))) below;
   room = omega (arith, room, length-append tables (x ∷ []));

@@ -5,15 +5,15 @@ use Rattle.std.specs.Coded.{Coded, code_by, coded×, coded_ℕ, coded_list, code
 pub record PendingTablesState : Type 0 where
   pub ordered : List ℕ
   pub dirty : Option ℕ
-  pub room : ℕ
+  pub capacity : ℕ
 
 abbrev pub pending_tables_code : Coded PendingTablesState
 pending_tables_code =
     code_by
     (List ℕ × (Option ℕ × ℕ))
     (coded× (coded_list coded_ℕ) (coded× (coded_option coded_ℕ) coded_ℕ))
-    (λ s. (s.ordered, (s.dirty, s.room)))
-    (λ p. record { ordered = p.0; dirty = p.1.0; room = p.1.1 })
+    (λ s. (s.ordered, (s.dirty, s.capacity)))
+    (λ p. record { ordered = p.0; dirty = p.1.0; capacity = p.1.1 })
     (λ _. refl)
 
 abbrev pub Ascends : List ℕ → Type 0
@@ -37,4 +37,4 @@ pub record HasRoomFor (s : PendingTablesState) (id : ℕ) : Type 0 where
   pub bound : ℕ
   pub below : AreBelow s.ordered bound
   pub less : id < bound
-  pub room : bound ≤ s.room
+  pub room : bound ≤ s.capacity

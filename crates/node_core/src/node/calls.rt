@@ -29,7 +29,7 @@ impl<H: KeyHash + Copy + Drop> Node<H> {
     {
         match args {
             [x, y] => match name {
-                CallName::Lookup => self.lookup(pid, x, y, reply),
+                CallName::Lookup => self.lookup_into(pid, x, y, reply),
                 CallName::Member => self.member_into(pid, x, y, reply),
                 CallName::Insert => self.insert_into(pid, x, y, reply),
                 CallName::Delete => self.delete_into(pid, x, y, reply),
@@ -82,7 +82,7 @@ impl<H: KeyHash + Copy + Drop> Node<H> {
         match args {
             [x] => self.read_call_of_one(pid, name, x, reply),
             [x, y] => match name {
-                CallName::Lookup => Some(self.lookup(pid, x, y, reply)),
+                CallName::Lookup => Some(self.lookup_into(pid, x, y, reply)),
                 CallName::Member => Some(self.member_into(pid, x, y, reply)),
                 _ => self.read_call_of_two(pid, name, x, y, reply),
             },
@@ -138,7 +138,7 @@ impl<H: KeyHash + Copy + Drop> Node<H> {
     {
         match name {
             CallName::Info => Some(write_reply(self.info(x, y), reply)),
-            CallName::Lookup => Some(self.lookup(pid, x, y, reply)),
+            CallName::Lookup => Some(self.lookup_into(pid, x, y, reply)),
             CallName::Match => Some(write_reply(self.match_bindings(pid, x, y), reply)),
             CallName::MatchObject => Some(write_reply(self.match_object(pid, x, y), reply)),
             CallName::Member => Some(self.member_into(pid, x, y, reply)),

@@ -1,5 +1,5 @@
-//! The calls `give_away`, `setopts`, `receive`, `whereis` and `info`. They return or change metadata of a table or a
-//! mailbox, and leave all objects as they are.
+//! The calls `give_away` and `setopts`, which change the owner or the heir of a table; `receive`, which empties a
+//! mailbox; and `whereis` and `info`, which only read. None of them changes an object.
 ghost use Rattle.std.specs.Prelude.{◌≡◌, IfOk};
 ghost use Rattle.ets_term.specs.declared.term.Term.{out-Term};
 ghost use Rattle.node_core.specs.rules.Owning.{GiveAway, SetOptions, Receive, Whereis, Info, value_or_undefined, names_form};

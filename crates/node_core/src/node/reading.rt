@@ -15,7 +15,7 @@ use table_ops::Refusal;
 impl<H: KeyHash + Copy + Drop> Node<H> {
     /// Writes the list of a key's objects over an earlier reply.
     #[inline(never)]
-    pub(crate) fn lookup(
+    pub(crate) fn lookup_into(
         &self,
         pid: u32,
         table: &Term,

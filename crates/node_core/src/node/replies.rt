@@ -160,8 +160,8 @@ pub fn write_reply(call: Result<Reply, Refusal>, reply: &mut Reply) -> Result<()
     ensures { to_reply (λ _. reply.new) result ≡ call }
 {
     match call {
-        Ok(made) => {
-            *reply = made;
+        Ok(new_reply) => {
+            *reply = new_reply;
             Ok(())
         }
         Err(refusal) => Err(refusal),

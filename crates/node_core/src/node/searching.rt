@@ -32,9 +32,9 @@ impl<H: KeyHash + Copy + Drop> Node<H> {
     {
         let table = self.readable_table(pid, table).ok_or(Refusal::Badarg)?;
         let pattern = compile_pattern(self.alloc, pattern)?;
-        let found = table.matches(&pattern);
+        let values = table.matches(&pattern);
         drop(pattern);
-        Ok(answers_reply(found?))
+        Ok(answers_reply(values?))
     }
 
     /// Returns each object that matches a pattern.
@@ -49,9 +49,9 @@ impl<H: KeyHash + Copy + Drop> Node<H> {
     {
         let table = self.readable_table(pid, table).ok_or(Refusal::Badarg)?;
         let pattern = compile_pattern(self.alloc, pattern)?;
-        let found = table.match_objects(&pattern);
+        let objects = table.match_objects(&pattern);
         drop(pattern);
-        Ok(Reply::Value(Term::List(found?)))
+        Ok(Reply::Value(Term::List(objects?)))
     }
 
     /// Removes each object that matches a pattern.
@@ -79,9 +79,9 @@ impl<H: KeyHash + Copy + Drop> Node<H> {
     {
         let table = self.readable_table(pid, table).ok_or(Refusal::Badarg)?;
         let spec = compile_spec(self.alloc, spec)?;
-        let found = table.select(&spec);
+        let results = table.select(&spec);
         drop(spec);
-        Ok(answers_reply(found?))
+        Ok(answers_reply(results?))
     }
 
     /// Counts the objects for which a match specification gives `true`.

@@ -105,7 +105,7 @@ fn add_table<H: KeyHash + Copy + Drop>(
     requires { TracksPending world.old.tables pending.old }
     ensures outcome { outcomes.RefinesWorld (tables.New world.old pid name.now options table)
         world.old result world.new }
-    ensures index { TracksPending world.new.tables pending.new }
+    ensures pending { TracksPending world.new.tables pending.new }
 {
     let id = world.made();
     if pending.reserve(id as usize + 1).is_err() {

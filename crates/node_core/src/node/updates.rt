@@ -29,7 +29,7 @@ pub(crate) struct Update<'a> {
 }
 
 impl<H: KeyHash + Copy + Drop> Node<H> {
-    /// Adds to counters of a key's object, and writes the new values as the reply.
+    /// Updates counters of a key's object, and writes the new values as the reply.
     #[inline(never)]
     pub(crate) fn update_counter_into(
         &mut self,
@@ -65,7 +65,7 @@ impl<H: KeyHash + Copy + Drop> Node<H> {
         write_truth(self.alloc, is_written, reply)
     }
 
-    /// Adds to counters of a key's object and returns the new values.
+    /// Updates counters of a key's object and returns the new values.
     #[inline(always)]
     fn update_counter(
         &mut self,

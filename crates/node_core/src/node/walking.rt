@@ -74,8 +74,8 @@ impl<H: KeyHash + Copy + Drop> Node<H> {
         ensures { RefinesReply (reads self.now pid table.now (next_reply key.now)) self.now result self.now }
     {
         let table = self.readable_table(pid, table).ok_or(Refusal::Badarg)?;
-        let found = table.next(key)?;
-        Ok(key_reply(self.alloc, found)?)
+        let next = table.next(key)?;
+        Ok(key_reply(self.alloc, next)?)
     }
 
     /// Returns the first key of a table with its objects, or `'$end_of_table'`.
@@ -92,8 +92,8 @@ impl<H: KeyHash + Copy + Drop> Node<H> {
             self.now result self.now }
     {
         let table = self.readable_table(pid, table).ok_or(Refusal::Badarg)?;
-        let found = table.next_lookup(key)?;
-        Ok(slot_reply(self.alloc, found)?)
+        let slot = table.next_lookup(key)?;
+        Ok(slot_reply(self.alloc, slot)?)
     }
 }
 

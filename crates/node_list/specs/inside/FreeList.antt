@@ -17,7 +17,7 @@ abbrev pub headers : Slab PackedHeader → Slab PackedHeader
 headers s = record s { slots = map live s.slots }
 
 abbrev pub free_node : PackedHeader → ListNode
-free_node p = record { key = p.key; next = next_in p; item = None }
+free_node p = record { split_key = p.split_key; next = next_in p; item = None }
 
 -- a free place, as a node that leads to the next one
 abbrev pub free_in : Option PackedHeader → Option ListNode

@@ -22,7 +22,7 @@ item_if false slot = None
 
 -- the node of a header and a slot
 abbrev pub unpacked_node : PackedHeader → Item → ListNode
-unpacked_node p slot = record { key = p.key; next = next_in p; item = item_if (is_item p) slot }
+unpacked_node p slot = record { split_key = p.split_key; next = next_in p; item = item_if (is_item p) slot }
 
 -- the node at a place, None if the place has no header
 abbrev pub node_at : Option PackedHeader → Item → Option ListNode
@@ -69,7 +69,7 @@ pub record WritesItem (old new : List Item) (at : ℕ) (slot : Item) : Type 0 wh
 pub record HasHeader (s : Slab ListNode) (at : ℕ) (f : NodeHeader) : Type 0 where
   pub node : ListNode
   pub is : get s at ≡ Some node
-  pub key : node.key ≡ f.key
+  pub key : node.split_key ≡ f.split_key
   pub next : node.next ≡ f.next
   pub fits : Fits f.next
 

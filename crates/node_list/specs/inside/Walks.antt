@@ -5,10 +5,10 @@ use Rattle.node_list.specs.declared.node.ListNode.{ListNode}
 use Rattle.node_list.specs.Cells.{Cell, Sorted, StartsWithDummy}
 
 abbrev pub cell_of : ℕ → ListNode → Cell
-cell_of at node = record { at = at; key = node.key; item = node.item }
+cell_of at node = record { at = at; key = node.split_key; item = node.item }
 
 abbrev pub node_of : Cell → Option ℕ → ListNode
-node_of c next = record { key = c.key; next = next; item = c.item }
+node_of c next = record { split_key = c.key; next = next; item = c.item }
 
 -- the nodes from a link on, at most `n`
 unfoldable pub walk : ℕ → (ℕ → Option ListNode) → Option ℕ → List Cell
@@ -42,7 +42,7 @@ pub record ListInvariant (s : Slab ListNode) : Type 0 where
 pub record NodeHasKeyAtMost (s : Slab ListNode) (at key : ℕ) : Type 0 where
   pub node : ListNode
   pub is : get s at ≡ Some node
-  pub up_to : node.key ≤ key
+  pub up_to : node.split_key ≤ key
 
 -- the place of the last cell before the first with a greater key, or else `last`
 abbrev pub last_not_above_in : ℕ → ℕ → List Cell → ℕ

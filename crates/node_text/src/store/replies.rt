@@ -14,7 +14,7 @@ use node_core::Reply;
 use std::alloc::Global;
 use term_text::print_term;
 
-/// The greatest capacity of the vector for a reply's bytes that is kept for the next reply.
+/// The vector for a reply's bytes is kept for the next reply if its capacity is at most this.
 const MAX_KEPT: usize = 65536;
 
 impl Store {
@@ -32,7 +32,8 @@ impl Store {
         self.refusal
     }
 
-    /// Returns the status of the last reply. Writes as much of its text as fits to `out`, and the full length to `len`.
+    /// Returns the status of the last reply. If it is `VALUE`, writes as much of the reply's text as fits into `out`, and
+    /// its full length to `len`. Otherwise `len` is 0.
     pub fn write_reply(&self, alloc: Global, out: &mut [u8], len: &mut usize) -> i32
         ensures { WritesReply printed self.now.reply (written_reply result len.new out.old out.new) }
     {
@@ -49,8 +50,8 @@ impl Store {
         VALUE
     }
 
-    /// Returns the status of the last reply. Writes as many of its bytes in the external format as fit to `out`, and
-    /// the total number of bytes to `len`. Changes nothing else.
+    /// Returns the status of the last reply. If it is `VALUE`, writes as many of the reply's bytes in the external format
+    /// as fit into `out`, and their number to `len`. Otherwise `len` is 0. Changes nothing else that a contract sees.
     pub fn write_reply_external(&mut self, out: &mut [u8], len: &mut usize) -> i32
         ensures same { self.new ≡ self.old }
         ensures writes { WritesReply written self.old.reply (written_reply result len.new out.old out.new) }
@@ -59,7 +60,7 @@ impl Store {
         let Reply::Value(term) = &self.reply else {
             return status_of(&self.reply);
         };
-        let status = write_term(term, &mut self.bytes, out, len);
+        let status = write_term_external(term, &mut self.bytes, out, len);
         if self.bytes.capacity() > MAX_KEPT {
             self.bytes.clear();
             self.bytes.shrink_to_fit();
@@ -67,7 +68,7 @@ impl Store {
         status
     }
 
-    /// Writes why the last call was refused: as much of the text as fits to `out`, and the full length to `len`. The
+    /// Writes why the last call was refused: as much of the text as fits into `out`, and its full length to `len`. The
     /// length is 0 if the call was not refused.
     pub fn write_reason(&self, alloc: Global, out: &mut [u8], len: &mut usize) -> i32
         ensures { WritesReason self.now.refusal (written_reply result len.new out.old out.new) }
@@ -85,9 +86,9 @@ impl Store {
     }
 }
 
-/// Writes as many of a term's bytes in the external format as fit to `out`, and the total number of bytes to `len`.
-/// Makes the bytes in the vector, in place of what it has. Returns `VALUE`, or `UNTOLD` if memory runs out for the bytes.
-fn write_term(term: &Term, bytes: &mut Vec<u8>, out: &mut [u8], len: &mut usize) -> i32
+/// Writes as many of a term's bytes in the external format as fit into `out`, and their number to `len`. Makes the bytes
+/// in the vector, in place of what it has. Returns `VALUE`, or `UNTOLD` if memory runs out for the bytes.
+fn write_term_external(term: &Term, bytes: &mut Vec<u8>, out: &mut [u8], len: &mut usize) -> i32
     requires { len.old ≡ 0 }
     ensures { WritesText (written term.now) (written_reply result len.new out.old out.new) }
 {

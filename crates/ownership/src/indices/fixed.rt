@@ -1,6 +1,6 @@
-//! The list of fixed tables, by which the exit of a process finds its fixes. The dirty table is checked only when
-//! another table is borrowed or created, or a process exits.
-// The dirty table, which was borrowed for a change last, need not be listed.
+//! The list of fixed tables, by which the exit of a process finds its fixes. The dirty table, which was borrowed for a
+//! change last, may be fixed without being in the list. It is checked when another table is borrowed or created, or a
+//! process exits.
 ghost use Rattle.std.specs.Prelude.{◌≡◌, ◌≤◌, ℕ, Some, None, OnOk, filter, vec_capacity};
 ghost use Rattle.ownership.specs.inside.Indices.{IndicesInvariant, ids_under, is_fixed_at};
 

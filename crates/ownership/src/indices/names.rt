@@ -39,7 +39,7 @@ impl Indices {
         ensures { IfSome result (λ id. get_by_text self.now.names name.now ≡ Some id) }
     {
         match self.names.get_index(self.names.len().saturating_sub(1)) {
-            Some((known, id)) if known.as_str() == name.text() => Some(*id),
+            Some((last, id)) if last.as_str() == name.text() => Some(*id),
             _ => None,
         }
     }

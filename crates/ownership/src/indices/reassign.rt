@@ -15,8 +15,8 @@ use std::mem;
 
 impl Indices {
     /// Releases the fixes of a process that ended. Passes each of its tables to its heir, or deletes it if no heir
-    /// lives. `own` must contain all tables of the process, and each must be in the index under its living heir. Only
-    /// these and the fixed tables are visited. This takes no memory.
+    /// lives. `own` must contain all tables of the process, and each must be in the index under its heir, if that
+    /// lives. Only these and the fixed tables are visited. This takes no memory.
     pub fn reassign_tables<R: Rows>(
         &mut self,
         tables: &mut Vec<Option<OwnedTable<R>>>,

@@ -2,7 +2,7 @@
 //! them.
 ghost use Rattle.std.specs.Prelude.{◌≡◌, ◌≤◌, IfOk};
 ghost use Rattle.ets_term.specs.declared.term.Term.{out-Term};
-ghost use Rattle.ownership.specs.Options.{default_options, option_form, options_from, word_option, access_word, tuning_word, tuple_option, plain_tuple, pair_option, keypos_option, is_tuning, is_boolean};
+ghost use Rattle.ownership.specs.Options.{default_options, option_form, options_from, word_option, other_word, tuning_word, tuple_option, plain_tuple, pair_option, keypos_option, is_tuning, is_boolean};
 ghost use Rattle.ownership.specs.Outcomes.{Reads};
 ghost use Rattle.ownership.specs.inside.Reading.{ReadsOption, SetsOption};
 
@@ -51,8 +51,8 @@ fn is_tuning(name: &Term, value: &Term) -> bool
     }
 }
 
-/// Each of these methods, except `default`, applies one option to `self`. It returns `false` or `Badarg` if the option or
-/// its value is not valid, and `Memory` if an allocation fails.
+/// Each of these methods, except `default`, applies one option to `self`. It returns `false` or `Badarg` if the option
+/// or its value is not valid, and `Memory` if an allocation fails.
 impl NewOptions {
     /// Returns the options of an empty list.
     fn default() -> NewOptions
@@ -73,12 +73,12 @@ impl NewOptions {
         ensures value { ReadsOption (option_form (out-Term term.now) self.old) result self.new }
         ensures keypos { 1 ≤ self.new.keypos }
     {
-        let added = match term {
+        let is_option = match term {
             Term::Atom(word) => self.set_word(word.text()),
             Term::Tuple(elements) => return self.add_tuple(alloc, elements.as_slice()),
             _ => false,
         };
-        if !added {
+        if !is_option {
             return Err(WorldFault::Badarg);
         }
         Ok(())
@@ -97,16 +97,16 @@ impl NewOptions {
         } else if word == "duplicate_bag" {
             self.kind = Kind::DuplicateBag;
         } else {
-            return self.set_access(word);
+            return self.set_other_word(word);
         }
         true
     }
 
-    /// Applies an option that sets the protection, or `named_table`, or `compressed`, which has no effect. Returns
-    /// whether the word is one of these.
-    fn set_access(&mut self, word: &str) -> bool
+    /// Applies an option that is an atom, but no kind of table: a protection, `named_table`, or `compressed`, which has
+    /// no effect. Returns whether the word is one of these.
+    fn set_other_word(&mut self, word: &str) -> bool
         requires { 1 ≤ self.old.keypos }
-        ensures value { SetsOption (access_word word.now self.old) result self.new }
+        ensures value { SetsOption (other_word word.now self.old) result self.new }
         ensures keypos { 1 ≤ self.new.keypos }
     {
         if word == "public" {

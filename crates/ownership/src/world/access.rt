@@ -5,8 +5,8 @@ ghost use Rattle.ownership.specs.Access.{has_access, is_owner, may_read, may_wri
 use super::World;
 use bucket_table::Rows;
 
-/// Access to tables (stdlib manual, module ets, section Table Access Rights). No process
-/// has access to a table that does not exist.
+/// Access to tables (stdlib manual, module ets, section Table Access Rights). No process has access to a table that
+/// does not exist.
 impl<R: Rows> World<R> {
     /// Checks whether the process may read the table with this identifier.
     pub fn may_read(&self, pid: u32, id: u32) -> bool

@@ -1,4 +1,4 @@
-//! The mailbox of a process: the messages that it has not yet received, to read or to take.
+//! The mailbox of a process, the messages that it has not yet received: how they are read, and how they are received.
 ghost use Rattle.std.specs.Prelude.{◌≡◌};
 ghost use Rattle.ownership.specs.Messages.{mailbox_of, after_receive};
 

@@ -32,7 +32,7 @@ IsPlaceOfKey slots key_at key found =
     (key_at place ≡ Some key) × IsSome (objects_of slots key))
 
 -- a search found the place of the key's slot, which has objects, or the key has no objects
-abbrev pub IsOccupiedPlace : List Slot → (ℕ → Option Term) → Term → Option ℕ → Type 0
-IsOccupiedPlace slots key_at key found =
+abbrev pub IsPlaceWithObjects : List Slot → (ℕ → Option Term) → Term → Option ℕ → Type 0
+IsPlaceWithObjects slots key_at key found =
     MatchOption found (objects_under slots key ≡ []) (λ place.
     (key_at place ≡ Some key) × (has_objects (objects_under slots key) ≡ true))

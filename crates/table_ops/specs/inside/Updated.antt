@@ -13,34 +13,34 @@ use Rattle.table_ops.specs.declared.refusal.Refusal.{Refusal}
 use Rattle.table_ops.specs.declared.refusal.Refusal.TheVariants.{Badarg, SystemLimit, Memory}
 use Rattle.table_ops.specs.Put.{SetsObjects}
 
--- the slot at a place had one object, for which P holds
+-- the slot at a place, given its key, had one object, for which P holds
 abbrev pub HadOneObject : List Slot → Option Term → (Term → Type 0) → Type 0
-HadOneObject slots at P = (object : Term) × (objects_in slots at ≡ Some (object ∷ [])) × P object
+HadOneObject slots key P = (object : Term) × (objects_in slots key ≡ Some (object ∷ [])) × P object
 
--- the counters of the only object at a place are updated, or nothing changes
+-- the counters of the only object of the slot at a place, given its key, are updated, or nothing changes
 abbrev pub UpdatesCounterAt : Ops → Option Term → List Slot → Result Term CounterFault → List Slot → Type 0
-UpdatesCounterAt ops at old (Ok answer) new =
-    HadOneObject old at (λ was.
+UpdatesCounterAt ops key old (Ok answer) new =
+    HadOneObject old key (λ was.
     (object : Term) × (apply_ops ops was ≡ Ok (object, answer))
-    × (new ≡ with_objects_in old at (object ∷ [])))
-UpdatesCounterAt ops at old (Err fault.Badarg) new =
-    HadOneObject old at (λ was. (apply_ops ops was ≡ Err fault.Badarg) × (new ≡ old))
-UpdatesCounterAt ops at old (Err fault.SystemLimit) new =
-    HadOneObject old at (λ was. (apply_ops ops was ≡ Err fault.SystemLimit) × (new ≡ old))
-UpdatesCounterAt ops at old (Err fault.Memory) new = new ≡ old
+    × (new ≡ with_objects_in old key (object ∷ [])))
+UpdatesCounterAt ops key old (Err fault.Badarg) new =
+    HadOneObject old key (λ was. (apply_ops ops was ≡ Err fault.Badarg) × (new ≡ old))
+UpdatesCounterAt ops key old (Err fault.SystemLimit) new =
+    HadOneObject old key (λ was. (apply_ops ops was ≡ Err fault.SystemLimit) × (new ≡ old))
+UpdatesCounterAt ops key old (Err fault.Memory) new = new ≡ old
 
--- elements of the only object at a place are set, or nothing changes
+-- elements of the only object of the slot at a place, given its key, are set, or nothing changes
 abbrev pub UpdatesElementAt : ElementSpecs → Option Term → List Slot → Result (Unit {0}) CounterFault
     → List Slot → Type 0
-UpdatesElementAt specs at old (Ok done) new =
-    HadOneObject old at (λ was.
+UpdatesElementAt specs key old (Ok done) new =
+    HadOneObject old key (λ was.
     (object : Term) × (apply_elements specs was ≡ Ok object)
-    × (new ≡ with_objects_in old at (object ∷ [])))
-UpdatesElementAt specs at old (Err fault.Badarg) new =
-    HadOneObject old at (λ was. (apply_elements specs was ≡ Err fault.Badarg) × (new ≡ old))
-UpdatesElementAt specs at old (Err fault.SystemLimit) new =
-    HadOneObject old at (λ was. (apply_elements specs was ≡ Err fault.SystemLimit) × (new ≡ old))
-UpdatesElementAt specs at old (Err fault.Memory) new = new ≡ old
+    × (new ≡ with_objects_in old key (object ∷ [])))
+UpdatesElementAt specs key old (Err fault.Badarg) new =
+    HadOneObject old key (λ was. (apply_elements specs was ≡ Err fault.Badarg) × (new ≡ old))
+UpdatesElementAt specs key old (Err fault.SystemLimit) new =
+    HadOneObject old key (λ was. (apply_elements specs was ≡ Err fault.SystemLimit) × (new ≡ old))
+UpdatesElementAt specs key old (Err fault.Memory) new = new ≡ old
 
 -- the object that was made is inserted under a key that has none, if the table is below its limit
 abbrev pub InsertsDefaultAt : {X : Type 0} → Bool → Term → Result (Term × X) CounterFault → List Slot

@@ -118,7 +118,7 @@ impl<R: Rows> Table<R> {
             return Err(Refusal::Badarg);
         };
         let entry = self.inner.rows.entry(key);
-        if self.inner.occupied_place(key, entry).is_some() {
+        if self.inner.place_with_objects(key, entry).is_some() {
             return Ok(false);
         }
         if object.is_too_deep() {

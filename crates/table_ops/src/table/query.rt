@@ -185,33 +185,33 @@ impl<R: Rows> Table<R> {
     /// Returns the results of a query. If `key` is given, tests only its objects. No other object may have a result.
     fn collect<P: Projection>(
         &self,
-        query: &Trial<'_, P>,
+        trial: &Trial<'_, P>,
         key: Option<&Term>,
         looks: &mut Looks,
     ) -> Result<Items<Term>, AllocError>
         requires { RequiresKey self.now.content.keypos (option_copied key) (λ object.
-            is_some (P.projects query.now.query.now object)) }
-        ensures answers { ReturnsAllData result (answers_in (P.projects query.now.query.now) self.now.content) }
+            is_some (P.projects trial.now.query.now object)) }
+        ensures answers { ReturnsAllData result (answers_in (P.projects trial.now.query.now) self.now.content) }
         ensures looks { CountsLooks result
             (looks_of_key (option_copied key.entry) self.now.content.slots) looks.old looks.new }
         ensures at_most { looks.new
             ≤ ticks (looks_of_key (option_copied key.entry) self.now.content.slots) looks.old }
         ensures at_least { looks.old ≤ looks.new }
     {
-        let mut found = Vec::new(self.inner.alloc);
-        self.inner.collect(query, key, &mut found, looks)?;
-        Ok(Items::from_vec(found))
+        let mut results = Vec::new(self.inner.alloc);
+        self.inner.collect(trial, key, &mut results, looks)?;
+        Ok(Items::from_vec(results))
     }
 
     /// Returns the number of chosen objects. If `key` is given, tests only its objects. No other object may be chosen.
     fn count_matching<P: Predicate>(
         &self,
-        query: &Trial<'_, P>,
+        trial: &Trial<'_, P>,
         key: Option<&Term>,
         looks: &mut Looks,
     ) -> Result<usize, AllocError>
-        requires { RequiresKey self.now.content.keypos (option_copied key) (P.tests query.now.query.now) }
-        ensures count { Returns result (chosen_in (P.tests query.now.query.now) self.now.content) }
+        requires { RequiresKey self.now.content.keypos (option_copied key) (P.tests trial.now.query.now) }
+        ensures count { Returns result (chosen_in (P.tests trial.now.query.now) self.now.content) }
         ensures few { IfOk result (λ count. count < 2 ^ 32) }
         ensures looks { CountsLooks result
             (looks_of_key (option_copied key.entry) self.now.content.slots) looks.old looks.new }
@@ -219,22 +219,22 @@ impl<R: Rows> Table<R> {
             ≤ ticks (looks_of_key (option_copied key.entry) self.now.content.slots) looks.old }
         ensures at_least { looks.old ≤ looks.new }
     {
-        self.inner.count(query, key, looks)
+        self.inner.count(trial, key, looks)
     }
 
     /// Deletes the chosen objects and returns their number. If `key` is given, only its objects may be chosen.
     fn delete_matching<P: Predicate>(
         &mut self,
-        query: &Trial<'_, P>,
+        trial: &Trial<'_, P>,
         key: Option<&Term>,
         hold: bool,
         looks: &mut Looks,
     ) -> Result<usize, AllocError>
-        requires { RequiresKey self.old.content.keypos (option_copied key) (P.tests query.now.query.now) }
-        ensures count { Returns result (chosen_in (P.tests query.now.query.now) self.old.content) }
+        requires { RequiresKey self.old.content.keypos (option_copied key) (P.tests trial.now.query.now) }
+        ensures count { Returns result (chosen_in (P.tests trial.now.query.now) self.old.content) }
         ensures few { IfOk result (λ count. count < 2 ^ 32) }
         ensures content { OnOk result
-            (self.new.content ≡ without_chosen hold (P.tests query.now.query.now) self.old.content) }
+            (self.new.content ≡ without_chosen hold (P.tests trial.now.query.now) self.old.content) }
         ensures err { OnErr result (self.new.content ≡ self.old.content) }
         ensures looks { CountsLooks result
             (looks_of_key (option_copied key.entry) self.old.content.slots) looks.old looks.new }
@@ -245,7 +245,7 @@ impl<R: Rows> Table<R> {
     {
         self.inner.rows.reveal_invariant();
         let mut plan = DeletePlan::new(self.inner.alloc);
-        let removed = self.inner.plan(query, key, &mut plan, looks)?;
+        let removed = self.inner.plan(trial, key, &mut plan, looks)?;
         self.inner.apply(hold, plan);
         self.count -= removed;
         Ok(removed)

@@ -40,7 +40,7 @@ impl<R: Rows> Table<R> {
             return Err(Refusal::Badarg);
         }
         let entry = self.inner.rows.entry(key);
-        if let Some(place) = self.inner.occupied_place(key, entry) {
+        if let Some(place) = self.inner.place_with_objects(key, entry) {
             return Ok(self.inner.update_counter_at(place, ops)?);
         }
         let Some(default) = default else {
@@ -71,7 +71,7 @@ impl<R: Rows> Table<R> {
             return Err(Refusal::Badarg);
         }
         let entry = self.inner.rows.entry(key);
-        let Some(place) = self.inner.occupied_place(key, entry) else {
+        let Some(place) = self.inner.place_with_objects(key, entry) else {
             return Err(Refusal::Badarg);
         };
         Ok(self.inner.update_one_counter_at(place, op)?)
@@ -103,7 +103,7 @@ impl<R: Rows> Table<R> {
             return Err(Refusal::Badarg);
         }
         let entry = self.inner.rows.entry(key);
-        if let Some(place) = self.inner.occupied_place(key, entry) {
+        if let Some(place) = self.inner.place_with_objects(key, entry) {
             self.inner.update_element_at(place, specs)?;
             return Ok(true);
         }
@@ -134,7 +134,7 @@ impl<R: Rows> Table<R> {
             return Err(Refusal::Badarg);
         }
         let entry = self.inner.rows.entry(key);
-        match self.inner.occupied_place(key, entry) {
+        match self.inner.place_with_objects(key, entry) {
             Some(place) => {
                 self.inner.update_one_element_at(place, position, value)?;
                 Ok(true)

@@ -18,19 +18,19 @@ use ets_term::Term;
 use std::alloc::AllocError;
 
 impl<R: Rows> TableRows<R> {
-    /// Appends the results of the query for all objects to `found`. If `key` is given, tests only the objects of that
+    /// Appends the results of the query for all objects to `results`. If `key` is given, tests only the objects of that
     /// key; no other object may then have a result.
     pub(crate) fn collect<P: Projection>(
         &self,
-        query: &Trial<'_, P>,
+        trial: &Trial<'_, P>,
         key: Option<&Term>,
-        found: &mut Vec<Term>,
+        results: &mut Vec<Term>,
         looks: &mut Looks,
     ) -> Result<(), AllocError>
-        requires { MatchesOnlyKey (λ object. is_some (P.projects query.now.query.now object))
+        requires { MatchesOnlyKey (λ object. is_some (P.projects trial.now.query.now object))
             (option_copied key) (R.content self.now.rows) }
-        ensures answers { AppendsData result found.old.items found.new.items
-            (answers (P.projects query.now.query.now) (all_objects (R.content self.now.rows))) }
+        ensures answers { AppendsData result results.old.items results.new.items
+            (answers (P.projects trial.now.query.now) (all_objects (R.content self.now.rows))) }
         ensures looks { CountsLooks result
             (looks_of_key (option_copied key.entry) (R.content self.now.rows)) looks.old looks.new }
         ensures at_most { looks.new
@@ -38,8 +38,8 @@ impl<R: Rows> TableRows<R> {
         ensures at_least { looks.old ≤ looks.new }
     {
         match key {
-            Some(key) => self.collect_from(query, self.objects_of(key), found, looks),
-            None => self.collect_all(query, found, looks),
+            Some(key) => self.collect_from(trial, self.objects_of(key), results, looks),
+            None => self.collect_all(trial, results, looks),
         }
     }
 
@@ -59,12 +59,12 @@ impl<R: Rows> TableRows<R> {
     #[tactic(auto, using(crate::proofs::QueryLaws::appended))]
     fn collect_all<P: Projection>(
         &self,
-        query: &Trial<'_, P>,
-        found: &mut Vec<Term>,
+        trial: &Trial<'_, P>,
+        results: &mut Vec<Term>,
         looks: &mut Looks,
     ) -> Result<(), AllocError>
-        ensures answers { AppendsData result found.old.items found.new.items
-            (answers (P.projects query.now.query.now) (all_objects (R.content self.now.rows))) }
+        ensures answers { AppendsData result results.old.items results.new.items
+            (answers (P.projects trial.now.query.now) (all_objects (R.content self.now.rows))) }
         ensures looks { CountsLooks result (object_count (R.content self.now.rows)) looks.old looks.new }
         ensures at_most { looks.new ≤ ticks (object_count (R.content self.now.rows)) looks.old }
         ensures at_least { looks.old ≤ looks.new }
@@ -72,7 +72,7 @@ impl<R: Rows> TableRows<R> {
         // Reads the counter only for the proof, which learns that the count is a `u64`.
         let _before = looks.count();
         for (_, objects) in all_of(&self.rows) {
-            self.collect_from(query, objects, found, looks)?;
+            self.collect_from(trial, objects, results, looks)?;
             // The same for the count after this slot.
             let _after = looks.count();
         }
@@ -83,13 +83,13 @@ impl<R: Rows> TableRows<R> {
     #[inline(always)]
     fn collect_from<P: Projection>(
         &self,
-        query: &Trial<'_, P>,
+        trial: &Trial<'_, P>,
         objects: &[Term],
-        found: &mut Vec<Term>,
+        results: &mut Vec<Term>,
         looks: &mut Looks,
     ) -> Result<(), AllocError>
-        ensures answers { AppendsData result found.old.items found.new.items
-            (answers (P.projects query.now.query.now) objects.now) }
+        ensures answers { AppendsData result results.old.items results.new.items
+            (answers (P.projects trial.now.query.now) objects.now) }
         ensures looks { CountsLooks result (length objects.now) looks.old looks.new }
         ensures at_most { looks.new ≤ ticks (length objects.now) looks.old }
         ensures at_least { looks.old ≤ looks.new }
@@ -97,7 +97,7 @@ impl<R: Rows> TableRows<R> {
         // Reads the counter only for the proof, which learns that the count is a `u64`.
         let _before = looks.count();
         for object in objects {
-            self.collect_one(query, object, found, looks)?;
+            self.collect_one(trial, object, results, looks)?;
         }
         Ok(())
     }
@@ -106,17 +106,17 @@ impl<R: Rows> TableRows<R> {
     #[inline(always)]
     fn collect_one<P: Projection>(
         &self,
-        query: &Trial<'_, P>,
+        trial: &Trial<'_, P>,
         object: &Term,
-        found: &mut Vec<Term>,
+        results: &mut Vec<Term>,
         looks: &mut Looks,
     ) -> Result<(), AllocError>
-        ensures answers { AppendsData result found.old.items found.new.items
-            (also (P.projects query.now.query.now object.now) []) }
+        ensures answers { AppendsData result results.old.items results.new.items
+            (also (P.projects trial.now.query.now object.now) []) }
         ensures looks { looks.new ≡ tick looks.old }
     {
-        if let Some(answer) = query.result_of(self.alloc, object, looks)? {
-            found.push(answer)?;
+        if let Some(answer) = trial.result_of(self.alloc, object, looks)? {
+            results.push(answer)?;
         }
         Ok(())
     }

@@ -22,15 +22,15 @@ impl<R: Rows> TableRows<R> {
     /// choose no other object.
     pub(crate) fn count<P: Predicate>(
         &self,
-        query: &Trial<'_, P>,
+        trial: &Trial<'_, P>,
         key: Option<&Term>,
         looks: &mut Looks,
     ) -> Result<usize, AllocError>
         requires few { object_count (R.content self.now.rows) < 2 ^ 32 }
-        requires only_key { MatchesOnlyKey (P.tests query.now.query.now) (option_copied key)
+        requires only_key { MatchesOnlyKey (P.tests trial.now.query.now) (option_copied key)
             (R.content self.now.rows) }
         ensures count { Returns result
-            (chosen_count (P.tests query.now.query.now) (all_objects (R.content self.now.rows))) }
+            (chosen_count (P.tests trial.now.query.now) (all_objects (R.content self.now.rows))) }
         ensures looks { CountsLooks result
             (looks_of_key (option_copied key.entry) (R.content self.now.rows)) looks.old looks.new }
         ensures at_most { looks.new
@@ -38,8 +38,8 @@ impl<R: Rows> TableRows<R> {
         ensures at_least { looks.old ≤ looks.new }
     {
         match key {
-            Some(key) => self.count_in(query, self.objects_of(key), looks),
-            None => self.count_all(query, looks),
+            Some(key) => self.count_in(trial, self.objects_of(key), looks),
+            None => self.count_all(trial, looks),
         }
     }
 
@@ -47,12 +47,12 @@ impl<R: Rows> TableRows<R> {
     #[tactic(auto, using(crate::proofs::QueryLaws::appended))]
     fn count_all<P: Predicate>(
         &self,
-        query: &Trial<'_, P>,
+        trial: &Trial<'_, P>,
         looks: &mut Looks,
     ) -> Result<usize, AllocError>
         requires few { object_count (R.content self.now.rows) < 2 ^ 32 }
         ensures count { Returns result
-            (chosen_count (P.tests query.now.query.now) (all_objects (R.content self.now.rows))) }
+            (chosen_count (P.tests trial.now.query.now) (all_objects (R.content self.now.rows))) }
         ensures looks { CountsLooks result (object_count (R.content self.now.rows)) looks.old looks.new }
         ensures at_most { looks.new ≤ ticks (object_count (R.content self.now.rows)) looks.old }
         ensures at_least { looks.old ≤ looks.new }
@@ -61,7 +61,7 @@ impl<R: Rows> TableRows<R> {
         let _before = looks.count();
         let mut total = 0;
         for (_, objects) in all_of(&self.rows) {
-            total += self.count_in(query, objects, looks)?;
+            total += self.count_in(trial, objects, looks)?;
             // The same for the count after this slot.
             let _after = looks.count();
         }
@@ -71,11 +71,11 @@ impl<R: Rows> TableRows<R> {
     /// Tests these objects and returns the number of chosen objects.
     fn count_in<P: Predicate>(
         &self,
-        query: &Trial<'_, P>,
+        trial: &Trial<'_, P>,
         objects: &[Term],
         looks: &mut Looks,
     ) -> Result<usize, AllocError>
-        ensures count { Returns result (chosen_count (P.tests query.now.query.now) objects.now) }
+        ensures count { Returns result (chosen_count (P.tests trial.now.query.now) objects.now) }
         ensures looks { CountsLooks result (length objects.now) looks.old looks.new }
         ensures at_most { looks.new ≤ ticks (length objects.now) looks.old }
         ensures at_least { looks.old ≤ looks.new }
@@ -84,7 +84,7 @@ impl<R: Rows> TableRows<R> {
         let _before = looks.count();
         let mut count = 0;
         for i in 0..objects.len() {
-            count += self.count_one(query, &objects[i], looks)?;
+            count += self.count_one(trial, &objects[i], looks)?;
         }
         Ok(count)
     }
@@ -92,16 +92,16 @@ impl<R: Rows> TableRows<R> {
     /// Tests one object: returns 1 if it is chosen, else 0.
     fn count_one<P: Predicate>(
         &self,
-        query: &Trial<'_, P>,
+        trial: &Trial<'_, P>,
         object: &Term,
         looks: &mut Looks,
     ) -> Result<usize, AllocError>
         ensures count { Returns result
-            (chosen_count (P.tests query.now.query.now) (object.now ∷ [])) }
+            (chosen_count (P.tests trial.now.query.now) (object.now ∷ [])) }
         ensures one { IfOk result (λ count. count ≤ 1) }
         ensures looks { looks.new ≡ tick looks.old }
     {
-        if query.chooses(self.alloc, object, looks)? {
+        if trial.chooses(self.alloc, object, looks)? {
             return Ok(1);
         }
         Ok(0)

@@ -24,17 +24,17 @@ impl<R: Rows> TableRows<R> {
     /// that key; the query may then choose no other object.
     pub(crate) fn plan<P: Predicate>(
         &self,
-        query: &Trial<'_, P>,
+        trial: &Trial<'_, P>,
         key: Option<&Term>,
         plan: &mut DeletePlan,
         looks: &mut Looks,
     ) -> Result<usize, AllocError>
         requires empty { plan.old.list.items ≡ [] }
         requires few { object_count (R.content self.now.rows) < 2 ^ 32 }
-        requires only_key { MatchesOnlyKey (P.tests query.now.query.now) (option_copied key)
+        requires only_key { MatchesOnlyKey (P.tests trial.now.query.now) (option_copied key)
             (R.content self.now.rows) }
         ensures count { Returns result
-            (chosen_count (P.tests query.now.query.now) (all_objects (R.content self.now.rows))) }
+            (chosen_count (P.tests trial.now.query.now) (all_objects (R.content self.now.rows))) }
         ensures looks { CountsLooks result
             (looks_of_key (option_copied key.entry) (R.content self.now.rows)) looks.old looks.new }
         ensures at_most { looks.new
@@ -42,27 +42,27 @@ impl<R: Rows> TableRows<R> {
         ensures at_least { looks.old ≤ looks.new }
         ensures plan { OnOk result
             (planned_at (R.key_at self.now.rows) plan.new.list.items
-            ≡ plan_of (P.tests query.now.query.now) (R.content self.now.rows)) }
+            ≡ plan_of (P.tests trial.now.query.now) (R.content self.now.rows)) }
     {
         match key {
-            Some(key) => self.plan_key(query, key, plan, looks),
-            None => self.plan_all(query, plan, looks),
+            Some(key) => self.plan_key(trial, key, plan, looks),
+            None => self.plan_all(trial, plan, looks),
         }
     }
 
     /// Plans the deletion of the chosen objects of a key and returns their number.
     fn plan_key<P: Predicate>(
         &self,
-        query: &Trial<'_, P>,
+        trial: &Trial<'_, P>,
         key: &Term,
         plan: &mut DeletePlan,
         looks: &mut Looks,
     ) -> Result<usize, AllocError>
         requires empty { plan.old.list.items ≡ [] }
-        requires only_key { MatchesOnlyKey (P.tests query.now.query.now) (Some key.now)
+        requires only_key { MatchesOnlyKey (P.tests trial.now.query.now) (Some key.now)
             (R.content self.now.rows) }
         ensures count { Returns result
-            (chosen_count (P.tests query.now.query.now) (all_objects (R.content self.now.rows))) }
+            (chosen_count (P.tests trial.now.query.now) (all_objects (R.content self.now.rows))) }
         ensures looks { CountsLooks result
             (length (objects_under (R.content self.now.rows) key.now)) looks.old looks.new }
         ensures at_most { looks.new
@@ -70,33 +70,33 @@ impl<R: Rows> TableRows<R> {
         ensures at_least { looks.old ≤ looks.new }
         ensures plan { OnOk result
             (planned_at (R.key_at self.now.rows) plan.new.list.items
-            ≡ plan_of (P.tests query.now.query.now) (R.content self.now.rows)) }
+            ≡ plan_of (P.tests trial.now.query.now) (R.content self.now.rows)) }
     {
         // Reads the counter only for the proof, which learns that the count is a `u64`.
         let _before = looks.count();
         let Some(place) = self.find(key) else {
             return Ok(0);
         };
-        plan.plan_slot(query, place, self.rows.objects_at(place), looks)
+        plan.plan_slot(trial, place, self.rows.objects_at(place), looks)
     }
 
     /// Tests all objects, plans the deletion of the chosen objects and returns their number.
     fn plan_all<P: Predicate>(
         &self,
-        query: &Trial<'_, P>,
+        trial: &Trial<'_, P>,
         plan: &mut DeletePlan,
         looks: &mut Looks,
     ) -> Result<usize, AllocError>
         requires few { object_count (R.content self.now.rows) < 2 ^ 32 }
         ensures count { Returns result
-            (chosen_count (P.tests query.now.query.now) (all_objects (R.content self.now.rows))) }
+            (chosen_count (P.tests trial.now.query.now) (all_objects (R.content self.now.rows))) }
         ensures looks { CountsLooks result (object_count (R.content self.now.rows)) looks.old looks.new }
         ensures at_most { looks.new ≤ ticks (object_count (R.content self.now.rows)) looks.old }
         ensures at_least { looks.old ≤ looks.new }
         ensures plan { OnOk result
             (planned_at (R.key_at self.now.rows) plan.new.list.items
             ≡ planned_at (R.key_at self.now.rows) plan.old.list.items
-            ++ plan_of (P.tests query.now.query.now) (R.content self.now.rows)) }
+            ++ plan_of (P.tests trial.now.query.now) (R.content self.now.rows)) }
     {
         // Reads the counter only for the proof, which learns that the count is a `u64`.
         let _before = looks.count();
@@ -106,7 +106,7 @@ impl<R: Rows> TableRows<R> {
         for _ in 0..self.rows.len() {
             let Some(place) = at else { unreachable!() };
             let (_, objects) = self.rows.slot_at(place);
-            total += plan.plan_slot(query, place, objects, looks)?;
+            total += plan.plan_slot(trial, place, objects, looks)?;
             at = self.rows.next_place(place);
         }
         Ok(total)
@@ -141,7 +141,7 @@ impl<R: Rows> TableRows<R> {
         if hold || kept.len() > 0 {
             let _ = self.rows.replace_at(place, kept);
         } else {
-            let _ = self.rows.drop_at(place);
+            let _ = self.rows.delete_at(place);
         }
     }
 }

@@ -131,7 +131,7 @@ impl<R: Rows> TableRows<R> {
         };
         match undo {
             Undo::NewSlot => {
-                let _ = self.rows.drop_at(place);
+                let _ = self.rows.delete_at(place);
             }
             Undo::Objects(objects) => {
                 let _ = self.rows.replace_at(place, objects);

@@ -50,11 +50,11 @@ impl<R: Rows> TableRows<R> {
         if hold || self.rows.objects_at(place).is_empty() {
             return self.rows.replace_at(place, Chain::new(self.alloc)).len();
         }
-        self.rows.drop_at(place)
+        self.rows.delete_at(place)
     }
 
     /// Removes all objects that equal `object` from a slot and returns their number. A slot that loses its last object
-    /// is removed, or stays as a tombstone if `hold` is true.
+    /// is removed, or stays as a tombstone if `hold` is true. A slot that already was a tombstone stays.
     pub(crate) fn remove_object_at(&mut self, hold: bool, place: Place, object: &Term) -> usize
         requires { IsSome (R.key_at self.old.rows place) }
         ensures slots { ForKey (R.key_at self.old.rows place) (λ key.
@@ -67,7 +67,7 @@ impl<R: Rows> TableRows<R> {
         if slot_stays(hold, was_tombstone, objects.as_slice()) {
             let _ = self.rows.replace_at(place, objects);
         } else {
-            let _ = self.rows.drop_at(place);
+            let _ = self.rows.delete_at(place);
         }
         count
     }

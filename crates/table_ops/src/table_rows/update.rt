@@ -7,15 +7,15 @@ ghost use Rattle.counters.specs.declared.ops.Ops.TheVariants.{One};
 ghost use Rattle.counters.specs.declared.elements.ElementSpecs.TheVariants as elements;
 ghost use Rattle.table_ops.specs.Put.{SetsObjects};
 ghost use Rattle.table_ops.specs.Update.{may_update, ops_avoid_key, specs_avoid_key, default_is_object};
-ghost use Rattle.table_ops.specs.inside.TableRows.{ChangesSlotsOnly, IsOccupiedPlace};
+ghost use Rattle.table_ops.specs.inside.TableRows.{ChangesSlotsOnly, IsPlaceWithObjects};
 ghost use Rattle.table_ops.specs.inside.Updated.{UpdatesCounterAt, UpdatesElementAt, InsertsDefaultAt};
 
 use super::TableRows;
 use crate::refusal::Refusal;
 use bucket_table::{Place, Rows, SlotEntry};
 use counters::{
-    CounterFault, ElementSpecs, Op, Ops, counter_value, element_value, is_default, update_counter,
-    write_elements,
+    CounterFault, ElementSpecs, Op, Ops, copy_for_element, counter_value, is_default,
+    update_counter, write_elements,
 };
 use ets_term::{Position, Term};
 use node_list::Chain;
@@ -71,10 +71,10 @@ impl<R: Rows> TableRows<R> {
     }
 
     /// Returns the place of the key's slot, if the slot has objects. `entry` is the result of a search for the key.
-    pub(crate) fn occupied_place(&self, key: &Term, entry: SlotEntry) -> Option<Place>
+    pub(crate) fn place_with_objects(&self, key: &Term, entry: SlotEntry) -> Option<Place>
         requires { IsEntry (R.content self.now.rows) (R.hash_of self.now.rows)
             (R.key_at self.now.rows) key.now entry }
-        ensures { IsOccupiedPlace (R.content self.now.rows) (R.key_at self.now.rows) key.now result }
+        ensures { IsPlaceWithObjects (R.content self.now.rows) (R.key_at self.now.rows) key.now result }
     {
         let SlotEntry::Occupied(place) = entry else {
             return None;
@@ -170,7 +170,7 @@ impl<R: Rows> TableRows<R> {
         ensures keeps { ChangesSlotsOnly R.readiness self.old self.new }
     {
         let object = &self.rows.objects_at(place)[0];
-        let copy = element_value(self.alloc, object, position, value)?;
+        let copy = copy_for_element(self.alloc, object, position, value)?;
         let index = position.saturating_sub(1) as usize;
         self.rows.set_element_at(place, index, copy);
         Ok(())

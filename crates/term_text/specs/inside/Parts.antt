@@ -14,31 +14,31 @@ use Rattle.term_text.specs.declared.quote_form.QuoteForm.TheVariants as form
 use Rattle.term_text.specs.Reading.{ReaderFails}
 use Rattle.term_text.specs.Text.{is_blank, is_digit}
 
--- the function ends at an offset from at on, within the text
+-- the function ends at an offset from `at` on, within the text
 abbrev pub EndsWithin : {A E : Type 0} → List ℕ → ℕ → Result (A × ℕ) E → Type 0
 EndsWithin text at result = IfOk result (λ x. (at ≤ x.1) × (x.1 ≤ length text))
 
--- from s before the byte at, the automaton reaches z before the byte n
+-- from the state `s`, before the byte at offset `at`, the automaton reaches the state `z`, before the byte at offset `n`
 abbrev pub Reaches : List ℕ → ℕ → Reading → ℕ → Reading → Type 0
 Reaches text at s n z = read_from at s (drop at text) ≡ read_from n z (drop n text)
 
--- from s before the byte at, the automaton reaches the end of a term in these brackets, or fails
+-- from the state `s`, before the byte at offset `at`, the automaton reaches the end of a term in these brackets, or fails
 abbrev pub ReadsTerm : List ℕ → ℕ → Reading → List OpenBracket → Result (Term × ℕ) TextFault → Type 0
 ReadsTerm text at s os (Ok x) = Reaches text at s x.1 (put os x.0 x.1)
 ReadsTerm text at s os (Err f) = ReaderFails f (read_from at s (drop at text))
 
--- after the digits of a number, which end before the byte n
+-- after the digits of a number, which end before the byte at offset `n`
 abbrev pub counted : ℕ → Number → ℕ → List OpenBracket → Reading
 counted n (integer below) v os = put os (Int (signed below v)) n
 counted n pid v os = expect n (codes ".0>") (whole (Pid v)) os
 counted n identifier v os = expect n (codes ">") (whole (Tid v)) os
 counted n (byte bs) v os = reads_on (after_byte (bs ++ v ∷ [])) os
 
--- the offset after the digits from the byte at on
+-- the offset after the digits that begin at offset `at`
 abbrev pub digits_end : List ℕ → ℕ → ℕ
 digits_end text at = at + prefix_len is_digit (drop at text)
 
--- reads a number whose digits must begin at the byte at, and whose greatest magnitude is limit
+-- reads a number whose digits must begin at offset `at`, and whose greatest magnitude is `limit`
 abbrev pub ReadsNumber : List ℕ → ℕ → ℕ → ℕ → Result (ℕ × ℕ) TextFault → Type 0
 ReadsNumber text at start limit (Ok x) =
     (kind : Number) (os : List OpenBracket) → limit ≡ max_magnitude kind
@@ -47,7 +47,7 @@ ReadsNumber text at start limit (Err f) =
     (kind : Number) (os : List OpenBracket) → limit ≡ max_magnitude kind
     → ReaderFails f (read_from at (reads_on (digit kind start) os) (drop at text))
 
--- reads signs that must begin at the byte at
+-- reads signs that must begin at offset `at`
 abbrev pub ReadsSigns : List ℕ → ℕ → List ℕ → Result ℕ TextFault → Type 0
 ReadsSigns text at signs (Ok n) =
     (goal : Expect) (os : List OpenBracket) → Reaches text at (expect at signs goal os) n (expect n [] goal os)
@@ -80,7 +80,7 @@ RefusesNext at q n out_of_levels None =
 RefusesNext at q n out_of_levels (Some f) =
     (os : List OpenBracket) (s : Reading) → IsOutOfLevels q out_of_levels os → admits at q n os s ≡ fails f
 
--- reads the character at the byte at, after a `\`
+-- reads the character at offset `at`, after a `\`
 abbrev pub ReadsEscaped : List ℕ → ℕ → QuoteForm → Result (ℕ × ℕ) TextFault → Type 0
 ReadsEscaped text at q (Ok x) =
     (cs : List ℕ) (os : List OpenBracket)
@@ -97,7 +97,7 @@ ReadsCharacter text at q out_of_levels n (Err f) =
     (cs : List ℕ) (os : List OpenBracket) → length cs ≡ n → IsOutOfLevels q out_of_levels os
     → ReaderFails f (read_from at (reads_on (quoted q cs) os) (drop at text))
 
--- reads the characters from the byte at on, and the closing quote
+-- reads the characters from offset `at` on, and the closing quote
 abbrev pub ReadsQuoted : List ℕ → ℕ → QuoteForm → Bool → Result (List ℕ × ℕ) TextFault → Type 0
 ReadsQuoted text at q out_of_levels (Ok x) =
     (os : List OpenBracket) → IsOutOfLevels q out_of_levels os
@@ -106,7 +106,7 @@ ReadsQuoted text at q out_of_levels (Err f) =
     (os : List OpenBracket) → IsOutOfLevels q out_of_levels os
     → ReaderFails f (read_from at (reads_on (quoted q []) os) (drop at text))
 
--- reads the bytes of a binary, of which the first must begin at the byte at
+-- reads the bytes of a binary, of which the first must begin at offset `at`
 abbrev pub ReadsBytes : List ℕ → ℕ → Result (List ℕ × ℕ) TextFault → Type 0
 ReadsBytes text at (Ok x) =
     (os : List OpenBracket)

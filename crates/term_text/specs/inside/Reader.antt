@@ -21,7 +21,7 @@ pub data Mode : Type 0 where
   wants : Bool → Mode  -- a term; or, if true, the sign that closes the bracket just opened
   digit : Number → ℕ → Mode  -- the first digit of a number
   number : Number → ℕ → ℕ → Mode  -- a further digit, after those of this value
-  name : ℕ → List ℕ → Mode  -- a further character of an atom without quotes
+  name : ℕ → List ℕ → Mode  -- a further character of an atom without quotes, which began at this offset and has these characters so far
   quoted : QuoteForm → List ℕ → Mode  -- a further character in quotes, or the quote that closes
   escaped : QuoteForm → List ℕ → Mode  -- the quote or `\` after a `\`
   signs : List ℕ → Expect → Mode  -- these signs

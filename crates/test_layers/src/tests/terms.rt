@@ -160,7 +160,7 @@ fn hashes_by_two_hashers(built: Option<Term>) -> Option<(u32, u32)> {
 
 /// Returns whether `AllSame` hashes a tuple to 0, and `Fnv` hashes equal tuples alike but a list of the same items
 /// differently.
-fn tuple_and_list_have_two_hashes(alloc: Global) -> Option<bool> {
+fn tuple_and_list_hash_differently(alloc: Global) -> Option<bool> {
     let (all_same, tuple) = hashes_by_two_hashers(letter_tuple(alloc, "ab"))?;
     let (_, equal_tuple) = hashes_by_two_hashers(letter_tuple(alloc, "ab"))?;
     let (_, list) = hashes_by_two_hashers(letter_list(alloc, "ab"))?;
@@ -169,8 +169,8 @@ fn tuple_and_list_have_two_hashes(alloc: Global) -> Option<bool> {
 
 /// Checks the hashes of a tuple and of a list with the same items, by two hashers.
 #[test]
-fn a_tuple_and_a_list_have_two_hashes(rt: HostRuntime) {
-    assert!(rt; tuple_and_list_have_two_hashes(rt.alloc()) == Some(true));
+fn a_tuple_and_a_list_hash_differently(rt: HostRuntime) {
+    assert!(rt; tuple_and_list_hash_differently(rt.alloc()) == Some(true));
 }
 
 /// Pushes 1, 2 and 3 to empty `Items` and pops the last. Returns whether 3 is popped, and 1 and 2 remain.

@@ -12,7 +12,7 @@ struct Reader {
     alloc: Global,
     /// For each open bracket, the terms before it that are in the same tuple or list.
     open: Vec<Items<Term>>,
-    /// The terms after the last open bracket.
+    /// The terms read so far in the innermost open bracket, or in the whole text if none is open.
     terms: Items<Term>,
     /// The letters of the word in progress.
     word: String,

@@ -204,6 +204,7 @@ fn words_have_their_limits(rt: HostRuntime) {
             ],
             (Processes(4_294_967_294), Tables(4_294_967_295), objects),
         ),
+        // A number may have a leading zero or a plus sign.
         (
             &[
                 "ets_script",

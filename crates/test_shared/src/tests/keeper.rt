@@ -24,16 +24,16 @@ impl Gate for OpenGate {
 /// A number of steps that is greater than the number of pending steps at any time.
 const MANY_STEPS: u32 = 1_000_000;
 
-/// Runs pending steps until `are_through` says that the clients have done their jobs, and once more after that. `R:
-/// Wait` allows a loop without a bound, as `forever` is.
+/// Runs pending steps until `clients_are_done`, which says that the clients have done their jobs, and once more after
+/// that. `R: Wait` allows a loop without a bound, such as `forever`.
 fn keep_until<L: Ledger, H: KeyHash + Copy + Drop, R: Wait>(
     rt: &R,
     shared: &Shared<L, H>,
-    are_through: &AtomicBool,
+    clients_are_done: &AtomicBool,
 ) {
     for _ in rt.forever() {
         // Read before `keep` runs, so that `keep` runs once more after the jobs.
-        let is_last = are_through.load(Ordering::SeqCst);
+        let is_last = clients_are_done.load(Ordering::SeqCst);
         let _steps_run = keep(rt, shared, MANY_STEPS);
         if is_last {
             return;
@@ -54,12 +54,12 @@ pub(super) fn run_while_keeping<
     shared: &Shared<L, H>,
     work: Vec<(Client<L>, Vec<Job>)>,
 ) -> Option<Vec<Client<L>>> {
-    let are_through = AtomicBool::new(false);
-    let workers = run_side_by_side(rt, alloc, shared, work, &are_through).ok()?;
+    let clients_are_done = AtomicBool::new(false);
+    let workers = run_side_by_side(rt, alloc, shared, work, &clients_are_done).ok()?;
     clients_of_workers(alloc, workers)
 }
 
-/// Runs the pending steps in one thread, and the jobs of the clients in others. Sets `are_through` after the jobs.
+/// Runs the pending steps in one thread, and the jobs of the clients in others. Sets `clients_are_done` after the jobs.
 /// Returns what the clients have done. The closures require that threads may share the runtime (`IsSync`).
 fn run_side_by_side<
     L: Ledger + Send + Sync,
@@ -70,18 +70,18 @@ fn run_side_by_side<
     alloc: Global,
     shared: &Shared<L, H>,
     work: Vec<(Client<L>, Vec<Job>)>,
-    are_through: &AtomicBool,
+    clients_are_done: &AtomicBool,
 ) -> Result<Vec<Worked<L>>, AllocError> {
     let ((), workers) = thread::join(
         rt,
         move || -> ()
             requires { IsSync R.row }
-        { keep_until(rt, shared, are_through) },
+        { keep_until(rt, shared, clients_are_done) },
         move || -> Result<Vec<Worked<L>>, AllocError>
             requires { IsSync R.row }
         {
             let workers = run_clients(rt, alloc, shared, work, &OpenGate);
-            are_through.store(true, Ordering::SeqCst);
+            clients_are_done.store(true, Ordering::SeqCst);
             workers
         },
     );

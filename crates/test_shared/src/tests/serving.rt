@@ -6,9 +6,7 @@
 ghost use Rattle.std.specs.Prelude.{◌≡◌};
 ghost use Rattle.std.specs.Thread.{IsSync};
 
-use super::calls::{
-    FILL_T, FILL_U, build_call, build_calls, build_formatted_call, caller_gets_value, expect_value,
-};
+use super::calls::{FILL_T, FILL_U, build_call, build_calls, build_formatted_call, expect_value};
 use super::{draw, join_callers, limits};
 use ets_term::{Fnv, KeyHash, Term};
 use node_core::{Call, Limits, Reply};
@@ -26,8 +24,7 @@ const FILL_V: [&str; 2] = [
     "[v,[{1},{2},{3},{4},{5},{6},{7},{8},{9}]]",
 ];
 
-/// Makes a table of a caller, and inserts nine objects. `arguments` are those of both calls. The replies are not
-/// checked, since the pending growth steps show that both succeeded.
+/// Makes a table of a caller, and inserts nine objects. `arguments` are those of both calls.
 fn fill_table<B: HistoryId, R: Wait>(
     rt: &R,
     alloc: Global,
@@ -36,9 +33,8 @@ fn fill_table<B: HistoryId, R: Wait>(
     arguments: [&str; 2],
 ) -> Option<()> {
     let [new, objects] = arguments;
-    caller_gets_value(rt, alloc, server, caller, ("new", new))?;
-    caller_gets_value(rt, alloc, server, caller, ("insert", objects))?;
-    Some(())
+    expect_value(rt, alloc, server, caller, ("new", new))?;
+    expect_value(rt, alloc, server, caller, ("insert", objects))
 }
 
 /// Makes a table, inserts nine objects and runs three growth steps, by `ask_all`, which holds the lock once. Returns
@@ -120,8 +116,8 @@ fn server_serves_one_caller<B: HistoryId, R: Wait>(
     Some(is_refused && is_served)
 }
 
-/// Creates a server for one process. Returns whether it runs pending steps, and refuses a second process and calls
-/// after the end.
+/// Creates a server; `limits` allows one process. Returns whether it runs pending steps, and refuses a second process
+/// and calls after the end.
 fn new_server_serves_one_caller<B: HistoryId, R: Wait>(
     rt: &R,
     alloc: Global,
@@ -165,9 +161,9 @@ fn insertions(alloc: Global, first: u32) -> Option<Vec<Call>> {
     let mut calls = Vec::new(alloc);
     for number in 0..INSERTIONS {
         let key = first.wrapping_add(number);
-        let object = format!(in alloc; "[t,{{{key}}}]");
+        let arguments = format!(in alloc; "[t,{{{key}}}]");
         calls
-            .push(build_formatted_call(alloc, ("insert", object))?)
+            .push(build_formatted_call(alloc, ("insert", arguments))?)
             .ok()?;
     }
     calls.push(build_call(alloc, ("info", "[t,size]"))?).ok()?;

@@ -142,14 +142,23 @@ fn answer_code<R: Rows>(alloc: Global, table: &mut Table<R>, step: Step) -> Inte
 }
 
 /// Runs a step, and returns whether it has this answer.
-fn step_answers<R: Rows>(alloc: Global, table: &mut Table<R>, step: Step, wanted: Answer) -> bool {
+fn step_has_answer<R: Rows>(
+    alloc: Global,
+    table: &mut Table<R>,
+    step: Step,
+    wanted: Answer,
+) -> bool {
     answer_code(alloc, table, step) == wanted.code()
 }
 
 /// Runs steps in order, and returns whether each has its answer.
-fn steps_answer<R: Rows>(alloc: Global, table: &mut Table<R>, steps: &[(Step, Answer)]) -> bool {
+fn steps_have_answers<R: Rows>(
+    alloc: Global,
+    table: &mut Table<R>,
+    steps: &[(Step, Answer)],
+) -> bool {
     for (step, wanted) in steps {
-        if !step_answers(alloc, table, *step, *wanted) {
+        if !step_has_answer(alloc, table, *step, *wanted) {
             return false;
         }
     }

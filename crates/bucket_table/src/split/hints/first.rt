@@ -1,5 +1,5 @@
 //! A hint caches the place of the first item of an interval. It changes if an insertion gives the interval a new first
-//! item, or if a removal takes the first item.
+//! item, or if the first item is removed.
 
 ghost use Rattle.std.specs.Prelude.{◌≡◌, ◌/◌, ◌^◌, true, false, None, get_or};
 ghost use Rattle.bucket_table.specs.inside.Directory.{HaveParity};
@@ -26,7 +26,7 @@ impl Hints {
             Some(None) => true,
             Some(Some(first)) => {
                 list.reveal_invariant();
-                split_key < list.key(first)
+                split_key < list.split_key(first)
             }
         }
     }
@@ -42,7 +42,7 @@ impl Hints {
         let Some(next) = list.after(at) else {
             return Hint::empty();
         };
-        let split_key = list.key(next);
+        let split_key = list.split_key(next);
         if self.interval_of(split_key) != interval {
             return Hint::empty();
         }

@@ -26,12 +26,12 @@ impl Hints {
         let interval_bits = self.interval_bits;
         let mut at = start;
         while let Some(next) = list.after(at) {
-            let found = list.key(next);
-            if found >> interval_bits > split_key >> interval_bits {
+            let next_split_key = list.split_key(next);
+            if next_split_key >> interval_bits > split_key >> interval_bits {
                 return (at, Hint::empty());
             }
-            if found >> interval_bits == split_key >> interval_bits {
-                if found % 2 == 1 {
+            if next_split_key >> interval_bits == split_key >> interval_bits {
+                if next_split_key % 2 == 1 {
                     return (at, Hint::at(next));
                 }
                 return (at, Hint::unknown());
@@ -55,7 +55,7 @@ impl Hints {
         if self.current.get(interval).is_some() {
             return start;
         }
-        if self.interval_of(list.key(start)) >= interval {
+        if self.interval_of(list.split_key(start)) >= interval {
             return start;
         }
         let (at, hint) = self.scan_to_interval(list, split_key, start);

@@ -1,5 +1,6 @@
-//! After a doubling, each insertion splits a few of the previous hints: those of the old number of buckets. A hint
-//! caches the place of the first item of an interval. A previous interval is two current intervals, a *pair*.
+//! After a doubling, each insertion splits a few of the previous hints, those of the old number of buckets, and each
+//! removal splits that of its interval. A hint caches the place of the first item of an interval. A previous interval
+//! is two current intervals, a *pair*.
 
 ghost use Rattle.std.specs.Prelude.{◌≡◌, ◌+◌, ◌*◌, ◌/◌, ◌^◌, None, get_or};
 ghost use Rattle.bucket_table.specs.inside.Intervals.{HintsAreSound, IsSoundHint};
@@ -21,7 +22,7 @@ impl Hints {
             Some(None) => (Hint::empty(), Hint::empty()),
             Some(Some(first)) => {
                 list.reveal_invariant();
-                if self.interval_of(list.key(first)) % 2 == 1 {
+                if self.interval_of(list.split_key(first)) % 2 == 1 {
                     (Hint::empty(), Hint::at(first))
                 } else {
                     (Hint::at(first), Hint::unknown())
@@ -30,7 +31,8 @@ impl Hints {
         }
     }
 
-    /// Rehashes one previous hint: sets the current hints of the two halves of its interval, and then forgets it.
+    /// Rehashes one previous hint: sets the current hints of the two halves of its interval, if they are unknown. The
+    /// previous hint is unknown afterwards.
     fn rehash_pair(&mut self, list: &NodeList, pair: usize)
         requires hints { HintsAreSound self.old list.now.cells }
         ensures hints { HintsAreSound self.new list.now.cells }

@@ -1,5 +1,6 @@
-//! When a bucket becomes ready, one scan sets all its hints, and one those of its parent if that is ready. The parent
-//! is the bucket that a doubling split to create this bucket. A hint caches the place of the first item of an interval.
+//! When a bucket becomes ready, one scan sets all its hints, and another sets those of its parent if that is ready. The
+//! parent is the bucket that a doubling split to create this bucket. A hint caches the place of the first item of an
+//! interval.
 
 ghost use Rattle.std.specs.Prelude.{◌≡◌, ◌<◌, Some, None, length, get_or};
 ghost use Rattle.bucket_table.specs.inside.SplitIndex.{RowsInvariant, KeepsDirectory};
@@ -54,7 +55,7 @@ impl<H: KeyHash + Copy + Drop> SplitIndex<H> {
         let hints = &mut self.hints;
         let mut at = list.after(start);
         while let Some(place) = at {
-            let split_key = list.key(place);
+            let split_key = list.split_key(place);
             let interval = hints.interval_of(split_key);
             if interval >= end {
                 return;

@@ -66,7 +66,7 @@ impl<H: KeyHash + Copy + Drop> SplitIndex<H> {
         ensures rehashed { get_or self.new.hints.previous (result / 2 ^ self.new.hints.interval_bits / 2) None
             ≡ None }
     {
-        let split_key = self.list.key(at);
+        let split_key = self.list.split_key(at);
         self.hints.rehash_interval(&self.list, split_key);
         split_key
     }

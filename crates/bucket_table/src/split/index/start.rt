@@ -14,8 +14,8 @@ use node_list::At;
 use split_key::{dummy_key, item_key};
 
 impl<H: KeyHash + Copy + Drop> SplitIndex<H> {
-    /// Returns a node before all items with a split key: the first item of a near interval by the hints, or the dummy
-    /// of the nearest ready bucket. It computes the hash only if `near_start` finds no node.
+    /// Returns a node before all items with this split key: the first item of a near interval by the hints, or the
+    /// dummy of the nearest ready bucket. It computes the hash only if `near_start` finds no node.
     pub fn search_start(&self, split_key: u64) -> At
         requires rows { RowsInvariant H.hash self.now }
         requires small { split_key < 2 ^ 33 }
@@ -38,14 +38,14 @@ impl<H: KeyHash + Copy + Drop> SplitIndex<H> {
         self.list.reveal_invariant();
         let interval = self.hints.interval_of(split_key);
         if let Some(Some(first)) = self.hints.current.get(interval) {
-            if self.list.key(first) < split_key {
+            if self.list.split_key(first) < split_key {
                 return Some(first);
             }
         }
         self.hints.bucket_hint_below(interval)
     }
 
-    /// Returns a node before all items with a hash: the first item of a lower interval by the hints, or the dummy of
+    /// Returns a node before all items with this hash: the first item of a lower interval by the hints, or the dummy of
     /// the nearest ready bucket.
     #[inline(never)]
     fn far_start(&self, hash: u32) -> At
@@ -63,7 +63,7 @@ impl<H: KeyHash + Copy + Drop> SplitIndex<H> {
         }
     }
 
-    /// Returns a node from which the dummy of a bucket can be inserted.
+    /// Returns a node at which the insertion of a bucket's dummy can start.
     pub fn dummy_start(&self, bucket: u32) -> At
         requires rows { RowsInvariant H.hash self.now }
         requires below { bucket < length self.now.directory }

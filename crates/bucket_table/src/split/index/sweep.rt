@@ -1,5 +1,5 @@
-//! A sweep scans all nodes of the list, or those around one hash, and removes or empties slots. A tombstone is a slot
-//! without objects.
+//! A sweep scans all nodes of the list, and removes or empties slots. A purge by the tombstone log scans only the nodes
+//! near each logged hash. A tombstone is a slot without objects.
 
 ghost use Rattle.std.specs.Prelude.{◌≡◌, ℕ, ◌+◌, ◌≤◌, List, ◌∷◌, Some, length};
 ghost use Rattle.node_list.specs.Places.{IsPlaceOf, place_after};
@@ -65,7 +65,7 @@ impl<H: KeyHash + Copy + Drop> SplitIndex<H> {
         }
     }
 
-    /// Removes the tombstones of a hash.
+    /// Removes the tombstones whose keys have this hash, and any other that the scan for them meets.
     fn purge_hash(&mut self, hash: u32)
         requires rows { RowsInvariant H.hash self.old }
         ensures rows { RowsInvariant H.hash self.new }
@@ -81,7 +81,7 @@ impl<H: KeyHash + Copy + Drop> SplitIndex<H> {
         let mut at = self.search_start(split_key);
         while let Some(next) = self.list.after(at) {
             self.list.reveal_invariant();
-            if split_key < self.list.key(next) {
+            if split_key < self.list.split_key(next) {
                 return;
             }
             at = self.sweep_next(SweepMode::RemoveTombstones, at, next);

@@ -5,7 +5,7 @@ use Rattle.node_core.proofs.walk.run_steps.Goals as goal
 
 pub loop-step-preserved : goal.loop-step-preserved
 loop-step-preserved g c =
-    let xs = c.args.given.now in
+    let xs = c.args.steps.now in
     let i = c.loop-step.step-index in
     let item = c.loop-step-item.result in
     let within : i < length xs = omega arith in

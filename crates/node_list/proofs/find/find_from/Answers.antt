@@ -10,30 +10,30 @@ use Rattle.node_list.proofs.WalkLaws.{cells_from-step, cells_from-step_at, walk-
 use Rattle.node_list.proofs.CellLaws.{search-past, search-here, search-on}
 use Rattle.node_list.proofs.TickLaws.{tick-on, ticks-none, tick-in_range, ticks-one}
 use Rattle.node_list.proofs.find.find_from.Goals as goal
-use Rattle.node_list.proofs.find.find_from.Goals.{else-node-key-via-then-node-key+else-holds, else-node-key-via-else-node-key}
+use Rattle.node_list.proofs.find.find_from.Goals.{else-node-split_key-via-then-node-split_key+else-holds, else-node-split_key-via-else-node-split_key}
 
 pub read-node-requires : goal.read-node-requires
 read-node-requires c =
     let h = rw c.in-Some.is at c.loop-at.invariant.linked in
     rw (cells_from-step c.args.nodes.nodes.now c.in-Some.place h).1.at refl
 
-pub returns-then-key-node-clause-found : goal.returns-then-key-node-clause-found
-returns-then-key-node-clause-found c =
+pub returns-then-split_key-node-clause-found : goal.returns-then-split_key-node-clause-found
+returns-then-split_key-node-clause-found c =
     let s = c.args.nodes.nodes.now in
     let node = (node_of_ref c.read-node.result) in
     let h = rw c.in-Some.is at c.loop-at.invariant.linked in
     let st = cells_from-step_at c.args.nodes.nodes.now c.in-Some.place (node_of_ref c.read-node.result) h c.read-node.ensures.node in
     let o : Sorted (cell_of c.in-Some.place (node_of_ref c.read-node.result) ∷ cells_from c.args.nodes.nodes.now (node_of_ref c.read-node.result).next) = rw (c.in-Some.is, st.is) at c.loop-at.invariant.sorted in
-    let f = search-past c.args.key c.args.term.now (cell_of c.in-Some.place (node_of_ref c.read-node.result)) (cells_from c.args.nodes.nodes.now (node_of_ref c.read-node.result).next) o c.if-key-node.true in
+    let f = search-past c.args.split_key c.args.term.now (cell_of c.in-Some.place (node_of_ref c.read-node.result)) (cells_from c.args.nodes.nodes.now (node_of_ref c.read-node.result).next) o c.if-split_key-node.true in
     let inv = rw (c.in-Some.is, st.is, f.found) at c.loop-at.invariant.found in
     inv
 
-pub returns-then-key-node-clause-ticks : goal.returns-then-key-node-clause-ticks
-returns-then-key-node-clause-ticks c =
+pub returns-then-split_key-node-clause-ticks : goal.returns-then-split_key-node-clause-ticks
+returns-then-split_key-node-clause-ticks c =
     let h = rw c.in-Some.is at c.loop-at.invariant.linked in
     let st = cells_from-step_at c.args.nodes.nodes.now c.in-Some.place (node_of_ref c.read-node.result) h c.read-node.ensures.node in
     let o : Sorted (cell_of c.in-Some.place (node_of_ref c.read-node.result) ∷ cells_from c.args.nodes.nodes.now (node_of_ref c.read-node.result).next) = rw (c.in-Some.is, st.is) at c.loop-at.invariant.sorted in
-    let f = search-past c.args.key c.args.term.now (cell_of c.in-Some.place (node_of_ref c.read-node.result)) (cells_from c.args.nodes.nodes.now (node_of_ref c.read-node.result).next) o c.if-key-node.true in
+    let f = search-past c.args.split_key c.args.term.now (cell_of c.in-Some.place (node_of_ref c.read-node.result)) (cells_from c.args.nodes.nodes.now (node_of_ref c.read-node.result).next) o c.if-split_key-node.true in
     let inv = rw (c.in-Some.is, st.is, f.passed) at c.loop-at.invariant.ticked in
     c.read-node.ensures.ticks ∙ (sym (ticks-one c.loop-at.steps) ∙ inv)
 
@@ -41,7 +41,7 @@ pub returns-then-holds-clause-found : goal.returns-then-holds-clause-found
 returns-then-holds-clause-found c =
     let h = rw c.in-Some.is at c.loop-at.invariant.linked in
     let st = cells_from-step_at c.args.nodes.nodes.now c.in-Some.place (node_of_ref c.read-node.result) h c.read-node.ensures.node in
-    let f = search-here c.args.key c.args.term.now (cell_of c.in-Some.place (node_of_ref c.read-node.result)) (cells_from c.args.nodes.nodes.now (node_of_ref c.read-node.result).next) c.if-node-key.true (sym c.holds.ensures ∙ c.if-holds.true) in
+    let f = search-here c.args.split_key c.args.term.now (cell_of c.in-Some.place (node_of_ref c.read-node.result)) (cells_from c.args.nodes.nodes.now (node_of_ref c.read-node.result).next) c.if-node-split_key.true (sym c.holds.ensures ∙ c.if-holds.true) in
     let inv = rw (c.in-Some.is, st.is, f.found) at c.loop-at.invariant.found in
     inv
 
@@ -49,7 +49,7 @@ pub returns-then-holds-clause-ticks : goal.returns-then-holds-clause-ticks
 returns-then-holds-clause-ticks c =
     let h = rw c.in-Some.is at c.loop-at.invariant.linked in
     let st = cells_from-step_at c.args.nodes.nodes.now c.in-Some.place (node_of_ref c.read-node.result) h c.read-node.ensures.node in
-    let f = search-here c.args.key c.args.term.now (cell_of c.in-Some.place (node_of_ref c.read-node.result)) (cells_from c.args.nodes.nodes.now (node_of_ref c.read-node.result).next) c.if-node-key.true (sym c.holds.ensures ∙ c.if-holds.true) in
+    let f = search-here c.args.split_key c.args.term.now (cell_of c.in-Some.place (node_of_ref c.read-node.result)) (cells_from c.args.nodes.nodes.now (node_of_ref c.read-node.result).next) c.if-node-split_key.true (sym c.holds.ensures ∙ c.if-holds.true) in
     let inv = rw (c.in-Some.is, st.is, f.passed) at c.loop-at.invariant.ticked in
     c.read-node.ensures.ticks ∙ (sym (ticks-one c.loop-at.steps) ∙ inv)
 
@@ -65,12 +65,12 @@ loop-at-preserved c =
     let h = rw c.in-Some.is at c.loop-at.invariant.linked in
     let st = cells_from-step_at c.args.nodes.nodes.now c.in-Some.place (node_of_ref c.read-node.result) h c.read-node.ensures.node in
     let o : Sorted (cell_of c.in-Some.place (node_of_ref c.read-node.result) ∷ cells_from c.args.nodes.nodes.now (node_of_ref c.read-node.result).next) = rw (c.in-Some.is, st.is) at c.loop-at.invariant.sorted in
-    let not_it : is_it c.args.key c.args.term.now (cell_of c.in-Some.place (node_of_ref c.read-node.result)) ≡ false =
-    elim c.else-node-key.branch [
-      | else-node-key-via-then-node-key+else-holds w ↦ grind (arith, nat_tests, w.holds.ensures, w.if-holds.false)
-      | else-node-key-via-else-node-key w ↦ grind (arith, nat_tests, w.if-node-key.false)
+    let not_it : is_it c.args.split_key c.args.term.now (cell_of c.in-Some.place (node_of_ref c.read-node.result)) ≡ false =
+    elim c.else-node-split_key.branch [
+      | else-node-split_key-via-then-node-split_key+else-holds w ↦ grind (arith, nat_tests, w.holds.ensures, w.if-holds.false)
+      | else-node-split_key-via-else-node-split_key w ↦ grind (arith, nat_tests, w.if-node-split_key.false)
     ] in
-    let f = search-on c.args.key c.args.term.now (cell_of c.in-Some.place (node_of_ref c.read-node.result)) (cells_from c.args.nodes.nodes.now (node_of_ref c.read-node.result).next) c.if-key-node.false not_it in
+    let f = search-on c.args.split_key c.args.term.now (cell_of c.in-Some.place (node_of_ref c.read-node.result)) (cells_from c.args.nodes.nodes.now (node_of_ref c.read-node.result).next) c.if-split_key-node.false not_it in
     let L : Option ℕ → Type 0 = λ z. IsLinked c.args.nodes.nodes.now z in
     let S : Option ℕ → Type 0 = λ z. Sorted (cells_from c.args.nodes.nodes.now z) in
     let R : ℕ → Type 0 = λ n. n < 2 ^ 64 in
@@ -79,12 +79,12 @@ loop-at-preserved c =
     record {
       linked = subst L (sym c.get-at.ensures) st.onward;
       sorted = subst S (sym c.get-at.ensures) o.1;
-      found = ap (λ (z : Option ℕ). place_of c.args.key c.args.term.now (cells_from c.args.nodes.nodes.now z)) c.get-at.ensures ∙ (sym f.found ∙ found);
+      found = ap (λ (z : Option ℕ). place_of c.args.split_key c.args.term.now (cells_from c.args.nodes.nodes.now z)) c.get-at.ensures ∙ (sym f.found ∙ found);
       in_range = λ _. subst R (sym c.read-node.ensures.ticks) (tick-in_range c.loop-at.steps);
       ticked =
-          ap (λ (z : Option ℕ). ticks (length (passed c.args.key c.args.term.now (cells_from c.args.nodes.nodes.now z))) c.read-node.new.steps) c.get-at.ensures
-          ∙ (ap (ticks (length (passed c.args.key c.args.term.now (cells_from c.args.nodes.nodes.now (node_of_ref c.read-node.result).next)))) c.read-node.ensures.ticks
-          ∙ (sym (tick-on c.loop-at.steps (length (passed c.args.key c.args.term.now (cells_from c.args.nodes.nodes.now (node_of_ref c.read-node.result).next)))) ∙ ticked));
+          ap (λ (z : Option ℕ). ticks (length (passed c.args.split_key c.args.term.now (cells_from c.args.nodes.nodes.now z))) c.read-node.new.steps) c.get-at.ensures
+          ∙ (ap (ticks (length (passed c.args.split_key c.args.term.now (cells_from c.args.nodes.nodes.now (node_of_ref c.read-node.result).next)))) c.read-node.ensures.ticks
+          ∙ (sym (tick-on c.loop-at.steps (length (passed c.args.split_key c.args.term.now (cells_from c.args.nodes.nodes.now (node_of_ref c.read-node.result).next)))) ∙ ticked));
     }
 
 pub returns-clause-found : goal.returns-clause-found

@@ -9,9 +9,9 @@ abbrev pub invariant-loop-at : goal.invariant-loop-at
 invariant-loop-at l = record {
   linked : IsLinked l.nodes.nodes.now l.at;
   sorted : Sorted (cells_from l.nodes.nodes.now l.at);
-  found : place_of l.key l.term (cells_from l.nodes.nodes.now l.at) ≡ place_of l.key l.term (cells_from l.nodes.nodes.now (Some l.start));
+  found : place_of l.split_key l.term (cells_from l.nodes.nodes.now l.at) ≡ place_of l.split_key l.term (cells_from l.nodes.nodes.now (Some l.start));
   in_range : l.at ≡ None → l.steps < 2 ^ 64;
-  ticked : ticks (length (passed l.key l.term (cells_from l.nodes.nodes.now l.at))) l.steps ≡ ticks (length (passed l.key l.term (cells_from l.nodes.nodes.now (Some l.start)))) l.initial.steps;
+  ticked : ticks (length (passed l.split_key l.term (cells_from l.nodes.nodes.now l.at))) l.steps ≡ ticks (length (passed l.split_key l.term (cells_from l.nodes.nodes.now (Some l.start)))) l.initial.steps;
 }
 
 abbrev pub decreases-loop-at : goal.decreases-loop-at

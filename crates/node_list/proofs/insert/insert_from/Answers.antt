@@ -9,33 +9,33 @@ use Rattle.node_list.proofs.insert.insert_from.Goals as goal
 use Rattle.node_list.proofs.insert.insert_from.Goals.{After-set_next}
 
 pub last_not_above-last-requires-clause-linked : goal.last_not_above-last-requires-clause-linked
-last_not_above-last-requires-clause-linked c = (start-spot c.args.nodes.now c.args.key c.args.start c.requires.linked c.requires.sorted c.requires.start).linked
+last_not_above-last-requires-clause-linked c = (start-spot c.args.nodes.now c.args.split_key c.args.start c.requires.linked c.requires.sorted c.requires.start).linked
 
 pub last_not_above-last-requires-clause-up_to : goal.last_not_above-last-requires-clause-up_to
-last_not_above-last-requires-clause-up_to c = (start-spot c.args.nodes.now c.args.key c.args.start c.requires.linked c.requires.sorted c.requires.start).up_to
+last_not_above-last-requires-clause-up_to c = (start-spot c.args.nodes.now c.args.split_key c.args.start c.requires.linked c.requires.sorted c.requires.start).up_to
 
 pub header-next-requires : goal.header-next-requires
 header-next-requires c =
-    let spot = (start-spot c.args.nodes.now c.args.key c.args.start c.requires.linked c.requires.sorted c.requires.start).spot in
-    let found = spot-node (get c.args.nodes.now) c.args.key (last_not_above_in c.args.key c.args.start (cells_from c.args.nodes.now (Some c.args.start))) (Some 0) (cells_from c.args.nodes.now (Some 0)) c.requires.linked.links spot in
+    let spot = (start-spot c.args.nodes.now c.args.split_key c.args.start c.requires.linked c.requires.sorted c.requires.start).spot in
+    let found = spot-node (get c.args.nodes.now) c.args.split_key (last_not_above_in c.args.split_key c.args.start (cells_from c.args.nodes.now (Some c.args.start))) (Some 0) (cells_from c.args.nodes.now (Some 0)) c.requires.linked.links spot in
     let P : Option ListNode → Type 0 = λ o. IsSome o in
     subst P (sym (ap (get c.args.nodes.now) c.last_not_above-last.ensures ∙ found.1)) refl
 
 -- the list after the link leads to the new node
-done : (c : After-set_next) → Inserted c.args.nodes.now c.set_next.new.self (new_cell c.insert_reserved-place.result c.args.key c.args.item)
+done : (c : After-set_next) → Inserted c.args.nodes.now c.set_next.new.self (new_cell c.insert_reserved-place.result c.args.split_key c.args.item)
 done c =
     let old = c.args.nodes.now in
     let m = c.insert_reserved-place.new.self in
     let at = c.insert_reserved-place.result in
     let last = c.last_not_above-last.result in
     let n = c.set_next.ensures.node in
-    let x = new_cell at c.args.key c.args.item in
+    let x = new_cell at c.args.split_key c.args.item in
     let U : Option ℕ → Type 0 = λ o. Updates old m at (Some (node_of x o)) in
     let I : Option ℕ → Type 0 = λ o. Inserted old (with_value m last (record n { next = o })) x in
     let V : Slab ListNode → Type 0 = λ v. Inserted old v x in
     let len = with_value-len m last n (record n { next = Some at }) c.set_next.ensures.was in
     subst V (sym c.set_next.ensures.now) (subst I (sym c.to.ensures)
-    (insert-list old m x c.args.start last c.header-next.ensures.node n (start-spot old c.args.key c.args.start c.requires.linked c.requires.sorted c.requires.start)
+    (insert-list old m x c.args.start last c.header-next.ensures.node n (start-spot old c.args.split_key c.args.start c.requires.linked c.requires.sorted c.requires.start)
     c.requires.linked c.last_not_above-last.ensures c.header-next.ensures.is c.insert_reserved-place.ensures.was_vacant (subst U (sym c.header-next.ensures.next) c.insert_reserved-place.ensures.updates)
     c.insert_reserved-place.ensures.len c.set_next.ensures.was (len ∙ c.insert_reserved-place.ensures.len)))
 

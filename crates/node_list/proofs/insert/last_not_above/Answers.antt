@@ -9,22 +9,22 @@ header-requires-in-Some c =
     let on = rw (c.header.ensures.next ∙ (sym c.get.ensures ∙ c.in-Some.is)) at st.onward in
     rw (cells_from-step c.args.nodes.now c.in-Some.place on).1.at refl
 
-pub returns-then-key-header : goal.returns-then-key-header
-returns-then-key-header c =
-    sym ((last_not_above-step c.args.nodes.now c.args.key c.loop-place.last c.in-Some.place c.header.ensures.node c.header-in-Some.ensures.node c.loop-place.invariant.linked c.loop-place.invariant.up_to c.header.ensures.is (c.header.ensures.next ∙ (sym c.get.ensures ∙ c.in-Some.is)) c.header-in-Some.ensures.is).past (omega (arith, c.if-key-header.true, c.header-in-Some.ensures.key))) ∙ c.loop-place.invariant.same
+pub returns-then-split_key-header : goal.returns-then-split_key-header
+returns-then-split_key-header c =
+    sym ((last_not_above-step c.args.nodes.now c.args.split_key c.loop-place.last c.in-Some.place c.header.ensures.node c.header-in-Some.ensures.node c.loop-place.invariant.linked c.loop-place.invariant.up_to c.header.ensures.is (c.header.ensures.next ∙ (sym c.get.ensures ∙ c.in-Some.is)) c.header-in-Some.ensures.is).past (omega (arith, c.if-split_key-header.true, c.header-in-Some.ensures.key))) ∙ c.loop-place.invariant.same
 
 pub loop-place-smaller : goal.loop-place-smaller
-loop-place-smaller c = (last_not_above-step c.args.nodes.now c.args.key c.loop-place.last c.in-Some.place c.header.ensures.node c.header-in-Some.ensures.node c.loop-place.invariant.linked c.loop-place.invariant.up_to c.header.ensures.is (c.header.ensures.next ∙ (sym c.get.ensures ∙ c.in-Some.is)) c.header-in-Some.ensures.is).smaller
+loop-place-smaller c = (last_not_above-step c.args.nodes.now c.args.split_key c.loop-place.last c.in-Some.place c.header.ensures.node c.header-in-Some.ensures.node c.loop-place.invariant.linked c.loop-place.invariant.up_to c.header.ensures.is (c.header.ensures.next ∙ (sym c.get.ensures ∙ c.in-Some.is)) c.header-in-Some.ensures.is).smaller
 
 pub loop-place-preserved : goal.loop-place-preserved
 loop-place-preserved c =
-    let h = (last_not_above-step c.args.nodes.now c.args.key c.loop-place.last c.in-Some.place c.header.ensures.node c.header-in-Some.ensures.node c.loop-place.invariant.linked c.loop-place.invariant.up_to c.header.ensures.is (c.header.ensures.next ∙ (sym c.get.ensures ∙ c.in-Some.is)) c.header-in-Some.ensures.is) in
+    let h = (last_not_above-step c.args.nodes.now c.args.split_key c.loop-place.last c.in-Some.place c.header.ensures.node c.header-in-Some.ensures.node c.loop-place.invariant.linked c.loop-place.invariant.up_to c.header.ensures.is (c.header.ensures.next ∙ (sym c.get.ensures ∙ c.in-Some.is)) c.header-in-Some.ensures.is) in
     record {
       linked = h.linked;
-      up_to = record { node = c.header-in-Some.ensures.node; is = c.header-in-Some.ensures.is; up_to = (omega (arith, c.if-key-header.false, c.header-in-Some.ensures.key)) };
-      same = h.on (omega (arith, c.if-key-header.false, c.header-in-Some.ensures.key)) ∙ c.loop-place.invariant.same;
+      up_to = record { node = c.header-in-Some.ensures.node; is = c.header-in-Some.ensures.is; up_to = (omega (arith, c.if-split_key-header.false, c.header-in-Some.ensures.key)) };
+      same = h.on (omega (arith, c.if-split_key-header.false, c.header-in-Some.ensures.key)) ∙ c.loop-place.invariant.same;
     }
 
 pub returns : goal.returns
 returns c =
-    sym (last_not_above-end c.args.nodes.now c.args.key c.loop-place.last c.header.ensures.node c.loop-place.invariant.linked c.loop-place.invariant.up_to c.header.ensures.is (c.header.ensures.next ∙ (sym c.get.ensures ∙ c.in_default.is))) ∙ c.loop-place.invariant.same
+    sym (last_not_above-end c.args.nodes.now c.args.split_key c.loop-place.last c.header.ensures.node c.loop-place.invariant.linked c.loop-place.invariant.up_to c.header.ensures.is (c.header.ensures.next ∙ (sym c.get.ensures ∙ c.in_default.is))) ∙ c.loop-place.invariant.same

@@ -56,7 +56,7 @@ fn has_sizes<R: Rows>(table: &Walked<R>, slots: Slots, objects: Objects) -> bool
     table.slots() == slots.0 && table.size() == objects.0
 }
 
-/// Makes the call of a row that deletes or releases. Other rows change nothing.
+/// Makes the call of a row that deletes or releases. For other rows it does nothing.
 fn make_call<R: Rows>(table: &mut Walked<R>, row: Row) {
     match row {
         Row::Delete(key) => delete(table, key.0),

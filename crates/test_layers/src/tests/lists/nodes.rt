@@ -92,14 +92,14 @@ fn is_item(list: &NodeList, at: At, number: Integer) -> bool
 /// Returns whether the head has the split key 0 and no item.
 fn has_head(list: &NodeList) -> bool {
     let head = list.head();
-    list.key(head) == 0 && list.item(head).is_none()
+    list.split_key(head) == 0 && list.item(head).is_none()
 }
 
 /// Inserts an item of split key 5 and number 1. Returns whether it is read at its place, with its split key.
 fn reads_item(list: &mut NodeList, alloc: Global) -> Result<bool, AllocError> {
     let at = add_item(list, alloc, 5, 1)?;
     list.reveal_invariant();
-    Ok(list.key(at) == 5 && is_item(list, at, 1) && has_head(list))
+    Ok(list.split_key(at) == 5 && is_item(list, at, 1) && has_head(list))
 }
 
 /// Pushes 2 and 3 to the chain of 1. Returns whether 3 is popped, and 1 and 2 remain.

@@ -7,7 +7,7 @@ use std::alloc::Global;
 use std::process::Abort;
 
 /// Returns whether a term has this depth, and equals its copy.
-fn is_of_depth(alloc: Global, term: &Term, depth: usize) -> Option<bool> {
+fn has_depth_and_equals_copy(alloc: Global, term: &Term, depth: usize) -> Option<bool> {
     // Calls the two functions of `ets_term` that only state a law, because the tests call each public function of a
     // term. They have no effect.
     term.fits();
@@ -19,18 +19,26 @@ fn is_of_depth(alloc: Global, term: &Term, depth: usize) -> Option<bool> {
 }
 
 /// Returns whether a term has this depth and equals its copy, and drops it.
-fn has_depth(alloc: Global, made: Option<Term>, depth: usize) -> Option<bool> {
-    let term = made?;
-    let same = is_of_depth(alloc, &term, depth);
+fn built_term_has_depth_and_equals_copy(
+    alloc: Global,
+    built: Option<Term>,
+    depth: usize,
+) -> Option<bool> {
+    let term = built?;
+    let same = has_depth_and_equals_copy(alloc, &term, depth);
     drop(term);
     same
 }
 
 /// Returns whether a tuple and a list of an atom for each letter have this depth and equal their copies.
-fn are_of_depth(alloc: Global, letters: &str, depth: usize) -> Option<bool> {
+fn tuple_and_list_have_depth_and_equal_copies(
+    alloc: Global,
+    letters: &str,
+    depth: usize,
+) -> Option<bool> {
     Some(
-        has_depth(alloc, letter_tuple(alloc, letters), depth)?
-            && has_depth(alloc, letter_list(alloc, letters), depth)?,
+        built_term_has_depth_and_equals_copy(alloc, letter_tuple(alloc, letters), depth)?
+            && built_term_has_depth_and_equals_copy(alloc, letter_list(alloc, letters), depth)?,
     )
 }
 
@@ -50,9 +58,9 @@ fn uneven_list(alloc: Global) -> Option<Term> {
 /// deepest part decides.
 fn other_terms_are_of_depth(alloc: Global) -> Option<bool> {
     Some(
-        has_depth(alloc, Some(Term::Int(5)), 1)?
-            && has_depth(alloc, binary(alloc, &[0, 255]), 1)?
-            && has_depth(alloc, uneven_list(alloc), 3)?,
+        built_term_has_depth_and_equals_copy(alloc, Some(Term::Int(5)), 1)?
+            && built_term_has_depth_and_equals_copy(alloc, binary(alloc, &[0, 255]), 1)?
+            && built_term_has_depth_and_equals_copy(alloc, uneven_list(alloc), 3)?,
     )
 }
 
@@ -60,8 +68,8 @@ fn other_terms_are_of_depth(alloc: Global) -> Option<bool> {
 #[test]
 fn terms_have_their_depths_and_equal_their_copies(rt: HostRuntime) {
     let alloc = rt.alloc();
-    assert!(rt; are_of_depth(alloc, "", 1) == Some(true));
-    assert!(rt; are_of_depth(alloc, "ab", 2) == Some(true));
+    assert!(rt; tuple_and_list_have_depth_and_equal_copies(alloc, "", 1) == Some(true));
+    assert!(rt; tuple_and_list_have_depth_and_equal_copies(alloc, "ab", 2) == Some(true));
     assert!(rt; other_terms_are_of_depth(alloc) == Some(true));
 }
 
@@ -70,7 +78,7 @@ fn terms_have_their_depths_and_equal_their_copies(rt: HostRuntime) {
 fn nested_list_has_depth(alloc: Global, levels: usize) -> Option<bool> {
     let term = nested_list(alloc, levels)?;
     let limit_agrees = term.is_too_deep() == (levels > MAX_DEPTH);
-    Some(has_depth(alloc, Some(term), levels)? && limit_agrees)
+    Some(built_term_has_depth_and_equals_copy(alloc, Some(term), levels)? && limit_agrees)
 }
 
 /// Returns the first of these depths for which `nested_list_has_depth` does not hold.
@@ -108,10 +116,10 @@ fn tuple_of_numbers(alloc: Global, count: u32) -> Option<Term> {
 
 /// Returns whether a tuple of 70,000 integers, more than 2^16, has the depth 2 and equals its copy.
 fn long_tuple_is_copied(alloc: Global) -> Option<bool> {
-    has_depth(alloc, tuple_of_numbers(alloc, 70_000), 2)
+    built_term_has_depth_and_equals_copy(alloc, tuple_of_numbers(alloc, 70_000), 2)
 }
 
 #[test]
-fn long_terms_are_copied(rt: HostRuntime) {
+fn a_long_tuple_is_copied(rt: HostRuntime) {
     assert!(rt; long_tuple_is_copied(rt.alloc()) == Some(true));
 }

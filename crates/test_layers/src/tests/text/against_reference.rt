@@ -60,7 +60,7 @@ const GOOD: [&str; 30] = [
 ];
 
 /// Texts of terms. The test changes each byte of each text to each other byte.
-const CHANGED: [&str; 10] = [
+const TEXTS_TO_CHANGE: [&str; 10] = [
     "-17",
     "ab",
     "'a\\''",
@@ -153,5 +153,8 @@ fn first_change_mismatch(
 
 #[test]
 fn changed_texts_are_read_by_the_rules(rt: HostRuntime) {
-    assert_eq!(rt; first_change_mismatch(rt.alloc(), &CHANGED), Ok(None));
+    assert_eq!(rt;
+        first_change_mismatch(rt.alloc(), &TEXTS_TO_CHANGE),
+        Ok(None)
+    );
 }

@@ -9,7 +9,11 @@ use term_text::{TextFault, print_term, read_term};
 const COUNTS: [usize; 12] = [2, 3, 5, 9, 17, 33, 65, 129, 257, 513, 1_025, 70_000];
 
 /// Returns whether `print_term` and `write_term` of a term give this text.
-fn is_printed(alloc: Global, term: &Term, printed: &str) -> Result<bool, AllocError> {
+fn is_printed_and_written_as(
+    alloc: Global,
+    term: &Term,
+    printed: &str,
+) -> Result<bool, AllocError> {
     let mut out = String::new(alloc);
     let done = print_term(alloc, term, &mut out);
     let same = out.as_str() == printed;
@@ -22,7 +26,7 @@ fn is_printed(alloc: Global, term: &Term, printed: &str) -> Result<bool, AllocEr
 fn is_read_whole(alloc: Global, text: &str, printed: &str) -> Result<bool, AllocError> {
     match read_term(alloc, text) {
         Ok((term, taken)) => {
-            let same = is_printed(alloc, &term, printed);
+            let same = is_printed_and_written_as(alloc, &term, printed);
             drop(term);
             Ok(same? && taken == text.len())
         }

@@ -185,9 +185,9 @@ fn depth_and_bytes_of(alloc: Global, text: &[u8]) -> Option<(usize, Bytes)> {
 /// Returns the depth of the deepest term, and how many bytes its text takes.
 fn depth_and_bytes_of_deepest(alloc: Global) -> Option<(usize, Bytes)> {
     let text = deepest_text(alloc).ok()?;
-    let depth = depth_and_bytes_of(alloc, text.as_bytes());
+    let depth_and_bytes = depth_and_bytes_of(alloc, text.as_bytes());
     drop(text);
-    depth
+    depth_and_bytes
 }
 
 /// Checks that a term may be as deep as `MAX_DEPTH`.

@@ -87,7 +87,9 @@ fn operations_on_counters_succeed(rt: HostRuntime) {
     );
 }
 
-/// Rows of the same columns whose operations are refused. A sum is out of range, or an element is not a counter.
+/// Rows of the same columns whose operations are refused. A sum is out of range, or a position has no integer. If both
+/// are true, the answer is `badarg`, also if the overflow comes first: all positions are tested before the first
+/// operation.
 const REFUSED: [&str; 10] = [
     "[{c,170141183460469231731687303715884105727}, update, 1, gives, system_limit, leaves, {c,170141183460469231731687303715884105727}]",
     "[{c,-170141183460469231731687303715884105728}, update, -1, gives, system_limit, leaves, {c,-170141183460469231731687303715884105728}]",

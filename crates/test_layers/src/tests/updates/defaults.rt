@@ -52,9 +52,9 @@ pub fn starts_counter_as_expected(
 ) -> Option<bool> {
     match read_ops(alloc, updates, keypos) {
         Ok(ops) => {
-            let started = applies_ops_to_default(alloc, keypos, default_and_key, &ops, expected);
+            let holds = applies_ops_to_default(alloc, keypos, default_and_key, &ops, expected);
             drop(ops);
-            Some(started)
+            Some(holds)
         }
         Err(_) => Some(false),
     }

@@ -83,6 +83,7 @@ fn deep_value_rows_hold(alloc: Global) -> Option<bool> {
     let pushed = push_row_terms(alloc, &mut terms);
     let hold = all_rows_hold(alloc, terms.as_slice(), &ROWS);
     drop(terms);
+    // Checked last, so that `terms` is dropped before each `?`.
     pushed?;
     hold
 }

@@ -144,7 +144,7 @@ pub enum Update {
     Values,
 }
 
-/// Returns whether a term is refused as this form of update.
+/// Returns whether a term is refused as this form of update. If memory runs out, it is not refused.
 fn is_refused_as_update(alloc: Global, update: Update, term: &Term) -> bool {
     let fault = match update {
         Update::Operations => read_ops(alloc, term, 1).err(),
@@ -153,7 +153,8 @@ fn is_refused_as_update(alloc: Global, update: Update, term: &Term) -> bool {
     matches!(fault, Some(CounterFault::Badarg))
 }
 
-/// Returns whether the term of a text is refused as this form of update.
+/// Returns whether the term of a text is refused as this form of update. None means that the text is not a term, or out
+/// of memory before the term is read.
 fn is_text_refused_as_update(alloc: Global, update: Update, text: &str) -> Option<bool> {
     let (term, _) = read_term(alloc, text).ok()?;
     let is_refused = is_refused_as_update(alloc, update, &term);
@@ -161,8 +162,8 @@ fn is_text_refused_as_update(alloc: Global, update: Update, text: &str) -> Optio
     Some(is_refused)
 }
 
-/// Returns the first text that is read as this form of update. The outer None means out of memory, or a text that is
-/// not a term.
+/// Returns the first text that is not refused as this form of update: it is valid, or memory runs out while the update
+/// is read. The outer None means that memory runs out while a term is read, or a text that is not a term.
 pub fn first_valid_text(
     alloc: Global,
     update: Update,

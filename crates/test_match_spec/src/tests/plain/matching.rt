@@ -30,7 +30,8 @@ pub(crate) fn bound_value(n: u32, bindings: &[Binding]) -> Option<&Term> {
     None
 }
 
-/// Returns whether a pattern matches a term, and appends the bindings of its variables.
+/// Returns whether a pattern matches a term, and appends the bindings of its variables. Returns false also if memory
+/// runs out.
 #[cycle(plain_match)]
 pub(crate) fn pattern_matches(
     alloc: Global,

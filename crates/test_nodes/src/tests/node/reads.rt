@@ -21,7 +21,8 @@ type ReadRow = (Pid, &'static str, &'static str);
 /// The wanted text of a call that `read` leaves to `step`: it may change a table, or is not a call that reads.
 const LEFT_TO_STEP: &str = "";
 
-/// Calls that read, with their replies; and calls that `read` leaves to `step`. There is no process 1 and no table u.
+/// Calls that read, with their replies; and calls that `read` leaves to `step`. There is no process 1 and no table u. The
+/// second `lookup(t,a)` overwrites the reply `NoProcess` of the call before it.
 static READS: [ReadRow; 25] = [
     (Pid(0), "lookup(t,a)", "[{a,1}]"),
     (Pid(0), "lookup(t,b)", "[]"),

@@ -54,7 +54,7 @@ fn step_has_reply_with_retry(
 }
 
 /// Runs a step by `step_into`, a second time if memory runs out. Returns whether it writes the wanted reply over
-/// `reply`, which must be `NoProcess` after out of memory.
+/// `reply`, which must be `NoProcess` if memory ran out.
 fn step_into_has_reply_with_retry(
     alloc: Global,
     node: &mut Node<Fnv>,

@@ -1,6 +1,6 @@
 //! Tests of `Node::run` and `Node::run_through`, which run a list of steps. A row is a step and its wanted reply.
-// Both reply to each step, a refused one too, if there is memory. The answer of `run_through` to a step is `None` after
-// out of memory.
+// Both reply to each step, a refused one too, if there is memory. The answer of `run_through` to a step is `None` if
+// memory ran out.
 use super::StepText::{Ask, End, Enrol, Grow, Ready};
 use super::{Bucket, Pid, Row, Tid, build_step, reply_has_text};
 use crate::tests::keep_if_ok;
@@ -43,7 +43,7 @@ fn steps_of(alloc: Global, rows: &[Row]) -> Result<Vec<Step>, AllocError> {
     keep_if_ok(push_steps(alloc, &mut steps, rows), steps)
 }
 
-/// Returns the index of the first row whose answer is another reply than wanted, or `None`, or missing.
+/// Returns the index of the first row whose answer is not the wanted reply: another one, `None`, or none at all.
 fn first_wrong_answer(
     alloc: Global,
     rows: &[Row],

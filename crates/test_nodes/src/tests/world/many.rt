@@ -97,19 +97,20 @@ fn seventy_tables_go_to_one_heir(rt: HostRuntime) {
     assert!(rt; new_world_passes_tables_on(rt.alloc()) == Ok(true));
 }
 
-/// Returns the heir of a table. Different tables have different heirs, because 17 and `MANY` have no common divisor.
+/// Returns the heir of a table. Different tables have different heirs, because 17 and `MANY` have no common divisor
+/// but 1.
 fn heir_of(id: u32) -> u32 {
     id.wrapping_mul(17).wrapping_add(1) % MANY
 }
 
-/// Returns the process that fixes a table. Different processes fix different tables, because 11 and `MANY` have no
-/// common divisor.
+/// Returns the process that fixes a table. Different tables are fixed by different processes, because 11 and `MANY` have
+/// no common divisor but 1.
 fn fixer_of(id: u32) -> u32 {
     id.wrapping_mul(11).wrapping_add(5) % MANY
 }
 
 /// Returns the process that exits in a turn. Each process exits in one of `MANY` turns, because 7 and `MANY` have no
-/// common divisor.
+/// common divisor but 1.
 fn process_to_end(turn: u32) -> u32 {
     turn.wrapping_mul(7) % MANY
 }
@@ -165,13 +166,14 @@ fn first_wrong_table_after(world: &PlainWorld, turns: u32) -> Option<u32> {
     None
 }
 
-/// Ends all processes one by one. Returns the first turn after which a table has a wrong owner or fix, and the table.
+/// Ends all processes one by one. Returns the first compared turn after which a table has a wrong owner or fix, and the
+/// table, or `None`. Compares after one turn in 16 and after the last, since to compare after each turn would take too
+/// long.
 fn first_wrong_table_while_ending(
     world: &mut PlainWorld,
 ) -> Result<Option<(u32, u32)>, WorldFault> {
     for turn in 0..MANY {
         world.end(process_to_end(turn))?;
-        // Compares after one turn in 16 and after the last, since to compare after each turn would take too long.
         if turn % 16 == 0 || turn + 1 == MANY {
             if let Some(id) = first_wrong_table_after(world, turn + 1) {
                 return Ok(Some((turn, id)));
@@ -181,7 +183,8 @@ fn first_wrong_table_while_ending(
     Ok(None)
 }
 
-/// Fills a world and ends all its processes. Returns the first turn after which a table is wrong, and the table.
+/// Fills a world and ends all its processes. Returns the first compared turn after which a table is wrong, and the
+/// table, or `None`. Compares after one turn in 16 and after the last.
 fn first_wrong_turn(
     alloc: Global,
     world: &mut PlainWorld,
@@ -191,7 +194,8 @@ fn first_wrong_turn(
     first_wrong_table_while_ending(world)
 }
 
-/// Fills a new world and ends all its processes. Returns the first turn after which a table is wrong, and the table.
+/// Fills a new world and ends all its processes. Returns the first compared turn after which a table is wrong, and the
+/// table, or `None`. Compares after one turn in 16 and after the last.
 fn first_wrong_turn_of_new_world(alloc: Global) -> Result<Option<(u32, u32)>, WorldFault> {
     let mut world = World::new(alloc, MANY, MANY);
     let turn = first_wrong_turn(alloc, &mut world);

@@ -48,9 +48,9 @@ fn observe_process(
 
 /// Returns whether a table is found by its identifier.
 fn is_resolved(world: &PlainWorld, id: u32) -> bool {
-    let named = Term::Tid(id);
-    let found = world.resolve(&named);
-    drop(named);
+    let tid = Term::Tid(id);
+    let found = world.resolve(&tid);
+    drop(tid);
     found.is_some()
 }
 

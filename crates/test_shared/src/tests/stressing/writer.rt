@@ -12,10 +12,10 @@ use std::alloc::Global;
 use std::sync::Wait;
 
 /// The number of keys that a batch inserts.
-const INSERTED: u32 = 8;
+const INSERTIONS_PER_BATCH: u32 = 8;
 
 /// The number of keys that a batch then deletes: the first of those that it inserted.
-const DELETED: u32 = 2;
+const DELETIONS_PER_BATCH: u32 = 2;
 
 /// Makes all calls of a writer, in batches, and inherits from each guest. Returns whether all replies are right.
 pub(super) fn writer_is_right<B: HistoryId, H: KeyHash + Copy + Drop, R: Wait>(
@@ -46,16 +46,18 @@ fn batch_is_right<B: HistoryId, H: KeyHash + Copy + Drop, R: Wait>(
     caller: &mut Caller<B>,
     number: u32,
 ) -> Option<bool> {
-    let first = number.wrapping_mul(INSERTED).wrapping_add(KEPT_KEYS);
-    let last = first.wrapping_add(INSERTED - 1);
+    let first = number
+        .wrapping_mul(INSERTIONS_PER_BATCH)
+        .wrapping_add(KEPT_KEYS);
+    let last = first.wrapping_add(INSERTIONS_PER_BATCH - 1);
     let own_table = caller.pid();
     let is_written = all_get_values(rt, server, caller, batch(alloc, own_table, first)?)?;
-    let object = format!(in alloc; "[t{own_table},{{{last},{number}}}]");
-    Some(is_written && read_gives_list(rt, alloc, server, caller, ("match_object", object), 1)?)
+    let arguments = format!(in alloc; "[t{own_table},{{{last},{number}}}]");
+    Some(is_written && read_gives_list(rt, alloc, server, caller, ("match_object", arguments), 1)?)
 }
 
-/// Makes the calls, and then runs at most `2 * INSERTED` growth steps, under one lock, by `ask_all`. Returns whether
-/// all replies are values.
+/// Makes the calls, and then runs at most `2 * INSERTIONS_PER_BATCH` growth steps, under one lock, by `ask_all`. Returns
+/// whether all replies are values.
 fn all_get_values<B: HistoryId, H: KeyHash + Copy + Drop, R: Wait>(
     rt: &R,
     server: &Server<B, H>,
@@ -63,20 +65,22 @@ fn all_get_values<B: HistoryId, H: KeyHash + Copy + Drop, R: Wait>(
     calls: Vec<Call>,
 ) -> Option<bool> {
     let count = calls.len();
-    let replies = caller.ask_all(rt, server, calls, 2 * INSERTED).ok()?;
+    let replies = caller
+        .ask_all(rt, server, calls, 2 * INSERTIONS_PER_BATCH)
+        .ok()?;
     Some(replies.len() == count && replies.iter().all(|reply| reply.is_value()))
 }
 
 /// Returns the calls of the batch whose first key is `first`: the insertions of its keys, each with the number of the
 /// batch as its value, and the deletions of the first keys.
 fn batch(alloc: Global, own_table: u32, first: u32) -> Option<Vec<Call>> {
-    let number = first.wrapping_sub(KEPT_KEYS) / INSERTED;
+    let number = first.wrapping_sub(KEPT_KEYS) / INSERTIONS_PER_BATCH;
     let mut calls = Vec::new(alloc);
-    for index in 0..INSERTED {
+    for index in 0..INSERTIONS_PER_BATCH {
         let key = first.wrapping_add(index);
-        let object = format!(in alloc; "[t{own_table},{{{key},{number}}}]");
+        let arguments = format!(in alloc; "[t{own_table},{{{key},{number}}}]");
         calls
-            .push(build_formatted_call(alloc, ("insert", object))?)
+            .push(build_formatted_call(alloc, ("insert", arguments))?)
             .ok()?;
     }
     push_deletions(&mut calls, own_table, first)?;
@@ -86,7 +90,7 @@ fn batch(alloc: Global, own_table: u32, first: u32) -> Option<Vec<Call>> {
 /// Appends the deletions of the batch whose first key is `first`.
 fn push_deletions(calls: &mut Vec<Call>, own_table: u32, first: u32) -> Option<()> {
     let alloc = *calls.allocator();
-    for index in 0..DELETED {
+    for index in 0..DELETIONS_PER_BATCH {
         let key = first.wrapping_add(index);
         let arguments = format!(in alloc; "[t{own_table},{key}]");
         calls

@@ -1,7 +1,7 @@
 //! Calls on rows that run out of memory. `.ci/refusals` runs these tests with each allocation refused in turn.
 // A call that ran out of memory must have changed nothing, and must succeed when it is made again.
 use super::checks::{Check, plain_rows_pass, split_rows_pass};
-use super::growth::{each_grow_answers, ready_answers};
+use super::growth::{each_doubling_answers, ready_answers};
 use super::several::{put_three, three_keys};
 use super::*;
 
@@ -73,7 +73,7 @@ enum Call {
 fn run_call<R: Rows>(rows: &mut R, alloc: Global, call: Call) -> Result<bool, AllocError> {
     match call {
         Call::PutThree(number) => put_three(rows, alloc, three_keys(number)),
-        Call::Grow => each_grow_answers(rows, 1, Growth::Grown),
+        Call::Grow => each_doubling_answers(rows, 1, Growth::Grown),
         Call::Ready(bucket) => ready_answers(rows, bucket, Readying::Ready),
         Call::Insert(key) => Ok(insert(rows, alloc, key, key)? == KeyState::Nothing),
     }

@@ -1,6 +1,6 @@
 //! The number of list nodes that searches visit, in split rows whose keys in each bucket are known. In a ready bucket
 //! of n keys it must be at most n + 2, and in one test the least possible.
-use super::growth::{each_grow_answers, ready_answers};
+use super::growth::{each_doubling_answers, ready_answers};
 use super::*;
 
 /// Returns how many nodes a search for a key visits.
@@ -58,7 +58,7 @@ fn each_search_is_short(rows: &SplitRows<PidNumber>) -> bool {
 
 /// Puts one key into each of eight ready buckets. Returns whether each search is then short.
 fn searches_are_short(rows: &mut SplitRows<PidNumber>, alloc: Global) -> Result<bool, AllocError> {
-    let grown = each_grow_answers(rows, 2, Growth::Grown)?;
+    let grown = each_doubling_answers(rows, 2, Growth::Grown)?;
     ready_and_put_each(rows, alloc)?;
     Ok(grown && each_search_is_short(rows))
 }
@@ -108,7 +108,7 @@ fn each_search_visits_fewest_nodes(rows: &SplitRows<PidNumber>) -> bool {
 /// fewest nodes, as it does if the readying of a bucket sets the hints of its intervals and of its parent's.
 fn hints_are_set(rows: &mut SplitRows<PidNumber>, alloc: Global) -> Result<bool, AllocError> {
     put_each(rows, alloc)?;
-    let grown = each_grow_answers(rows, 2, Growth::Grown)?;
+    let grown = each_doubling_answers(rows, 2, Growth::Grown)?;
     let readied = each_becomes_ready(rows)?;
     Ok(grown && readied && each_search_visits_fewest_nodes(rows))
 }

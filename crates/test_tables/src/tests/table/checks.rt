@@ -5,9 +5,9 @@ use super::bad_objects::refuses_bad_terms;
 use super::lists::{Row, inserts, inserts_new};
 use super::long::{answers_as_it_grows, answers_as_plain_table};
 use super::objects::end_of_table_is_not_a_key;
-use super::refused::{looks_never_fall, steps_answer_with_retry};
+use super::refused::{looks_never_fall, steps_have_answers_with_retry};
 use super::searches::{searches_are_right, tests_each_of_three};
-use super::{EmptyTable, Step, plain_table, split_table, steps_answer};
+use super::{EmptyTable, Step, plain_table, split_table, steps_have_answers};
 use bucket_table::Rows;
 use ets_term::{Fnv, KeyHash, Term};
 use std::alloc::Global;
@@ -43,8 +43,8 @@ pub enum Check<'a> {
 /// Returns whether a table passes a check. `None` means out of memory.
 fn passes<R: Rows>(alloc: Global, table: &mut Table<R>, check: Check) -> Option<bool> {
     match check {
-        Check::Answer(steps) => Some(steps_answer(alloc, table, steps)),
-        Check::AnswerWithRetry(steps) => Some(steps_answer_with_retry(alloc, table, steps)),
+        Check::Answer(steps) => Some(steps_have_answers(alloc, table, steps)),
+        Check::AnswerWithRetry(steps) => Some(steps_have_answers_with_retry(alloc, table, steps)),
         Check::AnswerAsPlainTable => Some(answers_as_plain_table(alloc, table)),
         Check::AnswerAsItGrows => Some(answers_as_it_grows(alloc, table)),
         Check::Insert(list, row) => Some(inserts(table, list, row)),

@@ -3,7 +3,7 @@
 // The key of an object is its index modulo `KEYS`, its value the last digit of the index.
 use super::answers::Answer::{self, False, SystemLimit, True};
 use super::checks::{Check, both_tables_pass};
-use super::single_calls::{lookup_code, try_insert, try_insert_new};
+use super::single_calls::{lookup_digits, try_insert, try_insert_new};
 use super::terms::{push_built, tuple};
 use super::{EmptyTable, Keypos, MaxObjects};
 use bucket_table::Rows;
@@ -109,7 +109,7 @@ fn push_objects(alloc: Global, objects: &mut Items<Term>) -> Option<()> {
 fn has_contents<R: Rows>(table: &Table<R>, row: Row) -> bool {
     table.size() == row.objects as usize
         && table.slots() == row.slots as usize
-        && lookup_code(table, 0) == row.digits
+        && lookup_digits(table, 0) == row.digits
 }
 
 /// Returns whether `insert` of the list does what the row says.

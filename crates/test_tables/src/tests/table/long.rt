@@ -12,7 +12,7 @@ use super::answers::Answer::{
 use super::checks::{Check, plain_table_passes, split_table_passes};
 use super::{
     EmptyTable, Incr, Key, Keypos, MaxObjects, Object, Pos, Start, Step, Value, answer_code,
-    plain_table, step_answers, steps_answer,
+    plain_table, step_has_answer, steps_have_answers,
 };
 use bucket_table::Rows;
 use ets_term::{AllSame, Fnv, Integer};
@@ -145,9 +145,9 @@ const GROW_PERIOD: u32 = 8;
 /// `each_call_answers` only if the key is a power of two.
 fn answers_at<R: Rows>(alloc: Global, table: &mut Table<R>, key: u32) -> bool {
     let number = key as Integer;
-    step_answers(alloc, table, Insert(Object(number, 1)), True)
-        && step_answers(alloc, table, CountObjects, Objects(number.wrapping_add(1)))
-        && (key % GROW_PERIOD != 0 || step_answers(alloc, table, Grow, True))
+    step_has_answer(alloc, table, Insert(Object(number, 1)), True)
+        && step_has_answer(alloc, table, CountObjects, Objects(number.wrapping_add(1)))
+        && (key % GROW_PERIOD != 0 || step_has_answer(alloc, table, Grow, True))
         && (!key.is_power_of_two() || each_call_answers(alloc, table, number))
 }
 
@@ -158,7 +158,7 @@ pub fn answers_as_it_grows<R: Rows>(alloc: Global, table: &mut Table<R>) -> bool
             return false;
         }
     }
-    step_answers(
+    step_has_answer(
         alloc,
         table,
         SelectDeleteBelow(2, RemoveSlot),
@@ -187,7 +187,7 @@ fn each_call_answers<R: Rows>(alloc: Global, table: &mut Table<R>, last: Integer
         (Insert(Object(last, 1)), True),
         (CountSlots, Slots(count)),
     ];
-    steps_answer(alloc, table, &rows)
+    steps_have_answers(alloc, table, &rows)
 }
 
 #[test]

@@ -93,7 +93,7 @@ fn answers_with_retry<R: Rows>(
 }
 
 /// Runs steps in order, and a step a second time if it is refused memory. Returns whether each has its answer.
-pub fn steps_answer_with_retry<R: Rows>(
+pub fn steps_have_answers_with_retry<R: Rows>(
     alloc: Global,
     table: &mut Table<R>,
     steps: &[(Step, Answer)],

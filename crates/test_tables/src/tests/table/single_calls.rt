@@ -220,7 +220,7 @@ pub fn insert_all<R: Rows>(table: &mut Table<R>, built: Option<Items<Term>>) -> 
 }
 
 /// Returns the second elements of the objects of a key, as digits.
-pub fn lookup_code<R: Rows>(table: &Table<R>, key: Integer) -> Integer {
+pub fn lookup_digits<R: Rows>(table: &Table<R>, key: Integer) -> Integer {
     let key = Term::Int(key);
     let digits = digits_of(table.lookup(&key));
     drop(key);

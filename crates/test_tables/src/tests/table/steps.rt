@@ -3,7 +3,7 @@
 use super::Step;
 use super::single_calls::{
     clear, count_matches_of_key, deep_object, delete_below, delete_key, delete_matching,
-    delete_object, grow, hash_of_objects, insert, insert_all, insert_new, lookup_code, purge,
+    delete_object, grow, hash_of_objects, insert, insert_all, insert_new, lookup_digits, purge,
     select_below, try_lookup_element, try_take,
 };
 use super::terms::{as_integer, tuple, tuples};
@@ -78,7 +78,7 @@ fn run_update<R: Rows>(alloc: Global, table: &mut Table<R>, step: Step) -> Optio
 /// Runs a step that changes nothing.
 fn run_read<R: Rows>(alloc: Global, table: &Table<R>, step: Step) -> Option<Integer> {
     match step {
-        Step::Lookup(key) => Some(lookup_code(table, key.0)),
+        Step::Lookup(key) => Some(lookup_digits(table, key.0)),
         Step::LookupElement(key, position) => Some(try_lookup_element(table, key.0, position.0)),
         Step::Match(key) => count_matches_of_key(alloc, table, key.0),
         Step::SelectBelow(limit) => select_below(alloc, table, limit),

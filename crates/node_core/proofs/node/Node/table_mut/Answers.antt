@@ -6,6 +6,6 @@ use Rattle.node_core.proofs.node.Node.table_mut.Goals as goal
 pub invariant_of-self-lent : goal.invariant_of-self-lent
 invariant_of-self-lent g c =
     let tables = c.self.inside.world.tables in
-    let index = c.mark_dirty.new.index in
-    let is = c.mark_dirty.ensures.index in
-    λ _. (λ w. set-tracked tables index c.args.id (fixed_in (table_at tables c.args.id) w) is (inr c.mark_dirty.ensures.dirty), is)
+    let pending = c.mark_dirty.new.pending in
+    let is = c.mark_dirty.ensures.pending in
+    λ _. (λ w. set-tracked tables pending c.args.id (fixed_in (table_at tables c.args.id) w) is (inr c.mark_dirty.ensures.dirty), is)

@@ -6,4 +6,4 @@ use Rattle.node_core.proofs.node.due.first_pending.Given as goal
 
 -- the pending step is at this index or after it, or is the dirty one
 abbrev pub invariant-loop-i : goal.invariant-loop-i
-invariant-loop-i g l = (t : ℕ) → IsSome (pending_at l.world.tables t) → IsLeft l.index l.i t
+invariant-loop-i g l = (t : ℕ) → IsSome (pending_at l.world.tables t) → IsLeft l.pending l.i t

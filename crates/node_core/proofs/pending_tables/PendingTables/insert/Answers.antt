@@ -11,7 +11,7 @@ unreachable-requires c =
     let below : AreBelow items c.requires.bound = subst (λ (s : PendingTablesState). AreBelow s.ordered c.requires.bound) (sym c.self.view_is) c.requires.below in
     let room = room-with items c.args.id c.in-Err.index (gap-of items c.args.id c.in-Err.index c.self.invariant c.in-Err.ensures.position) c.requires.bound c.self.invariant below c.requires.less in
     let full : deque_capacity c.self.inside.ordered ≤ deque_len c.self.inside.ordered = search rules in
-    omega (arith, room, full, c.requires.room, ap (λ (s : PendingTablesState). s.room) c.self.view_is, c.self.inside.ordered.ok.0)
+    omega (arith, room, full, c.requires.room, ap (λ (s : PendingTablesState). s.capacity) c.self.view_is, c.self.inside.ordered.ok.0)
 
 pub invariant_of-self : goal.invariant_of-self
 invariant_of-self c =

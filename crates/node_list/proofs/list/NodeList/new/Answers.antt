@@ -7,7 +7,7 @@ use Rattle.node_list.proofs.list.NodeList.new.Goals as goal
 
 pub invariant_of-result : goal.invariant_of-result
 invariant_of-result c =
-    let first : ListNode = record { key = 0; next = c.none.result; item = None } in
+    let first : ListNode = record { split_key = 0; next = c.none.result; item = None } in
     let key = c.insert_reserved.ensures.key ∙ (c.in_ok-add_free_place.ensures.key (ap (λ (zs : List (Option ListNode)). count_by is_some zs) c.new-nodes.ensures.empty ∙ sym c.new-nodes.ensures.capacity) ∙ c.new-nodes.ensures.first) in
     let at = ap (get c.insert_reserved.new.self) (sym key) ∙ c.insert_reserved.ensures.updates.changed in
     let one : slab_len c.insert_reserved.new.self ≡ 1 = c.insert_reserved.ensures.len ∙ (ap (λ k. k + 1) c.add_free_place.ensures.len ∙ ap (λ (zs : List (Option ListNode)). count_by is_some zs + 1) c.new-nodes.ensures.empty) in
@@ -18,7 +18,7 @@ invariant_of-result c =
 
 pub returns : goal.returns
 returns c =
-    let first : ListNode = record { key = 0; next = c.none.result; item = None } in
+    let first : ListNode = record { split_key = 0; next = c.none.result; item = None } in
     let key = c.insert_reserved.ensures.key ∙ (c.in_ok-add_free_place.ensures.key (ap (λ (zs : List (Option ListNode)). count_by is_some zs) c.new-nodes.ensures.empty ∙ sym c.new-nodes.ensures.capacity) ∙ c.new-nodes.ensures.first) in
     let at = ap (get c.insert_reserved.new.self) (sym key) ∙ c.insert_reserved.ensures.updates.changed in
     let one : slab_len c.insert_reserved.new.self ≡ 1 = c.insert_reserved.ensures.len ∙ (ap (λ k. k + 1) c.add_free_place.ensures.len ∙ ap (λ (zs : List (Option ListNode)). count_by is_some zs + 1) c.new-nodes.ensures.empty) in

@@ -48,10 +48,10 @@ returns-clause-value c =
     let packed = c.replace_at-packed.result in
     let slot = c.index_mut.result.now in
     let item : item_if (is_item packed) slot ≡ c.item_of.result = ap (λ (z : Item). item_if (is_item packed) z) (sym c.replace-slot.ensures.value) ∙ sym c.item_of.ensures in
-    let node : ListNode = record { key = c.header-key.result.key; next = c.header-key.result.next; item = c.item_of.result } in
+    let node : ListNode = record { split_key = c.header-split_key.result.split_key; next = c.header-split_key.result.next; item = c.item_of.result } in
     sym (ap (λ (v : Slab ListNode). get v c.args.at) c.self.view_is)
     ∙ (live-node c.self.inside.nodes c.self.inside.items.items c.args.at packed slot (subst P (sym c.self.view_is) c.requires) c.replace_at-packed.ensures.value (read-slot c.self.inside.items.items c.args.at slot g.inside c.index_mut.ensures.value)
-    ∙ ap Some (packed-node packed slot node (sym c.header-key.ensures.key) (sym c.header-key.ensures.next) item))
+    ∙ ap Some (packed-node packed slot node (sym c.header-split_key.ensures.key) (sym c.header-split_key.ensures.next) item))
 
 pub returns-clause-updates : goal.returns-clause-updates
 returns-clause-updates c =

@@ -9,7 +9,7 @@ use Rattle.table_ops.proofs.partition.Partition.add.Goals as goal
 
 pub returns-then-self-eq0-clause-partition : goal.returns-then-self-eq0-clause-partition
 returns-then-self-eq0-clause-partition g c =
-    let choose = g.P.Predicate.tests c.args.query.now.query.now in
+    let choose = g.P.Predicate.tests c.args.trial.now.query.now in
     let xs = c.args.objects.now in
     let i = c.args.i in
     let x = c.index-objects-i.result in
@@ -24,4 +24,4 @@ returns-then-self-eq0-clause-partition g c =
     }
 
 pub overflow_add-self : goal.overflow_add-self
-overflow_add-self g c = omega (arith, chosen-take (g.P.Predicate.tests c.args.query.now.query.now) c.args.i c.args.objects.now, c.requires.partition.counted, c.requires.within, c.requires.few)
+overflow_add-self g c = omega (arith, chosen-take (g.P.Predicate.tests c.args.trial.now.query.now) c.args.i c.args.objects.now, c.requires.partition.counted, c.requires.within, c.requires.few)

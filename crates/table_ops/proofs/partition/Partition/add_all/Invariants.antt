@@ -5,6 +5,6 @@ use Rattle.table_ops.proofs.partition.Partition.add_all.Given as goal
 
 abbrev pub invariant-loop-i : goal.invariant-loop-i
 invariant-loop-i g l = record {
-  partition : ArePartitioned (g.P.Predicate.tests l.query.query.now) (take l.i l.objects) l.self.removed l.self.kept;
+  partition : ArePartitioned (g.P.Predicate.tests l.trial.query.now) (take l.i l.objects) l.self.removed l.self.kept;
   looked : l.looks ≡ ticks l.i l.initial.looks;
 }

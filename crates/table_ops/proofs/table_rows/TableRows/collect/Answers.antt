@@ -12,10 +12,10 @@ use Rattle.table_ops.proofs.table_rows.TableRows.collect.Goals as goal
 pub returns-in-Some-clause-answers : goal.returns-in-Some-clause-answers
 returns-in-Some-clause-answers g c =
     let slots = g.R.Rows.content c.args.self.now.rows in
-    let give = g.P.Projection.projects c.args.query.now.query.now in
+    let give = g.P.Projection.projects c.args.trial.now.query.now in
     let key = c.in-Some.key.now in
     let q = only_key-key option_copied c.args.key (Some c.in-Some.key) key slots c.in-Some.is refl (λ (o : Term). is_some (give o)) c.requires in
-    on_ok_weaker c.collect_from.result (λ e. e ∙ ap (λ l. map data_of c.args.found.now.items ++ l) (ap (answers give) c.objects_of.ensures.objects ∙ answers-under give key slots c.objects_of.ensures.distinct q)) c.collect_from.ensures.answers
+    on_ok_weaker c.collect_from.result (λ e. e ∙ ap (λ l. map data_of c.args.results.now.items ++ l) (ap (answers give) c.objects_of.ensures.objects ∙ answers-under give key slots c.objects_of.ensures.distinct q)) c.collect_from.ensures.answers
 
 pub returns-in-Some-clause-looks : goal.returns-in-Some-clause-looks
 returns-in-Some-clause-looks g c =

@@ -8,8 +8,8 @@ use Rattle.table_ops.proofs.table_rows.TableRows.collect_all.Goals as goal
 
 pub loop-objects-preserved : goal.loop-objects-preserved
 loop-objects-preserved g c =
-    let give = g.P.Projection.projects c.args.query.now.query.now in
-    let before : List Data = map data_of c.loop-objects.found.items in
+    let give = g.P.Projection.projects c.args.trial.now.query.now in
+    let before : List Data = map data_of c.loop-objects.results.items in
     let os = c.in-Some.objects.now in
     let rest = c.next.new.self in
     let inv = c.loop-objects.invariant in

@@ -10,11 +10,11 @@ loop-object-preserved g c =
     let xs = c.args.objects.now in
     let i = c.loop-object.object-index in
     let x = c.object-item.result in
-    let give = g.P.Projection.projects c.args.query.now.query.now in
+    let give = g.P.Projection.projects c.args.trial.now.query.now in
     let within : i < length xs = omega arith in
     let at : slice_get xs i ≡ Some x = slice_get_read xs (length xs) i x refl within c.object-item.is in
     record {
-      done = joined (map data_of c.args.found.now.items) (map data_of c.loop-object.found.items) (map data_of c.collect_one.new.found.items) (answers give (take i xs)) (also (give x) []) (answers give (take (i + 1) xs))
+      done = joined (map data_of c.args.results.now.items) (map data_of c.loop-object.results.items) (map data_of c.collect_one.new.results.items) (answers give (take i xs)) (also (give x) []) (answers give (take (i + 1) xs))
           c.loop-object.invariant.done c.in_ok-collect_one.ensures.answers (answers-next give xs i x at);
       looked = c.in_ok-collect_one.ensures.looks ∙ ticks-one i c.args.looks.now c.loop-object.looks c.loop-object.invariant.looked;
     }

@@ -6,6 +6,6 @@ use Rattle.table_ops.proofs.table_rows.TableRows.collect_from.Given as goal
 
 abbrev pub invariant-loop-object : goal.invariant-loop-object
 invariant-loop-object g l = record {
-  done : map data_of l.found.items ≡ map data_of l.initial.found.items ++ answers (g.P.Projection.projects l.query.query.now) (take l.object-index l.objects);
+  done : map data_of l.results.items ≡ map data_of l.initial.results.items ++ answers (g.P.Projection.projects l.trial.query.now) (take l.object-index l.objects);
   looked : l.looks ≡ ticks l.object-index l.initial.looks;
 }

@@ -11,7 +11,7 @@ use Rattle.table_ops.proofs.table_rows.TableRows.count.Goals as goal
 pub returns-in-Some-clause-count : goal.returns-in-Some-clause-count
 returns-in-Some-clause-count g c =
     let slots = g.R.Rows.content c.args.self.now.rows in
-    let choose = g.P.Predicate.tests c.args.query.now.query.now in
+    let choose = g.P.Predicate.tests c.args.trial.now.query.now in
     let key = c.in-Some.key.now in
     let q = only_key-key option_copied c.args.key (Some c.in-Some.key) key slots c.in-Some.is refl choose c.requires.only_key in
     IfOk-weaker c.count_in.result _ _ (λ n e. e ∙ ap (chosen_count choose) c.objects_of.ensures.objects ∙ chosen-under choose key slots c.objects_of.ensures.distinct q) c.count_in.ensures.count

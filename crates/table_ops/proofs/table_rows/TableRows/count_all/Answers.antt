@@ -7,7 +7,7 @@ use Rattle.table_ops.proofs.table_rows.TableRows.count_all.Goals as goal
 
 pub overflow_add-total : goal.overflow_add-total
 overflow_add-total g c =
-    let choose = g.P.Predicate.tests c.args.query.now.query.now in
+    let choose = g.P.Predicate.tests c.args.trial.now.query.now in
     let all = g.R.Rows.content c.args.self.now.rows in
     let os = c.in-Some.objects.now in
     let rest = c.next.new.self in
@@ -16,7 +16,7 @@ overflow_add-total g c =
 
 pub loop-objects-preserved : goal.loop-objects-preserved
 loop-objects-preserved g c =
-    let choose = g.P.Predicate.tests c.args.query.now.query.now in
+    let choose = g.P.Predicate.tests c.args.trial.now.query.now in
     let os = c.in-Some.objects.now in
     let rest = c.next.new.self in
     let inv = c.loop-objects.invariant in

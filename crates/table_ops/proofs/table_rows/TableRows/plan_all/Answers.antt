@@ -24,7 +24,7 @@ returns-in_err-total-clause-at_most g c =
     let i = c.loop.counter in
     let key_at = g.R.Rows.key_at c.args.self.now.rows in
     let place = c.in-Some.place in
-    let choose = g.P.Predicate.tests c.args.query.now.query.now in
+    let choose = g.P.Predicate.tests c.args.trial.now.query.now in
     let here = is-here key_at slots c.reveal_invariant.ensures i place (subst (λ (o : Option ℕ). IsFirstPlace key_at (drop i slots) o) c.in-Some.is c.loop.invariant.here) in
     let own : c.slot_at.result.1.now ≡ here.0.1 = objects-here key_at slots c.reveal_invariant.ensures i place here.0 c.slot_at.result.0.now c.slot_at.result.1.now here.1 c.slot_at.ensures.key c.slot_at.ensures.objects in
     ticks-most (object_count (take i slots)) (length c.slot_at.result.1.now) (object_count slots) c.args.looks.now c.loop.looks c.plan_slot.new.looks c.loop.invariant.looked c.plan_slot.ensures.at_most
@@ -36,7 +36,7 @@ overflow_add-total g c =
     let i = c.loop.counter in
     let key_at = g.R.Rows.key_at c.args.self.now.rows in
     let place = c.in-Some.place in
-    let choose = g.P.Predicate.tests c.args.query.now.query.now in
+    let choose = g.P.Predicate.tests c.args.trial.now.query.now in
     let here = is-here key_at slots c.reveal_invariant.ensures i place (subst (λ (o : Option ℕ). IsFirstPlace key_at (drop i slots) o) c.in-Some.is c.loop.invariant.here) in
     let own : c.slot_at.result.1.now ≡ here.0.1 = objects-here key_at slots c.reveal_invariant.ensures i place here.0 c.slot_at.result.0.now c.slot_at.result.1.now here.1 c.slot_at.ensures.key c.slot_at.ensures.objects in
     let few : c.loop.total + c.in_ok-total.field-0 ≤ object_count slots = omega (arith, ap length own, slot-count slots i here.0 here.1.at, count-within slots (i + 1), c.loop.invariant.done, c.in_ok-total.ensures.count, chosen-few choose (all_objects (take i slots)), chosen-few choose c.slot_at.result.1.now, objects-count (take i slots)) in
@@ -49,7 +49,7 @@ loop-preserved g c =
     let i = c.loop.counter in
     let key_at = g.R.Rows.key_at c.args.self.now.rows in
     let place = c.in-Some.place in
-    let choose = g.P.Predicate.tests c.args.query.now.query.now in
+    let choose = g.P.Predicate.tests c.args.trial.now.query.now in
     let here = is-here key_at slots c.reveal_invariant.ensures i place (subst (λ (o : Option ℕ). IsFirstPlace key_at (drop i slots) o) c.in-Some.is c.loop.invariant.here) in
     let own : c.slot_at.result.1.now ≡ here.0.1 = objects-here key_at slots c.reveal_invariant.ensures i place here.0 c.slot_at.result.0.now c.slot_at.result.1.now here.1 c.slot_at.ensures.key c.slot_at.ensures.objects in
     record {

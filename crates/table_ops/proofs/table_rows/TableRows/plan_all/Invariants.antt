@@ -10,7 +10,7 @@ use Rattle.table_ops.proofs.table_rows.TableRows.plan_all.Given as goal
 abbrev pub invariant-loop : goal.invariant-loop
 invariant-loop g l = record {
   here : IsFirstPlace (g.R.Rows.key_at l.self.rows) (drop l.counter (g.R.Rows.content l.self.rows)) l.at;
-  done : l.total ≡ chosen_count (g.P.Predicate.tests l.query.query.now) (all_objects (take l.counter (g.R.Rows.content l.self.rows)));
-  marked : planned_at (g.R.Rows.key_at l.self.rows) l.plan.list.items ≡ planned_at (g.R.Rows.key_at l.self.rows) l.initial.plan.list.items ++ plan_of (g.P.Predicate.tests l.query.query.now) (take l.counter (g.R.Rows.content l.self.rows));
+  done : l.total ≡ chosen_count (g.P.Predicate.tests l.trial.query.now) (all_objects (take l.counter (g.R.Rows.content l.self.rows)));
+  marked : planned_at (g.R.Rows.key_at l.self.rows) l.plan.list.items ≡ planned_at (g.R.Rows.key_at l.self.rows) l.initial.plan.list.items ++ plan_of (g.P.Predicate.tests l.trial.query.now) (take l.counter (g.R.Rows.content l.self.rows));
   looked : l.looks ≡ ticks (object_count (take l.counter (g.R.Rows.content l.self.rows))) l.initial.looks;
 }

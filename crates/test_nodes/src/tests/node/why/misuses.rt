@@ -21,8 +21,8 @@ const MALFORMED_UPDATE: &str = "argument 3: malformed update, or it would change
 /// The reason of an option that is unknown or malformed.
 const MALFORMED_OPTION: &str = "argument 2: unknown or malformed option";
 
-/// Steps with a wrong process number, call or table, or with a table that the process may not use in this way. There is
-/// no process 9, no table `nosuch`, 3 or 9, and no call `lokup`.
+/// Steps that set up two tables, and then steps that are wrong: their process number, call or table is wrong, or the
+/// process may not use the table in this way. There is no process 9, no table `nosuch`, 3 or 9, and no call `lokup`.
 pub static STEPS: [Row; 22] = [
     (Enrol(Pid(6)), NO_REASON),
     (Enrol(Pid(7)), NO_REASON),
@@ -176,7 +176,8 @@ pub static UPDATES: [Row; 21] = [
     ),
 ];
 
-/// Calls that wrongly make tables, report on them, fix them or give them away.
+/// Steps that set up two tables, and then calls that are wrong: they make tables, report on them, fix them or give them
+/// away. Two calls are right: `info` of a missing table, and the last one.
 pub static TABLES: [Row; 22] = [
     (Enrol(Pid(6)), NO_REASON),
     (Enrol(Pid(7)), NO_REASON),

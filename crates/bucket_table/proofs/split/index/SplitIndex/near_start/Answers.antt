@@ -6,17 +6,17 @@ use Rattle.bucket_table.proofs.hints.Search.{hint-says}
 use Rattle.bucket_table.proofs.hints.Start.{own-lesser, below-lesser}
 use Rattle.bucket_table.proofs.split.index.SplitIndex.near_start.Goals as goal
 
-pub key-requires : goal.key-requires
-key-requires g c =
+pub split_key-requires : goal.split_key-requires
+split_key-requires g c =
     let read = c.get.ensures ∙ ap (λ (z : ℕ). get_or c.args.self.now.hints.current z None) c.interval_of-interval.ensures in
     let is = hint-says (2 ^ c.args.self.now.hints.interval_bits) c.args.self.now.hints.current c.args.self.now.list.cells c.args.split_key c.args.split_key c.get.result (Some c.in-Some-Some.first) c.requires.rows.rows.hinted.hints read (c.in-Some-Some.is ∙ ap Some c.in-Some-Some.field-0-is) refl in
     is_place (2 ^ c.args.self.now.hints.interval_bits) c.args.split_key c.in-Some-Some.first c.args.self.now.list.cells c.reveal_invariant.ensures.sorted c.reveal_invariant.ensures.apart is
 
-pub returns-then-key-split_key : goal.returns-then-key-split_key
-returns-then-key-split_key g c =
+pub returns-then-split_key : goal.returns-then-split_key
+returns-then-split_key g c =
     let read = c.get.ensures ∙ ap (λ (z : ℕ). get_or c.args.self.now.hints.current z None) c.interval_of-interval.ensures in
     let is = hint-says (2 ^ c.args.self.now.hints.interval_bits) c.args.self.now.hints.current c.args.self.now.list.cells c.args.split_key c.args.split_key c.get.result (Some c.in-Some-Some.first) c.requires.rows.rows.hinted.hints read (c.in-Some-Some.is ∙ ap Some c.in-Some-Some.field-0-is) refl in
-    own-lesser (2 ^ c.args.self.now.hints.interval_bits) c.args.split_key c.in-Some-Some.first c.args.self.now.list.cells c.reveal_invariant.ensures.sorted c.reveal_invariant.ensures.apart c.key.result is c.key.ensures c.if-key-split_key.true
+    own-lesser (2 ^ c.args.self.now.hints.interval_bits) c.args.split_key c.in-Some-Some.first c.args.self.now.list.cells c.reveal_invariant.ensures.sorted c.reveal_invariant.ensures.apart c.split_key.result is c.split_key.ensures c.if-split_key.true
 
 pub returns : goal.returns
 returns g c =

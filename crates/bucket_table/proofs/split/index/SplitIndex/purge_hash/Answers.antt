@@ -24,25 +24,25 @@ loop-next-init g c = record {
   keeps = record { hasher = refl; directory = refl };
 }
 
-pub key-requires : goal.key-requires
-key-requires g c = next-there c.loop-next.at c.in-Some.next c.loop-next.self.list.cells c.reveal_invariant-in-Some.ensures.apart c.loop-next.invariant.is_place (sym c.in-Some.ensures)
+pub split_key-requires : goal.split_key-requires
+split_key-requires g c = next-there c.loop-next.at c.in-Some.next c.loop-next.self.list.cells c.reveal_invariant-in-Some.ensures.apart c.loop-next.invariant.is_place (sym c.in-Some.ensures)
 
-pub returns-then-split_key-key-clause-purged : goal.returns-then-split_key-key-clause-purged
-returns-then-split_key-key-clause-purged g c =
+pub returns-then-split_key-clause-purged : goal.returns-then-split_key-clause-purged
+returns-then-split_key-clause-purged g c =
     let s = c.requires.rows.rows.split in
     let b = c.search_start-at.ensures c.args.hash c.item_key-split_key.ensures (omega arith) in
     run-purged (g.H.KeyHash.hash c.args.self.now.hasher) c.args.self.now.directory c.item_key-split_key.result c.args.hash c.item_key-split_key.ensures c.search_start-at.result c.loop-next.at c.args.self.now.list.cells c.loop-next.self.list.cells
     b.cell b.later b.is (b.below) c.reveal_invariant.ensures.sorted s.placed c.loop-next.invariant.is_place c.loop-next.invariant.slots
 
-pub returns-then-split_key-key-clause-tombstones : goal.returns-then-split_key-key-clause-tombstones
-returns-then-split_key-key-clause-tombstones g c =
+pub returns-then-split_key-clause-tombstones : goal.returns-then-split_key-clause-tombstones
+returns-then-split_key-clause-tombstones g c =
     let s = c.requires.rows.rows.split in
     let b = c.search_start-at.ensures c.args.hash c.item_key-split_key.ensures (omega arith) in
     let i = c.loop-next.invariant in
     let N : g.row.H.Denot → Type 0 = λ h. HaveSplitKeys (g.H.KeyHash.hash h) c.loop-next.self.directory c.loop-next.self.list.cells in
     let D : List (Option ℕ) → Type 0 = λ ds. HaveSplitKeys (g.H.KeyHash.hash c.args.self.now.hasher) ds c.loop-next.self.list.cells in
     let placed = subst D i.keeps.directory (subst N i.keeps.hasher i.rows.rows.split.placed) in
-    let none = beyond-next (g.H.KeyHash.hash c.args.self.now.hasher) c.args.self.now.directory c.item_key-split_key.result c.args.hash c.item_key-split_key.ensures c.loop-next.at c.in-Some.next c.key.result c.loop-next.self.list.cells c.reveal_invariant-in-Some.ensures.apart c.reveal_invariant-in-Some.ensures.sorted placed c.loop-next.invariant.is_place (sym c.in-Some.ensures) c.key.ensures c.if-split_key-key.true in
+    let none = beyond-next (g.H.KeyHash.hash c.args.self.now.hasher) c.args.self.now.directory c.item_key-split_key.result c.args.hash c.item_key-split_key.ensures c.loop-next.at c.in-Some.next c.split_key.result c.loop-next.self.list.cells c.reveal_invariant-in-Some.ensures.apart c.reveal_invariant-in-Some.ensures.sorted placed c.loop-next.invariant.is_place (sym c.in-Some.ensures) c.split_key.ensures c.if-split_key.true in
     run-gone (g.H.KeyHash.hash c.args.self.now.hasher) c.args.self.now.directory c.item_key-split_key.result c.args.hash c.item_key-split_key.ensures c.search_start-at.result c.loop-next.at c.args.self.now.list.cells c.loop-next.self.list.cells
     b.cell b.later b.is (b.below) c.reveal_invariant.ensures.sorted s.placed c.loop-next.invariant.is_place c.loop-next.invariant.slots none c.loop-next.invariant.rest
 

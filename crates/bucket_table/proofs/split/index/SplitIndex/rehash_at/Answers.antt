@@ -2,8 +2,8 @@ use Rattle.node_list.proofs.CallerLaws.{item-is_place}
 use Rattle.bucket_table.proofs.hints.Replace.{right, anew}
 use Rattle.bucket_table.proofs.split.index.SplitIndex.rehash_at.Goals as goal
 
-pub key-split_key-requires : goal.key-split_key-requires
-key-split_key-requires g c = item-is_place c.args.at c.args.self.now.list.cells c.requires.item
+pub split_key-split_key-requires : goal.split_key-split_key-requires
+split_key-split_key-requires g c = item-is_place c.args.at c.args.self.now.list.cells c.requires.item
 
 pub rehash_interval-requires : goal.rehash_interval-requires
 rehash_interval-requires g c = record { hints = right g.H.KeyHash.hash c.args.self.now c.requires.rows }

@@ -25,8 +25,8 @@ chain_mut-chain-requires g c =
     let p = at-place c.args.place c.self.inside.index.list.cells c.reveal_invariant.ensures.apart c.self.invariant.rows.rows.split.distinct (subst P (sym c.self.view_is) c.requires) in
     found-item p.key c.args.place c.self.inside.index.list.cells p.found
 
-pub key-requires : goal.key-requires
-key-requires g c =
+pub split_key-requires : goal.split_key-requires
+split_key-requires g c =
     let P : SplitRowsState g.row.H.Denot → Type 0 = λ v. IsSome (key_of_place v.places c.args.place) in
     let p = at-place c.args.place c.self.inside.index.list.cells c.reveal_invariant.ensures.apart c.self.invariant.rows.rows.split.distinct (subst P (sym c.self.view_is) c.requires) in
     at-is_place c.args.place c.self.inside.index.list.cells p
@@ -35,7 +35,7 @@ pub item_hash-hash-requires : goal.item_hash-hash-requires
 item_hash-hash-requires g c =
     let P : SplitRowsState g.row.H.Denot → Type 0 = λ v. IsSome (key_of_place v.places c.args.place) in
     let p = at-place c.args.place c.self.inside.index.list.cells c.reveal_invariant.ensures.apart c.self.invariant.rows.rows.split.distinct (subst P (sym c.self.view_is) c.requires) in
-    let key = hash-key (g.H.KeyHash.hash c.self.inside.index.hasher) c.self.inside.index.directory p.key c.args.place c.self.inside.index.list.cells c.self.invariant.rows.rows.split.placed p.found c.key.result c.key.ensures in
+    let key = hash-key (g.H.KeyHash.hash c.self.inside.index.hasher) c.self.inside.index.directory p.key c.args.place c.self.inside.index.list.cells c.self.invariant.rows.rows.split.placed p.found c.split_key.result c.split_key.ensures in
     let small = item-small ((g.H.KeyHash.hash c.self.inside.index.hasher) p.key) in
     omega (arith, key, small)
 
@@ -50,7 +50,7 @@ invariant_of-self g c =
     let hs = c.log_hash.new.self.hashes.items in
     let H : ℕ → Type 0 = λ n. IsAmong n hs in
     let N : List Slot → Type 0 = λ zs. TombstonesAreAmong hash_of hs zs in
-    let key = hash-key hash_of c.self.inside.index.directory p.key c.args.place c.self.inside.index.list.cells c.self.invariant.rows.rows.split.placed p.found c.key.result c.key.ensures in
+    let key = hash-key hash_of c.self.inside.index.directory p.key c.args.place c.self.inside.index.list.cells c.self.invariant.rows.rows.split.placed p.found c.split_key.result c.split_key.ensures in
     let hash : c.item_hash-hash.result ≡ hash_of p.key = c.item_hash-hash.ensures (hash_of p.key) key ∙ mod-eq_of_lt (g.met.H.KeyHash.below c.self.inside.index.hasher p.key) in
     record {
       rows = record { rows = rows; previous = hints-with (2 ^ (c.self.inside.index.hints.interval_bits + 1)) c.self.inside.index.hints.previous c.args.place c.replace.new.dest c.self.inside.index.list.cells c.self.invariant.rows.previous };

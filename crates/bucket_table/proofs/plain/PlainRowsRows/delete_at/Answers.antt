@@ -3,7 +3,7 @@ use Rattle.ets_term.specs.declared.term.Term.{Term}
 use Rattle.bucket_table.specs.Walks.{ComesBefore}
 use Rattle.bucket_table.proofs.order.Remove.{one-key}
 use Rattle.bucket_table.proofs.slots.Step.{key_in}
-use Rattle.bucket_table.proofs.plain.PlainRowsRows.drop_at.Goals as goal
+use Rattle.bucket_table.proofs.plain.PlainRowsRows.delete_at.Goals as goal
 
 pub returns-clause-before : goal.returns-clause-before
 returns-clause-before c = λ gone at other key e b.

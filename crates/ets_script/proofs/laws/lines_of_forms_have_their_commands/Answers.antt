@@ -1,5 +1,5 @@
 use Rattle.ets_script.proofs.LineForms.{silent-form, spawn-form, exit-form, grow-form, ready-form, call-form}
-use Rattle.ets_script.proofs.laws.forms_are_commands.Goals as goal
+use Rattle.ets_script.proofs.laws.lines_of_forms_have_their_commands.Goals as goal
 
 pub returns-clause-spawn : goal.returns-clause-spawn
 returns-clause-spawn c line name p f = spawn-form line name p f

@@ -17,7 +17,7 @@ use Rattle.bucket_table.proofs.list.Length.{length-removed}
 use Rattle.bucket_table.proofs.list.Places.{at-place}
 use Rattle.bucket_table.proofs.order.Read.{objects-there}
 use Rattle.bucket_table.proofs.order.Remove.{content-removed, places-before}
-use Rattle.bucket_table.proofs.split.rows.SplitRowsRows.drop_at.Goals as goal
+use Rattle.bucket_table.proofs.split.rows.SplitRowsRows.delete_at.Goals as goal
 
 pub delete-count-requires-clause-item : goal.delete-count-requires-clause-item
 delete-count-requires-clause-item g c =
