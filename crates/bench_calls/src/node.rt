@@ -34,10 +34,8 @@ fn make_table<H: KeyHash + Copy + Drop>(
 
 /// Runs a step, and drops the reply.
 fn run_step<H: KeyHash + Copy + Drop>(node: &mut Node<H>, step: Step) -> Result<(), AllocError> {
-    match node.step(&step) {
-        Ok(_) => Ok(()),
-        Err(fault) => Err(fault),
-    }
+    let _reply = node.step(&step)?;
+    Ok(())
 }
 
 /// Returns the step that makes this call in the process.

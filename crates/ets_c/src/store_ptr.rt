@@ -34,6 +34,7 @@ impl<T: Drop, A: Allocator> RawBox<T, A> {
         ensures { result.value ≡ self.value }
     {
         let RawBox { at, alloc } = self;
+        // The pointer and the allocator are those of a box that `self` owned, so nothing else frees it.
         unsafe { Box::from_raw(alloc, at) }
     }
 }

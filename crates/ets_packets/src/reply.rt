@@ -14,7 +14,8 @@ use std::alloc::Global;
 /// A reply's body has a status byte, and then at most this many bytes.
 const MAX_PAYLOAD: usize = 0xFFFF_FFFE;
 
-/// The statuses of replies, which are the numbers of `node_text`.
+// The statuses of replies, which are the numbers of `node_text`. `CLOSED`, 6, is missing, because a reply always comes
+// from a store.
 const VALUE: u8 = 0;
 
 const BADARG: u8 = 1;

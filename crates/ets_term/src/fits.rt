@@ -26,6 +26,7 @@ fn fits_term(term: &Term)
             let _n = *n;
         }
         Term::Atom(name) => {
+            // By the contract of `text`, an atom's text is in range.
             let _text = name.text();
         }
         Term::Pid(n) => {

@@ -133,6 +133,8 @@ impl<'a, T> IntoIterator for &'a Items<T> {
 
     type IntoIter = slice::Iter<'a, T>;
 
+    // The iterator has the items in order, and fewer than 2^64 of them. From any point on, its steps give references
+    // to the items that are left.
     ghost into_iter_gives = { λ v it. (iter_rest it ≡ v.now) × (length (iter_rest it) < 2 ^ 64)
         × EveryRun (iter_steps {A = T}) (λ p. ItemsMapTo p (λ x. x.now) (iter_rest p.from)) };
 

@@ -13,7 +13,7 @@ impl Term {
     pub fn clone_into(&self, alloc: Global, target: &mut Term) -> Result<(), AllocError>
         ensures { OnOk result (target.new ≡ self.now) }
     {
-        write_term(alloc, self, target)
+        overwrite_term(alloc, self, target)
     }
 }
 
@@ -25,14 +25,14 @@ impl Items<Term> {
         requires { length self.old ≡ length terms.now }
         ensures { OnOk result (self.new ≡ terms.now) }
     {
-        write_terms(alloc, terms, self.items.as_mut_slice())
+        overwrite_terms(alloc, terms, self.items.as_mut_slice())
     }
 }
 
 /// Makes `target` equal to a term. If the term is an integer, it calls no other function.
 #[cycle(reuse)]
 #[inline(always)]
-fn write_term(alloc: Global, term: &Term, target: &mut Term) -> Result<(), AllocError>
+fn overwrite_term(alloc: Global, term: &Term, target: &mut Term) -> Result<(), AllocError>
     ensures { OnOk result (target.new ≡ term.now) }
 {
     match term {
@@ -43,14 +43,14 @@ fn write_term(alloc: Global, term: &Term, target: &mut Term) -> Result<(), Alloc
         Term::Tuple(parts) => {
             if let Term::Tuple(own) = target {
                 if own.len() == parts.len() {
-                    return write_terms(alloc, parts.as_slice(), own.items.as_mut_slice());
+                    return overwrite_terms(alloc, parts.as_slice(), own.items.as_mut_slice());
                 }
             }
         }
         Term::List(parts) => {
             if let Term::List(own) = target {
                 if own.len() == parts.len() {
-                    return write_terms(alloc, parts.as_slice(), own.items.as_mut_slice());
+                    return overwrite_terms(alloc, parts.as_slice(), own.items.as_mut_slice());
                 }
             }
         }
@@ -62,12 +62,12 @@ fn write_term(alloc: Global, term: &Term, target: &mut Term) -> Result<(), Alloc
 
 /// Makes each term of `target` equal to the term at its index.
 #[cycle(reuse)]
-fn write_terms(alloc: Global, terms: &[Term], target: &mut [Term]) -> Result<(), AllocError>
+fn overwrite_terms(alloc: Global, terms: &[Term], target: &mut [Term]) -> Result<(), AllocError>
     requires { length target.old ≡ length terms.now }
     ensures { OnOk result (target.new ≡ terms.now) }
 {
     for at in 0..terms.len() {
-        write_term(alloc, &terms[at], &mut target[at])?;
+        overwrite_term(alloc, &terms[at], &mut target[at])?;
     }
     Ok(())
 }

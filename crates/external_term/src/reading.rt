@@ -1,4 +1,5 @@
-//! Reads terms by recursive descent. `levels_left` is the number of levels that may still be opened.
+//! Reads terms by recursive descent. `levels_left` is the number of levels that may still be opened. The offset that a
+//! function returns is the one after what it read.
 ghost use Rattle.std.specs.Prelude.{◌≡◌, ◌+◌, ◌≤◌, ◌<◌, ◌^◌, length, IfOk, IfSome, Ok, [], ◌∷◌};
 ghost use Rattle.ets_term.specs.declared.term.Term.TheVariants.{Tuple as TupleOf};
 ghost use Rattle.external_term.specs.Faults.{Returns};

@@ -19,7 +19,7 @@ pub(crate) enum WriterFault {
     Io(Error),
 }
 
-/// Sends bytes to a writer. If it fails, it has taken a prefix of them.
+/// Sends bytes to a writer. If this fails, the writer has taken a prefix of them.
 pub(crate) fn send_bytes<W: Write>(bytes: &[u8], out: &mut W) -> Result<(), WriterFault>
     ensures { AppendsOrPrefix (W.contents out.old) (W.contents out.new) bytes.now result }
 {

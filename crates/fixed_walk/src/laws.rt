@@ -17,6 +17,7 @@ ghost use Rattle.fixed_walk.specs.laws.Walks.{SlotWalksAreWhole};
 /// No call gives a key a second slot. If the table is fixed before and after a call, the call keeps all keys that have
 /// slots, tombstones included, and their order.
 pub fn calls_keep_keys()
+    // These four calls ignore `hold`, which is true if the table is fixed.
     ensures insert { (objects : List Term) → AlwaysKeepsKeys (λ hold. Inserts objects) }
     ensures insert_new { (objects : List Term) → AlwaysKeepsKeys (λ hold. InsertsNew objects) }
     ensures update_counter { (key : Term) (ops : Ops) (default : Option Term)

@@ -114,10 +114,14 @@ impl PackedHeader {
         )
     }
 
-    /// Returns the item of the node, if it has one, from the slot at its place.
-    pub fn item_of(self, slot: Item) -> Option<Item>
-        ensures { result ≡ item_if (is_item self) slot }
+    /// Returns the item of the node, if it has one, from the item or placeholder at its place.
+    pub fn item_of(self, item_or_placeholder: Item) -> Option<Item>
+        ensures { result ≡ item_if (is_item self) item_or_placeholder }
     {
-        if self.is_item() { Some(slot) } else { None }
+        if self.is_item() {
+            Some(item_or_placeholder)
+        } else {
+            None
+        }
     }
 }

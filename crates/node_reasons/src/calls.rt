@@ -51,84 +51,95 @@ pub fn last_rule_of_call<R: Rows>(
 }
 
 /// Returns the reason of a call of one argument that is refused with badarg.
-fn last_rule_of_unary_call<R: Rows>(used: &TableUse<R>, name: CallName) -> Reason
-    ensures { result ≡ last_rule_of_known used.now.pid (option_copied used.now.metadata)
-        (content_in (option_copied used.now.table)) name (used.now.term.now ∷ []) }
+fn last_rule_of_unary_call<R: Rows>(table_use: &TableUse<R>, name: CallName) -> Reason
+    ensures { result ≡ last_rule_of_known table_use.now.pid (option_copied table_use.now.metadata)
+        (content_in (option_copied table_use.now.table)) name (table_use.now.term.now ∷ []) }
 {
     match name {
-        CallName::Delete => used.last_rule_of_write(),
-        CallName::DeleteAllObjects => used.last_rule_of_write(),
-        CallName::First => used.last_rule_of_read(),
-        CallName::FirstLookup => used.last_rule_of_read(),
-        CallName::Tab2list => used.last_rule_of_read(),
+        CallName::Delete => table_use.last_rule_of_write(),
+        CallName::DeleteAllObjects => table_use.last_rule_of_write(),
+        CallName::First => table_use.last_rule_of_read(),
+        CallName::FirstLookup => table_use.last_rule_of_read(),
+        CallName::Tab2list => table_use.last_rule_of_read(),
         CallName::Whereis => Reason::argument(1, Rule::NotAnAtom),
         _ => Reason::about_whole_call(Rule::WrongArity),
     }
 }
 
 /// Returns the reason of a call of two arguments that is refused with badarg.
-fn last_rule_of_binary_call<R: Rows>(used: &TableUse<R>, name: CallName, y: &Term) -> Reason
-    ensures { result ≡ last_rule_of_known used.now.pid (option_copied used.now.metadata)
-        (content_in (option_copied used.now.table)) name (used.now.term.now ∷ y.now ∷ []) }
+fn last_rule_of_binary_call<R: Rows>(table_use: &TableUse<R>, name: CallName, y: &Term) -> Reason
+    ensures { result ≡ last_rule_of_known table_use.now.pid (option_copied table_use.now.metadata)
+        (content_in (option_copied table_use.now.table)) name (table_use.now.term.now ∷ y.now ∷ []) }
 {
     match name {
-        CallName::Delete => used.last_rule_of_write(),
-        CallName::DeleteObject => used.needs_write(second_argument(Rule::NotAnObject)),
+        CallName::Delete => table_use.last_rule_of_write(),
+        CallName::DeleteObject => table_use.needs_write(second_argument(Rule::NotAnObject)),
         CallName::Info => tables::last_rule_of_info(y),
-        CallName::Insert => used.needs_write(second_argument(Rule::NotAnObject)),
-        CallName::InsertNew => used.needs_write(second_argument(Rule::NotAnObject)),
-        CallName::Lookup => used.last_rule_of_read(),
-        CallName::Match => used.needs_read(second_argument(Rule::NotAPattern)),
-        CallName::MatchDelete => used.needs_write(second_argument(Rule::NotAPattern)),
-        CallName::MatchObject => used.needs_read(second_argument(Rule::NotAPattern)),
-        CallName::Member => used.last_rule_of_read(),
-        CallName::New => tables::last_rule_of_new(used.term, y),
-        CallName::Next => used.needs_read(second_argument(Rule::NoKey)),
-        CallName::NextLookup => used.needs_read(second_argument(Rule::NoKey)),
-        CallName::SafeFixtable => tables::last_rule_of_safe_fixtable(used, y),
-        CallName::Select => used.needs_read(second_argument(Rule::NotASpecification)),
-        CallName::SelectCount => used.needs_read(second_argument(Rule::NotASpecification)),
-        CallName::SelectDelete => used.needs_write(second_argument(Rule::NotASpecification)),
-        CallName::SetOptions => used.needs_owner(second_argument(Rule::NotOptions)),
-        CallName::Take => used.last_rule_of_write(),
+        CallName::Insert => table_use.needs_write(second_argument(Rule::NotAnObject)),
+        CallName::InsertNew => table_use.needs_write(second_argument(Rule::NotAnObject)),
+        CallName::Lookup => table_use.last_rule_of_read(),
+        CallName::Match => table_use.needs_read(second_argument(Rule::NotAPattern)),
+        CallName::MatchDelete => table_use.needs_write(second_argument(Rule::NotAPattern)),
+        CallName::MatchObject => table_use.needs_read(second_argument(Rule::NotAPattern)),
+        CallName::Member => table_use.last_rule_of_read(),
+        CallName::New => tables::last_rule_of_new(table_use.term, y),
+        CallName::Next => table_use.needs_read(second_argument(Rule::NoKey)),
+        CallName::NextLookup => table_use.needs_read(second_argument(Rule::NoKey)),
+        CallName::SafeFixtable => tables::last_rule_of_safe_fixtable(table_use, y),
+        CallName::Select => table_use.needs_read(second_argument(Rule::NotASpecification)),
+        CallName::SelectCount => table_use.needs_read(second_argument(Rule::NotASpecification)),
+        CallName::SelectDelete => table_use.needs_write(second_argument(Rule::NotASpecification)),
+        CallName::SetOptions => table_use.needs_owner(second_argument(Rule::NotOptions)),
+        CallName::Take => table_use.last_rule_of_write(),
         _ => Reason::about_whole_call(Rule::WrongArity),
     }
 }
 
 /// Returns the reason of a call of three arguments that is refused with badarg.
 fn last_rule_of_ternary_call<R: Rows>(
-    used: &TableUse<R>,
+    table_use: &TableUse<R>,
     name: CallName,
     y: &Term,
     z: &Term,
 ) -> Reason
-    ensures { result ≡ last_rule_of_known used.now.pid (option_copied used.now.metadata)
-        (content_in (option_copied used.now.table)) name (used.now.term.now ∷ y.now ∷ z.now ∷ []) }
+    ensures { result ≡ last_rule_of_known table_use.now.pid (option_copied table_use.now.metadata)
+        (content_in (option_copied table_use.now.table)) name (table_use.now.term.now ∷ y.now ∷ z.now ∷ []) }
 {
     match name {
-        CallName::GiveAway => tables::last_rule_of_give_away(used, y),
-        CallName::LookupElement => updates::last_rule_of_lookup_element(used, y, z, true),
-        CallName::UpdateCounter => updates::last_rule_of_update_counter(used, y, z, None),
-        CallName::UpdateElement => updates::last_rule_of_update_element(used, y, z, None),
+        CallName::GiveAway => tables::last_rule_of_give_away(table_use, y),
+        CallName::LookupElement => updates::last_rule_of_lookup_element(table_use, y, z, true),
+        CallName::UpdateCounter => updates::last_rule_of_update_counter(table_use, y, z, None),
+        CallName::UpdateElement => updates::last_rule_of_update_element(table_use, y, z, None),
         _ => Reason::about_whole_call(Rule::WrongArity),
     }
 }
 
 /// Returns the reason of a call of four arguments, the last a default, that is refused with badarg.
 fn last_rule_of_quaternary_call<R: Rows>(
-    used: &TableUse<R>,
+    table_use: &TableUse<R>,
     name: CallName,
     y: &Term,
     z: &Term,
     default: &Term,
 ) -> Reason
-    ensures { result ≡ last_rule_of_known used.now.pid (option_copied used.now.metadata)
-        (content_in (option_copied used.now.table)) name (used.now.term.now ∷ y.now ∷ z.now ∷ default.now ∷ []) }
+    ensures { result ≡ last_rule_of_known table_use.now.pid (option_copied table_use.now.metadata)
+        (content_in (option_copied table_use.now.table)) name
+        (table_use.now.term.now ∷ y.now ∷ z.now ∷ default.now ∷ []) }
 {
     match name {
-        CallName::LookupElement => updates::last_rule_of_lookup_element(used, y, z, false),
-        CallName::UpdateCounter => updates::last_rule_of_update_counter(used, y, z, Some(default)),
-        CallName::UpdateElement => updates::last_rule_of_update_element(used, y, z, Some(default)),
+        CallName::LookupElement => updates::last_rule_of_lookup_element(table_use, y, z, false),
+        CallName::UpdateCounter => updates::last_rule_of_update_counter(
+            table_use,
+            y,
+            z,
+            Some(default),
+        ),
+        CallName::UpdateElement => updates::last_rule_of_update_element(
+            table_use,
+            y,
+            z,
+            Some(default),
+        ),
         _ => Reason::about_whole_call(Rule::WrongArity),
     }
 }

@@ -38,13 +38,13 @@ pub fn last_rule_of_info(item: &Term) -> Reason
 
 /// Returns the reason of a refused `safe_fixtable`: the first broken rule of those that remain to be checked. They are,
 /// in this order: the flag is a boolean; the table exists; the process may read it.
-pub fn last_rule_of_safe_fixtable<R: Rows>(used: &TableUse<R>, flag: &Term) -> Reason
-    ensures { result ≡ last_rule_of_safe_fixtable used.now.pid (option_copied used.now.metadata) flag.now }
+pub fn last_rule_of_safe_fixtable<R: Rows>(table_use: &TableUse<R>, flag: &Term) -> Reason
+    ensures { result ≡ last_rule_of_safe_fixtable table_use.now.pid (option_copied table_use.now.metadata) flag.now }
 {
     if flag.is_atom("true") {
-        used.last_rule_of_read()
+        table_use.last_rule_of_read()
     } else if flag.is_atom("false") {
-        used.last_rule_of_read()
+        table_use.last_rule_of_read()
     } else {
         Reason::argument(2, Rule::NotABoolean)
     }
@@ -52,19 +52,19 @@ pub fn last_rule_of_safe_fixtable<R: Rows>(used: &TableUse<R>, flag: &Term) -> R
 
 /// Returns the reason of a refused `give_away`: the first broken rule of those that remain to be checked. They are, in
 /// this order: the table exists; argument 2 is a pid; the process owns the table; the other process may get it.
-pub fn last_rule_of_give_away<R: Rows>(used: &TableUse<R>, to: &Term) -> Reason
-    ensures { result ≡ last_rule_of_give_away used.now.pid (option_copied used.now.metadata) to.now }
+pub fn last_rule_of_give_away<R: Rows>(table_use: &TableUse<R>, to: &Term) -> Reason
+    ensures { result ≡ last_rule_of_give_away table_use.now.pid (option_copied table_use.now.metadata) to.now }
 {
-    let Some(_) = used.metadata else {
+    let Some(_) = table_use.metadata else {
         return Reason::argument(1, Rule::NoTable);
     };
     let Term::Pid(to) = to else {
         return Reason::argument(2, Rule::NotAPid);
     };
-    let rule = if *to == used.pid {
+    let rule = if *to == table_use.pid {
         Rule::ToSelf
     } else {
         Rule::NotAlive
     };
-    used.needs_owner(Reason::argument(2, rule))
+    table_use.needs_owner(Reason::argument(2, rule))
 }

@@ -19,37 +19,37 @@ use table_ops::Kind;
 /// Returns the reason of a refused `lookup_element`: the first broken rule of these. The process may read the table.
 /// Argument 3 is a position. If `needed`, the key has an object. The object has the element.
 pub fn last_rule_of_lookup_element<R: Rows>(
-    used: &TableUse<R>,
+    table_use: &TableUse<R>,
     key: &Term,
     position: &Term,
     needed: bool,
 ) -> Reason
-    ensures { result ≡ last_rule_of_content Read used.now.pid (option_copied used.now.metadata)
-        (content_in (option_copied used.now.table)) (last_rule_of_lookup_element key.now position.now needed) }
+    ensures { result ≡ last_rule_of_content Read table_use.now.pid (option_copied table_use.now.metadata)
+        (content_in (option_copied table_use.now.table)) (last_rule_of_lookup_element key.now position.now needed) }
 {
-    let Some(table) = used.table else {
-        return used.needs_read(Reason::argument(1, Rule::NoTable));
+    let Some(table) = table_use.table else {
+        return table_use.needs_read(Reason::argument(1, Rule::NoTable));
     };
     let element = Reason::argument(3, Rule::NoElement);
     let rest = needs_position(position, needs_key(needed, element, table.lookup(key)));
-    used.needs_read(rest)
+    table_use.needs_read(rest)
 }
 
 /// Returns the reason of a refused `update_counter`: the first broken rule of these. The process may write to the
 /// table. The operations are well-formed. The table is a set. The default, with the key in it, is an object. Without a
 /// default, the key has an object. The object has integers at the positions.
 pub fn last_rule_of_update_counter<R: Rows>(
-    used: &TableUse<R>,
+    table_use: &TableUse<R>,
     key: &Term,
     updates: &Term,
     default: Option<&Term>,
 ) -> Reason
-    ensures { result ≡ last_rule_of_content Write used.now.pid (option_copied used.now.metadata)
-        (content_in (option_copied used.now.table))
+    ensures { result ≡ last_rule_of_content Write table_use.now.pid (option_copied table_use.now.metadata)
+        (content_in (option_copied table_use.now.table))
         (last_rule_of_update_counter key.now updates.now (option_copied default.entry)) }
 {
-    let Some(table) = used.table else {
-        return used.needs_write(Reason::argument(1, Rule::NoTable));
+    let Some(table) = table_use.table else {
+        return table_use.needs_write(Reason::argument(1, Rule::NoTable));
     };
     let rest = if are_ops(table.keypos(), updates) {
         let counter = Reason::argument(3, Rule::NotACounter);
@@ -62,31 +62,31 @@ pub fn last_rule_of_update_counter<R: Rows>(
     } else {
         Reason::argument(3, Rule::NotAnUpdate)
     };
-    used.needs_write(rest)
+    table_use.needs_write(rest)
 }
 
 /// Returns the reason of a refused `update_element`: the first broken rule of these. The process may write to the
 /// table. The element values are well-formed. The table is a set. The default, with the key in it, is an object. The
 /// object has the elements.
 pub fn last_rule_of_update_element<R: Rows>(
-    used: &TableUse<R>,
+    table_use: &TableUse<R>,
     key: &Term,
     values: &Term,
     default: Option<&Term>,
 ) -> Reason
-    ensures { result ≡ last_rule_of_content Write used.now.pid (option_copied used.now.metadata)
-        (content_in (option_copied used.now.table))
+    ensures { result ≡ last_rule_of_content Write table_use.now.pid (option_copied table_use.now.metadata)
+        (content_in (option_copied table_use.now.table))
         (last_rule_of_update_element key.now values.now (option_copied default.entry)) }
 {
-    let Some(table) = used.table else {
-        return used.needs_write(Reason::argument(1, Rule::NoTable));
+    let Some(table) = table_use.table else {
+        return table_use.needs_write(Reason::argument(1, Rule::NoTable));
     };
     let rest = if are_element_specs(table.keypos(), values) {
         needs_set(table, key, default, Reason::argument(3, Rule::NoElement))
     } else {
         Reason::argument(3, Rule::NotAnUpdate)
     };
-    used.needs_write(rest)
+    table_use.needs_write(rest)
 }
 
 /// Returns the reason if argument 3 is not a position, else `rest`.

@@ -174,6 +174,7 @@ impl Store {
         ensures ok { OnOk result (RunsStep self.old event.now self.new) }
         ensures err { OnErr result (self.new ≡ with_refusal refusal.NoMemory self.old) }
     {
+        // The step writes over `previous`, because `reply` must stay as it is if memory runs out.
         if self.node.step_into(event, &mut self.previous).is_err() {
             self.refusal = Some(LastRefusal::NoMemory);
             return Err(AllocError);

@@ -40,7 +40,7 @@ closes b = b == byte ")"
 
 -- the state after such a text
 abbrev at : QuoteState → ℕ → Bool → Bool → LexState
-at q n o c = record { quotes = q; levels = n; is_open = o; is_closed = c }
+at q n o c = record { quotes = q; levels = n; has_opened = o; has_closed = c }
 
 abbrev made : QuoteState → List ℕ → LexState
 made q bs = at q (fold next_levels 0 bs) (list_any opens bs) (list_any closes bs)

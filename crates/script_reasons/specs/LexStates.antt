@@ -41,6 +41,6 @@ abbrev pub lex_state_of : List ℕ → LexState
 lex_state_of text = record {
   quotes = quote_state_of text;
   levels = fold next_levels 0 (without_quotes text);
-  is_open = list_any (λ b. b == byte "(") (without_quotes text);
-  is_closed = list_any (λ b. b == byte ")") (without_quotes text);
+  has_opened = list_any (λ b. b == byte "(") (without_quotes text);
+  has_closed = list_any (λ b. b == byte ")") (without_quotes text);
 }

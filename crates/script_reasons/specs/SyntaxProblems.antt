@@ -20,7 +20,7 @@ long_number = 10
 -- at the end of the line
 abbrev pub diagnose_end : LexState → SyntaxProblem
 diagnose_end state = if is_quoted state.quotes || nat_lt 0 state.levels then problem.EndOfLineInTerm
-    else if state.is_open then problem.EndOfLineInCall
+    else if state.has_opened then problem.EndOfLineInCall
     else problem.EndOfLine
 
 -- inside quotes: after a backslash; or a character of a string, which is one level deeper
@@ -77,7 +77,7 @@ diagnose_term_start state before b after = if nat_le max_depth state.levels && b
 abbrev pub diagnose_byte : List ℕ → ℕ → List ℕ → SyntaxProblem
 diagnose_byte before b after = if not (is_line_byte b) then problem.NotPrintable b
     else if is_quoted (lex_state_of before).quotes then diagnose_in_quotes (lex_state_of before) b
-    else if (lex_state_of before).is_closed then diagnose_after_call b
+    else if (lex_state_of before).has_closed then diagnose_after_call b
     else if expects_term before then diagnose_term_start (lex_state_of before) before b after
     else diagnose_unexpected_byte before b after
 

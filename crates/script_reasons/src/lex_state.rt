@@ -46,9 +46,9 @@ pub struct LexState {
     /// The number of open brackets of terms.
     pub levels: usize,
     /// Whether the parenthesis before the call's arguments was read.
-    pub is_open: bool,
+    pub has_opened: bool,
     /// Whether the parenthesis after the call's arguments was read.
-    pub is_closed: bool,
+    pub has_closed: bool,
 }
 
 impl LexState {
@@ -59,8 +59,8 @@ impl LexState {
         let mut state = LexState {
             quotes: QuoteState::Outside,
             levels: 0,
-            is_open: false,
-            is_closed: false,
+            has_opened: false,
+            has_closed: false,
         };
         for byte in text {
             state.advance(*byte);
@@ -75,8 +75,8 @@ impl LexState {
     {
         if !self.quotes.is_quoted() {
             self.levels = next_levels(self.levels, byte);
-            self.is_open |= byte == b'(';
-            self.is_closed |= byte == b')';
+            self.has_opened |= byte == b'(';
+            self.has_closed |= byte == b')';
         }
         self.quotes = self.quotes.next_state(byte);
     }

@@ -79,7 +79,7 @@ fn diagnose_end(state: &LexState) -> SyntaxProblem
 {
     if state.quotes.is_quoted() || state.levels > 0 {
         SyntaxProblem::EndOfLineInTerm
-    } else if state.is_open {
+    } else if state.has_opened {
         SyntaxProblem::EndOfLineInCall
     } else {
         SyntaxProblem::EndOfLine
@@ -95,7 +95,7 @@ fn diagnose_byte(before: &[u8], byte: u8, after: &[u8]) -> SyntaxProblem
         SyntaxProblem::NotPrintable(byte)
     } else if state.quotes.is_quoted() {
         diagnose_in_quotes(&state, byte)
-    } else if state.is_closed {
+    } else if state.has_closed {
         diagnose_after_call(byte)
     } else if expects_term(before) {
         diagnose_term_start(&state, before, byte, after)

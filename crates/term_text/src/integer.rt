@@ -8,7 +8,7 @@ use crate::number::{Magnitude, number_at};
 use ets_term::{Integer, Term};
 
 /// Returns the greatest magnitude of a negative integer, or of an integer that is not negative.
-fn integer_limit(negative: bool) -> Magnitude
+fn max_magnitude(negative: bool) -> Magnitude
     ensures { result ≡ max_magnitude (integer negative) }
 {
     let size = Integer::MAX as Magnitude;
@@ -23,7 +23,7 @@ fn signed_value(negative: bool, n: Magnitude) -> Integer
 {
     if !negative {
         n as Integer
-    } else if n == integer_limit(true) {
+    } else if n == max_magnitude(true) {
         Integer::MIN
     } else {
         -(n as Integer)
@@ -42,6 +42,6 @@ pub(crate) fn integer_at(
     ensures reads { (os : List OpenBracket)
         → ReadsTerm text.now at (reads_on (digit (integer negative) start) os) os result }
 {
-    let (n, end) = number_at(text, at, start, integer_limit(negative))?;
+    let (n, end) = number_at(text, at, start, max_magnitude(negative))?;
     Ok((Term::Int(signed_value(negative, n)), end))
 }

@@ -112,6 +112,7 @@ fn any_form_at(
         b'[' => bracket_at(alloc, text, at + 1, Bracket::Square, levels_left - 1),
         b'-' => integer_at(text, at + 1, at, true),
         b'\'' => quoted_atom_at(alloc, text, at),
+        // A string is a list of integers, so it must be empty if only one level is left.
         b'"' => string_at(alloc, text, at + 1, levels_left == 1),
         b'<' => pid_or_binary_at(alloc, text, at + 1),
         b'#' => identifier_at(text, at + 1),

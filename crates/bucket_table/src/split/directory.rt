@@ -7,8 +7,9 @@ use node_list::{At, Link};
 use std::alloc::{AllocError, Global};
 use std::marker::Model;
 
-/// The greatest number of links in a segment of the directory, one link per bucket: 256 KiB.
-const LINKS_PER_SEGMENT: usize = 32768;
+/// The greatest number of links in a segment of the directory, one link per bucket. A segment thus takes 256 KiB, which
+/// bounds the links that a doubling copies.
+const MAX_LINKS_PER_SEGMENT: usize = 32768;
 
 /// The directory: for each bucket the place of its dummy, or none if the bucket is not ready. It is stored in segments,
 /// so that a doubling copies at most the first one. In each segment only the links up to its last ready bucket are
@@ -61,11 +62,11 @@ impl Directory {
     pub fn get(&self, bucket: usize) -> Option<At>
         ensures { result ≡ get_or self.now bucket None }
     {
-        if bucket < LINKS_PER_SEGMENT {
+        if bucket < MAX_LINKS_PER_SEGMENT {
             return link_at(self.first_segment.as_slice(), bucket);
         }
-        let segment = bucket / LINKS_PER_SEGMENT - 1;
-        let index = bucket % LINKS_PER_SEGMENT;
+        let segment = bucket / MAX_LINKS_PER_SEGMENT - 1;
+        let index = bucket % MAX_LINKS_PER_SEGMENT;
         if segment < self.later_segments.len() {
             link_at(self.later_segments[segment].as_slice(), index)
         } else {
@@ -79,11 +80,11 @@ impl Directory {
         requires place { at < 2 ^ 64 - 1 }
         ensures { self.new ≡ set self.old bucket (Some at) }
     {
-        if bucket < LINKS_PER_SEGMENT {
+        if bucket < MAX_LINKS_PER_SEGMENT {
             set_link(&mut self.first_segment, bucket, at);
         } else {
-            let segment = bucket / LINKS_PER_SEGMENT - 1;
-            let index = bucket % LINKS_PER_SEGMENT;
+            let segment = bucket / MAX_LINKS_PER_SEGMENT - 1;
+            let index = bucket % MAX_LINKS_PER_SEGMENT;
             set_link(&mut self.later_segments[segment], index, at);
         }
     }
@@ -95,17 +96,17 @@ impl Directory {
         ensures err { OnErr result (self.new ≡ self.old) }
     {
         let buckets = 2 * self.buckets;
-        let in_first_segment = buckets.min(LINKS_PER_SEGMENT);
+        let in_first_segment = buckets.min(MAX_LINKS_PER_SEGMENT);
         let missing = in_first_segment.saturating_sub(self.first_segment.len());
         self.first_segment.reserve(missing)?;
-        let later = buckets.saturating_sub(1) / LINKS_PER_SEGMENT;
+        let later = buckets.saturating_sub(1) / MAX_LINKS_PER_SEGMENT;
         add_segments(&mut self.later_segments, later)?;
         self.buckets = buckets;
         Ok(())
     }
 }
 
-/// Returns the place in a link of a segment, if it is written.
+/// Returns the place in the link at an index of a segment. Returns `None` if the link is not written, or has no place.
 fn link_at(segment: &[Link], index: usize) -> Option<At>
     ensures { result ≡ get_or segment.now index None }
 {
@@ -136,7 +137,7 @@ fn add_segments(segments: &mut Vec<Vec<Link>>, count: usize) -> Result<(), Alloc
     ensures ok { OnOk result (count ≤ length segments.new.items) }
 {
     for _ in segments.len()..count {
-        let segment = Vec::with_capacity(*segments.allocator(), LINKS_PER_SEGMENT)?;
+        let segment = Vec::with_capacity(*segments.allocator(), MAX_LINKS_PER_SEGMENT)?;
         segments.push(segment)?;
     }
     Ok(())

@@ -60,7 +60,8 @@ fn calculate(operation: ArithmeticOp, m: Integer, n: Integer) -> Option<Integer>
     }
 }
 
-/// Returns the remainder, or `None` if `n` is 0. For -1 it is 0, also for the least integer, where `checked_rem` fails.
+/// Returns the remainder, or `None` if `n` is 0. If `n` is -1, returns 0 without `checked_rem`, which returns `None` if
+/// `m` is the least integer.
 fn remainder(m: Integer, n: Integer) -> Option<Integer>
     ensures { result ≡ calculate ArithmeticOp.Remainder m n }
 {

@@ -55,8 +55,9 @@ pub(crate) fn expressions_of(
     Ok(Items::from_vec(compiled))
 }
 
-/// Compiles a tuple: `{{..}}` makes a tuple, and any other tuple is a call. The check refuses a tuple that is not an
-/// expression. For the case that does not occur, the result is `Object`.
+/// Compiles a tuple: `{{..}}` makes a tuple, and any other tuple is a call. For a tuple that is not an expression the
+/// result is `Object`, which is never evaluated. The check refuses such a tuple, except inside the argument of `const`,
+/// whose compiled form is dropped.
 #[cycle(expression)]
 fn tuple_expression(
     alloc: Global,
@@ -130,6 +131,7 @@ fn call_expression(name: &str, count: usize, compiled: Items<Expression>) -> Exp
     }
     match function_of(name, count) {
         Some(function) => Expression::Apply(function, compiled),
+        // The result is never evaluated, as that of `tuple_expression` for a tuple that is not an expression.
         None => Expression::Object,
     }
 }

@@ -67,7 +67,8 @@ pub(crate) fn borrowed_value<'a>(env: Env<'a>, expression: &'a Expression) -> Op
     }
 }
 
-/// Returns the value of the expression, or `None` if it fails. If the value can be borrowed, does not call `evaluate`.
+/// Returns the value of the expression, or `None` if it fails. If the value can be borrowed, does not call `evaluate`,
+/// which is slower.
 #[inline(always)]
 pub(crate) fn value_of<'a>(
     env: Env<'a>,

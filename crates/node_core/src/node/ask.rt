@@ -67,7 +67,8 @@ impl<H: KeyHash + Copy + Drop> Node<H> {
         }
     }
 
-    /// Makes a call, and writes its reply.
+    /// Makes a call, and writes its reply. After out of memory, `reply` may be anything. `step_into` writes `NoProcess`
+    /// then.
     #[inline(always)]
     pub(crate) fn ask(&mut self, pid: u32, call: &Call, reply: &mut Reply) -> Result<(), AllocError>
         ensures ok { OnOk result (step self.old (Ask pid call.now) reply.new self.new) }

@@ -109,12 +109,12 @@ pub fn write_list(alloc: Global, objects: &[Term], reply: &mut Reply) -> Result<
 #[inline(always)]
 pub fn write_true(
     alloc: Global,
-    call: Result<(), Refusal>,
+    returned: Result<(), Refusal>,
     reply: &mut Reply,
 ) -> Result<(), Refusal>
-    ensures { to_reply (λ _. reply.new) result ≡ to_reply (λ _. true_reply) call }
+    ensures { to_reply (λ _. reply.new) result ≡ to_reply (λ _. true_reply) returned }
 {
-    match call {
+    match returned {
         Ok(()) => {
             write_atom(alloc, "true", reply);
             Ok(())
@@ -127,12 +127,12 @@ pub fn write_true(
 #[inline(always)]
 pub fn write_truth(
     alloc: Global,
-    call: Result<bool, Refusal>,
+    returned: Result<bool, Refusal>,
     reply: &mut Reply,
 ) -> Result<(), Refusal>
-    ensures { to_reply (λ _. reply.new) result ≡ to_reply truth_reply call }
+    ensures { to_reply (λ _. reply.new) result ≡ to_reply truth_reply returned }
 {
-    match call {
+    match returned {
         Ok(truth) => {
             write_atom(alloc, if truth { "true" } else { "false" }, reply);
             Ok(())
@@ -143,10 +143,10 @@ pub fn write_truth(
 
 /// Writes the value that a call returned, or returns its refusal.
 #[inline(always)]
-pub fn write_value(call: Result<Term, Refusal>, reply: &mut Reply) -> Result<(), Refusal>
-    ensures { to_reply (λ _. reply.new) result ≡ to_reply Value call }
+pub fn write_value(returned: Result<Term, Refusal>, reply: &mut Reply) -> Result<(), Refusal>
+    ensures { to_reply (λ _. reply.new) result ≡ to_reply Value returned }
 {
-    match call {
+    match returned {
         Ok(value) => {
             *reply = Reply::Value(value);
             Ok(())
@@ -156,10 +156,10 @@ pub fn write_value(call: Result<Term, Refusal>, reply: &mut Reply) -> Result<(),
 }
 
 /// Writes the reply that a call returned, or returns its refusal.
-pub fn write_reply(call: Result<Reply, Refusal>, reply: &mut Reply) -> Result<(), Refusal>
-    ensures { to_reply (λ _. reply.new) result ≡ call }
+pub fn write_reply(returned: Result<Reply, Refusal>, reply: &mut Reply) -> Result<(), Refusal>
+    ensures { to_reply (λ _. reply.new) result ≡ returned }
 {
-    match call {
+    match returned {
         Ok(new_reply) => {
             *reply = new_reply;
             Ok(())

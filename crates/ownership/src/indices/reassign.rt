@@ -88,9 +88,9 @@ impl Indices {
         if !table.metadata().is_owned_by(pid) {
             return Some(table);
         }
-        let heir = living_heir(processes, table.metadata()).map(|heir| heir.pid);
-        if let Some(heir) = heir {
-            table.set_owner(heir);
+        let heir_pid = living_heir(processes, table.metadata()).map(|heir| heir.pid);
+        if let Some(heir_pid) = heir_pid {
+            table.set_owner(heir_pid);
             return Some(table);
         }
         self.remove(table.metadata());

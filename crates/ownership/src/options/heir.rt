@@ -36,6 +36,7 @@ pub fn heir_in_setopts(alloc: Global, options: &Term) -> Result<Option<Option<He
 {
     match options {
         Term::List(terms) => parse_last_heir(alloc, terms.as_slice()),
+        // `setopts` also takes one option without a list.
         _ => Ok(Some(parse_heir_option(alloc, options)?)),
     }
 }

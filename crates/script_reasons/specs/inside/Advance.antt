@@ -11,6 +11,6 @@ advance state b = if is_quoted state.quotes
     else record {
       quotes = next_quote_state state.quotes b;
       levels = next_levels state.levels b;
-      is_open = state.is_open || (b == byte "(");
-      is_closed = state.is_closed || (b == byte ")");
+      has_opened = state.has_opened || (b == byte "(");
+      has_closed = state.has_closed || (b == byte ")");
     }

@@ -55,18 +55,18 @@ fn have_hashes_by_seed(alloc: Global, seed: u64, wanted: &[u32]) -> Option<bool>
 
 /// The hashes of the terms of `push_terms` by the least seed: of the integer of one word, `a`, -2^64-1, the pid, the
 /// identifier, the tuple, the list and the binary.
-const HASHES_BY_LEAST: [u32; 8] = [
+const HASHES_BY_LEAST_SEED: [u32; 8] = [
     2148618418, 2690377353, 1177630858, 3151374797, 3674489283, 66044220, 1383136696, 67764636,
 ];
 
 /// The hashes of the same terms by the greatest seed.
-const HASHES_BY_GREATEST: [u32; 8] = [
+const HASHES_BY_GREATEST_SEED: [u32; 8] = [
     2024830561, 3982370948, 311267150, 2456716419, 4180416107, 84722687, 2600002187, 2097526356,
 ];
 
 /// Checks the hashes of a term of each kind by the least and by the greatest seed.
 #[test]
 fn terms_have_known_hashes_by_two_seeds(rt: HostRuntime) {
-    assert!(rt; have_hashes_by_seed(rt.alloc(), 0, &HASHES_BY_LEAST) == Some(true));
-    assert!(rt; have_hashes_by_seed(rt.alloc(), u64::MAX, &HASHES_BY_GREATEST) == Some(true));
+    assert!(rt; have_hashes_by_seed(rt.alloc(), 0, &HASHES_BY_LEAST_SEED) == Some(true));
+    assert!(rt; have_hashes_by_seed(rt.alloc(), u64::MAX, &HASHES_BY_GREATEST_SEED) == Some(true));
 }

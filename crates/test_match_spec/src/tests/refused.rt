@@ -75,8 +75,8 @@ fn has_bindings(alloc: Global, pattern: &Term, object: &Term, wanted: &Term) -> 
 /// Returns whether the result of a match specification is the wanted one, by `result` and by `is_true`.
 fn has_result(alloc: Global, spec: &Term, object: &Term, wanted: &Term) -> Option<bool> {
     let spec = spec_with_retry(alloc, spec)?;
-    let is_true = is_true_with_retry(alloc, &spec, object)? == wanted.is_atom("true");
-    Some(is_true && result_with_retry(alloc, &spec, object)? == *wanted)
+    let is_true_agrees = is_true_with_retry(alloc, &spec, object)? == wanted.is_atom("true");
+    Some(is_true_agrees && result_with_retry(alloc, &spec, object)? == *wanted)
 }
 
 /// The form of a row of text: `[Pattern,Object,Values]` or `[Specification,Object,Result]`.

@@ -11,13 +11,13 @@ use node_list::{At, NodeList};
 
 impl Hints {
     /// Checks whether an item with this split key, if inserted now, would be the first of its interval by a known hint.
-    /// The hint of the interval must then change.
+    /// The hint of the interval must then change. Returns `false` if the hint is unknown.
     pub fn is_new_first(&self, list: &NodeList, split_key: u64) -> bool
         requires hints { HintsAreSound self.now list.now.cells }
-        ensures new { result ≡ true
+        ensures first { result ≡ true
             → IsNewFirst (2 ^ self.now.interval_bits) (split_key / 2 ^ self.now.interval_bits)
             list.now.cells split_key }
-        ensures old { result ≡ false
+        ensures keeps { result ≡ false
             → KeepsFirst (2 ^ self.now.interval_bits) (split_key / 2 ^ self.now.interval_bits) list.now.cells split_key
             (get_or self.now.current (split_key / 2 ^ self.now.interval_bits) None) }
     {

@@ -109,7 +109,7 @@ fn writes_default_as_expected_with_retry(
 /// The call that a row of text checks, and so the columns of the row. A lower-case column is a literal label. An answer
 /// or a result may be a refusal.
 #[derive(Clone, Copy)]
-enum Call {
+enum UpdateCall {
     /// `[Before, update, Operations, gives, Answer, leaves, After]`
     UpdateCounter,
     /// `[default, Default, key, Key, update, Operations, gives, Answer, leaves, Object]`
@@ -130,12 +130,12 @@ const COUNTER_DEFAULT_LABELS: [(usize, &str); 5] = [
 ];
 
 /// Returns whether a row has the labels of its call.
-fn has_labels_of(call: Call, row: &[Term]) -> bool {
+fn has_labels_of(call: UpdateCall, row: &[Term]) -> bool {
     match call {
-        Call::UpdateCounter => has_labels(row, &COUNTER_LABELS),
-        Call::UpdateCounterWithDefault => has_labels(row, &COUNTER_DEFAULT_LABELS),
-        Call::UpdateElement => has_labels(row, &ELEMENT_LABELS),
-        Call::UpdateElementWithDefault => has_labels(row, &ELEMENT_DEFAULT_LABELS),
+        UpdateCall::UpdateCounter => has_labels(row, &COUNTER_LABELS),
+        UpdateCall::UpdateCounterWithDefault => has_labels(row, &COUNTER_DEFAULT_LABELS),
+        UpdateCall::UpdateElement => has_labels(row, &ELEMENT_LABELS),
+        UpdateCall::UpdateElementWithDefault => has_labels(row, &ELEMENT_DEFAULT_LABELS),
     }
 }
 
@@ -172,20 +172,20 @@ fn element_default_row_holds_with_retry(alloc: Global, row: &[Term]) -> Option<b
 }
 
 /// Returns whether the call of a row has the expected result. None means wrong columns, or a failed retry.
-fn row_holds_with_retry(alloc: Global, call: Call, row: &[Term]) -> Option<bool> {
+fn row_holds_with_retry(alloc: Global, call: UpdateCall, row: &[Term]) -> Option<bool> {
     if !has_labels_of(call, row) {
         return None;
     }
     match call {
-        Call::UpdateCounter => counter_row_holds_with_retry(alloc, row),
-        Call::UpdateCounterWithDefault => counter_default_row_holds_with_retry(alloc, row),
-        Call::UpdateElement => element_row_holds_with_retry(alloc, row),
-        Call::UpdateElementWithDefault => element_default_row_holds_with_retry(alloc, row),
+        UpdateCall::UpdateCounter => counter_row_holds_with_retry(alloc, row),
+        UpdateCall::UpdateCounterWithDefault => counter_default_row_holds_with_retry(alloc, row),
+        UpdateCall::UpdateElement => element_row_holds_with_retry(alloc, row),
+        UpdateCall::UpdateElementWithDefault => element_default_row_holds_with_retry(alloc, row),
     }
 }
 
 /// Reads the row of a text, and returns whether it holds, with one retry of each call.
-fn text_row_holds_with_retry(alloc: Global, call: Call, row: &str) -> Option<bool> {
+fn text_row_holds_with_retry(alloc: Global, call: UpdateCall, row: &str) -> Option<bool> {
     let row = term_with_retry(alloc, row)?;
     let holds = match &row {
         Term::List(parts) => row_holds_with_retry(alloc, call, parts.as_slice()),
@@ -196,7 +196,10 @@ fn text_row_holds_with_retry(alloc: Global, call: Call, row: &str) -> Option<boo
 }
 
 /// Returns the first row that does not hold, even with one retry of each call.
-fn first_mismatch_with_retry(alloc: Global, rows: &[(Call, &'static str)]) -> Option<&'static str> {
+fn first_mismatch_with_retry(
+    alloc: Global,
+    rows: &[(UpdateCall, &'static str)],
+) -> Option<&'static str> {
     for (call, row) in rows {
         if text_row_holds_with_retry(alloc, *call, *row) != Some(true) {
             return Some(*row);
@@ -205,42 +208,43 @@ fn first_mismatch_with_retry(alloc: Global, rows: &[(Call, &'static str)]) -> Op
     None
 }
 
-/// Each row is a call and its row of text, with the columns of `Call`. The updates take memory, and some are refused.
-const UPDATES: [(Call, &str); 9] = [
+/// Each row is a call and its row of text, with the columns of `UpdateCall`. The updates take memory, and some are
+/// refused.
+const UPDATES: [(UpdateCall, &str); 9] = [
     (
-        Call::UpdateCounter,
+        UpdateCall::UpdateCounter,
         "[{c,5}, update, 3, gives, 8, leaves, {c,8}]",
     ),
     (
-        Call::UpdateCounter,
+        UpdateCall::UpdateCounter,
         "[{c,5,x}, update, [{2,1},{2,1},{2,1},{2,1},{2,1},{2,1},{2,1},{2,1},{2,-9}], gives, [6,7,8,9,10,11,12,13,4], leaves, {c,4,x}]",
     ),
     (
-        Call::UpdateCounter,
+        UpdateCall::UpdateCounter,
         "[{c,5,a}, update, [{2,1},{2,1},{3,1}], gives, badarg, leaves, {c,5,a}]",
     ),
     (
-        Call::UpdateCounterWithDefault,
+        UpdateCall::UpdateCounterWithDefault,
         "[default, {x,10,[1,2,3]}, key, [a,key], update, [{2,1},{2,-5}], gives, [11,6], leaves, {[a,key],6,[1,2,3]}]",
     ),
     (
-        Call::UpdateCounterWithDefault,
+        UpdateCall::UpdateCounterWithDefault,
         "[default, {x}, key, [a,key], update, [{2,1}], gives, badarg, leaves, none]",
     ),
     (
-        Call::UpdateElement,
+        UpdateCall::UpdateElement,
         "[{k,1,2}, set, [{2,'a text that needs memory of its own'},{3,[x,{y}]}], gives, {k,'a text that needs memory of its own',[x,{y}]}]",
     ),
     (
-        Call::UpdateElement,
+        UpdateCall::UpdateElement,
         "[{k,1,2}, set, [{2,[a,list]},{4,x}], gives, badarg]",
     ),
     (
-        Call::UpdateElementWithDefault,
+        UpdateCall::UpdateElementWithDefault,
         "[default, {0,1,<<\"binary\">>}, key, [a,key], set, [{2,[9]}], gives, {[a,key],[9],<<\"binary\">>}]",
     ),
     (
-        Call::UpdateElementWithDefault,
+        UpdateCall::UpdateElementWithDefault,
         "[default, {0,1}, key, [a,key], set, [{3,[9]}], gives, badarg]",
     ),
 ];

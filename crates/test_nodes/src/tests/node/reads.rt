@@ -112,8 +112,8 @@ fn overwriting_read_of_step_has_reply(
         return Err(AllocError);
     };
     let replied = node.read_into(*pid, call, reply)?;
-    // It replied to a call that it leaves to `step`, or did not reply to another.
-    if replied == wanted.is_empty() {
+    let must_reply = !wanted.is_empty();
+    if replied != must_reply {
         return Ok(false);
     }
     reply_has_text(alloc, reply, if replied { wanted } else { before })

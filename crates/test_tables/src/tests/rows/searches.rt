@@ -49,6 +49,7 @@ const MAX_EXTRA_VISITS: u64 = 2;
 
 /// Returns the most nodes that a search in a ready bucket may visit, from the number of keys in each bucket.
 fn max_visits(counts: &[u64], bucket: u32) -> u64 {
+    // `counts` has each bucket, so the default of 0 is not used.
     counts
         .get(bucket as usize)
         .copied()

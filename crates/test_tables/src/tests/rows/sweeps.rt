@@ -7,7 +7,7 @@ enum Sweep {
     /// `clear` that makes a tombstone of each slot.
     LeaveTombstones,
     /// `clear` that removes each slot with objects.
-    RemoveSlots,
+    RemoveSlotsWithObjects,
     /// `purge`, which removes each tombstone.
     Purge,
 }
@@ -16,7 +16,7 @@ enum Sweep {
 fn state_after_sweep(sweep: Sweep, before: KeyState) -> KeyState {
     match (sweep, before) {
         (Sweep::LeaveTombstones, KeyState::Object(_)) => KeyState::Tombstone,
-        (Sweep::RemoveSlots, KeyState::Object(_)) => KeyState::Nothing,
+        (Sweep::RemoveSlotsWithObjects, KeyState::Object(_)) => KeyState::Nothing,
         (Sweep::Purge, KeyState::Tombstone) => KeyState::Nothing,
         (_, before) => before,
     }
@@ -26,7 +26,7 @@ fn state_after_sweep(sweep: Sweep, before: KeyState) -> KeyState {
 fn draw_sweep(draws: &mut Draws) -> Sweep {
     match draws.random_below(6) {
         0 => Sweep::LeaveTombstones,
-        1 => Sweep::RemoveSlots,
+        1 => Sweep::RemoveSlotsWithObjects,
         _ => Sweep::Purge,
     }
 }
@@ -47,7 +47,7 @@ pub(super) fn sweep_sometimes<R: Rows>(rows: &mut R, list: &mut [KeyState], draw
     let sweep = draw_sweep(draws);
     match sweep {
         Sweep::LeaveTombstones => rows.clear(true),
-        Sweep::RemoveSlots => rows.clear(false),
+        Sweep::RemoveSlotsWithObjects => rows.clear(false),
         Sweep::Purge => rows.purge(),
     }
     sweep_list(list, sweep);

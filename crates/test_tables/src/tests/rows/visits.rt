@@ -12,7 +12,11 @@ fn count_visited<H: KeyHash + Copy + Drop>(rows: &SplitRows<H>, key: Term) -> u6
 }
 
 /// Puts a slot without objects whose key is the process of a number.
-fn put_process<R: Rows>(rows: &mut R, alloc: Global, number: u32) -> Result<(), AllocError> {
+fn put_slot_of_process<R: Rows>(
+    rows: &mut R,
+    alloc: Global,
+    number: u32,
+) -> Result<(), AllocError> {
     let key = Term::Pid(number);
     match rows.entry(&key) {
         SlotEntry::Vacant(hash) => {
@@ -42,7 +46,7 @@ const MAX_VISITS: u64 = 3;
 fn ready_and_put_each<R: Rows>(rows: &mut R, alloc: Global) -> Result<(), AllocError> {
     for number in 0..BUCKETS {
         rows.ready(number)?;
-        put_process(rows, alloc, number)?;
+        put_slot_of_process(rows, alloc, number)?;
     }
     Ok(())
 }
@@ -79,7 +83,7 @@ fn searches_in_ready_buckets_visit_few_nodes(rt: HostRuntime) {
 /// Puts the key of each bucket.
 fn put_each<R: Rows>(rows: &mut R, alloc: Global) -> Result<(), AllocError> {
     for number in 0..BUCKETS {
-        put_process(rows, alloc, number)?;
+        put_slot_of_process(rows, alloc, number)?;
     }
     Ok(())
 }

@@ -17,7 +17,7 @@ pub enum Answer {
     /// An element that is an integer, or the new value of a counter.
     Int(Integer),
     /// A list of this length.
-    ListOf(usize),
+    ListOfLength(usize),
     /// The second elements of the objects that are answered, in order. Each is from 0 to 9, because `code` makes them
     /// the digits of one number.
     Values(&'static [Integer]),
@@ -50,7 +50,7 @@ impl Answer {
             Answer::Badarg => BADARG,
             Answer::SystemLimit => SYSTEM_LIMIT,
             Answer::Values(values) => code_of_values(values),
-            Answer::ListOf(length) => as_integer(length),
+            Answer::ListOfLength(length) => as_integer(length),
             // Two searches, each of which finds `count` objects and tests no others.
             Answer::Matched(count) => code_of_matchings(
                 count.wrapping_mul(2),

@@ -6,7 +6,7 @@ use super::Step::{
     Take, UpdateCounter, UpdateCounterFrom, UpdateElement,
 };
 use super::answers::Answer::{
-    self, Badarg, Deleted, False, Int, ListOf, Matched, Objects, OneValue, Selected, Slots,
+    self, Badarg, Deleted, False, Int, ListOfLength, Matched, Objects, OneValue, Selected, Slots,
     SystemLimit, True, Values,
 };
 use super::{
@@ -52,7 +52,7 @@ const BAGS: [(Step, Answer); 12] = [
     (Insert(Object(7, 2)), True),
     (Insert(Object(7, 1)), True),
     (Lookup(Key(7)), Values(&[1, 2])),
-    (LookupElement(Key(7), Pos(2)), ListOf(2)),
+    (LookupElement(Key(7), Pos(2)), ListOfLength(2)),
     (UpdateCounter(Key(7), Incr(1)), Badarg),
     (UpdateCounterFrom(Key(9), Incr(1), Start(1)), Badarg),
     (UpdateElement(Key(7), Value(1)), Badarg),

@@ -6,7 +6,7 @@ use super::Step::{
     InsertTriple, Lookup, LookupElement, Take, UpdateCounter, UpdateCounterFrom, UpdateElement,
 };
 use super::answers::Answer::{
-    self, Badarg, False, Int, ListOf, Objects, Slots, SystemLimit, True, Values,
+    self, Badarg, False, Int, ListOfLength, Objects, Slots, SystemLimit, True, Values,
 };
 use super::checks::{Check, plain_table_passes, split_table_passes};
 use super::single_calls::{count_of, try_insert, try_insert_new};
@@ -53,7 +53,7 @@ const KEY_IS_THIRD: [(Step, Answer); 14] = [
     (InsertTriple(Triple(4, 5, 8)), True),
     (Lookup(Key(7)), Values(&[2, 5])),
     (Lookup(Key(4)), Values(&[])),
-    (LookupElement(Key(7), Pos(1)), ListOf(2)),
+    (LookupElement(Key(7), Pos(1)), ListOfLength(2)),
     (LookupElement(Key(8), Pos(4)), Badarg),
     (DeleteObject(Object(1, 2), RemoveSlot), Badarg),
     (UpdateCounterFrom(Key(9), Incr(1), Start(1)), Badarg),
@@ -73,7 +73,7 @@ const DEEPEST_OBJECTS: [(Step, Answer); 14] = [
     (InsertNewDeep(Key(8), Depth(127)), True),
     (InsertNewDeep(Key(9), Depth(127)), SystemLimit),
     (LookupElement(Key(7), Pos(1)), Int(7)),
-    (LookupElement(Key(8), Pos(2)), ListOf(1)),
+    (LookupElement(Key(8), Pos(2)), ListOfLength(1)),
     (CountObjects, Objects(2)),
     (Delete(Key(7), LeaveTombstone), Objects(1)),
     (InsertNewDeep(Key(7), Depth(128)), SystemLimit),

@@ -9,7 +9,7 @@ use super::Step::{
     Take, UpdateCounter, UpdateCounterFrom, UpdateElement,
 };
 use super::answers::Answer::{
-    self, Deleted, False, Int, ListOf, Matched, Objects, Selected, Slots, True, Values,
+    self, Deleted, False, Int, ListOfLength, Matched, Objects, Selected, Slots, True, Values,
 };
 use super::checks::{Check, plain_table_passes, split_table_passes};
 use super::single_calls::{count_of, hash_of_objects};
@@ -61,7 +61,7 @@ const BAG_STEPS: [(Step, Answer); 10] = [
     (InsertTwo(Object(1, 1), Object(1, 3)), True),
     (Insert(Object(1, 4)), True),
     (InsertNew(Object(2, 5)), True),
-    (LookupElement(Key(1), Pos(2)), ListOf(4)),
+    (LookupElement(Key(1), Pos(2)), ListOfLength(4)),
     (Match(Key(1)), Matched(4)),
     (SelectDeleteBelow(3, RemoveSlot), Deleted(2)),
     (Lookup(Key(1)), Values(&[3, 4])),

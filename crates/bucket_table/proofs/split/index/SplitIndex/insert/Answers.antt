@@ -48,7 +48,7 @@ returns-clause-rows g c =
     record {
       rows = rows-put hash_of index.directory hints.interval_bits hints.current cells learned.rows c.set_first.new.self c.is_new_first-is_first.result put.result split c.args.key c.args.objects put.new.self.cells
           put.ensures.fresh (c.item_key-split_key.ensures ∙ ap key_of_item c.requires.hash) c.requires.new put.ensures.cells
-          (subst S c.interval_of-interval.ensures c.set_first.ensures) c.is_new_first-is_first.ensures.new c.is_new_first-is_first.ensures.old;
+          (subst S c.interval_of-interval.ensures c.set_first.ensures) c.is_new_first-is_first.ensures.first c.is_new_first-is_first.ensures.keeps;
       previous = previous-put hints.interval_bits put.result split (new_item c.args.key c.args.objects) hints.previous cells put.new.self.cells c.refresh-start.ensures.hints.previous gone put.ensures.cells;
     }
 
