@@ -38,7 +38,7 @@ fn time_server_within<
     B: HistoryId + Send + Sync,
     R: Alloc<A = Global> + Clock + Threads + Wait + Sync,
 >(rt: &R, history: NewHistory, limits: Limits, plan: Plan) -> io::Result<Timing>
-    requires table { history.word.shared.table_id ≡ B.table }
+    requires table { history.word.shared.table_id ≡ B.word }
     requires limits { limits ≡ B.limits }
     requires some { 0 < limits.processes }
 {

@@ -5,7 +5,7 @@ use Rattle.std.proofs.lemmas.List.{get_or_push, get_or_append_left, get_or_read_
 use Rattle.std.proofs.lemmas.Nat.{mod_below, pow_pos}
 use Rattle.split_key.specs.Keys.{rev, key_of_dummy, IsPowerOfTwo}
 use Rattle.node_list.specs.Cells.{Cell, new_cell}
-use Rattle.node_list.specs.Places.{IsFresh, HasKeyAtMost, from, first_place}
+use Rattle.node_list.specs.Places.{IsFresh, HasSplitKeyAtMost, from, first_place}
 use Rattle.node_list.specs.Changes.{put_cell}
 use Rattle.node_list.proofs.CellLaws.{from-on}
 use Rattle.node_list.proofs.CallerLaws.{put-from_new, put-from_other}
@@ -21,13 +21,13 @@ fresh-differs place at (c ∷ cs) d ds f e =
     ]
 
 -- a dummy is before the keys that are not below its own
-pub dummy-has_key_at_most : (bucket at key : ℕ) (cs : List Cell) → IsDummyOf bucket at cs → key_of_dummy bucket ≤ key → HasKeyAtMost key at cs
+pub dummy-has_key_at_most : (bucket at key : ℕ) (cs : List Cell) → IsDummyOf bucket at cs → key_of_dummy bucket ≤ key → HasSplitKeyAtMost key at cs
 dummy-has_key_at_most bucket at key cs d h = record { cell = new_cell at (key_of_dummy bucket) None; later = d.later; is = d.is; up_to = h }
 
 -- so is a dummy whose place was read from the directory
-pub read-has_key_at_most : (bucket at n key : ℕ) (places : List ℕ) (cs : List Cell) → at ≡ get_or places bucket at → bucket < n → n ≡ length places → HasDummies places cs → key_of_dummy bucket ≤ key → HasKeyAtMost key at cs
+pub read-has_key_at_most : (bucket at n key : ℕ) (places : List ℕ) (cs : List Cell) → at ≡ get_or places bucket at → bucket < n → n ≡ length places → HasDummies places cs → key_of_dummy bucket ≤ key → HasSplitKeyAtMost key at cs
 read-has_key_at_most bucket at n key places cs read below len h before =
-    let P : ℕ → Type 0 = λ p. HasKeyAtMost key p cs in
+    let P : ℕ → Type 0 = λ p. HasSplitKeyAtMost key p cs in
     let within : bucket < length places = omega (arith, below, len) in
     subst P (sym (get_or_read_under places bucket n at 0 read below len)) (dummy-has_key_at_most bucket (get_or places bucket 0) key cs (h bucket within) before)
 

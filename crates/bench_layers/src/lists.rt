@@ -2,7 +2,7 @@
 ghost use Rattle.std.specs.Prelude.{◌≡◌, ◌+◌, ◌≤◌, ◌<◌, ◌^◌, length, vec_len, vec_capacity, IfOk, OnOk};
 ghost use Rattle.split_key.specs.Keys.{key_of_item};
 ghost use Rattle.node_list.specs.ListState.{HasRoom};
-ghost use Rattle.node_list.specs.Places.{HasKeyAtMost};
+ghost use Rattle.node_list.specs.Places.{HasSplitKeyAtMost};
 ghost use Rattle.bench_layers.specs.Buckets.{HasDummies, IsReady};
 
 use ets_term::{Fnv, Integer, Items, KeyHash, Term};
@@ -51,7 +51,7 @@ impl BucketedList {
     {
         let bucket = self.dummies.len() as u32;
         let parent_bucket = parent(bucket);
-        laws::parent_stands_before(bucket, parent_bucket);
+        laws::parent_comes_before(bucket, parent_bucket);
         let start = self.dummies[parent_bucket as usize];
         let at = self.list.insert_dummy(start, dummy_key(bucket));
         self.dummies.push_reserved(at);
@@ -60,7 +60,7 @@ impl BucketedList {
     /// Returns the place of the dummy of this hash's bucket. A search or an insertion begins there.
     fn start(&self, hash: u32) -> At
         requires { IsReady self.now }
-        ensures { HasKeyAtMost (key_of_item hash) result self.now.list.cells }
+        ensures { HasSplitKeyAtMost (key_of_item hash) result self.now.list.cells }
     {
         let buckets = self.dummies.len() as u32;
         let bucket = bucket_of(hash, buckets);

@@ -7,7 +7,9 @@ pub const MAX_BUCKETS: usize = 1_048_576;
 /// The result of `Rows::grow`: the buckets were doubled, or the rows have their greatest number of buckets.
 #[derive(Clone, Copy, PartialEq, Eq)]
 pub enum Growth {
+    /// The number of buckets is doubled.
     Grown,
+    /// The number of buckets is the greatest; nothing has changed.
     AtMost,
 }
 

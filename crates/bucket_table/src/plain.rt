@@ -23,7 +23,7 @@ pub struct PlainRows {
 impl PlainRows {
     /// Creates rows without slots.
     pub fn new(alloc: Global) -> PlainRows
-        ensures { ⟦<PlainRows as Rows>⟧.content result ≡ [] }
+        ensures { ⟦<PlainRows as Rows>⟧.slots result ≡ [] }
     {
         PlainRows {
             slots: IndexMap::new(alloc),
@@ -45,7 +45,7 @@ impl PlainRows {
 
 // The trait `Rows` documents these methods. The place of a slot is its index in the map.
 impl Rows for PlainRows {
-    ghost content = { λ s. s.slots.entries };
+    ghost slots = { λ s. s.slots.entries };
 
     ghost key_at = { λ s place. option_map (λ slot. slot.0) (slice_get s.slots.entries place) };
 

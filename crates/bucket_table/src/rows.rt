@@ -3,7 +3,8 @@
 ghost use Rattle.std.specs.Prelude.{◌≡◌, ◌≤◌, ◌+◌, ℕ, Bool, false, List, [], ◌∷◌, Option, Some, None, IsSome, IsOk, IfOk, OnOk, OnErr, MatchOption, length, position, not, option_copied, option_map, slice_get, get_or};
 ghost use Rattle.std.specs.Map.Iter.{deref_pair};
 ghost use Rattle.ets_term.specs.declared.term.Term.{Term};
-ghost use Rattle.bucket_table.specs.Slots.{Slot, HasDistinctKeys, objects_of, with_objects, without, Enters, EnterAll, AreNew, purged, cleared, slots_behind};
+ghost use Rattle.bucket_table.specs.Slots.{Slot, HasDistinctKeys, objects_of, with_objects, Enters, without_tombstones, slots_behind};
+ghost use Rattle.bucket_table.specs.Rows.{without, EnterAll, AreNew, without_objects};
 ghost use Rattle.bucket_table.specs.Entries.{IsEntry, HasOneObject, objects_in, with_objects_in, with_element_in};
 ghost use Rattle.bucket_table.specs.Walks.{IsFirstPlace, IsNextPlace, ComesBefore};
 ghost use Rattle.bucket_table.specs.Buckets.{IsGrown, IsReadied};
@@ -18,7 +19,7 @@ use std::alloc::AllocError;
 /// no slot.
 pub trait Rows: Drop {
     /// The slots, in their order.
-    ghost content: { Self → List Slot };
+    ghost slots: { Self → List Slot };
 
     /// The key of the slot at a place.
     ghost key_at: { Self → ℕ → Option Term };
@@ -37,98 +38,98 @@ pub trait Rows: Drop {
 
     /// Returns the objects of the key's slot, if it has one.
     fn get(&self, key: &Term) -> Option<&[Term]>
-        ensures { option_copied result ≡ objects_of (content self.now) key.now };
+        ensures { option_copied result ≡ objects_of (slots self.now) key.now };
 
     /// Inserts a slot for each pair of a key and its objects. The keys must be distinct and must not have slots. If
     /// memory runs out, no slot is inserted and the argument is dropped.
     fn put(&mut self, rows: Vec<(Term, Chain)>) -> Result<(), AllocError>
         requires distinct { HasDistinctKeys rows.items }
-        requires new { AreNew (content self.old) rows.items }
-        ensures ok { OnOk result (EnterAll (content self.old) rows.items (content self.new)) }
-        ensures err { OnErr result (content self.new ≡ content self.old) }
+        requires new { AreNew (slots self.old) rows.items }
+        ensures ok { OnOk result (EnterAll (slots self.old) rows.items (slots self.new)) }
+        ensures err { OnErr result (slots self.new ≡ slots self.old) }
         ensures hash { hash_of self.new ≡ hash_of self.old }
         ensures buckets { readiness self.new ≡ readiness self.old };
 
     /// Replaces the objects of the key's slot and returns the old objects. Returns `None` if the key has no slot.
     fn replace(&mut self, key: &Term, objects: Chain) -> Option<Chain>
-        ensures objects { result ≡ objects_of (content self.old) key.now }
-        ensures now { content self.new ≡ with_objects (content self.old) key.now objects }
+        ensures objects { result ≡ objects_of (slots self.old) key.now }
+        ensures now { slots self.new ≡ with_objects (slots self.old) key.now objects }
         ensures hash { hash_of self.new ≡ hash_of self.old }
         ensures buckets { readiness self.new ≡ readiness self.old };
 
     /// Removes the key's slot and returns its objects. Returns `None` if the key has no slot.
     fn remove(&mut self, key: &Term) -> Option<Chain>
-        ensures objects { result ≡ objects_of (content self.old) key.now }
-        ensures now { content self.new ≡ without (content self.old) key.now }
+        ensures objects { result ≡ objects_of (slots self.old) key.now }
+        ensures now { slots self.new ≡ without (slots self.old) key.now }
         ensures hash { hash_of self.new ≡ hash_of self.old }
         ensures buckets { readiness self.new ≡ readiness self.old };
 
     /// Removes all objects. If `hold` is true, each slot remains as a tombstone. Otherwise slots with objects are
     /// removed, and slots that were tombstones before remain.
     fn clear(&mut self, hold: bool)
-        ensures now { content self.new ≡ cleared hold (content self.old) }
+        ensures now { slots self.new ≡ without_objects hold (slots self.old) }
         ensures hash { hash_of self.new ≡ hash_of self.old }
         ensures buckets { readiness self.new ≡ readiness self.old };
 
     /// Removes all tombstones. `SplitRows` finds them by the hashes in its tombstone log. It scans all slots after a
     /// `clear`, or if the log overflowed. The log has room for one hash per sixteen nodes, if memory allows.
     fn purge(&mut self)
-        ensures now { content self.new ≡ purged (content self.old) }
+        ensures now { slots self.new ≡ without_tombstones (slots self.old) }
         ensures hash { hash_of self.new ≡ hash_of self.old }
         ensures buckets { readiness self.new ≡ readiness self.old };
 
     /// Returns the number of slots, tombstones included.
     fn len(&self) -> usize
-        ensures { result ≡ length (content self.now) };
+        ensures { result ≡ length (slots self.now) };
 
     /// Reveals to a proof that the keys are distinct. It does nothing at run time.
     fn reveal_invariant(&self)
-        ensures { HasDistinctKeys (content self.now) };
+        ensures { HasDistinctKeys (slots self.now) };
 
     /// Returns the first slot, if there is one.
     fn first_at(&self) -> Option<(&Term, &[Term])>
-        ensures { option_map deref_pair result ≡ slice_get (content self.now) 0 };
+        ensures { option_map deref_pair result ≡ slice_get (slots self.now) 0 };
 
     /// Returns the slot after the key's slot. The outer `None` means that the key has no slot, and the inner `None`
     /// that its slot is the last.
     fn next_at(&self, key: &Term) -> Option<Option<(&Term, &[Term])>>
         ensures { option_map (option_map deref_pair) result
-            ≡ option_map (λ slots. slice_get slots 0) (slots_behind (content self.now) key.now) };
+            ≡ option_map (λ slots. slice_get slots 0) (slots_behind (slots self.now) key.now) };
 
     /// Returns the place of the key's slot, if it has one.
     fn find(&self, key: &Term) -> Option<Place>
-        ensures { MatchOption result (objects_of (content self.now) key.now ≡ None)
-            (λ place. (key_at self.now place ≡ Some key.now) × IsSome (objects_of (content self.now) key.now)) };
+        ensures { MatchOption result (objects_of (slots self.now) key.now ≡ None)
+            (λ place. (key_at self.now place ≡ Some key.now) × IsSome (objects_of (slots self.now) key.now)) };
 
     /// Returns the place of the key's slot. If it has no slot, returns the key's hash, for `put_at`.
     fn entry(&self, key: &Term) -> SlotEntry
-        ensures { IsEntry (content self.now) (hash_of self.now) (key_at self.now) key.now result };
+        ensures { IsEntry (slots self.now) (hash_of self.now) (key_at self.now) key.now result };
 
     /// Returns the place of the first slot, if there is one.
     fn first_place(&self) -> Option<Place>
-        ensures { IsFirstPlace (key_at self.now) (content self.now) result };
+        ensures { IsFirstPlace (key_at self.now) (slots self.now) result };
 
     /// Returns the place of the slot after the slot at `place`, if there is one. `SplitRows` reads each place up to it.
     fn next_place(&self, place: Place) -> Option<Place>
         requires { IsSome (key_at self.now place) }
-        ensures { IsNextPlace (key_at self.now) (content self.now) (key_at self.now place) result };
+        ensures { IsNextPlace (key_at self.now) (slots self.now) (key_at self.now place) result };
 
     /// Returns the key and the objects of the slot at a place.
     fn slot_at(&self, place: Place) -> (&Term, &[Term])
         requires { IsSome (key_at self.now place) }
         ensures key { key_at self.now place ≡ Some result.0.now }
-        ensures objects { objects_of (content self.now) result.0.now ≡ Some result.1.now };
+        ensures objects { objects_of (slots self.now) result.0.now ≡ Some result.1.now };
 
     /// Returns the objects of the slot at a place.
     fn objects_at(&self, place: Place) -> &[Term]
         requires { IsSome (key_at self.now place) }
-        ensures { objects_in (content self.now) (key_at self.now place) ≡ Some result.now };
+        ensures { objects_in (slots self.now) (key_at self.now place) ≡ Some result.now };
 
     /// Replaces the objects of the slot at a place and returns the old objects.
     fn replace_at(&mut self, place: Place, objects: Chain) -> Chain
         requires { IsSome (key_at self.old place) }
-        ensures objects { objects_in (content self.old) (key_at self.old place) ≡ Some result }
-        ensures now { content self.new ≡ with_objects_in (content self.old) (key_at self.old place) objects }
+        ensures objects { objects_in (slots self.old) (key_at self.old place) ≡ Some result }
+        ensures now { slots self.new ≡ with_objects_in (slots self.old) (key_at self.old place) objects }
         ensures place { key_at self.new place ≡ key_at self.old place }
         ensures places { (other : ℕ) → key_at self.new other ≡ key_at self.old other }
         ensures room { room self.old ≤ room self.new }
@@ -137,9 +138,9 @@ pub trait Rows: Drop {
 
     /// Replaces the only object of the slot at a place and returns the old one.
     fn replace_one_at(&mut self, place: Place, object: Term) -> Term
-        requires { HasOneObject (content self.old) (key_at self.old place) }
-        ensures objects { objects_in (content self.old) (key_at self.old place) ≡ Some (result ∷ []) }
-        ensures now { content self.new ≡ with_objects_in (content self.old) (key_at self.old place) (object ∷ []) }
+        requires { HasOneObject (slots self.old) (key_at self.old place) }
+        ensures objects { objects_in (slots self.old) (key_at self.old place) ≡ Some (result ∷ []) }
+        ensures now { slots self.new ≡ with_objects_in (slots self.old) (key_at self.old place) (object ∷ []) }
         ensures places { (other : ℕ) → key_at self.new other ≡ key_at self.old other }
         ensures room { room self.old ≤ room self.new }
         ensures hash { hash_of self.new ≡ hash_of self.old }
@@ -148,8 +149,8 @@ pub trait Rows: Drop {
     /// Sets the element at `index`, counted from 0, of the only object of the slot at a place. Changes nothing if the
     /// object is not a tuple or has no such element.
     fn set_element_at(&mut self, place: Place, index: usize, value: Term)
-        requires { HasOneObject (content self.old) (key_at self.old place) }
-        ensures now { content self.new ≡ with_element_in (content self.old) (key_at self.old place) index value }
+        requires { HasOneObject (slots self.old) (key_at self.old place) }
+        ensures now { slots self.new ≡ with_element_in (slots self.old) (key_at self.old place) index value }
         ensures places { (other : ℕ) → key_at self.new other ≡ key_at self.old other }
         ensures room { room self.old ≤ room self.new }
         ensures hash { hash_of self.new ≡ hash_of self.old }
@@ -159,10 +160,10 @@ pub trait Rows: Drop {
     fn remove_at(&mut self, place: Place) -> (Term, Chain)
         requires { IsSome (key_at self.old place) }
         ensures key { key_at self.old place ≡ Some result.0 }
-        ensures objects { objects_of (content self.old) result.0 ≡ Some result.1 }
-        ensures now { content self.new ≡ without (content self.old) result.0 }
+        ensures objects { objects_of (slots self.old) result.0 ≡ Some result.1 }
+        ensures now { slots self.new ≡ without (slots self.old) result.0 }
         ensures before { (other : ℕ) (key : Term) → key_at self.old other ≡ Some key
-            → ComesBefore (content self.old) key result.0
+            → ComesBefore (slots self.old) key result.0
             → key_at self.new other ≡ Some key }
         ensures hash { hash_of self.new ≡ hash_of self.old }
         ensures buckets { readiness self.new ≡ readiness self.old };
@@ -171,11 +172,11 @@ pub trait Rows: Drop {
     /// them. The slots before it keep their places.
     fn delete_at(&mut self, place: Place) -> usize
         requires { IsSome (key_at self.old place) }
-        ensures count { option_map length (objects_in (content self.old) (key_at self.old place)) ≡ Some result }
-        ensures now { (key : Term) → key_at self.old place ≡ Some key → content self.new ≡ without (content self.old) key }
+        ensures count { option_map length (objects_in (slots self.old) (key_at self.old place)) ≡ Some result }
+        ensures now { (key : Term) → key_at self.old place ≡ Some key → slots self.new ≡ without (slots self.old) key }
         ensures before { (removed : Term) → key_at self.old place ≡ Some removed
             → (other : ℕ) (key : Term) → key_at self.old other ≡ Some key
-            → ComesBefore (content self.old) key removed
+            → ComesBefore (slots self.old) key removed
             → key_at self.new other ≡ Some key }
         ensures hash { hash_of self.new ≡ hash_of self.old }
         ensures buckets { readiness self.new ≡ readiness self.old };
@@ -183,17 +184,17 @@ pub trait Rows: Drop {
     /// Reserves memory for `additional` slots, which `put_at` can then insert without an allocation.
     fn reserve(&mut self, additional: usize) -> Result<(), AllocError>
         ensures room { OnOk result (additional ≤ room self.new) }
-        ensures now { content self.new ≡ content self.old }
+        ensures now { slots self.new ≡ slots self.old }
         ensures places { (place : ℕ) → key_at self.new place ≡ key_at self.old place }
         ensures hash { hash_of self.new ≡ hash_of self.old }
         ensures buckets { readiness self.new ≡ readiness self.old };
 
     /// Inserts a slot for a key that has no slot. `hash` is the key's hash, as `entry` returned it.
     fn put_at(&mut self, hash: u32, key: Term, objects: Chain) -> Result<(), AllocError>
-        requires new { objects_of (content self.old) key ≡ None }
+        requires new { objects_of (slots self.old) key ≡ None }
         requires hash { hash ≡ hash_of self.old key }
-        ensures ok { OnOk result (Enters (content self.old) key objects (content self.new)) }
-        ensures err { OnErr result (content self.new ≡ content self.old) }
+        ensures ok { OnOk result (Enters (slots self.old) key objects (slots self.new)) }
+        ensures err { OnErr result (slots self.new ≡ slots self.old) }
         ensures succeeds { 1 ≤ room self.old → IsOk result }
         ensures room { room self.old ≤ room self.new + 1 }
         ensures hash { hash_of self.new ≡ hash_of self.old }
@@ -201,14 +202,14 @@ pub trait Rows: Drop {
 
     /// Doubles the number of buckets, unless it is the greatest.
     fn grow(&mut self) -> Result<Growth, AllocError>
-        ensures content { content self.new ≡ content self.old }
+        ensures content { slots self.new ≡ slots self.old }
         ensures hash { hash_of self.new ≡ hash_of self.old }
         ensures ok { IfOk result (λ growth. IsGrown most_buckets (readiness self.old) growth (readiness self.new)) }
         ensures err { OnErr result (readiness self.new ≡ readiness self.old) };
 
     /// Makes a bucket ready.
     fn ready(&mut self, bucket: u32) -> Result<Readying, AllocError>
-        ensures content { content self.new ≡ content self.old }
+        ensures content { slots self.new ≡ slots self.old }
         ensures hash { hash_of self.new ≡ hash_of self.old }
         ensures ok { IfOk result (λ readying. IsReadied bucket (readiness self.old) readying (readiness self.new)) }
         ensures err { OnErr result (readiness self.new ≡ readiness self.old) };

@@ -2,7 +2,7 @@
 //! bucket is an interval of this list.
 ghost use Rattle.std.specs.Prelude.{◌≡◌, ◌∷◌, [], true, false, IfOk, option_copied};
 ghost use Rattle.bucket_table.specs.Slots.{objects_of};
-ghost use Rattle.bucket_table.specs.Buckets.{HasLooked};
+ghost use Rattle.bucket_table.specs.Visits.{HasLooked};
 
 // The modules: the `index` (list, `directory` of buckets and `hints`), the trait methods (`rows`), insertions and
 // sweeps of slots (`changes`, `sweep`), the tombstone log (`tombstone_log`), and a single `hint` and a list of them
@@ -66,6 +66,7 @@ impl<H: KeyHash + Copy + Drop> SplitRows<H> {
     }
 
     /// Returns the objects of the key's slot, if it has one. Adds the number of visited nodes to `steps`.
+    #[inline(always)]
     pub fn get_counted(&self, key: &Term, steps: &mut Steps) -> Option<&[Term]>
         ensures value { option_copied result ≡ objects_of self.now.slots key.now }
         ensures visits { HasLooked (H.hash self.now.hasher) self.now.slots self.now.ready

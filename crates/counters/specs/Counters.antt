@@ -2,12 +2,11 @@
 -- result of the previous operation. All of them are done, or none is.
 use Rattle.std.specs.Prelude.{ℕ, ℤ, ◌-◌, ◌==◌, if◌then◌else◌, Bool, Option, Some, None, Result, Ok, Err, List, [], ◌∷◌, slice_get, slice_set, is_some, option_map}
 use Rattle.std.specs.List.{list_all}
-use Rattle.std.specs.Option.{option_and_then}
-use Rattle.ets_term.specs.declared.term.Term.{Term, out-Term}
-use Rattle.ets_term.specs.declared.term.Term.TheOpen.{Term-F}
+use Rattle.std.specs.Option.{option_and_then, option_map_or}
+use Rattle.ets_term.specs.declared.term.Term.{Term}
 use Rattle.ets_term.specs.declared.term.Term.TheVariants as term
 use Rattle.ets_term.specs.Integers.{in_range}
-use Rattle.counters.specs.Positions.{integer_of}
+use Rattle.ets_term.specs.Views.{as_int, as_tuple}
 use Rattle.counters.specs.Sums.{new_value}
 use Rattle.counters.specs.declared.fault.CounterFault.{CounterFault}
 use Rattle.counters.specs.declared.fault.CounterFault.TheVariants.{Badarg, SystemLimit}
@@ -18,7 +17,7 @@ use Rattle.counters.specs.declared.ops.Ops.TheVariants.{One, Many}
 -- the integer at a position, counted from 1, of a tuple with these elements; None if there is no integer
 abbrev pub integer_at : ℕ → List Term → Option ℤ
 integer_at position elements =
-    if position == 0 then None else option_and_then integer_of (slice_get elements (position - 1))
+    if position == 0 then None else option_and_then as_int (slice_get elements (position - 1))
 
 -- the elements with this integer at a position, and the integer as the answer
 abbrev pub with_integer : ℕ → List Term → ℤ → List Term × Term
@@ -60,11 +59,6 @@ apply_to_elements ops elements =
     then or_limit (apply ops elements)
     else Err Badarg
 
--- the update of a term, by its first level; badarg if it is not a tuple
-abbrev pub apply_ops_form : Ops → Term-F Term → Result (Term × Term) CounterFault
-apply_ops_form ops (Term-F.Tuple elements) = apply_to_elements ops elements
-apply_ops_form ops _ = Err Badarg
-
--- the new object and the answer, or why the update is refused
+-- the new object and the answer, or why the update is refused; badarg if the object is not a tuple
 abbrev pub apply_ops : Ops → Term → Result (Term × Term) CounterFault
-apply_ops ops object = apply_ops_form ops (out-Term object)
+apply_ops ops object = option_map_or (apply_to_elements ops) (as_tuple object) (Err Badarg)

@@ -24,23 +24,18 @@ with_key_form keypos key _ = None
 abbrev pub with_key : ℕ → Term → Term → Option Term
 with_key keypos key default = with_key_form keypos key (out-Term default)
 
--- an object deeper than max_depth, here in a pair with its answer, is refused with system limit
-abbrev pub refuse_deep_pair : Result (Term × Term) CounterFault → Result (Term × Term) CounterFault
-refuse_deep_pair (Ok r) = if is_too_deep r.0 then Err SystemLimit else Ok r
-refuse_deep_pair (Err fault) = Err fault
-
--- an object deeper than max_depth is refused with system limit
-abbrev pub refuse_deep : Result Term CounterFault → Result Term CounterFault
-refuse_deep (Ok object) = if is_too_deep object then Err SystemLimit else Ok object
-refuse_deep (Err fault) = Err fault
+-- a result whose object is deeper than max_depth is refused with system limit
+abbrev pub refuse_deep : {X : Type 0} → (X → Term) → Result X CounterFault → Result X CounterFault
+refuse_deep object_of (Ok x) = if is_too_deep (object_of x) then Err SystemLimit else Ok x
+refuse_deep object_of (Err fault) = Err fault
 
 -- the Default after its counters are updated, and the answer; badarg without a Default that has the key; every test for
 -- badarg comes before the limit of depth
 abbrev pub start_counter : Ops → Option Term → Result (Term × Term) CounterFault
 start_counter ops None = Err Badarg
-start_counter ops (Some object) = refuse_deep_pair (counters.apply_ops ops object)
+start_counter ops (Some object) = refuse_deep {X = Term × Term} (λ r. r.0) (counters.apply_ops ops object)
 
 -- the Default after its elements are written; badarg without a Default that has the key
 abbrev pub start_elements : ElementSpecs → Option Term → Result Term CounterFault
 start_elements specs None = Err Badarg
-start_elements specs (Some object) = refuse_deep (elements.apply_elements specs object)
+start_elements specs (Some object) = refuse_deep {X = Term} (λ new. new) (elements.apply_elements specs object)

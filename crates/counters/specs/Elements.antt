@@ -15,49 +15,49 @@ use Rattle.counters.specs.declared.elements.ElementSpecs.{ElementSpecs}
 use Rattle.counters.specs.declared.elements.ElementSpecs.TheVariants.{One, Many}
 
 -- the position and value of a pair; None if these are not two elements or the position is not allowed
-abbrev pub spec_of_parts : ℕ → List Term → Option ElementSpec
-spec_of_parts keypos (position ∷ value ∷ []) =
+abbrev pub element_spec_of_parts : ℕ → List Term → Option ElementSpec
+element_spec_of_parts keypos (position ∷ value ∷ []) =
     option_map (λ p. record { position = p; value = value }) (updatable_position keypos position)
-spec_of_parts keypos _ = None
+element_spec_of_parts keypos _ = None
 
 -- the values of a list of pairs; None if one of them is not a pair of an allowed position and a value
-abbrev pub all_specs : ℕ → List Term → Option (List ElementSpec)
-all_specs keypos [] = Some []
-all_specs keypos (term ∷ terms) =
+abbrev pub all_element_specs : ℕ → List Term → Option (List ElementSpec)
+all_element_specs keypos [] = Some []
+all_element_specs keypos (term ∷ terms) =
     option_and_then
-    (λ first. option_map (λ rest. first ∷ rest) (all_specs keypos terms))
-    (spec_of_parts keypos (elements term))
+    (λ first. option_map (λ rest. first ∷ rest) (all_element_specs keypos terms))
+    (element_spec_of_parts keypos (elements term))
 
 -- the values that a term gives for elements, by its first level
-abbrev pub specs_form : ℕ → Term-F Term → Option ElementSpecs
-specs_form keypos (Term-F.Tuple parts) = option_map One (spec_of_parts keypos parts)
-specs_form keypos (Term-F.List terms) = option_map Many (all_specs keypos terms)
-specs_form keypos _ = None
+abbrev pub element_specs_form : ℕ → Term-F Term → Option ElementSpecs
+element_specs_form keypos (Term-F.Tuple parts) = option_map One (element_spec_of_parts keypos parts)
+element_specs_form keypos (Term-F.List terms) = option_map Many (all_element_specs keypos terms)
+element_specs_form keypos _ = None
 
 -- the values that a term gives for elements; None if it has a wrong form
-abbrev pub specs_of : ℕ → Term → Option ElementSpecs
-specs_of keypos term = specs_form keypos (out-Term term)
+abbrev pub element_specs_of : ℕ → Term → Option ElementSpecs
+element_specs_of keypos term = element_specs_form keypos (out-Term term)
 
 -- the values as a list
-abbrev pub spec_list : ElementSpecs → List ElementSpec
-spec_list (One spec) = spec ∷ []
-spec_list (Many specs) = specs
+abbrev pub element_spec_list : ElementSpecs → List ElementSpec
+element_spec_list (One spec) = spec ∷ []
+element_spec_list (Many specs) = specs
 
 -- whether a tuple of `count` elements has each position
 abbrev pub has_all : ℕ → List ElementSpec → Bool
 has_all count specs = list_all (λ spec. nat_lt 0 spec.position && nat_le spec.position count) specs
 
 -- the last value given for a position; the element itself if no value is given for it
-abbrev pub last_value : List ElementSpec → ℕ → Term → Term
-last_value [] position element = element
-last_value (spec ∷ specs) position element =
-    last_value specs position (if spec.position == position then spec.value else element)
+abbrev pub value_for : List ElementSpec → ℕ → Term → Term
+value_for [] position element = element
+value_for (spec ∷ specs) position element =
+    value_for specs position (if spec.position == position then spec.value else element)
 
 -- these elements, the first of which has this position, each replaced by the last value given for its position
 abbrev pub with_values_from : ℕ → List ElementSpec → List Term → List Term
 with_values_from position specs [] = []
 with_values_from position specs (element ∷ elements) =
-    last_value specs position element ∷ with_values_from (position + 1) specs elements
+    value_for specs position element ∷ with_values_from (position + 1) specs elements
 
 -- the elements of a tuple, each replaced by the last value given for its position
 abbrev pub with_values : List ElementSpec → List Term → List Term
@@ -82,4 +82,4 @@ apply_elements_form specs _ = Err Badarg
 
 -- the new object, or why it is refused
 abbrev pub apply_elements : ElementSpecs → Term → Result Term CounterFault
-apply_elements specs object = apply_elements_form (spec_list specs) (out-Term object)
+apply_elements specs object = apply_elements_form (element_spec_list specs) (out-Term object)

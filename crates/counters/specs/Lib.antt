@@ -5,5 +5,6 @@ pub mod Ops
 pub mod Outcomes
 pub mod Positions
 pub mod Sums
+pub mod Forms
 pub mod inside
 pub mod laws

@@ -1,11 +1,12 @@
 -- The operations that a term describes (stdlib manual, module ets, update_counter/3): `Incr`, `{Pos,Incr}`,
 -- `{Pos,Incr,Threshold,SetValue}`, or a list of the tuple forms.
-use Rattle.std.specs.Prelude.{ℕ, ◌+◌, Bool, true, false, Option, Some, None, List, [], ◌∷◌, option_map}
+use Rattle.std.specs.Prelude.{ℕ, ◌+◌, Option, Some, None, List, [], ◌∷◌, option_map}
 use Rattle.std.specs.Option.{option_and_then}
 use Rattle.ets_term.specs.declared.term.Term.{Term, out-Term}
 use Rattle.ets_term.specs.declared.term.Term.TheOpen.{Term-F}
 use Rattle.ets_term.specs.Depth.{elements}
-use Rattle.counters.specs.Positions.{integer_of, updatable_position}
+use Rattle.counters.specs.Positions.{updatable_position}
+use Rattle.ets_term.specs.Views.{as_int}
 use Rattle.counters.specs.declared.ops.Op.{Op}
 use Rattle.counters.specs.declared.ops.Threshold.{Threshold}
 use Rattle.counters.specs.declared.ops.Ops.{Ops}
@@ -15,15 +16,15 @@ use Rattle.counters.specs.declared.ops.Ops.TheVariants.{One, Many}
 abbrev pub threshold_of : Term → Term → Option Threshold
 threshold_of threshold set_value =
     option_and_then
-    (λ t. option_map (λ v. record { value = t; set_value = v }) (integer_of set_value))
-    (integer_of threshold)
+    (λ t. option_map (λ v. record { value = t; set_value = v }) (as_int set_value))
+    (as_int threshold)
 
 -- the operation with this position, increment and threshold; None if the position is not allowed or the increment is
 -- not an integer
 abbrev pub op_from : ℕ → Term → Term → Option Threshold → Option Op
 op_from keypos position increment threshold =
     option_and_then
-    (λ p. option_map (λ i. record { position = p; increment = i; threshold = threshold }) (integer_of increment))
+    (λ p. option_map (λ i. record { position = p; increment = i; threshold = threshold }) (as_int increment))
     (updatable_position keypos position)
 
 -- the operation that the elements of a tuple describe; None if they have a wrong form
@@ -53,17 +54,3 @@ ops_form keypos _ = None
 -- the operations that a term describes; None if it has a wrong form
 abbrev pub ops_of : ℕ → Term → Option Ops
 ops_of keypos term = ops_form keypos (out-Term term)
-
--- whether a term is a list, by its first level
-abbrev pub is_list_form : Term-F Term → Bool
-is_list_form (Term-F.List terms) = true
-is_list_form _ = false
-
--- whether a term is a list
-abbrev pub is_list : Term → Bool
-is_list term = is_list_form (out-Term term)
-
--- whether an update is a single operation outside a list
-abbrev pub is_one : Ops → Bool
-is_one (One op) = true
-is_one (Many ops) = false

@@ -2,7 +2,7 @@
 ghost use Rattle.std.specs.Prelude.{◌≡◌, ◌<◌, ◌-◌, ◌^◌, length, slice_set, Some, None, Ok, Err, IfOk, OnErr, IsErrOf, slice_get, OnOk, OnSome, IfSome, IfErr, true};
 ghost use Rattle.counters.specs.Counters.{integer_at, apply_one, apply_to_elements, apply_ops};
 ghost use Rattle.counters.specs.declared.ops.Ops.TheVariants.{One};
-ghost use Rattle.counters.specs.Ops.{is_one};
+ghost use Rattle.counters.specs.Forms.{is_one};
 ghost use Rattle.counters.specs.Outcomes.{AnswersAs, FailsOnlyAs, FailsJustAs, with_value_at};
 ghost use Rattle.ets_term.specs.declared.term.Term.TheVariants.{Int, Tuple};
 

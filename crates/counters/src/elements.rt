@@ -1,8 +1,8 @@
 //! The values that `update_element` writes to elements of an object, and how they are read from a term.
 ghost use Rattle.std.specs.Prelude.{◌≡◌, ◌↔◌, false, Some, None, IfOk, IfSome, IsErrOf};
 ghost use Rattle.counters.specs.declared.elements.ElementSpecs.TheVariants.{One};
-ghost use Rattle.counters.specs.Elements.{spec_of_parts, all_specs, specs_of};
-ghost use Rattle.counters.specs.Ops.{is_list};
+ghost use Rattle.counters.specs.Elements.{element_spec_of_parts, all_element_specs, element_specs_of};
+ghost use Rattle.counters.specs.Forms.{is_list};
 ghost use Rattle.ets_term.specs.Depth.{elements};
 
 use crate::fault::CounterFault;
@@ -35,19 +35,23 @@ pub fn read_element_specs(
     term: &Term,
     keypos: u32,
 ) -> Result<ElementSpecs, CounterFault>
-    ensures read { IfOk result (λ specs. specs_of keypos term.now ≡ Some specs) }
-    ensures badarg { IsErrOf result CounterFault.Badarg → specs_of keypos term.now ≡ None }
+    ensures read { IfOk result (λ specs. element_specs_of keypos term.now ≡ Some specs) }
+    ensures badarg { IsErrOf result CounterFault.Badarg → element_specs_of keypos term.now ≡ None }
     // A list may run out of memory before its first faulty pair is read.
-    ensures one { is_list term.now ≡ false → specs_of keypos term.now ≡ None → IsErrOf result CounterFault.Badarg }
+    ensures one { is_list term.now ≡ false → element_specs_of keypos term.now ≡ None → IsErrOf result CounterFault.Badarg }
     ensures limit { ¬ IsErrOf result CounterFault.SystemLimit }
 {
     match term {
-        Term::Tuple(parts) => Ok(ElementSpecs::One(spec_of_parts(
+        Term::Tuple(parts) => Ok(ElementSpecs::One(element_spec_of_parts(
             alloc,
             keypos,
             parts.as_slice(),
         )?)),
-        Term::List(terms) => Ok(ElementSpecs::Many(all_specs(alloc, keypos, terms.as_slice())?)),
+        Term::List(terms) => Ok(ElementSpecs::Many(all_element_specs(
+            alloc,
+            keypos,
+            terms.as_slice(),
+        )?)),
         _ => Err(CounterFault::Badarg),
     }
 }
@@ -57,7 +61,7 @@ pub fn read_element_specs(
 #[inline(always)]
 pub fn read_pair(term: &Term, keypos: u32) -> Option<(Position, &Term)>
     ensures { IfSome result (λ pair.
-        specs_of keypos term.now ≡ Some (One (record { position = pair.0; value = pair.1.now }))) }
+        element_specs_of keypos term.now ≡ Some (One (record { position = pair.0; value = pair.1.now }))) }
 {
     match term {
         Term::Tuple(parts) => pair_of_parts(keypos, parts.as_slice()),
@@ -69,7 +73,7 @@ pub fn read_pair(term: &Term, keypos: u32) -> Option<(Position, &Term)>
 #[inline(always)]
 fn pair_of_parts(keypos: u32, parts: &[Term]) -> Option<(Position, &Term)>
     ensures { IfSome result (λ pair.
-        spec_of_parts keypos parts.now ≡ Some (record { position = pair.0; value = pair.1.now })) }
+        element_spec_of_parts keypos parts.now ≡ Some (record { position = pair.0; value = pair.1.now })) }
 {
     match parts {
         [position, value] => Some((updatable_position(keypos, position)?, value)),
@@ -78,9 +82,13 @@ fn pair_of_parts(keypos: u32, parts: &[Term]) -> Option<(Position, &Term)>
 }
 
 /// Reads the position of a pair, and copies its value. `Badarg` if the elements are not such a pair.
-fn spec_of_parts(alloc: Global, keypos: u32, parts: &[Term]) -> Result<ElementSpec, CounterFault>
-    ensures read { IfOk result (λ spec. spec_of_parts keypos parts.now ≡ Some spec) }
-    ensures badarg { IsErrOf result CounterFault.Badarg ↔ (spec_of_parts keypos parts.now ≡ None) }
+fn element_spec_of_parts(
+    alloc: Global,
+    keypos: u32,
+    parts: &[Term],
+) -> Result<ElementSpec, CounterFault>
+    ensures read { IfOk result (λ spec. element_spec_of_parts keypos parts.now ≡ Some spec) }
+    ensures badarg { IsErrOf result CounterFault.Badarg ↔ (element_spec_of_parts keypos parts.now ≡ None) }
     ensures limit { ¬ IsErrOf result CounterFault.SystemLimit }
 {
     let [position, value] = parts else {
@@ -95,15 +103,19 @@ fn spec_of_parts(alloc: Global, keypos: u32, parts: &[Term]) -> Result<ElementSp
     })
 }
 
-/// Reads a list of pairs, as `spec_of_parts` reads each.
-fn all_specs(alloc: Global, keypos: u32, terms: &[Term]) -> Result<Items<ElementSpec>, CounterFault>
-    ensures read { IfOk result (λ specs. all_specs keypos terms.now ≡ Some specs) }
-    ensures badarg { IsErrOf result CounterFault.Badarg → all_specs keypos terms.now ≡ None }
+/// Reads a list of pairs, as `element_spec_of_parts` reads each.
+fn all_element_specs(
+    alloc: Global,
+    keypos: u32,
+    terms: &[Term],
+) -> Result<Items<ElementSpec>, CounterFault>
+    ensures read { IfOk result (λ specs. all_element_specs keypos terms.now ≡ Some specs) }
+    ensures badarg { IsErrOf result CounterFault.Badarg → all_element_specs keypos terms.now ≡ None }
     ensures limit { ¬ IsErrOf result CounterFault.SystemLimit }
 {
     let mut specs = Items::from_vec(Vec::with_capacity(alloc, terms.len())?);
     for term in terms {
-        specs.push(spec_of_parts(alloc, keypos, parts_of(term))?)?;
+        specs.push(element_spec_of_parts(alloc, keypos, parts_of(term))?)?;
     }
     Ok(specs)
 }

@@ -14,7 +14,7 @@ use crate::sum::new_value;
 use ets_term::{Integer, Items, Term};
 use std::alloc::Global;
 
-/// An entry of the undo log: an integer that an operation replaced, and the index of its element, counted from 0.
+/// What undoes one operation: the integer that it replaced, and the index of its element, counted from 0.
 #[derive(Clone, Copy, Debug)]
 pub struct Overwritten {
     at: usize,

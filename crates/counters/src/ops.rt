@@ -1,7 +1,8 @@
 //! The operations of `update_counter`, and how they are read from a term.
 ghost use Rattle.std.specs.Prelude.{◌≡◌, ◌+◌, false, Some, None, IfOk, IfSome, IsErrOf};
 ghost use Rattle.counters.specs.declared.ops.Ops.TheVariants.{One};
-ghost use Rattle.counters.specs.Ops.{threshold_of, op_from, op_of_parts, op_of, all_ops, ops_of, is_list};
+ghost use Rattle.counters.specs.Ops.{threshold_of, op_from, op_of_parts, op_of, all_ops, ops_of};
+ghost use Rattle.counters.specs.Forms.{is_list};
 
 use crate::fault::CounterFault;
 use crate::position::{integer_of, updatable_position};

@@ -1,14 +1,15 @@
 //! Integers and positions read from terms.
 ghost use Rattle.std.specs.Prelude.{◌≡◌, IfSome};
 ghost use Rattle.ets_term.specs.declared.term.Term.TheVariants.{Int};
-ghost use Rattle.counters.specs.Positions.{integer_of, position_at, updatable_position};
+ghost use Rattle.counters.specs.Positions.{position_at, updatable_position};
+ghost use Rattle.ets_term.specs.Views.{as_int};
 
 use ets_term::{Integer, Position, Term};
 
 /// Returns the value of an integer, or `None` for any other term.
 #[inline(always)]
 pub fn integer_of(term: &Term) -> Option<Integer>
-    ensures value { result ≡ integer_of term.now }
+    ensures value { result ≡ as_int term.now }
     ensures is { IfSome result (λ n. term.now ≡ Int n) }
 {
     match term {

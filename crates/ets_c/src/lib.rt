@@ -21,8 +21,8 @@
 #![tactic(auto)]
 
 ghost use Rattle.std.specs.Prelude.{◌≡◌, None};
-ghost use Rattle.term_text.specs.Printed.{printed};
-ghost use Rattle.external_term.specs.Encoding.{written};
+ghost use Rattle.term_text.specs.Printed.{text_of_term};
+ghost use Rattle.external_term.specs.Encoding.{encode_with_version};
 ghost use Rattle.node_core.specs.declared.step.Step.TheVariants.{Enrol, End};
 ghost use Rattle.node_text.specs.Answers.{written_reply};
 ghost use Rattle.node_text.specs.Calls.{HandleOpens, HandleSteps, HandleCalls, HandleCallsExternal, RewritesReply, WritesLastReason};
@@ -122,7 +122,8 @@ pub extern "C" fn yoyoash_reply(
     len: &mut usize,
 ) -> i32
     ensures same { handle.new.pointer.store ≡ handle.old.pointer.store }
-    ensures writes { RewritesReply printed handle.old.pointer.store (written_reply result len.new out.old out.new) }
+    ensures writes { RewritesReply text_of_term handle.old.pointer.store
+        (written_reply result len.new out.old out.new) }
 {
     *len = 0;
     let Some(store) = handle.take(alloc) else {
@@ -166,7 +167,8 @@ pub extern "C" fn yoyoash_reply_external(
     len: &mut usize,
 ) -> i32
     ensures same { handle.new.pointer.store ≡ handle.old.pointer.store }
-    ensures writes { RewritesReply written handle.old.pointer.store (written_reply result len.new out.old out.new) }
+    ensures writes { RewritesReply encode_with_version handle.old.pointer.store
+        (written_reply result len.new out.old out.new) }
 {
     *len = 0;
     let Some(mut store) = handle.take(alloc) else {

@@ -4,9 +4,9 @@ use Rattle.std.specs.Prelude.{Result, Ok, Err, OnOk, IfErr}
 use Rattle.std.specs.Io.KnownBytes.{Appends, Consumes, Keeps}
 use Rattle.std.proofs.lemmas.List.{nil_from_length}
 use Rattle.node_text.specs.StoreState.{StoreState}
-use Rattle.ets_packets.specs.Packets.{IsPart}
+use Rattle.ets_packets.specs.Packets.{IsUnfinished}
 use Rattle.ets_packets.specs.Exchanges.{Exchange, Run, requests, replies}
-use Rattle.ets_packets.specs.Stops.{Answered, Completes, Stops}
+use Rattle.ets_packets.specs.Stops.{AnswersAll, Completes, Stops}
 use Rattle.ets_packets.specs.Traffic.{Traffic, traffic}
 use Rattle.ets_packets.specs.declared.fault.PacketFault.{PacketFault}
 use Rattle.ets_packets.specs.declared.fault.PacketFault.TheVariants as faults
@@ -23,9 +23,9 @@ passed before left old new = traffic (between before left) (between old new)
 
 -- all replies so far are written, and the buffer has a part of a packet
 pub record Progress (start : StoreState) (t : Traffic) (buffered : List ℕ) (now : StoreState) : Type 0 where
-  pub answered : Answered start t buffered
+  pub answered : AnswersAll start t buffered
   pub end : answered.end ≡ now
-  pub part : IsPart buffered
+  pub part : IsUnfinished buffered
 
 pub progress-start : (s : StoreState) (left w : Option (List ℕ)) (buffered : List ℕ) → buffered ≡ [] → Progress s (passed left left w w) buffered s
 progress-start s left w buffered empty = record {
@@ -40,7 +40,7 @@ progress-start s left w buffered empty = record {
   part = inl (subst (λ (k : List ℕ). length k < 4) (sym empty) (omega arith));
 }
 
-pub answered-kept : (start : StoreState) (before l m old new : Option (List ℕ)) (part : List ℕ) → Answered start (passed before l old new) part → Keeps l m → Answered start (passed before m old new) part
+pub answered-kept : (start : StoreState) (before l m old new : Option (List ℕ)) (part : List ℕ) → AnswersAll start (passed before l old new) part → Keeps l m → AnswersAll start (passed before m old new) part
 answered-kept start before l m old new part a kept = record {
   exchanges = a.exchanges;
   end = a.end;
@@ -49,7 +49,7 @@ answered-kept start before l m old new part a kept = record {
   written = a.written;
 }
 
-pub answered-more : (start : StoreState) (before l m old new : Option (List ℕ)) (part more : List ℕ) → Answered start (passed before l old new) part → Consumes l m more → Answered start (passed before m old new) (part ++ more)
+pub answered-more : (start : StoreState) (before l m old new : Option (List ℕ)) (part more : List ℕ) → AnswersAll start (passed before l old new) part → Consumes l m more → AnswersAll start (passed before m old new) (part ++ more)
 answered-more start before l m old new part more a p = record {
   exchanges = a.exchanges;
   end = a.end;
@@ -64,7 +64,7 @@ nothing-added h1 h2 l m n r z = r.added ∙ ap (λ k. h1 ++ k) (nil_from_length 
 
 -- more was read
 pub refilled : (start now : StoreState) (before l m old new : Option (List ℕ)) (h1 h2 : List ℕ) (n : ℕ) → Progress start (passed before l old new) h1 now → Refills h1 h2 (between l m) n
-    → (a : Answered start (passed before m old new) h2) × (a.end ≡ now)
+    → (a : AnswersAll start (passed before m old new) h2) × (a.end ≡ now)
 refilled start now before l m old new h1 h2 n g r =
     let a = g.answered in (
       record {
@@ -81,12 +81,12 @@ refilled start now before l m old new h1 h2 n g r =
 pub run-completes : (start now : StoreState) (before l m old new : Option (List ℕ)) (h1 h2 : List ℕ) (n : ℕ) → Progress start (passed before l old new) h1 now → Refills h1 h2 (between l m) n → n ≡ 0 → h2 ≡ []
     → Completes start (passed before m old new)
 run-completes start now before l m old new h1 h2 n g r z empty =
-    (subst (λ (k : List ℕ). Answered start (passed before m old new) k) empty (refilled start now before l m old new h1 h2 n g r).0, r.end z)
+    (subst (λ (k : List ℕ). AnswersAll start (passed before m old new) k) empty (refilled start now before l m old new h1 h2 n g r).0, r.end z)
 
 pub run-truncated : (start now : StoreState) (before l m old new : Option (List ℕ)) (h1 h2 : List ℕ) (n : ℕ) → Progress start (passed before l old new) h1 now → Refills h1 h2 (between l m) n → n ≡ 0 → 0 < length h2
     → Stops start (passed before m old new) faults.Truncated
 run-truncated start now before l m old new h1 h2 n g r z some =
-    (h2, (refilled start now before l m old new h1 h2 n g r).0, subst IsPart (sym (nothing-added h1 h2 l m n r z)) g.part, some, r.end z)
+    (h2, (refilled start now before l m old new h1 h2 n g r).0, subst IsUnfinished (sym (nothing-added h1 h2 l m n r z)) g.part, some, r.end z)
 
 -- what the end of the input means
 pub end-ok : (start now : StoreState) (before l m old new : Option (List ℕ)) (h1 h2 : List ℕ) (n : ℕ) (r : Result (Unit {0}) PacketFault) → Progress start (passed before l old new) h1 now → Refills h1 h2 (between l m) n → n ≡ 0 → EndsAfter h2 r
@@ -119,7 +119,7 @@ not-begun start before old =
     ([], record { exchanges = []; end = start; run = refl; consumed = same-known before; written = appends-same old })
 
 -- the buffered packets are answered after the earlier ones
-joined-consumed : (start : StoreState) (before m old w : Option (List ℕ)) (buffered rest : List ℕ) (fs : List Exchange) (a : Answered start (passed before m old w) buffered) → buffered ≡ requests fs ++ rest
+joined-consumed : (start : StoreState) (before m old w : Option (List ℕ)) (buffered rest : List ℕ) (fs : List Exchange) (a : AnswersAll start (passed before m old w) buffered) → buffered ≡ requests fs ++ rest
     → Consumes before m (requests (a.exchanges ++ fs) ++ rest)
 joined-consumed start before m old w buffered rest fs a parts =
     subst (λ (k : List ℕ). Consumes before m k)
@@ -127,7 +127,7 @@ joined-consumed start before m old w buffered rest fs a parts =
     a.consumed
 
 -- and the writer failed
-pub write-stops : (start s1 : StoreState) (before m old w1 w2 : Option (List ℕ)) (buffered p : List ℕ) (g : Answered start (passed before m old w1) buffered) → g.end ≡ s1 → p ≡ [] → BreaksBufferedPackets (between w1 w2) p buffered s1
+pub write-stops : (start s1 : StoreState) (before m old w1 w2 : Option (List ℕ)) (buffered p : List ℕ) (g : AnswersAll start (passed before m old w1) buffered) → g.end ≡ s1 → p ≡ [] → BreaksBufferedPackets (between w1 w2) p buffered s1
     → Stops start (passed before m old w2) faults.Write
 write-stops start s1 before m old w1 w2 buffered p a is none b =
     let breaks = subst (λ (k : List ℕ). Breaks (between w1 w2) (k ++ replies b.exchanges)) none b.breaks in
@@ -144,15 +144,15 @@ write-stops start s1 before m old w1 w2 buffered p a is none b =
     }
 
 -- the flush failed after packets were answered
-pub flush-stops : (start s1 s2 : StoreState) (before m old w1 w2 w3 : Option (List ℕ)) (buffered rest p1 p2 : List ℕ) (is_long : Bool) (g : Answered start (passed before m old w1) buffered) → g.end ≡ s1 → p1 ≡ []
+pub flush-stops : (start s1 s2 : StoreState) (before m old w1 w2 w3 : Option (List ℕ)) (buffered rest p1 p2 : List ℕ) (is_long : Bool) (g : AnswersAll start (passed before m old w1) buffered) → g.end ≡ s1 → p1 ≡ []
     → AnswersBufferedPackets (between w1 w2) p1 p2 buffered rest s1 s2 is_long → Breaks (between w2 w3) p2 → Stops start (passed before m old w3) faults.Write
 flush-stops start s1 s2 before m old w1 w2 w3 buffered rest p1 p2 is_long a is none h b =
     write-stops start s1 before m old w1 w3 buffered p1 a is none
     (record { exchanges = h.exchanges; end = s2; rest = rest; run = h.run; parts = h.parts; breaks = breaks-on w1 w2 w3 (p1 ++ replies h.exchanges) p2 h.adds b })
 
 -- packets were answered, and all replies were written
-pub all-answered : (start s1 s2 : StoreState) (before m old w1 w2 w3 : Option (List ℕ)) (buffered rest p1 p2 p3 : List ℕ) (is_long : Bool) (g : Answered start (passed before m old w1) buffered) → g.end ≡ s1 → p1 ≡ []
-    → AnswersBufferedPackets (between w1 w2) p1 p2 buffered rest s1 s2 is_long → Sends (between w2 w3) p2 p3 → p3 ≡ [] → (a : Answered start (passed before m old w3) rest) × (a.end ≡ s2)
+pub all-answered : (start s1 s2 : StoreState) (before m old w1 w2 w3 : Option (List ℕ)) (buffered rest p1 p2 p3 : List ℕ) (is_long : Bool) (g : AnswersAll start (passed before m old w1) buffered) → g.end ≡ s1 → p1 ≡ []
+    → AnswersBufferedPackets (between w1 w2) p1 p2 buffered rest s1 s2 is_long → Sends (between w2 w3) p2 p3 → p3 ≡ [] → (a : AnswersAll start (passed before m old w3) rest) × (a.end ≡ s2)
 all-answered start s1 s2 before m old w1 w2 w3 buffered rest p1 p2 p3 is_long a is none h sent empty =
     let whole = sends-on w1 w2 w3 (p1 ++ replies h.exchanges) p2 p3 h.adds sent in
     let all : replies h.exchanges ≡ whole.sent = ap (λ k. k ++ replies h.exchanges) (sym none) ∙ whole.parts ∙ ap (λ k. whole.sent ++ k) empty ∙ append-nil whole.sent in (

@@ -20,8 +20,8 @@ abbrev pub packet : List ℕ → List ℕ
 packet body = big4 (length body) ++ body
 
 -- a part of a packet: fewer than four bytes, or a length and fewer bytes than that
-abbrev pub IsPart : List ℕ → Type 0
-IsPart part =
+abbrev pub IsUnfinished : List ℕ → Type 0
+IsUnfinished part =
     (length part < 4)
     ⊎ ((n : ℕ) × (some : List ℕ) × (part ≡ big4 n ++ some) × (length some < n) × (n ≤ max_packet))
 

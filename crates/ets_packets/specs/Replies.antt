@@ -1,6 +1,6 @@
 -- The reply to a request. Its body is a status, a byte, and the rest.
 use Rattle.std.specs.Prelude.{◌≡◌, ◌⊎◌, ℕ, List, [], ◌∷◌, Option, Some, None, codes}
-use Rattle.external_term.specs.Encoding.{written}
+use Rattle.external_term.specs.Encoding.{encode_with_version}
 use Rattle.node_core.specs.declared.step.Reply.{Reply}
 use Rattle.node_core.specs.declared.step.Reply.TheVariants.{Value, Badarg, SystemLimit, NoProcess}
 use Rattle.node_core.specs.declared.step.Step.{Step}
@@ -39,7 +39,7 @@ reason_text (Some refusal) = refusal_text refusal
 -- The reply to a step. For a value, it has the term in the external format; or the status is 7, if memory ran out or
 -- the term has too many bytes. For a refusal, it has the reason.
 abbrev pub IsReplyOf : Reply → Option LastRefusal → PacketReply → Type 0
-IsReplyOf (Value t) why r = (r ≡ packet_reply 0 (written t)) ⊎ (r ≡ packet_reply 7 [])
+IsReplyOf (Value t) why r = (r ≡ packet_reply 0 (encode_with_version t)) ⊎ (r ≡ packet_reply 7 [])
 IsReplyOf Badarg why r = IsTextReply 1 (reason_text why) r
 IsReplyOf SystemLimit why r = IsTextReply 2 (reason_text why) r
 IsReplyOf NoProcess why r = IsTextReply 3 (reason_text why) r

@@ -4,7 +4,7 @@ use Rattle.std.specs.Io.KnownBytes.{Appends, Consumes, IsAtEnd}
 use Rattle.node_core.specs.declared.limits.Limits.{Limits}
 use Rattle.node_text.specs.Calls.{new_store}
 use Rattle.node_text.specs.StoreState.{StoreState}
-use Rattle.ets_packets.specs.Packets.{IsPart, IsTooLong}
+use Rattle.ets_packets.specs.Packets.{IsUnfinished, IsTooLong}
 use Rattle.ets_packets.specs.Exchanges.{Exchange, Run, requests, replies}
 use Rattle.ets_packets.specs.Traffic.{Traffic}
 use Rattle.ets_packets.specs.declared.fault.PacketFault.{PacketFault}
@@ -12,7 +12,7 @@ use Rattle.ets_packets.specs.declared.fault.PacketFault.TheVariants.{Read, Write
 
 -- whole packets were read, and then these further bytes; all packets were answered in a run of the store, and all
 -- replies were written
-pub record Answered (start : StoreState) (t : Traffic) (rest : List ℕ) : Type 0 where
+pub record AnswersAll (start : StoreState) (t : Traffic) (rest : List ℕ) : Type 0 where
   pub exchanges : List Exchange
   pub end : StoreState
   pub run : Run start exchanges end
@@ -20,7 +20,7 @@ pub record Answered (start : StoreState) (t : Traffic) (rest : List ℕ) : Type 
   pub written : Appends t.writer.before t.writer.after (replies exchanges)
 
 -- the same, if only a prefix of the replies was written
-pub record Unwritten (start : StoreState) (t : Traffic) : Type 0 where
+pub record WritesPrefix (start : StoreState) (t : Traffic) : Type 0 where
   pub exchanges : List Exchange
   pub end : StoreState
   pub rest : List ℕ
@@ -33,18 +33,18 @@ pub record Unwritten (start : StoreState) (t : Traffic) : Type 0 where
 
 -- the whole input is packets, and all of them were answered
 abbrev pub Completes : StoreState → Traffic → Type 0
-Completes start t = Answered start t [] × IsAtEnd t.reader.after
+Completes start t = AnswersAll start t [] × IsAtEnd t.reader.after
 
 -- At a read fault or out of memory all whole packets that were read are answered, and all replies are written. A part
 -- of a packet, or what there was no memory for, is not answered. At a write fault a prefix of the replies is written,
 -- and packets that were read may be left without an answer.
 abbrev pub Stops : StoreState → Traffic → PacketFault → Type 0
-Stops start t Read = (part : List ℕ) × Answered start t part × IsPart part
-Stops start t Write = Unwritten start t
-Stops start t Memory = (rest : List ℕ) × Answered start t rest
+Stops start t Read = (part : List ℕ) × AnswersAll start t part × IsUnfinished part
+Stops start t Write = WritesPrefix start t
+Stops start t Memory = (rest : List ℕ) × AnswersAll start t rest
 Stops start t Truncated =
-    (part : List ℕ) × Answered start t part × IsPart part × (0 < length part) × IsAtEnd t.reader.after
-Stops start t TooLong = (part : List ℕ) × Answered start t part × IsTooLong part
+    (part : List ℕ) × AnswersAll start t part × IsUnfinished part × (0 < length part) × IsAtEnd t.reader.after
+Stops start t TooLong = (part : List ℕ) × AnswersAll start t part × IsTooLong part
 
 -- the program's status after a run of a new store: 0 if it reached the end of the input, else 1
 abbrev pub PacketsEnd : Limits → Traffic → ℕ → Type 0

@@ -1,7 +1,7 @@
 //! The output buffer with its writer. Bytes are written in large blocks.
 ghost use Rattle.std.specs.Prelude.{◌≡◌, [], ◌∷◌, ◌++◌, IfOk, OnOk, OnErr};
 ghost use Rattle.std.specs.Io.KnownBytes.{Appends};
-ghost use Rattle.term_text.specs.Printed.{printed};
+ghost use Rattle.term_text.specs.Printed.{text_of_term};
 ghost use Rattle.ets_packets.specs.Traffic.{flow};
 ghost use Rattle.ets_packets.specs.Output.{Sends, Breaks, Adds, Fails, HasWriterOf, buffered_bytes, writer_flow};
 
@@ -93,9 +93,9 @@ impl<'a, W: Write> Output<'a, W> {
     pub fn add_term_line(&mut self, term: &Term) -> Result<(), WriteFault>
         ensures same_writer { HasWriterOf self.old self.new }
         ensures ok { OnOk result (Adds W.contents self.old self.new
-            (printed term.now ++ 10 ∷ [])) }
+            (text_of_term term.now ++ 10 ∷ [])) }
         ensures err { OnErr result (Fails W.contents self.old self.new
-            (printed term.now ++ 10 ∷ [])) }
+            (text_of_term term.now ++ 10 ∷ [])) }
     {
         self.add_term_text(term)?;
         self.add(b"\n")
@@ -104,8 +104,8 @@ impl<'a, W: Write> Output<'a, W> {
     /// Adds the text of a term. If the buffer cannot grow, writes the buffered bytes and then the text to the writer.
     fn add_term_text(&mut self, term: &Term) -> Result<(), WriteFault>
         ensures same_writer { HasWriterOf self.old self.new }
-        ensures ok { OnOk result (Adds W.contents self.old self.new (printed term.now)) }
-        ensures err { OnErr result (Fails W.contents self.old self.new (printed term.now)) }
+        ensures ok { OnOk result (Adds W.contents self.old self.new (text_of_term term.now)) }
+        ensures err { OnErr result (Fails W.contents self.old self.new (text_of_term term.now)) }
     {
         match append_term(term, self.bytes) {
             Ok(()) => return Ok(()),

@@ -1,6 +1,6 @@
 //! The reply to a request.
 ghost use Rattle.std.specs.Prelude.{◌≡◌, ◌⊎◌, [], ◌<◌, ◌-◌, ◌^◌, length, codes};
-ghost use Rattle.external_term.specs.Encoding.{written};
+ghost use Rattle.external_term.specs.Encoding.{encode_with_version};
 ghost use Rattle.ets_packets.specs.Replies.{Answers, Calls, Steps, IsTextReply, IsReplyOf, packet_reply, reason_text};
 ghost use Rattle.node_external.specs.Calls.{parse_call};
 
@@ -99,7 +99,7 @@ fn put_reply(alloc: Global, store: &Store, payload: &mut Vec<u8>) -> u8
 /// Puts a term in the external format into `payload`, and returns the status.
 fn put_term(term: &Term, payload: &mut Vec<u8>) -> u8
     requires { payload.old.items ≡ [] }
-    ensures bytes { (packet_reply result payload.new.items ≡ packet_reply 0 (written term.now))
+    ensures bytes { (packet_reply result payload.new.items ≡ packet_reply 0 (encode_with_version term.now))
         ⊎ (packet_reply result payload.new.items ≡ packet_reply 7 []) }
     ensures few { length payload.new.items < 2 ^ 32 - 1 }
 {

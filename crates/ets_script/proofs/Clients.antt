@@ -14,12 +14,12 @@ use Rattle.node_shared.specs.declared.job.Job.{Job}
 use Rattle.node_shared.specs.declared.job.Worked.{Worked}
 use Rattle.node_shared.specs.declared.transcript.Transcript.{Transcript}
 use Rattle.node_shared.specs.Closing.{AreParts, Closes, IsPart, has_client}
-use Rattle.node_shared.specs.Journal.{IsRun, has_entries, of}
+use Rattle.node_shared.specs.Journal.{IsRun, has_entries, entries_of}
 use Rattle.node_shared.specs.Records.{RecordState}
 use Rattle.node_shared.specs.Working.{AllWorked, DidAll, job_step}
 use Rattle.ets_script.specs.Threads.{AreDone, RunsJobs}
 use Rattle.ets_script.specs.inside.Planning.{IsUnplanned}
-use Rattle.ets_script.specs.inside.Processes.{AreEnrolled, DidJobs, HaveRun, IsNew, Stops}
+use Rattle.ets_script.specs.inside.Processes.{AreEnrolled, DidJobs, HaveRun, IsNew, StopsBeforeOutput}
 use Rattle.ets_script.specs.declared.fault.ScriptFault.{ScriptFault}
 use Rattle.ets_script.specs.declared.fault.ScriptFault.TheVariants.{Read, Write, Memory, Differs, Missing}
 
@@ -65,7 +65,7 @@ have-done done p [] (c ∷ cs) left run parts = absurd run
 have-done done p (jobs ∷ lists) [] left run parts = absurd run
 have-done done p (jobs ∷ lists) (c ∷ cs) [] run parts = absurd run
 have-done done p (jobs ∷ lists) (c ∷ cs) (n ∷ left) ((pid, short, steps), more) (part, parts) =
-    (short, ap (λ (l : List Entry). map step_of l) (ap (λ (q : ℕ). of q done) (sym pid) ∙ part) ∙ steps, have-done done (suc p) lists cs left more parts)
+    (short, ap (λ (l : List Entry). map step_of l) (ap (λ (q : ℕ). entries_of q done) (sym pid) ∙ part) ∙ steps, have-done done (suc p) lists cs left more parts)
 
 -- their processes are those from p on
 are-below : (q p : ℕ) (lists : List (List Job)) (clients : List RecordState) (left : List ℕ) → HaveRun p lists clients left → has_client q clients ≡ true → q < p + length lists
@@ -112,7 +112,7 @@ fault-of-err P (Ok x) fault returned is = tt
 fault-of-err P (Err e) fault returned is = subst P (sym returned) is
 
 -- what stops the planning stops the run
-pub unplanned : (limits : Limits) (fault : ScriptFault) → IsUnplanned fault → Stops limits fault
+pub unplanned : (limits : Limits) (fault : ScriptFault) → IsUnplanned fault → StopsBeforeOutput limits fault
 unplanned limits Read u = tt
 unplanned limits Write u = absurd u
 unplanned limits Memory u = tt

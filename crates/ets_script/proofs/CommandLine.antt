@@ -24,7 +24,7 @@ use Rattle.clap.specs.declared.error.kind.ErrorKind.TheVariants.{OutOfMemory}
 use Rattle.clap.specs.declared.parser.matches.ArgMatches.{ArgMatches}
 use Rattle.clap.proofs.SimpleLemmas.{is_false, is_nil}
 use Rattle.ets_script.proofs.Defaults.{default_reads}
-use Rattle.ets_script.specs.CommandLine.{command_line, flag_option, limited_line, number_option, request_line, with_version}
+use Rattle.ets_script.specs.CommandLine.{command_line, flag_option, limited_line, number_option, options_line, with_version}
 use Rattle.ets_script.specs.inside.Options.{HasNumber}
 
 abbrev error_or : {T : Type 0} → Result T Error → Error → Error
@@ -132,11 +132,11 @@ limited_line-of_rules hashes one two three processes tables is adds first adds2 
     added two three tables _ (number_option (codes "max-tables") (codes "65536")) adds2 with_first second refl
 
 -- and with those of reasons, packets and a version it is that of a request
-pub request_line-of_rules : (hashes : ValueParser) (three four five six : Command) (why external : Arg) (version : Bor Text) → app_of three ≡ limited_line hashes
+pub options_line-of_rules : (hashes : ValueParser) (three four five six : Command) (why external : Arg) (version : Bor Text) → app_of three ≡ limited_line hashes
     → AddsArg three why four → rule_of why ≡ flag_option (codes "why")
     → AddsArg four external five → rule_of external ≡ flag_option (codes "external")
-    → out-Command six ≡ record (out-Command five) { version = Some version } → app_of six ≡ request_line hashes
-request_line-of_rules hashes three four five six why external version is adds first adds2 second versioned =
+    → out-Command six ≡ record (out-Command five) { version = Some version } → app_of six ≡ options_line hashes
+options_line-of_rules hashes three four five six why external version is adds first adds2 second versioned =
     let with_why = added three four why (limited_line hashes) (flag_option (codes "why")) adds is first refl in
     let with_both = added four five external _ (flag_option (codes "external")) adds2 with_why second refl in
     let as_fields : app_of six ≡ with_version (app_of five) = ap app_of_fields versioned in

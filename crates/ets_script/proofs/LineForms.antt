@@ -5,7 +5,7 @@ use Rattle.std.proofs.lemmas.Bool.{and_parts}
 use Rattle.std.proofs.lemmas.Bool.Decides.{nat_tests}
 use Rattle.std.specs.List.{prefix_len, list_all}
 use Rattle.std.specs.Str.{bytes_eq}
-use Rattle.term_text.specs.Text.{is_digit, is_lowercase, is_name, begins, spelled}
+use Rattle.term_text.specs.Text.{is_digit, is_lowercase, is_name, begins, value_of_digits}
 use Rattle.ets_script.specs.Classes.{is_line_blank, is_printable, past_blanks, is_sign}
 use Rattle.ets_script.specs.Reads.{read}
 use Rattle.ets_script.specs.Commands.{Command, spawn, exit, grow, ready, gap, word, bucket, line_end, name_command, grow_command, ready_command, ask_command, ask, opening, separator, arguments, arguments_from, by_word, command_of, printable_prefix, command, is_silent}
@@ -206,15 +206,15 @@ blanks-no_digit : (bs : List ℕ) → AreBlanks bs → begins is_digit bs ≡ fa
 blanks-no_digit [] h = refl
 blanks-no_digit (b ∷ bs) h = digit-blank b (and_parts (is_line_blank b) (list_all is_line_blank bs) h).0
 
-spelled-rest : (n : ℕ) (rest : List ℕ) → begins is_digit rest ≡ false → spelled n rest ≡ n
-spelled-rest n [] e = refl
-spelled-rest n (b ∷ bs) e = rw e refl
+value_of_digits-rest : (n : ℕ) (rest : List ℕ) → begins is_digit rest ≡ false → value_of_digits n rest ≡ n
+value_of_digits-rest n [] e = refl
+value_of_digits-rest n (b ∷ bs) e = rw e refl
 
-spelled-append : (n : ℕ) (digits rest : List ℕ) → list_all is_digit digits ≡ true → begins is_digit rest ≡ false → spelled n (digits ++ rest) ≡ spelled n digits
-spelled-append n [] rest h e = spelled-rest n rest e
-spelled-append n (b ∷ bs) rest h e =
+value_of_digits-append : (n : ℕ) (digits rest : List ℕ) → list_all is_digit digits ≡ true → begins is_digit rest ≡ false → value_of_digits n (digits ++ rest) ≡ value_of_digits n digits
+value_of_digits-append n [] rest h e = value_of_digits-rest n rest e
+value_of_digits-append n (b ∷ bs) rest h e =
     let parts = and_parts (is_digit b) (list_all is_digit bs) h in
-    rw parts.0 (spelled-append (n * 10 + (b - 48)) bs rest parts.1 e)
+    rw parts.0 (value_of_digits-append (n * 10 + (b - 48)) bs rest parts.1 e)
 
 in-range : (n : ℕ) → n ≤ 4294967295 → nat_le n 4294967295 ≡ true
 in-range n h = grind (arith, nat_tests)
@@ -222,7 +222,7 @@ in-range n h = grind (arith, nat_tests)
 bucket-form : (digits rest : List ℕ) (n : ℕ) → IsBucket digits n → begins is_digit rest ≡ false → bucket (digits ++ rest) ≡ read n rest
 bucket-form digits rest n b e =
     let len = prefix_len-append is_digit digits rest b.each e in
-    let value : spelled 0 (digits ++ rest) ≡ n = spelled-append 0 digits rest b.each e ∙ sym b.value in
+    let value : value_of_digits 0 (digits ++ rest) ≡ n = value_of_digits-append 0 digits rest b.each e ∙ sym b.value in
     rw (begins-append is_digit digits rest b.first, value, in-range n b.below, len, drop-length digits rest) refl
 
 ready_command-form : (gap1 s gap2 digits after : List ℕ) (t : Term) (n : ℕ) → IsGap gap1 → begins is_line_blank (s ++ (gap2 ++ (digits ++ after))) ≡ false → IsTerm s t (gap2 ++ (digits ++ after)) → IsGap gap2 → IsBucket digits n → AreBlanks after

@@ -4,7 +4,7 @@ use Rattle.std.specs.Io.KnownBytes.{Consumes, prepend_known}
 use Rattle.ets_packets.specs.Output.{Sends}
 use Rattle.ets_packets.proofs.KnownBytes.{between, sends-on, sends-more, sends-none, same-known}
 use Rattle.ets_script.specs.Lines.{Line, IsOneLine}
-use Rattle.ets_script.specs.Replies.{printed}
+use Rattle.ets_script.specs.Replies.{answer_text}
 use Rattle.ets_script.specs.Script.{ScriptState, AnswersLine, AreWholeLines}
 use Rattle.ets_script.specs.inside.LineBuffers.{LineBufferState, rest_of, Refills, PassedOver, EndsLine, Stays, IsPassed, Waits}
 use Rattle.ets_script.specs.declared.answer.Answer.{Answer}
@@ -35,18 +35,18 @@ progress-start s buffered left pending w none empty whole = record {
 
 -- a line was answered, and an LF ended it
 pub progress-line : (start s1 s2 : ScriptState) (before old w1 w2 : Option (List ℕ)) (h1 h2 : LineBufferState) (left : Option (List ℕ)) (p1 p2 : List ℕ) (n : ℕ) (line : Line) (answer : Answer) → Progress start before old h1 left p1 w1 s1
-    → EndsLine h1.bytes h1.is_skipping n line → AnswersLine s1 line answer s2 → Sends (between w1 w2) (p1 ++ printed answer) p2 → h2.bytes ≡ drop n h1.bytes → h2.is_skipping ≡ false → Progress start before old h2 left p2 w2 s2
+    → EndsLine h1.bytes h1.is_skipping n line → AnswersLine s1 line answer s2 → Sends (between w1 w2) (p1 ++ answer_text answer) p2 → h2.bytes ≡ drop n h1.bytes → h2.is_skipping ≡ false → Progress start before old h2 left p2 w2 s2
 progress-line start s1 s2 before old w1 w2 h1 h2 left p1 p2 n line answer g ends answers sent buffered whole =
     let bytes = g.skipped ++ take n h1.bytes in
     record {
       input = g.input ++ bytes;
-      out = g.out ++ printed answer;
+      out = g.out ++ answer_text answer;
       skipped = [];
-      lines = (suc g.lines.0, then-line g.lines.0 start s1 s2 g.input g.out bytes (printed answer) ⊥ g.lines.1 (record { line = line; answer = answer; is_line = ends g.skipped g.passed; answers = answers; prints = refl }));
+      lines = (suc g.lines.0, then-line g.lines.0 start s1 s2 g.input g.out bytes (answer_text answer) ⊥ g.lines.1 (record { line = line; answer = answer; is_line = ends g.skipped g.passed; answers = answers; prints = refl }));
       passed = subst (λ (b : Bool). PassedOver b the_none) (sym whole) refl;
       consumed = subst (λ (k : List ℕ). Consumes before (rest_of h2 left) k) (append_assoc g.input g.skipped (take n h1.bytes) ∙ sym (append-nil (g.input ++ bytes)))
           (subst (λ (k : List ℕ). Consumes before (prepend_known k left) ((g.input ++ g.skipped) ++ take n h1.bytes)) (sym buffered) (taken-front before (g.input ++ g.skipped) h1.bytes n left g.consumed));
-      sent = sends-more old w1 w2 g.out p1 (printed answer) p2 g.sent sent;
+      sent = sends-more old w1 w2 g.out p1 (answer_text answer) p2 g.sent sent;
     }
 
 -- more is needed to find the end of the line

@@ -7,7 +7,7 @@ use Rattle.ets_packets.specs.Output.{Breaks}
 use Rattle.ets_packets.proofs.KnownBytes.{between, appends-same}
 use Rattle.ets_script.specs.Threads.{ThreadsText, ThreadsEnd, ThreadsStop, threads_text}
 use Rattle.ets_script.specs.inside.Journal.{out_text}
-use Rattle.ets_script.specs.inside.Processes.{RunsInput, Stops}
+use Rattle.ets_script.specs.inside.Processes.{RunsInput, StopsBeforeOutput}
 use Rattle.ets_script.specs.declared.fault.ScriptFault.{ScriptFault}
 use Rattle.ets_script.specs.declared.fault.ScriptFault.TheVariants.{Read, Write, Memory, Differs, Missing}
 use Rattle.ets_script.specs.declared.plan.PlannedAnswers.{PlannedAnswers}
@@ -33,7 +33,7 @@ threads-write_fault limits before after old new planned run r b =
     (r.input, b.sent, b.unsent, r.consumed, r.end, b.written, subst (λ (k : List ℕ). ThreadsText limits r.input k) b.parts (is-text limits before after planned run r))
 
 -- it stopped before anything was printed
-pub threads-stop : (limits : Limits) (before after old : Option (List ℕ)) (fault : ScriptFault) → Stops limits fault → ThreadsStop limits (traffic (between before after) (between old old)) fault
+pub threads-stop : (limits : Limits) (before after old : Option (List ℕ)) (fault : ScriptFault) → StopsBeforeOutput limits fault → ThreadsStop limits (traffic (between before after) (between old old)) fault
 threads-stop limits before after old Read s = appends-same old
 threads-stop limits before after old Write s = absurd s
 threads-stop limits before after old Memory s = appends-same old

@@ -14,7 +14,7 @@ use Rattle.clap.specs.declared.error.kind.ErrorKind.TheVariants.{ArgumentConflic
 use Rattle.clap.specs.Kinds.{Kinds, or_else}
 use Rattle.node_core.specs.declared.limits.Limits.{Limits}
 use Rattle.ets_script.specs.declared.options.Settings.{Settings}
-use Rattle.ets_script.specs.declared.options.Request.{Request}
+use Rattle.ets_script.specs.declared.options.Options.{Options}
 
 -- the parser accepts these names, and nothing else
 abbrev pub TakesNames : List Text → ValueParser → Type 0
@@ -60,9 +60,9 @@ command_line hashes =
     objects_option
 
 -- the text of a number in decimal digits, with or without a plus before it
-abbrev pub Spells : Option Text → ℕ → Type 0
-Spells (Some text) n = IsNumeral 10 (without_leading_plus text) × (n ≡ digits_value 10 (without_leading_plus text))
-Spells None n = ⊥
+abbrev pub IsDecimal : Option Text → ℕ → Type 0
+IsDecimal (Some text) n = IsNumeral 10 (without_leading_plus text) × (n ≡ digits_value 10 (without_leading_plus text))
+IsDecimal None n = ⊥
 
 -- there is a text, and it is this name
 abbrev pub is_named : Text → Option Text → Bool
@@ -73,10 +73,10 @@ abbrev pub is_set : Text → List Row → Bool
 is_set flag rows = is_named (codes "true") (first_of flag rows)
 
 -- these are the settings of the matched options
-pub record Asks (rows : List Row) (settings : Settings) : Type 0 where
+pub record AreSettings (rows : List Row) (settings : Settings) : Type 0 where
   pub threads : settings.threads ≡ is_set (codes "threads") rows
   pub same : settings.same ≡ is_named (codes "same") (first_of (codes "hash") rows)
-  pub objects : Spells (one_of (codes "max-objects") rows) settings.objects
+  pub objects : IsDecimal (one_of (codes "max-objects") rows) settings.objects
 
 -- If the command line finds a fault in the words, they are refused with that fault. Otherwise the settings are those of
 -- the matched options. In both cases memory may run out instead.
@@ -84,7 +84,7 @@ pub record Settles (words : List Text) (result : Result Settings Error) : Type 0
   pub hashes : ValueParser
   pub names : TakesNames hash_names hashes
   pub faults : FailsBy (fault_of (command_line hashes) words) result
-  pub settings : IfOk result (Asks (matches_of (command_line hashes) words))
+  pub settings : IfOk result (AreSettings (matches_of (command_line hashes) words))
 
 -- the same command line with `--version`
 abbrev pub with_version : App → App
@@ -98,57 +98,47 @@ limited_line hashes =
     (number_option (codes "max-tables") (codes "65536"))
 
 -- the command line with all options: also these limits, `--why`, `--external` and `--version`
-abbrev pub request_line : ValueParser → App
-request_line hashes =
-    with_version (with_rule (with_rule (limited_line hashes) (flag_option (codes "why"))) (flag_option (codes "external")))
+abbrev pub options_line : ValueParser → App
+options_line hashes =
+    with_version (with_rule (with_rule (limited_line hashes) (flag_option (codes "why")))
+    (flag_option (codes "external")))
 
--- this is the request of the matched options
-pub record AsksAll (rows : List Row) (request : Request) : Type 0 where
-  pub settings : Asks rows request.settings
-  pub processes : Spells (one_of (codes "max-processes") rows) request.processes
-  pub tables : Spells (one_of (codes "max-tables") rows) request.tables
-  pub why : request.why ≡ is_set (codes "why") rows
-  pub external : request.external ≡ is_set (codes "external") rows
-
--- the same as Settles, for all options; options that exclude each other are not refused
-pub record Parses (words : List Text) (result : Result Request Error) : Type 0 where
-  pub hashes : ValueParser
-  pub names : TakesNames hash_names hashes
-  pub faults : FailsBy (fault_of (request_line hashes) words) result
-  pub request : IfOk result (AsksAll (matches_of (request_line hashes) words))
+-- these are the options that were matched
+pub record AreOptions (rows : List Row) (options : Options) : Type 0 where
+  pub settings : AreSettings rows options.settings
+  pub processes : IsDecimal (one_of (codes "max-processes") rows) options.processes
+  pub tables : IsDecimal (one_of (codes "max-tables") rows) options.tables
+  pub why : options.why ≡ is_set (codes "why") rows
+  pub external : options.external ≡ is_set (codes "external") rows
 
 -- Whether options exclude each other: reasons are not reported for processes in threads, and packets are answered
 -- without threads, without reasons, and with the usual hash.
-abbrev pub excluded : Bool → Bool → Bool → Bool → Bool
-excluded external why threads same = if external then why || threads || same else why && threads
-
--- whether options of the request exclude each other
-abbrev pub excludes : Request → Bool
-excludes request = excluded request.external request.why request.settings.threads request.settings.same
+abbrev pub options_exclude : Bool → Bool → Bool → Bool → Bool
+options_exclude external why threads same = if external then why || threads || same else why && threads
 
 -- the fault of matched options that exclude each other, if some do
 abbrev pub conflict_of : List Row → Kinds
 conflict_of rows =
-    if excluded (is_set (codes "external") rows) (is_set (codes "why") rows) (is_set (codes "threads") rows)
+    if options_exclude (is_set (codes "external") rows) (is_set (codes "why") rows) (is_set (codes "threads") rows)
     (is_named (codes "same") (first_of (codes "hash") rows))
     then ArgumentConflict ∷ [] else []
 
 -- the fault of the words; if there is none, that of options that exclude each other
-abbrev pub request_faults : ValueParser → List Text → Kinds
-request_faults hashes words =
-    or_else (fault_of (request_line hashes) words) (conflict_of (matches_of (request_line hashes) words))
+abbrev pub options_faults : ValueParser → List Text → Kinds
+options_faults hashes words =
+    or_else (fault_of (options_line hashes) words) (conflict_of (matches_of (options_line hashes) words))
 
 -- the same as Parses, but options that exclude each other are refused if there is no other fault
-pub record Requests (words : List Text) (result : Result Request Error) : Type 0 where
+pub record ParsesOptions (words : List Text) (result : Result Options Error) : Type 0 where
   pub hashes : ValueParser
   pub names : TakesNames hash_names hashes
-  pub faults : FailsBy (request_faults hashes words) result
-  pub request : IfOk result (AsksAll (matches_of (request_line hashes) words))
+  pub faults : FailsBy (options_faults hashes words) result
+  pub options : IfOk result (AreOptions (matches_of (options_line hashes) words))
 
 -- the limits of the options
-abbrev pub limits_of : Request → Limits
-limits_of request =
-    record { processes = request.processes; tables = request.tables; objects = request.settings.objects }
+abbrev pub limits_of : Options → Limits
+limits_of options =
+    record { processes = options.processes; tables = options.tables; objects = options.settings.objects }
 
 -- the program's status after this error of the command line
 abbrev pub refused_status : ErrorKind → ℕ

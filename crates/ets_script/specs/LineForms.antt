@@ -5,7 +5,7 @@ use Rattle.std.specs.List.{list_all}
 use Rattle.ets_term.specs.declared.atom.TheConstants.{MAX_CHARACTERS}
 use Rattle.ets_term.specs.declared.term.Term.{Term}
 use Rattle.term_text.specs.Grammar.{Front}
-use Rattle.term_text.specs.Text.{is_digit, is_lowercase, is_name, begins, spelled}
+use Rattle.term_text.specs.Text.{is_digit, is_lowercase, is_name, begins, value_of_digits}
 use Rattle.ets_script.specs.Commands.{Command, command, is_silent}
 use Rattle.ets_script.specs.Classes.{is_line_blank, is_printable, is_sign}
 
@@ -52,7 +52,7 @@ IsTerm text t rest = Front (text ++ rest) t (length text)
 pub record IsBucket (digits : List ℕ) (bucket : ℕ) : Type 0 where
   pub first : begins is_digit digits ≡ true
   pub each : list_all is_digit digits ≡ true
-  pub value : bucket ≡ spelled 0 digits
+  pub value : bucket ≡ value_of_digits 0 digits
   pub below : bucket ≤ 2 ^ 32 - 1
 
 -- `grow T`: the gap has all blanks before the term

@@ -12,7 +12,7 @@ use Rattle.node_core.specs.declared.step.Reply.{Reply}
 use Rattle.node_core.specs.declared.step.Reply.TheVariants.{Value, Badarg, SystemLimit, NoProcess}
 use Rattle.ets_script.specs.Lines.{Line, text, too_long, IsLine}
 use Rattle.ets_script.specs.Commands.{Command, faulty, spawn, exit, ask, grow, ready, command, is_silent}
-use Rattle.ets_script.specs.Replies.{printed}
+use Rattle.ets_script.specs.Replies.{answer_text}
 use Rattle.ets_script.specs.declared.answer.Answer.{Answer}
 use Rattle.ets_script.specs.declared.answer.Answer.TheVariants.{Silent, Replied, NoMemory, Syntax, TooLong}
 
@@ -31,8 +31,8 @@ abbrev pub table_of : ScriptState → Term → ℕ
 table_of s t = unwrap_or (resolve s.node.world.tables t) (next_identifier s.node)
 
 -- the answer is this, and nothing changes
-abbrev pub Unchanged : ScriptState → Answer → Answer → ScriptState → Type 0
-Unchanged old fixed answer new = (answer ≡ fixed) × (new ≡ old)
+abbrev pub KeepsState : ScriptState → Answer → Answer → ScriptState → Type 0
+KeepsState old fixed answer new = (answer ≡ fixed) × (new ≡ old)
 
 -- the node runs a step, and the answer is its reply
 abbrev pub Steps : ScriptState → Step → Answer → ScriptState → Type 0
@@ -41,7 +41,7 @@ Steps old s answer new =
 
 -- a step of the process with a name; if no process has it, the answer is that there is no such process
 abbrev pub StepsOf : Option ℕ → (ℕ → Step) → ScriptState → Answer → ScriptState → Type 0
-StepsOf None s old answer new = Unchanged old (Replied NoProcess) answer new
+StepsOf None s old answer new = KeepsState old (Replied NoProcess) answer new
 StepsOf (Some p) s old answer new = Steps old (s p) answer new
 
 -- the names after the reply to an enrolment: the name is added unless the enrolment was refused
@@ -53,14 +53,14 @@ names_after NoProcess names name = names
 
 -- the answer to `spawn`: a name can be spawned only once, and its process has the next number
 abbrev pub Spawns : Option ℕ → ScriptState → List ℕ → Answer → ScriptState → Type 0
-Spawns (Some p) old name answer new = Unchanged old (Replied Badarg) answer new
+Spawns (Some p) old name answer new = KeepsState old (Replied Badarg) answer new
 Spawns None old name answer new =
     (r : Reply) × (answer ≡ Replied r)
     × step old.node (Enrol (length old.names)) r new.node × (new.names ≡ names_after r old.names name)
 
 -- the answer to a command, and the state after it
 abbrev pub Executes : Command → ScriptState → Answer → ScriptState → Type 0
-Executes (faulty at) old answer new = Unchanged old (Syntax at) answer new
+Executes (faulty at) old answer new = KeepsState old (Syntax at) answer new
 Executes (spawn name) old answer new = Spawns (pid_of old name) old name answer new
 Executes (exit name) old answer new = StepsOf (pid_of old name) (λ p. End p) old answer new
 Executes (ask name word terms) old answer new =
@@ -70,13 +70,13 @@ Executes (ready t bucket) old answer new = Steps old (Ready (table_of old t) buc
 
 -- the answer to a line that is silent, or is not; if it is not, memory may run out, and nothing changes
 abbrev pub AnswersText : Bool → ScriptState → List ℕ → Answer → ScriptState → Type 0
-AnswersText true old t answer new = Unchanged old Silent answer new
-AnswersText false old t answer new = Executes (command t) old answer new ⊎ Unchanged old NoMemory answer new
+AnswersText true old t answer new = KeepsState old Silent answer new
+AnswersText false old t answer new = Executes (command t) old answer new ⊎ KeepsState old NoMemory answer new
 
 -- the answer to a line, and the state after it
 abbrev pub AnswersLine : ScriptState → Line → Answer → ScriptState → Type 0
 AnswersLine old (text t) answer new = AnswersText (is_silent t) old t answer new
-AnswersLine old too_long answer new = Unchanged old TooLong answer new
+AnswersLine old too_long answer new = KeepsState old TooLong answer new
 
 -- These bytes are one line, which has this output. If `last` holds, the line may lack its LF.
 pub record IsAnswered (old : ScriptState) (bytes out : List ℕ) (new : ScriptState) (last : Type 0) : Type 0 where
@@ -84,7 +84,7 @@ pub record IsAnswered (old : ScriptState) (bytes out : List ℕ) (new : ScriptSt
   pub answer : Answer
   pub is_line : IsLine bytes line last
   pub answers : AnswersLine old line answer new
-  pub prints : out ≡ printed answer
+  pub prints : out ≡ answer_text answer
 
 -- The input is this number of lines, and the output is their answers, from one state of the script to another. If
 -- `last` holds, the last line may lack its LF.

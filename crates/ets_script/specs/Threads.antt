@@ -12,13 +12,13 @@ use Rattle.node_shared.specs.declared.pids.TheConstants.{MAX_PIDS}
 use Rattle.node_shared.specs.declared.transcript.CloseFault.{CloseFault}
 use Rattle.node_shared.specs.declared.transcript.CloseFault.TheVariants as close
 use Rattle.node_shared.specs.Closing.{Closes}
-use Rattle.node_shared.specs.Journal.{IsRun, of, has_entries, process_of}
+use Rattle.node_shared.specs.Journal.{IsRun, entries_of, has_entries, process_of}
 use Rattle.node_shared.specs.Records.{RecordState}
 use Rattle.node_shared.specs.Working.{job_step}
 use Rattle.ets_packets.specs.Traffic.{Traffic}
 use Rattle.ets_script.specs.Lines.{Line, IsCutInto}
 use Rattle.ets_script.specs.Plan.{PlanState, empty_plan, lines_plan}
-use Rattle.ets_script.specs.Replies.{printed, reply_text}
+use Rattle.ets_script.specs.Replies.{answer_text, reply_text}
 use Rattle.ets_script.specs.Stops.{usual}
 use Rattle.ets_script.specs.declared.answer.Answer.{Answer}
 use Rattle.ets_script.specs.declared.fault.ScriptFault.{ScriptFault}
@@ -47,7 +47,7 @@ stopped_text names left = []
 -- stopped
 abbrev pub threads_text : List Answer → List (List ℕ) → List Entry → List ℕ → List ℕ
 threads_text answers names done left =
-    flat_map printed answers ++ (flat_map (entry_text names) done ++ stopped_text names left)
+    flat_map answer_text answers ++ (flat_map (entry_text names) done ++ stopped_text names left)
 
 -- the steps of a process that is enrolled and then runs its jobs, in order, without the last n
 abbrev pub steps_done : ℕ → List Job → ℕ → List Step
@@ -58,7 +58,7 @@ steps_done p jobs n = Enrol p ∷ map (job_step p) (take (length jobs - n) jobs)
 abbrev pub AreDone : List Entry → ℕ → List (List Job) → List ℕ → Type 0
 AreDone done p [] [] = Unit {0}
 AreDone done p (jobs ∷ others) (n ∷ left) =
-    (n ≤ length jobs) × (map (λ e. e.step) (of p done) ≡ steps_done p jobs n) × AreDone done (suc p) others left
+    (n ≤ length jobs) × (map (λ e. e.step) (entries_of p done) ≡ steps_done p jobs n) × AreDone done (suc p) others left
 AreDone done p [] (n ∷ left) = ⊥
 AreDone done p (jobs ∷ others) [] = ⊥
 

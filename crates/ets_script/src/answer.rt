@@ -2,7 +2,7 @@
 ghost use Rattle.std.specs.Prelude.{◌≡◌, ◌++◌, true, OnOk, OnErr, codes};
 ghost use Rattle.term_text.specs.Printed as text;
 ghost use Rattle.ets_packets.specs.Output.{Adds, Fails, HasWriterOf};
-ghost use Rattle.ets_script.specs.Replies.{printed, reply_text};
+ghost use Rattle.ets_script.specs.Replies.{answer_text, reply_text};
 
 use ets_packets::{Output, WriteFault};
 use ets_term::Term;
@@ -45,8 +45,8 @@ impl Answer {
     #[inline(always)]
     pub fn print<W: Write>(&self, output: &mut Output<'_, W>) -> Result<(), WriteFault>
         ensures same_writer { HasWriterOf output.old output.new }
-        ensures ok { OnOk result (Adds W.contents output.old output.new (printed self.now)) }
-        ensures err { OnErr result (Fails W.contents output.old output.new (printed self.now)) }
+        ensures ok { OnOk result (Adds W.contents output.old output.new (answer_text self.now)) }
+        ensures err { OnErr result (Fails W.contents output.old output.new (answer_text self.now)) }
     {
         match self {
             Answer::Silent => Ok(()),
@@ -80,7 +80,7 @@ pub fn print_reply<W: Write>(reply: &Reply, output: &mut Output<'_, W>) -> Resul
 /// terms, which is faster.
 #[inline(always)]
 fn is_true(term: &Term) -> bool
-    ensures { result ≡ true → text.printed term.now ≡ codes "true" }
+    ensures { result ≡ true → text.text_of_term term.now ≡ codes "true" }
 {
     match term {
         Term::Atom(name) => {
@@ -96,9 +96,9 @@ fn is_true(term: &Term) -> bool
 fn print_syntax<W: Write>(at: usize, output: &mut Output<'_, W>) -> Result<(), WriteFault>
     ensures same_writer { HasWriterOf output.old output.new }
     ensures ok { OnOk result (Adds W.contents output.old output.new
-        (printed (Answer.Syntax at))) }
+        (answer_text (Answer.Syntax at))) }
     ensures err { OnErr result (Fails W.contents output.old output.new
-        (printed (Answer.Syntax at))) }
+        (answer_text (Answer.Syntax at))) }
 {
     let mut digits = Buffer::new();
     output.add(b"** syntax ")?;

@@ -3,10 +3,10 @@ ghost use Rattle.std.specs.Prelude.{IfOk, ◌≡◌, codes, map, option_map};
 ghost use Rattle.clap.specs.Words.{app_of, found_of, kind_of, one_text, rows_of, rule_of};
 ghost use Rattle.clap.specs.declared.error.kind.ErrorKind.TheVariants.{ArgumentConflict};
 ghost use Rattle.ets_script.specs.CommandLine as spec;
-ghost use Rattle.ets_script.specs.CommandLine.{Asks, Settles, Requests, Parses, Spells, TakesNames};
-ghost use Rattle.ets_script.specs.inside.Options.{HasNumber};
+ghost use Rattle.ets_script.specs.CommandLine.{AreSettings, Settles, ParsesOptions, IsDecimal, TakesNames};
+ghost use Rattle.ets_script.specs.inside.Options.{Parses, excludes, HasNumber};
 
-use crate::options::{Request, Settings};
+use crate::options::{Options, Settings};
 use clap::error::ErrorKind;
 use clap::{Arg, ArgAction, ArgMatches, Command, Error, value_parser};
 use std::alloc::{AllocError, Global};
@@ -46,42 +46,42 @@ pub fn settings<S: AsStr>(alloc: Global, words: &[S]) -> Result<Settings, Error>
 /// Parses a command line as `settings` does, with more options: the limits of processes and of tables,
 /// `--why`, `--external` and `--version`. Refuses `--why` together with `--threads`, and `--external` together with
 /// either or with `--hash same`.
-pub fn request<S: AsStr>(alloc: Global, words: &[S]) -> Result<Request, Error>
-    ensures { Requests (map S.text words.entry.now) result }
+pub fn parse_options<S: AsStr>(alloc: Global, words: &[S]) -> Result<Options, Error>
+    ensures { ParsesOptions (map S.text words.entry.now) result }
 {
-    let request = parse_request(alloc, words)?;
-    if is_conflict(&request) {
-        return Err(conflict(alloc, conflict_words(&request))?);
+    let options = parse_words(alloc, words)?;
+    if is_conflict(&options) {
+        return Err(conflict(alloc, conflict_words(&options))?);
     }
-    Ok(request)
+    Ok(options)
 }
 
 /// Checks whether two of the options exclude each other.
-fn is_conflict(request: &Request) -> bool
-    ensures { result ≡ spec.excludes request.now }
+fn is_conflict(options: &Options) -> bool
+    ensures { result ≡ excludes options.now }
 {
-    if request.external {
-        request.why || request.settings.threads || request.settings.same
+    if options.external {
+        options.why || options.settings.threads || options.settings.same
     } else {
-        request.why && request.settings.threads
+        options.why && options.settings.threads
     }
 }
 
 /// Returns which options exclude each other. It is called only if some do.
-fn conflict_words(request: &Request) -> &'static str {
-    if !request.external {
+fn conflict_words(options: &Options) -> &'static str {
+    if !options.external {
         "the argument '--threads' cannot be used with '--why'"
-    } else if request.settings.threads {
+    } else if options.settings.threads {
         "the argument '--external' cannot be used with '--threads'"
-    } else if request.why {
+    } else if options.why {
         "the argument '--external' cannot be used with '--why'"
     } else {
         "the argument '--external' cannot be used with '--hash same'"
     }
 }
 
-/// Parses a command line as `request` does, but does not check whether options exclude each other.
-fn parse_request<S: AsStr>(alloc: Global, words: &[S]) -> Result<Request, Error>
+/// Parses a command line as `parse_options` does, but does not check whether options exclude each other.
+fn parse_words<S: AsStr>(alloc: Global, words: &[S]) -> Result<Options, Error>
     ensures { Parses (map S.text words.entry.now) result }
 {
     let processes = number_option(
@@ -108,7 +108,7 @@ fn parse_request<S: AsStr>(alloc: Global, words: &[S]) -> Result<Request, Error>
         .arg(external)?
         .version(VERSION);
     let matches = command.try_get_matches_from(words)?;
-    Ok(Request {
+    Ok(Options {
         settings: settings_of(&matches),
         processes: matched_number(&matches, "max-processes"),
         tables: matched_number(&matches, "max-tables"),
@@ -190,7 +190,7 @@ fn number_option<'a>(alloc: Global, name: &'a str, default: &'a str, help: &'a s
 /// Returns the settings of the matched options, which include a number of objects.
 fn settings_of(matches: &ArgMatches) -> Settings
     ensures { HasNumber (found_of matches.now) (codes "max-objects")
-        → Asks (rows_of (found_of matches.now)) result }
+        → AreSettings (rows_of (found_of matches.now)) result }
 {
     Settings {
         threads: is_named("true", matches.get_str("threads")),
@@ -202,7 +202,7 @@ fn settings_of(matches: &ArgMatches) -> Settings
 /// Returns the number that was matched for the option of this name, which has one.
 fn matched_number(matches: &ArgMatches, name: &str) -> u32
     ensures { HasNumber (found_of matches.now) name.now
-        → Spells (one_text (found_of matches.now) name.now) result }
+        → IsDecimal (one_text (found_of matches.now) name.now) result }
 {
     matches.get_one(name).unwrap_or(0)
 }

@@ -2,7 +2,7 @@
 ghost use Rattle.std.specs.Prelude.{◌≡◌, ◌≤◌, ◌++◌, flat_map, codes, length, [], OnOk, OnErr};
 ghost use Rattle.std.specs.Io.KnownBytes.{Appends};
 ghost use Rattle.ets_packets.specs.Output.{Breaks, Adds, Fails, HasWriterOf, buffered_bytes, writer_flow};
-ghost use Rattle.ets_script.specs.Replies.{printed};
+ghost use Rattle.ets_script.specs.Replies.{answer_text};
 ghost use Rattle.ets_script.specs.Threads.{entry_text, stopped_text};
 ghost use Rattle.ets_script.specs.inside.Journal.{stop_text, run_text, out_text};
 
@@ -70,9 +70,9 @@ fn print_run<W: Write>(
 fn print_answers<W: Write>(answers: &[Answer], output: &mut Output<'_, W>) -> Result<(), WriteFault>
     ensures same_writer { HasWriterOf output.old output.new }
     ensures ok { OnOk result (Adds W.contents output.old output.new
-        (flat_map printed answers.now)) }
+        (flat_map answer_text answers.now)) }
     ensures err { OnErr result (Fails W.contents output.old output.new
-        (flat_map printed answers.now)) }
+        (flat_map answer_text answers.now)) }
 {
     for answer in answers {
         answer.print(output)?;

@@ -44,10 +44,10 @@ mod terms;
 mod threads;
 mod why_writer;
 
-pub use command_line::{refuse, request, settings};
+pub use command_line::{parse_options, refuse, settings};
 pub use fault::ScriptFault;
 pub use node_settings::NodeSettings;
-pub use program::{answer_alone, answer_input, answer_request};
+pub use program::{answer_alone, answer_input, answer_with_options};
 pub use run::{run_script, run_script_with_reasons, run_within};
 pub use streams::Streams;
 pub use threads::run_threads;

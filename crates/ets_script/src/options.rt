@@ -13,7 +13,7 @@ pub struct Settings {
 
 /// All options: `Settings`, the other limits, reasons, and packets.
 #[derive(Clone, Copy)]
-pub struct Request {
+pub struct Options {
     /// The options that `settings` parses too.
     pub settings: Settings,
     /// The greatest number of processes ever enrolled.

@@ -3,7 +3,7 @@ ghost use Rattle.std.specs.Prelude.{◌≡◌, ◌+◌, map, IfOk, IfErr};
 ghost use Rattle.std.specs.Thread.{IsSync};
 ghost use Rattle.node_shared.specs.Working.{AllWorked};
 ghost use Rattle.ets_script.specs.Threads.{RunsJobs};
-ghost use Rattle.ets_script.specs.inside.Processes.{AreSeatsOf, AreEnrolled, HaveRun, IsNew, Stops};
+ghost use Rattle.ets_script.specs.inside.Processes.{AreSeatsOf, AreEnrolled, HaveRun, IsNew, StopsBeforeOutput};
 
 use crate::fault::ScriptFault;
 use crate::node_settings::NodeSettings;
@@ -47,7 +47,7 @@ pub fn run_jobs<T: Threads + Wait + Sync, H: KeyHash + Copy + Drop + Send + Sync
 ) -> Result<RunResult, ScriptFault>
     ensures ok { IfOk result (λ run. RunsJobs settings.limits work.jobs
         run.entries.items run.left.items) }
-    ensures err { IfErr result (Stops settings.limits) }
+    ensures err { IfErr result (StopsBeforeOutput settings.limits) }
 {
     let blank = Blank::new(settings.limits.processes as u64 + 1);
     run_with_ledger::<Brand, T, H>(rt, alloc, blank, settings, work)
@@ -70,7 +70,7 @@ fn run_with_ledger<
     requires enough { blank.parts ≡ settings.limits.processes + 1 }
     ensures ok { IfOk result (λ run. RunsJobs settings.limits work.jobs
         run.entries.items run.left.items) }
-    ensures err { IfErr result (Stops settings.limits) }
+    ensures err { IfErr result (StopsBeforeOutput settings.limits) }
 {
     let shared = Shared::<L, H>::new(alloc, blank, settings.limits, settings.hasher);
     let Ok((clients, left)) = run_shared(rt, alloc, &shared, work) else {

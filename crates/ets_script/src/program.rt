@@ -9,7 +9,7 @@ ghost use Rattle.ets_script.specs.Threads.{ThreadsEnd, ThreadsStop, ThreadsStatu
 
 use crate::fault::ScriptFault;
 use crate::node_settings::NodeSettings;
-use crate::options::{Request, Settings};
+use crate::options::{Options, Settings};
 use crate::run::{run_script, run_script_with_reasons};
 use crate::streams::Streams;
 use crate::threads::run_threads;
@@ -39,8 +39,8 @@ pub fn answer_input<T: Threads + Wait + Sync, R: Read, W: Write, E: Write>(
     ensures threads { settings.now.threads ≡ true → IfOk result (ProgramThreads settings.now.objects
         (flows R.remaining W.contents streams.old streams.new)) }
 {
-    let request = usual_request(settings);
-    answer_request(rt, alloc, &request, streams, errors)
+    let options = usual_options(settings);
+    answer_with_options(rt, alloc, &options, streams, errors)
 }
 
 /// Answers a script line by line, each when it was read, with the usual limits and the settings' limit of objects.
@@ -54,17 +54,17 @@ pub fn answer_alone<R: Read, W: Write, E: Write>(
     ensures { IfOk result (ProgramEnds settings.now.objects
         (flows R.remaining W.contents streams.old streams.new)) }
 {
-    let request = usual_request(settings);
-    answer_lines(alloc, &request, streams, errors)
+    let options = usual_options(settings);
+    answer_lines(alloc, &options, streams, errors)
 }
 
 /// Returns the options of the settings, with the usual limits.
-fn usual_request(settings: &Settings) -> Request
+fn usual_options(settings: &Settings) -> Options
     ensures { result
         ≡ record { settings = settings.now; processes = 4096; tables = 65536; why = false; external = false } }
 {
     let usual = Limits::usual();
-    Request {
+    Options {
         settings: *settings,
         processes: usual.processes,
         tables: usual.tables,
@@ -74,48 +74,48 @@ fn usual_request(settings: &Settings) -> Request
 }
 
 /// Answers a script as `answer_input` does, with the limits of the options. Answers packets if an option says so.
-pub fn answer_request<T: Threads + Wait + Sync, R: Read, W: Write, E: Write>(
+pub fn answer_with_options<T: Threads + Wait + Sync, R: Read, W: Write, E: Write>(
     rt: &T,
     alloc: Global,
-    request: &Request,
+    options: &Options,
     streams: &mut Streams<R, W>,
     errors: &mut E,
 ) -> io::Result<u8>
-    ensures alone { request.now.external ≡ false → request.now.settings.threads ≡ false →
-        IfOk result (EndsWithin (limits_of request.now)
+    ensures alone { options.now.external ≡ false → options.now.settings.threads ≡ false →
+        IfOk result (EndsWithin (limits_of options.now)
         (flows R.remaining W.contents streams.old streams.new)) }
-    ensures threads { request.now.external ≡ false → request.now.settings.threads ≡ true →
-        IfOk result (ThreadsStatus (limits_of request.now)
+    ensures threads { options.now.external ≡ false → options.now.settings.threads ≡ true →
+        IfOk result (ThreadsStatus (limits_of options.now)
         (flows R.remaining W.contents streams.old streams.new)) }
-    ensures external { request.now.external ≡ true →
-        IfOk result (PacketsEnd (limits_of request.now)
+    ensures external { options.now.external ≡ true →
+        IfOk result (PacketsEnd (limits_of options.now)
         (flows R.remaining W.contents streams.old streams.new)) }
 {
-    if request.external {
-        return answer_packets(alloc, request, streams, errors);
+    if options.external {
+        return answer_packets(alloc, options, streams, errors);
     }
-    if request.settings.threads {
-        answer_in_threads(rt, alloc, request, streams, errors)
+    if options.settings.threads {
+        answer_in_threads(rt, alloc, options, streams, errors)
     } else {
-        answer_lines(alloc, request, streams, errors)
+        answer_lines(alloc, options, streams, errors)
     }
 }
 
 /// Answers packets with the limits of the options, and returns the status.
 fn answer_packets<R: Read, W: Write, E: Write>(
     alloc: Global,
-    request: &Request,
+    options: &Options,
     streams: &mut Streams<R, W>,
     errors: &mut E,
 ) -> io::Result<u8>
-    ensures { IfOk result (PacketsEnd (limits_of request.now)
+    ensures { IfOk result (PacketsEnd (limits_of options.now)
         (flows R.remaining W.contents streams.old streams.new)) }
 {
     match run_packets(
         alloc,
         &mut streams.input,
         &mut streams.output,
-        limits_of(request),
+        limits_of(options),
     ) {
         Ok(()) => Ok(0),
         Err(fault) => report_packets(&fault, errors),
@@ -133,39 +133,39 @@ fn report_packets<E: Write>(fault: &PacketFault, errors: &mut E) -> io::Result<u
 /// Answers a script line by line with the limits of the options, and returns the status.
 fn answer_lines<R: Read, W: Write, E: Write>(
     alloc: Global,
-    request: &Request,
+    options: &Options,
     streams: &mut Streams<R, W>,
     errors: &mut E,
 ) -> io::Result<u8>
-    ensures { IfOk result (EndsWithin (limits_of request.now)
+    ensures { IfOk result (EndsWithin (limits_of options.now)
         (flows R.remaining W.contents streams.old streams.new)) }
 {
-    if request.settings.same {
-        let run = run_lines(alloc, request, AllSame, streams, errors);
+    if options.settings.same {
+        let run = run_lines(alloc, options, AllSame, streams, errors);
         return report(run, errors);
     }
-    let run = run_lines(alloc, request, Fnv, streams, errors);
+    let run = run_lines(alloc, options, Fnv, streams, errors);
     report(run, errors)
 }
 
 /// Runs a script line by line, and reports why lines were refused if an option says so.
 fn run_lines<H: KeyHash + Copy + Drop, R: Read, W: Write, E: Write>(
     alloc: Global,
-    request: &Request,
+    options: &Options,
     hasher: H,
     streams: &mut Streams<R, W>,
     errors: &mut E,
 ) -> Result<Node<H>, ScriptFault>
-    ensures ok { OnOk result ((end : ScriptState) × Completes (at_start (limits_of request.now)) end
+    ensures ok { OnOk result ((end : ScriptState) × Completes (at_start (limits_of options.now)) end
         (flows R.remaining W.contents streams.old streams.new)) }
-    ensures err { IfErr result (Stops (at_start (limits_of request.now))
+    ensures err { IfErr result (Stops (at_start (limits_of options.now))
         (flows R.remaining W.contents streams.old streams.new)) }
 {
     let settings = NodeSettings {
-        limits: limits_of(request),
+        limits: limits_of(options),
         hasher,
     };
-    if request.why {
+    if options.why {
         run_script_with_reasons(alloc, streams, errors, settings)
     } else {
         run_script(alloc, streams, settings)
@@ -176,15 +176,15 @@ fn run_lines<H: KeyHash + Copy + Drop, R: Read, W: Write, E: Write>(
 fn answer_in_threads<T: Threads + Wait + Sync, R: Read, W: Write, E: Write>(
     rt: &T,
     alloc: Global,
-    request: &Request,
+    options: &Options,
     streams: &mut Streams<R, W>,
     errors: &mut E,
 ) -> io::Result<u8>
-    ensures { IfOk result (ThreadsStatus (limits_of request.now)
+    ensures { IfOk result (ThreadsStatus (limits_of options.now)
         (flows R.remaining W.contents streams.old streams.new)) }
 {
-    let limits = limits_of(request);
-    if request.settings.same {
+    let limits = limits_of(options);
+    if options.settings.same {
         let hasher = AllSame;
         let run = run_threads(rt, alloc, streams, NodeSettings { limits, hasher });
         return report(run, errors);
@@ -209,12 +209,12 @@ fn report<T: Drop, E: Write>(run: Result<T, ScriptFault>, errors: &mut E) -> io:
 }
 
 /// Returns the limits of the options.
-fn limits_of(request: &Request) -> Limits
-    ensures { result ≡ limits_of request.now }
+fn limits_of(options: &Options) -> Limits
+    ensures { result ≡ limits_of options.now }
 {
     Limits {
-        processes: request.processes,
-        tables: request.tables,
-        objects: request.settings.objects,
+        processes: options.processes,
+        tables: options.tables,
+        objects: options.settings.objects,
     }
 }

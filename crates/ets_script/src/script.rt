@@ -5,7 +5,7 @@ ghost use Rattle.ets_script.specs.Commands as spec;
 ghost use Rattle.ets_script.specs.Lines.{text};
 ghost use Rattle.ets_script.specs.declared.answer.Answer.TheVariants.{NoMemory};
 ghost use Rattle.ets_script.specs.inside.Parsing.{command_view};
-ghost use Rattle.ets_script.specs.Script.{pid_of, table_of, Unchanged, Executes, AnswersLine, at_start};
+ghost use Rattle.ets_script.specs.Script.{pid_of, table_of, KeepsState, Executes, AnswersLine, at_start};
 
 mod calls;
 mod spawning;
@@ -122,7 +122,7 @@ impl<H: KeyHash + Copy + Drop> Script<H> {
     /// Executes a command.
     fn execute(&mut self, alloc: Global, command: Command<'_>, answer: &mut Answer)
         ensures { Executes (command_view command.entry) self.old answer.new self.new
-            ⊎ Unchanged self.old NoMemory answer.new self.new }
+            ⊎ KeepsState self.old NoMemory answer.new self.new }
     {
         match command {
             Command::Faulty(at) => *answer = Answer::Syntax(at),
@@ -138,7 +138,7 @@ impl<H: KeyHash + Copy + Drop> Script<H> {
     #[inline(never)]
     fn exit(&mut self, name: &[u8], answer: &mut Answer)
         ensures { Executes (spec.exit name.now) self.old answer.new self.new
-            ⊎ Unchanged self.old NoMemory answer.new self.new }
+            ⊎ KeepsState self.old NoMemory answer.new self.new }
     {
         match self.pid(name) {
             Some(pid) => self.step(&mut Step::End(pid), answer),
@@ -150,7 +150,7 @@ impl<H: KeyHash + Copy + Drop> Script<H> {
     #[inline(never)]
     fn grow(&mut self, table: &Term, answer: &mut Answer)
         ensures { Executes (spec.grow table.now) self.old answer.new self.new
-            ⊎ Unchanged self.old NoMemory answer.new self.new }
+            ⊎ KeepsState self.old NoMemory answer.new self.new }
     {
         let table = self.table(table);
         self.step(&mut Step::Grow(table), answer);
@@ -160,7 +160,7 @@ impl<H: KeyHash + Copy + Drop> Script<H> {
     #[inline(never)]
     fn ready(&mut self, table: &Term, bucket: u32, answer: &mut Answer)
         ensures { Executes (spec.ready table.now bucket) self.old answer.new self.new
-            ⊎ Unchanged self.old NoMemory answer.new self.new }
+            ⊎ KeepsState self.old NoMemory answer.new self.new }
     {
         let table = self.table(table);
         self.step(&mut Step::Ready(table, bucket), answer);

@@ -5,7 +5,7 @@ ghost use Rattle.ets_packets.specs.Traffic.{flow};
 ghost use Rattle.ets_script.specs.Flows.{flows};
 ghost use Rattle.ets_script.specs.Numbers.{ConstantsHaveValues};
 ghost use Rattle.ets_script.specs.Threads.{ThreadsEnd, ThreadsStop};
-ghost use Rattle.ets_script.specs.inside.Processes.{RunsInput, Stops};
+ghost use Rattle.ets_script.specs.inside.Processes.{RunsInput, StopsBeforeOutput};
 
 use crate::fault::ScriptFault;
 use crate::journal::print_results;
@@ -61,7 +61,7 @@ fn run_input<T: Threads + Wait + Sync, R: Read, H: KeyHash + Copy + Drop + Send 
 ) -> Result<(PlannedAnswers, RunResult), ScriptFault>
     ensures ok { IfOk result (λ r. RunsInput settings.limits
         (flow R.remaining reader.old reader.new) r.0 r.1) }
-    ensures err { IfErr result (Stops settings.limits) }
+    ensures err { IfErr result (StopsBeforeOutput settings.limits) }
 {
     let plan = plan_input(alloc, reader, max_names(settings.limits))?;
     let (planned, work) = plan.into_parts();

@@ -1,7 +1,7 @@
 //! The program: it answers the script on its standard input.
 #![tactic(auto)]
 
-use ets_script::{Streams, answer_request, refuse, request};
+use ets_script::{Streams, answer_with_options, parse_options, refuse};
 use std::alloc::Global;
 use std::process::ExitCode;
 use std::{env, io};
@@ -21,11 +21,11 @@ fn main(rt: HostRuntime) -> io::Result<ExitCode> {
         Err(error) => return Err(error),
     };
     let words: Vec<String> = words.collect(alloc)?;
-    let status = match request(alloc, words.as_slice()) {
-        Ok(request) => answer_request(
+    let status = match parse_options(alloc, words.as_slice()) {
+        Ok(options) => answer_with_options(
             &rt,
             alloc,
-            &request,
+            &options,
             &mut Streams {
                 input: rt.reader(),
                 output: io::writer(&rt),

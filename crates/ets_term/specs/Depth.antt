@@ -1,7 +1,8 @@
 -- The depth of a term, and the elements of a tuple.
-use Rattle.std.specs.Prelude.{ℕ, Bool, nat_lt, ◌+◌, ◌-◌, ◌==◌, if◌then◌else◌, max, List, [], ◌∷◌, Option, None, slice_get}
-use Rattle.ets_term.specs.declared.term.Term.{Term, fold-Term, out-Term}
+use Rattle.std.specs.Prelude.{ℕ, Bool, nat_lt, ◌+◌, ◌-◌, ◌==◌, if◌then◌else◌, max, List, [], ◌∷◌, Option, None, slice_get, unwrap_or}
+use Rattle.ets_term.specs.declared.term.Term.{Term, fold-Term}
 use Rattle.ets_term.specs.declared.term.Term.TheOpen.{Term-F}
+use Rattle.ets_term.specs.Views.{as_tuple}
 
 -- the largest of some numbers, or 0 for no numbers
 abbrev pub largest : List ℕ → ℕ
@@ -27,14 +28,9 @@ max_depth = 128
 abbrev pub is_too_deep : Term → Bool
 is_too_deep term = nat_lt max_depth (depth term)
 
--- the elements of a tuple, from the first level of the term
-abbrev pub elements_form : Term-F Term → List Term
-elements_form (Term-F.Tuple ts) = ts
-elements_form _ = []
-
 -- the elements of a tuple, or no elements for any other term
 abbrev pub elements : Term → List Term
-elements t = elements_form (out-Term t)
+elements t = unwrap_or (as_tuple t) []
 
 -- element n of a tuple, counted from 1, None if there is no such element
 abbrev pub element_at : ℕ → Term → Option Term

@@ -6,9 +6,9 @@ use Rattle.ets_term.specs.declared.term.Term.TheOpen.{Term-F}
 use Rattle.ets_term.specs.Integers.{integer_bytes}
 
 -- the lists, joined to one list
-abbrev pub joined : {A : Type 0} → List (List A) → List A
-joined [] = []
-joined (x ∷ xs) = x ++ joined xs
+abbrev pub concat : {A : Type 0} → List (List A) → List A
+concat [] = []
+concat (x ∷ xs) = x ++ concat xs
 
 -- the bytes of a term, from the bytes of its elements: a byte for the kind; then a number with its high byte first, or
 -- the count and then the parts
@@ -17,8 +17,8 @@ encoding_form (Term-F.Int n) = 1 ∷ integer_bytes n
 encoding_form (Term-F.Atom s) = 2 ∷ length s ∷ s
 encoding_form (Term-F.Pid n) = 3 ∷ to_be_bytes w32 n
 encoding_form (Term-F.Tid n) = 4 ∷ to_be_bytes w32 n
-encoding_form (Term-F.Tuple es) = 5 ∷ (to_be_bytes w64 (length es) ++ joined es)
-encoding_form (Term-F.List es) = 6 ∷ (to_be_bytes w64 (length es) ++ joined es)
+encoding_form (Term-F.Tuple es) = 5 ∷ (to_be_bytes w64 (length es) ++ concat es)
+encoding_form (Term-F.List es) = 6 ∷ (to_be_bytes w64 (length es) ++ concat es)
 encoding_form (Term-F.Binary s) = 7 ∷ (to_be_bytes w64 (length s) ++ s)
 
 -- the bytes of a term

@@ -3,7 +3,7 @@ use Rattle.std.specs.Prelude.{ℕ, ℤ, ◌+◌, ◌-◌, ◌*◌, ◌/◌, ◌%
 use Rattle.std.specs.Int.{cast_unsigned, rotate_left, w64, w128}
 use Rattle.ets_term.specs.declared.term.Term.{Term, fold-Term}
 use Rattle.ets_term.specs.declared.term.Term.TheOpen.{Term-F}
-use Rattle.ets_term.specs.Encoding.{joined}
+use Rattle.ets_term.specs.Encoding.{concat}
 
 -- the word of a kind, from 1 to 7
 abbrev pub kind_word : ℕ → ℕ
@@ -24,8 +24,8 @@ words_form (Term-F.Int n) = integer_words n
 words_form (Term-F.Atom s) = kind_word 2 ∷ length s ∷ s
 words_form (Term-F.Pid n) = kind_word 3 ∷ n ∷ []
 words_form (Term-F.Tid n) = kind_word 4 ∷ n ∷ []
-words_form (Term-F.Tuple es) = kind_word 5 ∷ length es ∷ joined es
-words_form (Term-F.List es) = kind_word 6 ∷ length es ∷ joined es
+words_form (Term-F.Tuple es) = kind_word 5 ∷ length es ∷ concat es
+words_form (Term-F.List es) = kind_word 6 ∷ length es ∷ concat es
 words_form (Term-F.Binary s) = kind_word 7 ∷ length s ∷ s
 
 -- the words of a term, which its hash with a factor reads
@@ -33,18 +33,18 @@ abbrev pub words : Term → List ℕ
 words = fold-Term (List ℕ) words_form
 
 -- the exclusive or of the halves of a product of 128 bits
-abbrev pub folded : ℕ → ℕ → ℕ
-folded a b = bit_xor ((a * b) % 2 ^ 64) ((a * b) / 2 ^ 64)
+abbrev pub fold_halves : ℕ → ℕ → ℕ
+fold_halves a b = bit_xor ((a * b) % 2 ^ 64) ((a * b) / 2 ^ 64)
 
 -- the factor of a seed
 abbrev pub factor_of : ℕ → ℕ
-factor_of seed = folded (bit_xor seed 11400714819323198485) 15111065706836454659
+factor_of seed = fold_halves (bit_xor seed 11400714819323198485) 15111065706836454659
 
 -- the hash after one more word: a folded product of the hash and the factor `by`, each after an exclusive or with the
 -- word, whose bits are rotated for the factor
 abbrev pub keyed_step : ℕ → ℕ → ℕ → ℕ
-keyed_step by h word = folded (bit_xor h word) (bit_xor by (rotate_left w64 word 27))
+keyed_step by h word = fold_halves (bit_xor h word) (bit_xor by (rotate_left w64 word 27))
 
 -- the hash of words with a factor: starts as the factor, takes all words, and keeps the high 32 bits
-abbrev pub keyed : ℕ → List ℕ → ℕ
-keyed by ws = fold (keyed_step by) by ws / 2 ^ 32 % 2 ^ 32
+abbrev pub keyed_hash : ℕ → List ℕ → ℕ
+keyed_hash by ws = fold (keyed_step by) by ws / 2 ^ 32 % 2 ^ 32

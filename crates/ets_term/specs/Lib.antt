@@ -9,6 +9,7 @@ pub mod Keyed
 pub mod Order
 pub mod Views
 pub mod Writes
+pub mod Trees
 pub mod formers
 pub mod inside
 pub mod laws

@@ -1,6 +1,6 @@
 -- What a term holds, by its kind. Each view is None for a term of another kind. A `_form` function views the first
 -- level of a term.
-use Rattle.std.specs.Prelude.{ℕ, ℤ, List, Option, Some, None}
+use Rattle.std.specs.Prelude.{ℕ, ℤ, pos, List, Option, Some, None}
 use Rattle.ets_term.specs.declared.term.Term.{Term, out-Term}
 use Rattle.ets_term.specs.declared.term.Term.TheOpen.{Term-F}
 
@@ -8,6 +8,11 @@ use Rattle.ets_term.specs.declared.term.Term.TheOpen.{Term-F}
 abbrev pub int_form : Term-F Term → Option ℤ
 int_form (Term-F.Int n) = Some n
 int_form _ = None
+
+-- the value of an integer of at least 0, by its first level
+abbrev pub natural_form : Term-F Term → Option ℕ
+natural_form (Term-F.Int (pos n)) = Some n
+natural_form _ = None
 
 -- the text of an atom, by its first level
 abbrev pub atom_form : Term-F Term → Option (List ℕ)
@@ -32,6 +37,10 @@ list_form _ = None
 -- the value of an integer
 abbrev pub as_int : Term → Option ℤ
 as_int term = int_form (out-Term term)
+
+-- the value of an integer of at least 0; None for a negative integer too
+abbrev pub as_natural : Term → Option ℕ
+as_natural term = natural_form (out-Term term)
 
 -- the text of an atom
 abbrev pub as_atom : Term → Option (List ℕ)

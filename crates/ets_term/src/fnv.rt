@@ -1,7 +1,7 @@
 //! The hasher FNV-1a.
 ghost use Rattle.std.specs.Prelude.{◌≡◌, ◌∷◌, fold, map};
 ghost use Rattle.std.specs.Int.{to_be_bytes, w64};
-ghost use Rattle.ets_term.specs.Encoding.{encoding, joined, fnv_step};
+ghost use Rattle.ets_term.specs.Encoding.{encoding, concat, fnv_step};
 ghost use Rattle.ets_term.specs.Integers.{integer_bytes as bytes_of};
 
 use crate::integer::{Integer, integer_bytes};
@@ -63,7 +63,7 @@ fn fnv_term(start: u32, term: &Term) -> u32
 /// Continues the hash `start` with the encodings of some terms.
 #[cycle(fnv)]
 fn fnv_items(start: u32, items: &[Term]) -> u32
-    ensures { result ≡ fold fnv_step start (joined (map encoding items.now)) }
+    ensures { result ≡ fold fnv_step start (concat (map encoding items.now)) }
 {
     let mut hash = start;
     for item in items {

@@ -1,7 +1,7 @@
 //! What a term writes to any hasher.
 ghost use Rattle.std.specs.Prelude.{◌≡◌, [], ◌∷◌, fold, map};
 ghost use Rattle.std.specs.Int.{to_be_bytes, w64};
-ghost use Rattle.ets_term.specs.Encoding.{joined};
+ghost use Rattle.ets_term.specs.Encoding.{concat};
 ghost use Rattle.ets_term.specs.Writes.{writes};
 ghost use Rattle.ets_term.specs.laws.Hashed.{writes-same};
 
@@ -60,7 +60,7 @@ fn feed<H: Hasher>(term: &Term, state: &mut H)
 /// Writes some terms to a hasher, one after another.
 #[cycle(feed)]
 fn feed_items<H: Hasher>(items: &[Term], state: &mut H)
-    ensures { state.new ≡ fold H.write state.old (joined (map writes items.now)) }
+    ensures { state.new ≡ fold H.write state.old (concat (map writes items.now)) }
 {
     for item in items {
         feed(item, state);

@@ -1,7 +1,7 @@
 //! A hasher of terms with a seed.
 ghost use Rattle.std.specs.Prelude.{◌≡◌, fold, map};
-ghost use Rattle.ets_term.specs.Encoding.{joined};
-ghost use Rattle.ets_term.specs.Keyed.{words, integer_words, kind_word, large_words, folded, factor_of, keyed_step};
+ghost use Rattle.ets_term.specs.Encoding.{concat};
+ghost use Rattle.ets_term.specs.Keyed.{words, integer_words, kind_word, large_words, fold_halves, factor_of, keyed_step};
 
 use crate::integer::Integer;
 use crate::key_hash::KeyHash;
@@ -33,12 +33,12 @@ impl Keyed {
 }
 
 impl KeyHash for Keyed {
-    ghost use Rattle.ets_term.specs.Keyed.{keyed, words};
-    ghost use Rattle.ets_term.specs.laws.Hashed.{keyed-below};
+    ghost use Rattle.ets_term.specs.Keyed.{keyed_hash, words};
+    ghost use Rattle.ets_term.specs.laws.Hashed.{keyed_hash-below};
 
-    ghost hash = { λ hasher term. keyed hasher.factor (words term) };
+    ghost hash = { λ hasher term. keyed_hash hasher.factor (words term) };
 
-    ghost below = { λ hasher term. keyed-below hasher.factor (words term) };
+    ghost below = { λ hasher term. keyed_hash-below hasher.factor (words term) };
 
     #[inline(always)]
     fn hash32(&self, term: &Term) -> u32 {
@@ -85,7 +85,7 @@ fn mix_term(factor: u64, start: u64, term: &Term) -> u64
 /// Mixes the words of some terms into the hash `start`, one term after another.
 #[cycle(mix)]
 fn mix_items(factor: u64, start: u64, items: &[Term]) -> u64
-    ensures { result ≡ fold (keyed_step factor) start (joined (map words items.now)) }
+    ensures { result ≡ fold (keyed_step factor) start (concat (map words items.now)) }
 {
     let mut hash = start;
     for item in items {
@@ -150,7 +150,7 @@ fn mix(factor: u64, hash: u64, word: u64) -> u64
 
 /// Multiplies to a 128-bit product, and returns the exclusive or of its halves.
 fn fold_product(a: u64, b: u64) -> u64
-    ensures { result ≡ folded a b }
+    ensures { result ≡ fold_halves a b }
 {
     let (low, high) = a.carrying_mul(b, 0);
     low ^ high

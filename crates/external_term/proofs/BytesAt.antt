@@ -5,7 +5,7 @@ use Rattle.std.proofs.lemmas.List.{drop-drop, drop_at, take_at}
 use Rattle.std.specs.Prelude.{slice_range}
 use Rattle.external_term.specs.declared.field.Width.{Width}
 use Rattle.external_term.specs.declared.field.Width.TheVariants.{One, Two, Four}
-use Rattle.external_term.specs.Fields.{Read, after, big16, big32, number, number_if, number_at, piece_if, piece_at, size}
+use Rattle.external_term.specs.Fields.{Read, after, big16, big32, number, number_if, number_at, piece_if, piece_at, width_bytes}
 use Rattle.external_term.specs.Encoding.{big2, big4}
 
 -- from an offset on there are these bytes, then the rest
@@ -58,11 +58,11 @@ ends x m n e = ap (λ (k : ℕ). ok x k) e
 pub after_ok : {A B : Type 0} (r : Read A) (x : A) (m : ℕ) (more : A → ℕ → Read B) (s : Read B) → r ≡ ok x m → more x m ≡ s → after r more ≡ s
 after_ok r x m more s e h = ap (λ (q : Read _). after q more) e ∙ h
 
-number_fits : (w : Width) (bytes : List ℕ) (at n end : ℕ) → at + size w ≤ length bytes → number w bytes at ≡ n → at + size w ≡ end
+number_fits : (w : Width) (bytes : List ℕ) (at n end : ℕ) → at + width_bytes w ≤ length bytes → number w bytes at ≡ n → at + width_bytes w ≡ end
     → number_at w bytes at ≡ ok n end
 number_fits w bytes at n end h e f =
-    let fits : nat_le (at + size w) (length bytes) ≡ true = grind (arith, nat_tests) in
-    ap (λ (b : Bool). number_if b w bytes at) fits ∙ ap (λ (k : ℕ). ok k (at + size w)) e ∙ ends n (at + size w) end f
+    let fits : nat_le (at + width_bytes w) (length bytes) ≡ true = grind (arith, nat_tests) in
+    ap (λ (b : Bool). number_if b w bytes at) fits ∙ ap (λ (k : ℕ). ok k (at + width_bytes w)) e ∙ ends n (at + width_bytes w) end f
 
 pub one_at : (bytes : List ℕ) (at x : ℕ) (xs rest : List ℕ) → At bytes at (x ∷ xs) rest → number_at One bytes at ≡ ok x (at + 1)
 one_at bytes at x xs rest h =

@@ -2,7 +2,7 @@
 use Rattle.std.proofs.Common.{◌≡◌, ℕ, ◌+◌, ℤ, List, [], ◌∷◌, ◌++◌, map, length, get_or, drop, ◌<◌, ◌≤◌, refl, sym, ap, ◌∙◌, rules, arith, Bool, true, false, if◌then◌else◌, nat_lt, ◌==◌, append_assoc}
 use Rattle.std.proofs.lemmas.List.{at_drop_more, at_drop_all}
 use Rattle.std.proofs.lemmas.Bool.Decides.{nat_tests}
-use Rattle.ets_term.specs.Encoding.{joined}
+use Rattle.ets_term.specs.Encoding.{concat}
 use Rattle.ets_term.specs.declared.term.Term.{Term, the_lemmas}
 use Rattle.ets_term.specs.declared.term.Term.TheVariants.{Int, Atom, Pid, Tid, Tuple, List as ListOf, Binary}
 use Rattle.external_term.specs.Encoding.{big4, integer_bytes, atom_bytes, pid_bytes, reference_bytes, tuple_bytes, string_bytes, long_list_bytes, list_bytes, binary_bytes, tuple_header, encode, is_small, is_string, char_of}
@@ -34,7 +34,7 @@ tuple_if true n xs = refl
 tuple_if false n xs = refl
 
 pub tuple_not_small : (es : List (List ℕ)) → is_small (tuple_bytes es) ≡ false
-tuple_not_small es = tuple_if (nat_lt (length es) 256) (length es) (joined es)
+tuple_not_small es = tuple_if (nat_lt (length es) 256) (length es) (concat es)
 
 list_if : (b c : Bool) (xs ys : List ℕ) → is_small (if b then 106 ∷ [] else if c then 107 ∷ xs else 108 ∷ ys) ≡ false
 list_if true c xs ys = refl
@@ -70,13 +70,13 @@ header_long n h = let e : nat_lt n 256 ≡ false = grind (arith, nat_tests) in
 
 -- the encodings of the terms from one on
 pub joined_more : (ts : List Term) (i : ℕ) (t : Term) → i < length ts → get_or ts i t ≡ t
-    → joined (map encode (drop i ts)) ≡ encode t ++ joined (map encode (drop (i + 1) ts))
+    → concat (map encode (drop i ts)) ≡ encode t ++ concat (map encode (drop (i + 1) ts))
 joined_more ts i t h e =
-    at_drop_more (λ (us : List Term). joined (map encode us)) ts i t h
-    ∙ ap (λ (u : Term). encode u ++ joined (map encode (drop (i + 1) ts))) e
+    at_drop_more (λ (us : List Term). concat (map encode us)) ts i t h
+    ∙ ap (λ (u : Term). encode u ++ concat (map encode (drop (i + 1) ts))) e
 
-pub joined_end : (ts : List Term) (i : ℕ) → length ts ≤ i → joined (map encode (drop i ts)) ≡ []
-joined_end ts i h = at_drop_all (λ (us : List Term). joined (map encode us)) ts i h
+pub joined_end : (ts : List Term) (i : ℕ) → length ts ≤ i → concat (map encode (drop i ts)) ≡ []
+joined_end ts i h = at_drop_all (λ (us : List Term). concat (map encode us)) ts i h
 
 -- a piece was appended
 pub piece_put : (out now rest piece more all : List ℕ) → rest ≡ piece ++ more → now ≡ out ++ piece → out ++ rest ≡ all → now ++ more ≡ all

@@ -3,7 +3,7 @@ use Rattle.std.proofs.Common.{◌≡◌, ℕ, zero, suc, ◌+◌, ◌^◌, ◌<�
 use Rattle.std.proofs.lemmas.Bool.{and_parts}
 use Rattle.std.proofs.lemmas.List.{append-nil}
 use Rattle.std.specs.List.{list_all}
-use Rattle.ets_term.specs.Encoding.{joined}
+use Rattle.ets_term.specs.Encoding.{concat}
 use Rattle.ets_term.specs.Data.{data_list, data_of}
 use Rattle.ets_term.specs.Depth.{depth, largest}
 use Rattle.ets_term.specs.Fits.{DataListFits, Fits}
@@ -37,7 +37,7 @@ abbrev pub terms : List Known → List Term
 terms ks = map bare ks
 
 abbrev pub encoded_terms : List Known → List ℕ
-encoded_terms ks = joined (map encode (terms ks))
+encoded_terms ks = concat (map encode (terms ks))
 
 abbrev pub levels_of : List Known → ℕ
 levels_of ks = largest (map depth (terms ks))

@@ -12,7 +12,7 @@ use Rattle.ets_term.specs.declared.term.Term.TheVariants.{Int, Atom, Binary}
 use Rattle.external_term.specs.declared.field.Width.TheVariants.{One, Four}
 use Rattle.external_term.specs.Encoding.{big4, digits_of, big_bytes, integer_bytes, atom_bytes, binary_bytes}
 use Rattle.external_term.specs.Fields.{after, number_at, piece_at}
-use Rattle.external_term.specs.Integers.{signed32, little, signed, max_magnitude, big_if, big_value}
+use Rattle.external_term.specs.Integers.{with_sign32, little, with_sign, max_magnitude, big_if, big_value}
 use Rattle.external_term.specs.Texts.{is_atom_text, atom_if, name_at}
 use Rattle.external_term.specs.Reader.{form, form_if, term_at}
 use Rattle.external_term.specs.Tags.{tag_of}
@@ -41,17 +41,17 @@ byte_reads n levels bytes at rest h =
     ∙ after_ok (number_at One bytes (at + 1)) n (at + 1 + 1) (λ (m end : ℕ). ok (Int (pos m)) end) (ok (Int (pos n)) (at + 2))
     (one_at bytes (at + 1) n [] rest (tail bytes at 97 (n ∷ []) rest h)) (ends (Int (pos n)) (at + 1 + 1) (at + 2) (omega arith))
 
-word_reads : (n levels : ℕ) → n < 2 ^ 32 → Reads (Int (signed32 n)) levels (98 ∷ big4 n)
+word_reads : (n levels : ℕ) → n < 2 ^ 32 → Reads (Int (with_sign32 n)) levels (98 ∷ big4 n)
 word_reads n levels small bytes at rest h =
     dispatch bytes at levels 98 (big4 n) rest h
-    ∙ after_ok (number_at Four bytes (at + 1)) n (at + 1 + 4) (λ (m end : ℕ). ok (Int (signed32 m)) end) (ok (Int (signed32 n)) (at + 5))
-    (four_at bytes (at + 1) n [] rest small (tail bytes at 98 (big4 n) rest h)) (ends (Int (signed32 n)) (at + 1 + 4) (at + 5) (omega arith))
+    ∙ after_ok (number_at Four bytes (at + 1)) n (at + 1 + 4) (λ (m end : ℕ). ok (Int (with_sign32 m)) end) (ok (Int (with_sign32 n)) (at + 5))
+    (four_at bytes (at + 1) n [] rest small (tail bytes at 98 (big4 n) rest h)) (ends (Int (with_sign32 n)) (at + 1 + 4) (at + 5) (omega arith))
 
 pub both : (a b : Bool) → a ≡ true → b ≡ true → (a && b) ≡ true
 both a b e f = ap (λ (x : Bool). x && b) e ∙ f
 
 big_reads : (n s levels : ℕ) (negative : Bool) → nat_lt 0 s ≡ negative → n ≤ max_magnitude negative → n < 2 ^ 128
-    → Reads (Int (signed negative n)) levels (big_bytes s n)
+    → Reads (Int (with_sign negative n)) levels (big_bytes s n)
 big_reads n s levels negative sign small fits bytes at rest h =
     let ds = digits_of n in
     let len = length ds in
@@ -64,20 +64,20 @@ big_reads n s levels negative sign small fits bytes at rest h =
     ap little (range bytes third (third + len) ds rest a3 refl) ∙ low_little 16 n fits in
     let t1 : nat_le len 16 ≡ true = grind (arith, nat_tests) in
     let t2 : nat_le n (max_magnitude negative) ≡ true = grind (arith, nat_tests) in
-    let big : big_value bytes at len (nat_lt 0 s) third (third + len) ≡ ok (Int (signed negative n)) (third + len) =
+    let big : big_value bytes at len (nat_lt 0 s) third (third + len) ≡ ok (Int (with_sign negative n)) (third + len) =
     ap (λ (b : Bool). big_value bytes at len b third (third + len)) sign
     ∙ ap (λ (m : ℕ). big_if (nat_le len 16 && nat_le m (max_magnitude negative)) at negative m (third + len)) value
     ∙ ap (λ (b : Bool). big_if b at negative n (third + len)) (both (nat_le len 16) (nat_le n (max_magnitude negative)) t1 t2) in
     dispatch bytes at levels 110 (len ∷ s ∷ ds) rest h
     ∙ after_ok (number_at One bytes (at + 1)) len (at + 1 + 1)
     (λ (m second : ℕ). after (number_at One bytes second) (λ (sign third : ℕ). after (piece_at m bytes third) (λ (start end : ℕ). big_value bytes at m (nat_lt 0 sign) start end)))
-    (ok (Int (signed negative n)) (at + length (big_bytes s n))) (one_at bytes (at + 1) len (s ∷ ds) rest a1)
+    (ok (Int (with_sign negative n)) (at + length (big_bytes s n))) (one_at bytes (at + 1) len (s ∷ ds) rest a1)
     (after_ok (number_at One bytes (at + 1 + 1)) s third
     (λ (sign third : ℕ). after (piece_at len bytes third) (λ (start end : ℕ). big_value bytes at len (nat_lt 0 sign) start end))
-    (ok (Int (signed negative n)) (at + length (big_bytes s n))) (one_at bytes (at + 1 + 1) s ds rest a2)
+    (ok (Int (with_sign negative n)) (at + length (big_bytes s n))) (one_at bytes (at + 1 + 1) s ds rest a2)
     (after_ok (piece_at len bytes third) third (third + len) (λ (start end : ℕ). big_value bytes at len (nat_lt 0 s) start end)
-    (ok (Int (signed negative n)) (at + length (big_bytes s n))) (piece bytes third len ds rest refl a3)
-    (big ∙ ends (Int (signed negative n)) (third + len) (at + length (big_bytes s n)) (omega arith))))
+    (ok (Int (with_sign negative n)) (at + length (big_bytes s n))) (piece bytes third len ds rest refl a3)
+    (big ∙ ends (Int (with_sign negative n)) (third + len) (at + length (big_bytes s n)) (omega arith))))
 
 pub reads_as : (t u : Term) (levels : ℕ) (xs ys : List ℕ) → t ≡ u → xs ≡ ys → Reads t levels xs → Reads u levels ys
 reads_as t u levels xs ys e f h =
@@ -85,11 +85,11 @@ reads_as t u levels xs ys e f h =
     let Q : List ℕ → Type 0 = λ zs. Reads t levels zs in
     subst P e (subst Q f h)
 
-signed32_low : (n : ℕ) → n < 2 ^ 31 → signed32 n ≡ pos n
+signed32_low : (n : ℕ) → n < 2 ^ 31 → with_sign32 n ≡ pos n
 signed32_low n h = let e : nat_lt n (2 ^ 31) ≡ true = grind (arith, nat_tests) in
     ap (λ (b : Bool). if b then pos n else negsuc (2 ^ 32 - 1 - n)) e
 
-signed32_high : (n m : ℕ) → n + m ≡ 2 ^ 32 - 1 → m < 2 ^ 31 → signed32 n ≡ negsuc m
+signed32_high : (n m : ℕ) → n + m ≡ 2 ^ 32 - 1 → m < 2 ^ 31 → with_sign32 n ≡ negsuc m
 signed32_high n m e h =
     let k : 2 ^ 31 ≤ n = omega arith in
     let f : nat_lt n (2 ^ 31) ≡ false = grind (arith, nat_tests) in
@@ -101,14 +101,14 @@ integer_reads (pos n) levels low high = let top : n < 2 ^ 127 = omega (arith, in
     elim (cases_lt n 256) [
       | inl h ↦ reads_as (Int (pos n)) (Int (pos n)) levels _ _ refl (sym (byte_bytes n h)) (byte_reads n levels)
       | inr h ↦ elim (cases_lt n (2 ^ 31)) [
-        | inl k ↦ reads_as (Int (signed32 n)) (Int (pos n)) levels _ _ (ap Int (signed32_low n k)) (sym (word_bytes n h k)) (word_reads n levels (omega (arith, k)))
+        | inl k ↦ reads_as (Int (with_sign32 n)) (Int (pos n)) levels _ _ (ap Int (signed32_low n k)) (sym (word_bytes n h k)) (word_reads n levels (omega (arith, k)))
         | inr k ↦ reads_as (Int (pos n)) (Int (pos n)) levels _ _ refl (sym (wide_bytes n k)) (big_reads n 0 levels false refl (omega (arith, top)) (omega (arith, top)))
       ]
     ]
 integer_reads (negsuc n) levels low high = let top : n < 2 ^ 127 = omega (arith, ints, low) in
     elim (cases_lt n (2 ^ 31)) [
-      | inl k ↦ reads_as (Int (signed32 (2 ^ 32 - 1 - n))) (Int (negsuc n)) levels _ _ (ap Int (signed32_high (2 ^ 32 - 1 - n) n (omega (arith, k)) k)) (sym (negative_word n k)) (word_reads (2 ^ 32 - 1 - n) levels (omega arith))
-      | inr k ↦ reads_as (Int (signed true (n + 1))) (Int (negsuc n)) levels _ _ (ap (λ (m : ℕ). Int (signed true m)) (add-one n)) (sym (negative_wide n k)) (big_reads (n + 1) 1 levels true refl (omega (arith, top)) (omega (arith, top)))
+      | inl k ↦ reads_as (Int (with_sign32 (2 ^ 32 - 1 - n))) (Int (negsuc n)) levels _ _ (ap Int (signed32_high (2 ^ 32 - 1 - n) n (omega (arith, k)) k)) (sym (negative_word n k)) (word_reads (2 ^ 32 - 1 - n) levels (omega arith))
+      | inr k ↦ reads_as (Int (with_sign true (n + 1))) (Int (negsuc n)) levels _ _ (ap (λ (m : ℕ). Int (with_sign true m)) (add-one n)) (sym (negative_wide n k)) (big_reads (n + 1) 1 levels true refl (omega (arith, top)) (omega (arith, top)))
     ]
 
 pub name_reads : (bytes : List ℕ) (at : ℕ) (s rest : List ℕ) → At bytes at (length s ∷ s) rest → name_at One bytes at ≡ ok (at + 1) (at + 1 + length s)

@@ -14,7 +14,7 @@ use Rattle.ets_term.specs.declared.term.Term.TheFolds.{map-Term}
 use Rattle.ets_term.specs.declared.term.Term.TheOpen.{Term-F}
 use Rattle.ets_term.specs.declared.term.Term.TheVariants.{Int, Atom, Pid, Tid, Tuple, List as ListOf, Binary, rolls-Int, rolls-Atom, rolls-Pid, rolls-Tid, rolls-Tuple, rolls-List, rolls-Binary}
 use Rattle.external_term.specs.declared.field.Width.TheVariants.{One, Two, Four}
-use Rattle.external_term.specs.Encoding.{big2, big4, integer_bytes, atom_bytes, pid_bytes, reference_bytes, tuple_header, tuple_bytes, list_bytes, string_bytes, binary_bytes, encode, is_small, is_string, char_of, written}
+use Rattle.external_term.specs.Encoding.{big2, big4, integer_bytes, atom_bytes, pid_bytes, reference_bytes, tuple_header, tuple_bytes, list_bytes, string_bytes, binary_bytes, encode, is_small, is_string, char_of, encode_with_version}
 use Rattle.external_term.specs.Fields.{after, number_at, piece_at}
 use Rattle.external_term.specs.Texts.{code, string_if}
 use Rattle.external_term.specs.Reader.{version_if}
@@ -220,9 +220,9 @@ each_read = ind-Term IsRead (λ x y e. subst (λ (z : Term-F Term). IsRead (roll
 
 pub reads_back : (t : Term) (rest : List ℕ) → ReadsBack t rest
 reads_back t rest fits d small =
-    let bytes : List ℕ = written t ++ rest in
+    let bytes : List ℕ = encode_with_version t ++ rest in
     let a0 : At bytes 0 (131 ∷ encode t) rest = record { holds = refl; within = omega arith } in
     let a1 : At bytes 1 (encode t) rest = tail bytes 0 131 (encode t) rest a0 in
-    after_ok (number_at One bytes 0) 131 1 (λ (version next : ℕ). version_if (version == 131) bytes next) (ok t (length (written t)))
+    after_ok (number_at One bytes 0) 131 1 (λ (version next : ℕ). version_if (version == 131) bytes next) (ok t (length (encode_with_version t)))
     (one_at bytes 0 131 (encode t) rest a0)
-    ((each_read t).reads 127 fits d (omega (arith, small)) bytes 1 rest a1 ∙ ends t (1 + length (encode t)) (length (written t)) (omega arith))
+    ((each_read t).reads 127 fits d (omega (arith, small)) bytes 1 rest a1 ∙ ends t (1 + length (encode t)) (length (encode_with_version t)) (omega arith))

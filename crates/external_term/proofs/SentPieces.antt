@@ -3,7 +3,7 @@ use Rattle.std.proofs.Common.{◌≡◌, ap, sym, subst, ◌∙◌, ℕ, ℤ, po
 use Rattle.std.proofs.lemmas.Bool.{false≢true}
 use Rattle.std.proofs.lemmas.List.{append-nil, length-map, drop-drop, map-append, take-append-drop}
 use Rattle.std.specs.Io.KnownBytes.{Appends, Keeps}
-use Rattle.ets_term.specs.Encoding.{joined}
+use Rattle.ets_term.specs.Encoding.{concat}
 use Rattle.ets_term.specs.declared.term.Term.{Term}
 use Rattle.external_term.specs.Encoding.{big2, big4, digits_of, integer_bytes, tuple_header, tuple_bytes, string_bytes, long_list_bytes, encode, char_of}
 use Rattle.external_term.specs.Sent.{AppendsPrefix, AppendsOrPrefix}
@@ -84,11 +84,11 @@ pub form-is : (cleared filled slice form : List ℕ) → cleared ≡ [] → fill
 form-is cleared filled slice form e put s = s ∙ put ∙ ap (λ (w : List ℕ). w ++ form) e
 
 -- the pieces of a tuple, of a list and of a string
-pub tuple-pieces : (ts : List Term) → tuple_header (length ts) ++ joined (map encode ts) ≡ tuple_bytes (map encode ts)
-tuple-pieces ts = ap (λ (n : ℕ). tuple_header n ++ joined (map encode ts)) (sym (length-map ts encode))
+pub tuple-pieces : (ts : List Term) → tuple_header (length ts) ++ concat (map encode ts) ≡ tuple_bytes (map encode ts)
+tuple-pieces ts = ap (λ (n : ℕ). tuple_header n ++ concat (map encode ts)) (sym (length-map ts encode))
 
-pub list-pieces : (ts : List Term) → (108 ∷ big4 (length ts)) ++ (joined (map encode ts) ++ 106 ∷ []) ≡ long_list_bytes (map encode ts)
-list-pieces ts = ap (λ (n : ℕ). (108 ∷ big4 n) ++ (joined (map encode ts) ++ 106 ∷ [])) (sym (length-map ts encode))
+pub list-pieces : (ts : List Term) → (108 ∷ big4 (length ts)) ++ (concat (map encode ts) ++ 106 ∷ []) ≡ long_list_bytes (map encode ts)
+list-pieces ts = ap (λ (n : ℕ). (108 ∷ big4 n) ++ (concat (map encode ts) ++ 106 ∷ [])) (sym (length-map ts encode))
 
 pub string-pieces : (ts : List Term) → (107 ∷ big2 (length ts)) ++ map char_of (map encode ts) ≡ string_bytes (map encode ts)
 string-pieces ts = ap (λ (n : ℕ). (107 ∷ big2 n) ++ map char_of (map encode ts)) (sym (length-map ts encode))

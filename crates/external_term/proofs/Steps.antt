@@ -4,7 +4,7 @@ use Rattle.std.proofs.lemmas.Bool.Decides.{nat_tests}
 use Rattle.ets_term.specs.declared.term.Term.{Term}
 use Rattle.external_term.specs.declared.fault.ExternalFault.{ExternalFault}
 use Rattle.external_term.specs.declared.fault.ExternalFault.TheVariants.{Truncated, BadVersion, UnsupportedTag, TooDeep, ImproperList, BadAtom, BadInteger, ForeignIdentifier, Memory}
-use Rattle.external_term.specs.Faults.{Fails, Returns}
+use Rattle.external_term.specs.Faults.{FailsOrMemory, ReturnsOrMemory}
 use Rattle.external_term.specs.Fields.{Read}
 use Rattle.external_term.specs.Reader.{items, items_if, items_at, form, form_if, term_at}
 use Rattle.external_term.specs.Tags.{tag_of}
@@ -32,7 +32,7 @@ by_tag bytes (suc levels) at h within =
     ∙ ap (λ (n : ℕ). form bytes n (term_at bytes n) at (tag_of (get_or bytes at 0))) (sym same)
 
 pub fails_too : {A B : Type 0} (r : Result A ExternalFault) (s : Result B ExternalFault) (f : ExternalFault)
-    → ((g : ExternalFault) → r ≡ Err g → s ≡ Err g) → Fails r f → Fails s f
+    → ((g : ExternalFault) → r ≡ Err g → s ≡ Err g) → FailsOrMemory r f → FailsOrMemory s f
 fails_too r s (Truncated at) h e = h (Truncated at) e
 fails_too r s (BadVersion at) h e = h (BadVersion at) e
 fails_too r s (UnsupportedTag at) h e = h (UnsupportedTag at) e
@@ -43,8 +43,8 @@ fails_too r s (BadInteger at) h e = h (BadInteger at) e
 fails_too r s (ForeignIdentifier at) h e = h (ForeignIdentifier at) e
 fails_too r s Memory h e = tt
 
-pub returns_as : {A : Type 0} (r s t : Result A ExternalFault) → s ≡ r → Returns r t → Returns s t
-returns_as r s t e h = let P : Result _ ExternalFault → Type 0 = λ x. Returns x t in subst P (sym e) h
+pub returns_as : {A : Type 0} (r s t : Result A ExternalFault) → s ≡ r → ReturnsOrMemory r t → ReturnsOrMemory s t
+returns_as r s t e h = let P : Result _ ExternalFault → Type 0 = λ x. ReturnsOrMemory x t in subst P (sym e) h
 
 -- one item more
 pub item_read : (one : ℕ → Read Term) (done : List Term) (n m at : ℕ) (x : Term × ℕ) → n ≡ suc m → one at ≡ Ok x
@@ -60,7 +60,7 @@ item_failed one done n m at f e h =
     ∙ ap (λ (r : Read Term). elim r [ Ok y ↦ items one (done ++ y.0 ∷ []) m y.1 | Err g ↦ Err g ]) h
 
 pub items_fail : (one : ℕ → Read Term) (done : List Term) (n m at : ℕ) (s : Read (List Term)) (f : ExternalFault) → n ≡ suc m
-    → items one done n at ≡ s → Fails (one at) f → Fails s f
+    → items one done n at ≡ s → FailsOrMemory (one at) f → FailsOrMemory s f
 items_fail one done n m at s f e same h =
     fails_too (one at) s f (λ g k. sym same ∙ item_failed one done n m at g e k) h
 

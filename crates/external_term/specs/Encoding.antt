@@ -1,7 +1,7 @@
 -- The bytes that are written for a term: those of term_to_binary with minor_version 2.
 use Rattle.std.specs.Prelude.{ℕ, zero, suc, ◌+◌, ◌-◌, ◌/◌, ◌%◌, ◌^◌, ℤ, pos, negsuc, List, [], ◌∷◌, ◌++◌, map, length, slice_index, Bool, ◌==◌, ◌&&◌, nat_lt, if◌then◌else◌, codes}
 use Rattle.std.specs.List.{list_all}
-use Rattle.ets_term.specs.Encoding.{joined}
+use Rattle.ets_term.specs.Encoding.{concat}
 use Rattle.ets_term.specs.declared.term.Term.{Term, fold-Term}
 use Rattle.ets_term.specs.declared.term.Term.TheOpen.{Term-F}
 use Rattle.external_term.specs.Integers.{max_digits}
@@ -38,16 +38,16 @@ abbrev pub atom_bytes : List ℕ → List ℕ
 atom_bytes s = 119 ∷ length s ∷ s
 
 -- the name of the node, as an atom
-abbrev pub node_bytes : List ℕ
-node_bytes = atom_bytes (codes "nonode@nohost")
+abbrev pub node_name_bytes : List ℕ
+node_name_bytes = atom_bytes (codes "nonode@nohost")
 
 -- a pid: NEW_PID_EXT with the node, the number, the serial 0 and the creation 0
 abbrev pub pid_bytes : ℕ → List ℕ
-pid_bytes n = 88 ∷ (node_bytes ++ (big4 n ++ 0 ∷ 0 ∷ 0 ∷ 0 ∷ 0 ∷ 0 ∷ 0 ∷ 0 ∷ []))
+pid_bytes n = 88 ∷ (node_name_bytes ++ (big4 n ++ 0 ∷ 0 ∷ 0 ∷ 0 ∷ 0 ∷ 0 ∷ 0 ∷ 0 ∷ []))
 
 -- a table identifier: NEWER_REFERENCE_EXT with the number of words, 1, the node, the creation 0 and the word
 abbrev pub reference_bytes : ℕ → List ℕ
-reference_bytes n = 90 ∷ 0 ∷ 1 ∷ (node_bytes ++ (0 ∷ 0 ∷ 0 ∷ 0 ∷ big4 n))
+reference_bytes n = 90 ∷ 0 ∷ 1 ∷ (node_name_bytes ++ (0 ∷ 0 ∷ 0 ∷ 0 ∷ big4 n))
 
 -- the tag and the number of elements of a tuple: SMALL_TUPLE_EXT up to 255 elements, else LARGE_TUPLE_EXT
 abbrev pub tuple_header : ℕ → List ℕ
@@ -55,7 +55,7 @@ tuple_header n = if nat_lt n 256 then 104 ∷ n ∷ [] else 105 ∷ big4 n
 
 -- a tuple: its tag and number of elements, and the elements
 abbrev pub tuple_bytes : List (List ℕ) → List ℕ
-tuple_bytes es = tuple_header (length es) ++ joined es
+tuple_bytes es = tuple_header (length es) ++ concat es
 
 -- whether an element is written as SMALL_INTEGER_EXT, that is, whether it is an integer from 0 to 255
 abbrev pub is_small : List ℕ → Bool
@@ -75,7 +75,7 @@ string_bytes es = 107 ∷ (big2 (length es) ++ map char_of es)
 
 -- a list as LIST_EXT: the number of elements, the elements, and NIL_EXT as the tail
 abbrev pub long_list_bytes : List (List ℕ) → List ℕ
-long_list_bytes es = 108 ∷ (big4 (length es) ++ (joined es ++ 106 ∷ []))
+long_list_bytes es = 108 ∷ (big4 (length es) ++ (concat es ++ 106 ∷ []))
 
 -- a list: NIL_EXT if it is empty, STRING_EXT if it has at most 65535 elements, all of them bytes, else LIST_EXT
 abbrev pub list_bytes : List (List ℕ) → List ℕ
@@ -101,5 +101,5 @@ abbrev pub encode : Term → List ℕ
 encode = fold-Term (List ℕ) encode_form
 
 -- the bytes that are written for a term: the version and the bytes of the term
-abbrev pub written : Term → List ℕ
-written t = 131 ∷ encode t
+abbrev pub encode_with_version : Term → List ℕ
+encode_with_version t = 131 ∷ encode t

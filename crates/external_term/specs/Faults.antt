@@ -16,11 +16,11 @@ offset (ForeignIdentifier at) = Some at
 offset Memory = None
 
 -- a call fails with this fault: it is the expected fault, or memory ran out
-abbrev pub Fails : {A : Type 0} → Result A ExternalFault → ExternalFault → Type 0
-Fails expected Memory = Unit {0}
-Fails expected f = expected ≡ Err f
+abbrev pub FailsOrMemory : {A : Type 0} → Result A ExternalFault → ExternalFault → Type 0
+FailsOrMemory expected Memory = Unit {0}
+FailsOrMemory expected f = expected ≡ Err f
 
 -- a call returns the expected result, or memory ran out
-abbrev pub Returns : {A : Type 0} → Result A ExternalFault → Result A ExternalFault → Type 0
-Returns expected (Ok x) = expected ≡ Ok x
-Returns expected (Err f) = Fails expected f
+abbrev pub ReturnsOrMemory : {A : Type 0} → Result A ExternalFault → Result A ExternalFault → Type 0
+ReturnsOrMemory expected (Ok x) = expected ≡ Ok x
+ReturnsOrMemory expected (Err f) = FailsOrMemory expected f

@@ -23,10 +23,10 @@ abbrev pub big32 : List ℕ → ℕ → ℕ
 big32 bytes at = big16 bytes at * 65536 + big16 bytes (at + 2)
 
 -- the number of bytes of a number with this width
-abbrev pub size : Width → ℕ
-size One = 1
-size Two = 2
-size Four = 4
+abbrev pub width_bytes : Width → ℕ
+width_bytes One = 1
+width_bytes Two = 2
+width_bytes Four = 4
 
 -- the unsigned number with this width at an offset
 abbrev pub number : Width → List ℕ → ℕ → ℕ
@@ -40,12 +40,12 @@ has n bytes at = nat_le (at + n) (length bytes)
 
 -- the number at an offset if there are enough bytes, else the fault
 abbrev pub number_if : Bool → Width → List ℕ → ℕ → Read ℕ
-number_if true w bytes at = Ok (number w bytes at, at + size w)
+number_if true w bytes at = Ok (number w bytes at, at + width_bytes w)
 number_if false w bytes at = Err (Truncated at)
 
 -- reads an unsigned number with this width
 abbrev pub number_at : Width → List ℕ → ℕ → Read ℕ
-number_at w bytes at = number_if (has (size w) bytes at) w bytes at
+number_at w bytes at = number_if (has (width_bytes w) bytes at) w bytes at
 
 -- the offsets of a piece of n bytes if there are enough bytes, else the fault
 abbrev pub piece_if : Bool → ℕ → ℕ → Read ℕ

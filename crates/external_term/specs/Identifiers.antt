@@ -13,18 +13,18 @@ use Rattle.external_term.specs.Texts.{name_at}
 use Rattle.external_term.specs.Tags.{tag_of}
 
 -- reads the name of a node after its tag, which must be that of an atom
-abbrev pub node_form : List ℕ → ℕ → Tag → Read ℕ
-node_form bytes at (Atom w) = name_at w bytes (at + 1)
-node_form bytes at tag = Err (BadAtom at)
+abbrev pub node_name_form : List ℕ → ℕ → Tag → Read ℕ
+node_name_form bytes at (Atom w) = name_at w bytes (at + 1)
+node_name_form bytes at tag = Err (BadAtom at)
 
 -- reads the name of a node if there is a byte for its tag, else gives the fault
-abbrev pub node_if : Bool → List ℕ → ℕ → Read ℕ
-node_if true bytes at = node_form bytes at (tag_of (slice_index bytes at))
-node_if false bytes at = Err (Truncated at)
+abbrev pub node_name_if : Bool → List ℕ → ℕ → Read ℕ
+node_name_if true bytes at = node_name_form bytes at (tag_of (slice_index bytes at))
+node_name_if false bytes at = Err (Truncated at)
 
 -- reads the name of a node, which is an atom: the offsets where its characters begin and end
-abbrev pub node_at : List ℕ → ℕ → Read ℕ
-node_at bytes at = node_if (nat_lt at (length bytes)) bytes at
+abbrev pub node_name_at : List ℕ → ℕ → Read ℕ
+node_name_at bytes at = node_name_if (nat_lt at (length bytes)) bytes at
 
 -- whether all these bytes are 0
 abbrev pub are_zero : List ℕ → Bool
@@ -51,7 +51,7 @@ identifier_in bytes start before from to first end =
 -- bytes), and `behind` bytes
 abbrev pub identifier_at : List ℕ → ℕ → ℕ → ℕ → ℕ → Read ℕ
 identifier_at bytes start at before behind =
-    after (node_at bytes at) (λ from to.
+    after (node_name_at bytes at) (λ from to.
     after (piece_at (before + 4 + behind) bytes to) (λ first end. identifier_in bytes start before from to first end))
 
 -- reads a pid: the node, the number, then the serial and the creation, which have `behind` bytes in all

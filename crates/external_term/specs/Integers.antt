@@ -11,12 +11,12 @@ abbrev pub small_integer_at : List ℕ → ℕ → Read Term
 small_integer_at bytes at = after (number_at One bytes (at + 1)) (λ n end. Ok (Int (pos n), end))
 
 -- the integer whose 32 bits in two's complement are this number
-abbrev pub signed32 : ℕ → ℤ
-signed32 n = if nat_lt n (2 ^ 31) then pos n else negsuc (2 ^ 32 - 1 - n)
+abbrev pub with_sign32 : ℕ → ℤ
+with_sign32 n = if nat_lt n (2 ^ 31) then pos n else negsuc (2 ^ 32 - 1 - n)
 
 -- reads an INTEGER_EXT: four bytes in two's complement
-abbrev pub integer_at : List ℕ → ℕ → Read Term
-integer_at bytes at = after (number_at Four bytes (at + 1)) (λ n end. Ok (Int (signed32 n), end))
+abbrev pub integer32_at : List ℕ → ℕ → Read Term
+integer32_at bytes at = after (number_at Four bytes (at + 1)) (λ n end. Ok (Int (with_sign32 n), end))
 
 -- the number with these bytes, of which the low byte comes first
 abbrev pub little : List ℕ → ℕ
@@ -24,10 +24,10 @@ little [] = 0
 little (b ∷ bs) = b + 256 * little bs
 
 -- the integer with this magnitude, negative if the first argument is true
-abbrev pub signed : Bool → ℕ → ℤ
-signed true zero = pos 0
-signed true (suc n) = negsuc n
-signed false n = pos n
+abbrev pub with_sign : Bool → ℕ → ℤ
+with_sign true zero = pos 0
+with_sign true (suc n) = negsuc n
+with_sign false n = pos n
 
 -- the greatest magnitude of a negative integer (true), or of an integer that is not negative
 abbrev pub max_magnitude : Bool → ℕ
@@ -40,7 +40,7 @@ max_digits = 16
 
 -- the integer with this magnitude if it is in range, else the fault
 abbrev pub big_if : Bool → ℕ → Bool → ℕ → ℕ → Read Term
-big_if true at negative n end = Ok (Int (signed negative n), end)
+big_if true at negative n end = Ok (Int (with_sign negative n), end)
 big_if false at negative n end = Err (BadInteger at)
 
 -- the integer whose magnitude has n bytes, from `start` up to `end`; a fault if it is out of range

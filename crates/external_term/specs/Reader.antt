@@ -10,7 +10,7 @@ use Rattle.external_term.specs.declared.tag.Tag.TheVariants.{SmallInteger, Integ
 use Rattle.external_term.specs.declared.fault.ExternalFault.TheVariants.{Truncated, BadVersion, UnsupportedTag, TooDeep, ImproperList}
 use Rattle.external_term.specs.Fields.{Read, after, has, number_at}
 use Rattle.external_term.specs.Identifiers.{pid_at, old_reference_at, reference_at}
-use Rattle.external_term.specs.Integers.{small_integer_at, integer_at, big_at}
+use Rattle.external_term.specs.Integers.{small_integer_at, integer32_at, big_at}
 use Rattle.external_term.specs.Texts.{atom_at, binary_at, string_at}
 use Rattle.external_term.specs.Tags.{tag_of}
 
@@ -40,8 +40,8 @@ tail_if true ts at end = Ok (ListOf ts, end)
 tail_if false ts at end = Err (ImproperList at)
 
 -- reads a LIST_EXT: the number of items, the items, and NIL_EXT as the tail
-abbrev pub list_at : List ℕ → (ℕ → Read Term) → ℕ → Read Term
-list_at bytes one at =
+abbrev pub long_list_at : List ℕ → (ℕ → Read Term) → ℕ → Read Term
+long_list_at bytes one at =
     after (number_at Four bytes (at + 1)) (λ n next.
     after (items_at bytes one n next) (λ ts last.
     after (number_at One bytes last) (λ tail end. tail_if (tail == 106) ts last end)))
@@ -50,13 +50,13 @@ list_at bytes one at =
 -- them
 abbrev pub form : List ℕ → ℕ → (ℕ → Read Term) → ℕ → Tag → Read Term
 form bytes levels one at SmallInteger = small_integer_at bytes at
-form bytes levels one at Integer = integer_at bytes at
+form bytes levels one at Integer = integer32_at bytes at
 form bytes levels one at SmallBig = big_at bytes at
 form bytes levels one at (Atom w) = atom_at w bytes at
 form bytes levels one at (Tuple w) = tuple_at w bytes one at
 form bytes levels one at Nil = Ok (ListOf [], at + 1)
 form bytes levels one at String = string_at bytes levels at
-form bytes levels one at ListTag = list_at bytes one at
+form bytes levels one at ListTag = long_list_at bytes one at
 form bytes levels one at Binary = binary_at bytes at
 form bytes levels one at NewPid = pid_at bytes at 8
 form bytes levels one at Pid = pid_at bytes at 5

@@ -1,6 +1,6 @@
 //! Appends terms that contain no other terms, and headers, to a vector that has room for them.
 ghost use Rattle.std.specs.Prelude.{◌≡◌, ◌+◌, ◌≤◌, ◌<◌, ◌^◌, ◌++◌, length, vec_len, vec_capacity, pos, negsuc};
-ghost use Rattle.external_term.specs.Encoding.{integer_bytes, atom_bytes, pid_bytes, reference_bytes, node_bytes, tuple_header, binary_bytes, big_bytes};
+ghost use Rattle.external_term.specs.Encoding.{integer_bytes, atom_bytes, pid_bytes, reference_bytes, node_name_bytes, tuple_header, binary_bytes, big_bytes};
 
 use crate::identifier::NODE;
 use crate::integer::Magnitude;
@@ -86,7 +86,7 @@ pub(crate) fn append_atom(name: &Atom, out: &mut Vec<u8>)
 fn append_node(out: &mut Vec<u8>)
     // 15 bytes: the tag, the length and the 13 characters of `NODE`.
     requires { vec_len out.old + 15 ≤ vec_capacity out.old }
-    ensures items { out.new.items ≡ out.old.items ++ node_bytes }
+    ensures items { out.new.items ≡ out.old.items ++ node_name_bytes }
     ensures capacity { vec_capacity out.old ≤ vec_capacity out.new }
 {
     put_tag_and_u8(119, 13, out);

@@ -1,7 +1,7 @@
 //! Reads fields: unsigned numbers, with the high byte first, and pieces of a known length.
 ghost use Rattle.std.specs.Prelude.{◌≡◌, ◌+◌, ◌*◌, ◌≤◌, ◌<◌, ◌^◌, length, IfOk};
-ghost use Rattle.external_term.specs.Faults.{Returns};
-ghost use Rattle.external_term.specs.Fields.{big16, big32, size, number_at as read_number, piece_at as read_piece};
+ghost use Rattle.external_term.specs.Faults.{ReturnsOrMemory};
+ghost use Rattle.external_term.specs.Fields.{big16, big32, width_bytes, number_at as read_number, piece_at as read_piece};
 
 use crate::fault::ExternalFault;
 
@@ -17,7 +17,7 @@ impl Width {
     /// Returns the number of bytes.
     #[inline(always)]
     pub(crate) fn size(self) -> usize
-        ensures { result ≡ size self }
+        ensures { result ≡ width_bytes self }
     {
         match self {
             Width::One => 1,
@@ -56,8 +56,8 @@ pub(crate) fn number_at(
 ) -> Result<(usize, usize), ExternalFault>
     requires { at ≤ length bytes.now }
     ensures within { IfOk result (λ x. x.1 ≤ length bytes.now) }
-    ensures small { IfOk result (λ x. x.0 < 256 ^ size width) }
-    ensures reads { Returns (read_number width bytes.now at) result }
+    ensures small { IfOk result (λ x. x.0 < 256 ^ width_bytes width) }
+    ensures reads { ReturnsOrMemory (read_number width bytes.now at) result }
 {
     if bytes.len() - at < width.size() {
         return Err(ExternalFault::Truncated(at));
@@ -73,7 +73,7 @@ pub(crate) fn number_at(
 pub(crate) fn piece_at(bytes: &[u8], at: usize, n: usize) -> Result<(usize, usize), ExternalFault>
     requires { at ≤ length bytes.now }
     ensures within { IfOk result (λ x. (x.0 + n ≡ x.1) × (x.1 ≤ length bytes.now)) }
-    ensures reads { Returns (read_piece n bytes.now at) result }
+    ensures reads { ReturnsOrMemory (read_piece n bytes.now at) result }
 {
     if bytes.len() - at < n {
         return Err(ExternalFault::Truncated(at));

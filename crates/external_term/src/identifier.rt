@@ -1,7 +1,7 @@
 //! Reads pids, and the references that encode table identifiers.
 ghost use Rattle.std.specs.Prelude.{◌≡◌, ◌+◌, ◌≤◌, ◌<◌, ◌^◌, length, IfOk};
-ghost use Rattle.external_term.specs.Faults.{Returns};
-ghost use Rattle.external_term.specs.Identifiers.{are_zero, is_own, node_at as read_node, identifier_at as read_identifier, pid_at as read_pid, old_reference_at as read_old, reference_at as read_reference};
+ghost use Rattle.external_term.specs.Faults.{ReturnsOrMemory};
+ghost use Rattle.external_term.specs.Identifiers.{are_zero, is_own, node_name_at as read_node, identifier_at as read_identifier, pid_at as read_pid, old_reference_at as read_old, reference_at as read_reference};
 
 use crate::fault::ExternalFault;
 use crate::field::{Width, number_at, number32, piece_at};
@@ -16,7 +16,7 @@ pub(crate) const NODE: &[u8] = b"nonode@nohost";
 fn node_at(bytes: &[u8], at: usize) -> Result<(usize, usize), ExternalFault>
     requires { at ≤ length bytes.now }
     ensures within { IfOk result (λ x. (x.0 ≤ x.1) × (x.1 ≤ length bytes.now)) }
-    ensures reads { Returns (read_node bytes.now at) result }
+    ensures reads { ReturnsOrMemory (read_node bytes.now at) result }
 {
     if at >= bytes.len() {
         return Err(ExternalFault::Truncated(at));
@@ -53,7 +53,7 @@ fn identifier_at(
     requires within { at ≤ length bytes.now }
     requires short { before + behind < 2 ^ 32 }
     ensures within { IfOk result (λ x. x.1 ≤ length bytes.now) }
-    ensures reads { Returns (read_identifier bytes.now start at before behind) result }
+    ensures reads { ReturnsOrMemory (read_identifier bytes.now start at before behind) result }
 {
     let (from, to) = node_at(bytes, at)?;
     let (first, end) = piece_at(bytes, to, before + 4 + behind)?;
@@ -69,7 +69,7 @@ pub(crate) fn pid_at(bytes: &[u8], at: usize, behind: usize) -> Result<(Term, us
     requires within { at < length bytes.now }
     requires short { behind < 2 ^ 32 }
     ensures within { IfOk result (λ x. x.1 ≤ length bytes.now) }
-    ensures reads { Returns (read_pid bytes.now at behind) result }
+    ensures reads { ReturnsOrMemory (read_pid bytes.now at behind) result }
 {
     let (n, end) = identifier_at(bytes, at, at + 1, 0, behind)?;
     Ok((Term::Pid(n), end))
@@ -79,7 +79,7 @@ pub(crate) fn pid_at(bytes: &[u8], at: usize, behind: usize) -> Result<(Term, us
 pub(crate) fn old_reference_at(bytes: &[u8], at: usize) -> Result<(Term, usize), ExternalFault>
     requires { at < length bytes.now }
     ensures within { IfOk result (λ x. x.1 ≤ length bytes.now) }
-    ensures reads { Returns (read_old bytes.now at) result }
+    ensures reads { ReturnsOrMemory (read_old bytes.now at) result }
 {
     let (n, end) = identifier_at(bytes, at, at + 1, 0, 1)?;
     Ok((Term::Tid(n), end))
@@ -95,7 +95,7 @@ pub(crate) fn reference_at(
     requires within { at < length bytes.now }
     requires short { creation < 2 ^ 30 }
     ensures within { IfOk result (λ x. x.1 ≤ length bytes.now) }
-    ensures reads { Returns (read_reference bytes.now at creation) result }
+    ensures reads { ReturnsOrMemory (read_reference bytes.now at creation) result }
 {
     let (words, next) = number_at(bytes, at + 1, Width::Two)?;
     if words == 0 {

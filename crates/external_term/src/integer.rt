@@ -1,7 +1,7 @@
 //! Reads integers.
 ghost use Rattle.std.specs.Prelude.{◌≡◌, ◌≤◌, ◌<◌, ◌^◌, length, IfOk};
-ghost use Rattle.external_term.specs.Faults.{Returns};
-ghost use Rattle.external_term.specs.Integers.{signed32, signed, little, max_magnitude, max_digits, small_integer_at as read_small, integer_at as read_integer, big_at as read_big};
+ghost use Rattle.external_term.specs.Faults.{ReturnsOrMemory};
+ghost use Rattle.external_term.specs.Integers.{with_sign32, with_sign, little, max_magnitude, max_digits, small_integer_at as read_small, integer32_at as read_integer, big_at as read_big};
 
 use crate::fault::ExternalFault;
 use crate::field::{Width, number_at, piece_at};
@@ -17,7 +17,7 @@ pub(crate) const MAX_DIGITS: usize = 16;
 pub(crate) fn small_integer_at(bytes: &[u8], at: usize) -> Result<(Term, usize), ExternalFault>
     requires { at < length bytes.now }
     ensures within { IfOk result (λ x. x.1 ≤ length bytes.now) }
-    ensures reads { Returns (read_small bytes.now at) result }
+    ensures reads { ReturnsOrMemory (read_small bytes.now at) result }
 {
     let (n, end) = number_at(bytes, at + 1, Width::One)?;
     Ok((Term::Int(n as Integer), end))
@@ -26,7 +26,7 @@ pub(crate) fn small_integer_at(bytes: &[u8], at: usize) -> Result<(Term, usize),
 /// Returns the integer whose 32 bits in two's complement are `n`.
 fn signed32_value(n: usize) -> Integer
     requires { n < 2 ^ 32 }
-    ensures { result ≡ signed32 n }
+    ensures { result ≡ with_sign32 n }
 {
     if n < 0x8000_0000 {
         n as Integer
@@ -39,7 +39,7 @@ fn signed32_value(n: usize) -> Integer
 pub(crate) fn integer_at(bytes: &[u8], at: usize) -> Result<(Term, usize), ExternalFault>
     requires { at < length bytes.now }
     ensures within { IfOk result (λ x. x.1 ≤ length bytes.now) }
-    ensures reads { Returns (read_integer bytes.now at) result }
+    ensures reads { ReturnsOrMemory (read_integer bytes.now at) result }
 {
     let (n, end) = number_at(bytes, at + 1, Width::Four)?;
     Ok((Term::Int(signed32_value(n)), end))
@@ -56,7 +56,7 @@ fn integer_limit(negative: bool) -> Magnitude
 /// Returns the integer of this magnitude and sign.
 fn signed_value(negative: bool, n: Magnitude) -> Integer
     requires { n ≤ max_magnitude negative }
-    ensures { result ≡ signed negative n }
+    ensures { result ≡ with_sign negative n }
 {
     if !negative {
         n as Integer
@@ -86,7 +86,7 @@ fn little_value(digits: &[u8]) -> Magnitude
 pub(crate) fn big_at(bytes: &[u8], at: usize) -> Result<(Term, usize), ExternalFault>
     requires { at < length bytes.now }
     ensures within { IfOk result (λ x. x.1 ≤ length bytes.now) }
-    ensures reads { Returns (read_big bytes.now at) result }
+    ensures reads { ReturnsOrMemory (read_big bytes.now at) result }
 {
     let (n, second) = number_at(bytes, at + 1, Width::One)?;
     let (sign, third) = number_at(bytes, second, Width::One)?;

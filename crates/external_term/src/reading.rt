@@ -2,8 +2,8 @@
 //! function returns is the one after what it read.
 ghost use Rattle.std.specs.Prelude.{◌≡◌, ◌+◌, ◌≤◌, ◌<◌, ◌^◌, length, IfOk, IfSome, Ok, [], ◌∷◌};
 ghost use Rattle.ets_term.specs.declared.term.Term.TheVariants.{Tuple as TupleOf};
-ghost use Rattle.external_term.specs.Faults.{Returns};
-ghost use Rattle.external_term.specs.Reader.{term_at as read_term, items_at as read_items, tuple_at as read_tuple, list_at as read_list, form, read};
+ghost use Rattle.external_term.specs.Faults.{ReturnsOrMemory};
+ghost use Rattle.external_term.specs.Reader.{term_at as read_term, items_at as read_items, tuple_at as read_tuple, long_list_at as read_list, form, read};
 
 use crate::fault::ExternalFault;
 use crate::field::{Width, number_at};
@@ -20,7 +20,7 @@ const MAX_RESERVED: usize = 64;
 /// Reads the version and the term at the start of the bytes. Returns the term and the number of bytes of both, or the
 /// first fault. Returns `Memory` if memory runs out.
 pub fn read_external(alloc: Global, bytes: &[u8]) -> Result<(Term, usize), ExternalFault>
-    ensures { Returns (read bytes.now) result }
+    ensures { ReturnsOrMemory (read bytes.now) result }
 {
     let (version, next) = number_at(bytes, 0, Width::One)?;
     if version != VERSION as usize {
@@ -60,7 +60,7 @@ fn term_at(
 ) -> Result<(Term, usize), ExternalFault>
     requires { at ≤ length bytes.now }
     ensures within { IfOk result (λ x. x.1 ≤ length bytes.now) }
-    ensures reads { Returns (read_term bytes.now levels_left at) result }
+    ensures reads { ReturnsOrMemory (read_term bytes.now levels_left at) result }
 {
     if levels_left == 0 {
         return Err(ExternalFault::TooDeep(at));
@@ -82,7 +82,7 @@ fn form_at(
 ) -> Result<(Term, usize), ExternalFault>
     requires { at < length bytes.now }
     ensures within { IfOk result (λ x. x.1 ≤ length bytes.now) }
-    ensures reads { Returns (form bytes.now levels_left (read_term bytes.now levels_left) at tag) result }
+    ensures reads { ReturnsOrMemory (form bytes.now levels_left (read_term bytes.now levels_left) at tag) result }
 {
     match tag {
         Tag::SmallInteger => small_integer_at(bytes, at),
@@ -116,7 +116,7 @@ fn tuple_at(
 ) -> Result<(Term, usize), ExternalFault>
     requires { at < length bytes.now }
     ensures within { IfOk result (λ x. x.1 ≤ length bytes.now) }
-    ensures reads { Returns (read_tuple width bytes.now (read_term bytes.now levels_left) at) result }
+    ensures reads { ReturnsOrMemory (read_tuple width bytes.now (read_term bytes.now levels_left) at) result }
 {
     let (count, next) = number_at(bytes, at + 1, width)?;
     match items_at(alloc, bytes, next, count, levels_left) {
@@ -135,7 +135,7 @@ fn list_at(
 ) -> Result<(Term, usize), ExternalFault>
     requires { at < length bytes.now }
     ensures within { IfOk result (λ x. x.1 ≤ length bytes.now) }
-    ensures reads { Returns (read_list bytes.now (read_term bytes.now levels_left) at) result }
+    ensures reads { ReturnsOrMemory (read_list bytes.now (read_term bytes.now levels_left) at) result }
 {
     let (count, next) = number_at(bytes, at + 1, Width::Four)?;
     let (items, last) = match items_at(alloc, bytes, next, count, levels_left) {
@@ -160,7 +160,7 @@ fn items_at(
 ) -> Result<(Items<Term>, usize), ExternalFault>
     requires { at ≤ length bytes.now }
     ensures within { IfOk result (λ x. x.1 ≤ length bytes.now) }
-    ensures reads { Returns (read_items bytes.now (read_term bytes.now levels_left) count at) result }
+    ensures reads { ReturnsOrMemory (read_items bytes.now (read_term bytes.now levels_left) count at) result }
 {
     if count > bytes.len() - at {
         return Err(ExternalFault::Truncated(at));

@@ -1,7 +1,7 @@
 //! Sends terms to writers, piece by piece.
 ghost use Rattle.std.specs.Prelude.{◌≡◌, ◌≤◌, ◌↔◌, ◌^◌, length, map, vec_capacity, IsErrOf};
-ghost use Rattle.ets_term.specs.Encoding.{joined};
-ghost use Rattle.external_term.specs.Encoding.{encode, tuple_bytes, list_bytes, string_bytes, long_list_bytes, char_of, written};
+ghost use Rattle.ets_term.specs.Encoding.{concat};
+ghost use Rattle.external_term.specs.Encoding.{encode, tuple_bytes, list_bytes, string_bytes, long_list_bytes, char_of, encode_with_version};
 ghost use Rattle.external_term.specs.Sent.{AppendsOrPrefix};
 ghost use Rattle.external_term.specs.inside.Block.{block_bytes};
 
@@ -29,8 +29,8 @@ pub fn write_external_to<W: Write>(
     term: &Term,
     out: &mut W,
 ) -> Result<(), ExternalSendFault>
-    ensures sent { AppendsOrPrefix (W.contents out.old) (W.contents out.new) (written term.now) result }
-    ensures large { IsErrOf result ExternalSendFault.TooLarge ↔ 2 ^ 32 ≤ length (written term.now) }
+    ensures sent { AppendsOrPrefix (W.contents out.old) (W.contents out.new) (encode_with_version term.now) result }
+    ensures large { IsErrOf result ExternalSendFault.TooLarge ↔ 2 ^ 32 ≤ length (encode_with_version term.now) }
     ensures none_if_large { IsErrOf result ExternalSendFault.TooLarge → W.contents out.new ≡ W.contents out.old }
     ensures none_if_no_memory { IsErrOf result ExternalSendFault.Memory → W.contents out.new ≡ W.contents out.old }
 {
@@ -50,7 +50,7 @@ pub fn write_external_to<W: Write>(
 /// Sends the version and the term.
 fn send_written<W: Write>(term: &Term, block: &mut Vec<u8>, out: &mut W) -> Result<(), WriterFault>
     requires { block_bytes ≤ vec_capacity block.old }
-    ensures { AppendsOrPrefix (W.contents out.old) (W.contents out.new) (written term.now) result }
+    ensures { AppendsOrPrefix (W.contents out.old) (W.contents out.new) (encode_with_version term.now) result }
 {
     send_bytes(&[VERSION], out)?;
     send_term(term, block, out)
@@ -127,7 +127,7 @@ fn send_long_list<W: Write>(
 fn send_items<W: Write>(items: &[Term], block: &mut Vec<u8>, out: &mut W) -> Result<(), WriterFault>
     requires { block_bytes ≤ vec_capacity block.old }
     ensures room { block_bytes ≤ vec_capacity block.new }
-    ensures sent { AppendsOrPrefix (W.contents out.old) (W.contents out.new) (joined (map encode items.now)) result }
+    ensures sent { AppendsOrPrefix (W.contents out.old) (W.contents out.new) (concat (map encode items.now)) result }
 {
     for item in items {
         send_term(item, block, out)?;

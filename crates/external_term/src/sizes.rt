@@ -1,6 +1,6 @@
 //! Computes the numbers of bytes of written terms.
 ghost use Rattle.std.specs.Prelude.{◌≡◌, ◌≤◌, ◌<◌, ◌^◌, length, map, min, pos, negsuc};
-ghost use Rattle.ets_term.specs.Encoding.{joined};
+ghost use Rattle.ets_term.specs.Encoding.{concat};
 ghost use Rattle.external_term.specs.Encoding.{encode, integer_bytes, tuple_header, tuple_bytes, list_bytes};
 
 use crate::integer::Magnitude;
@@ -101,7 +101,7 @@ fn list_size(items: &[Term]) -> usize
 /// Returns the sum of the numbers of bytes of some terms, at most `usize::MAX`.
 #[cycle(size)]
 fn sizes_of(items: &[Term]) -> usize
-    ensures { result ≡ min (length (joined (map encode items.now))) usize.MAX }
+    ensures { result ≡ min (length (concat (map encode items.now))) usize.MAX }
 {
     let mut total = 0usize;
     for item in items {

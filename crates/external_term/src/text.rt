@@ -2,7 +2,7 @@
 ghost use Rattle.std.specs.Prelude.{◌≡◌, ◌+◌, ◌≤◌, ◌<◌, map, length, IfOk};
 ghost use Rattle.std.specs.List.{list_all};
 ghost use Rattle.ets_term.specs.Character.{is_character};
-ghost use Rattle.external_term.specs.Faults.{Returns};
+ghost use Rattle.external_term.specs.Faults.{ReturnsOrMemory};
 ghost use Rattle.external_term.specs.Texts.{code, is_atom_text, name_at as read_name, atom_at as read_atom, binary_at as read_binary, string_at as read_string};
 
 use crate::fault::ExternalFault;
@@ -32,7 +32,7 @@ pub(crate) fn name_at(
 ) -> Result<(usize, usize), ExternalFault>
     requires { at ≤ length bytes.now }
     ensures within { IfOk result (λ x. (x.0 ≤ x.1) × (x.1 ≤ length bytes.now)) }
-    ensures reads { Returns (read_name width bytes.now at) result }
+    ensures reads { ReturnsOrMemory (read_name width bytes.now at) result }
 {
     let (n, next) = number_at(bytes, at, width)?;
     piece_at(bytes, next, n)
@@ -47,7 +47,7 @@ pub(crate) fn atom_at(
 ) -> Result<(Term, usize), ExternalFault>
     requires { at < length bytes.now }
     ensures within { IfOk result (λ x. x.1 ≤ length bytes.now) }
-    ensures reads { Returns (read_atom width bytes.now at) result }
+    ensures reads { ReturnsOrMemory (read_atom width bytes.now at) result }
 {
     let (start, end) = name_at(bytes, at + 1, width)?;
     let text = &bytes[start..end];
@@ -65,7 +65,7 @@ pub(crate) fn binary_at(
 ) -> Result<(Term, usize), ExternalFault>
     requires { at < length bytes.now }
     ensures within { IfOk result (λ x. x.1 ≤ length bytes.now) }
-    ensures reads { Returns (read_binary bytes.now at) result }
+    ensures reads { ReturnsOrMemory (read_binary bytes.now at) result }
 {
     let (n, next) = number_at(bytes, at + 1, Width::Four)?;
     let (start, end) = piece_at(bytes, next, n)?;
@@ -94,7 +94,7 @@ pub(crate) fn string_at(
 ) -> Result<(Term, usize), ExternalFault>
     requires { at < length bytes.now }
     ensures within { IfOk result (λ x. x.1 ≤ length bytes.now) }
-    ensures reads { Returns (read_string bytes.now levels_left at) result }
+    ensures reads { ReturnsOrMemory (read_string bytes.now levels_left at) result }
 {
     let (n, next) = number_at(bytes, at + 1, Width::Two)?;
     let (start, end) = piece_at(bytes, next, n)?;

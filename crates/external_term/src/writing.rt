@@ -1,7 +1,7 @@
 //! Appends terms to bytes in memory.
 ghost use Rattle.std.specs.Prelude.{◌≡◌, ◌+◌, ◌≤◌, ◌++◌, ◌↔◌, ◌^◌, length, map, min, vec_len, vec_capacity, OnOk, OnErr, IsErrOf};
-ghost use Rattle.ets_term.specs.Encoding.{joined};
-ghost use Rattle.external_term.specs.Encoding.{encode, tuple_bytes, list_bytes, string_bytes, long_list_bytes, char_of, written};
+ghost use Rattle.ets_term.specs.Encoding.{concat};
+ghost use Rattle.external_term.specs.Encoding.{encode, tuple_bytes, list_bytes, string_bytes, long_list_bytes, char_of, encode_with_version};
 
 use crate::append::{
     append_atom, append_binary, append_integer, append_pid, append_reference, append_tuple_header,
@@ -18,7 +18,7 @@ pub const MAX_BYTES: usize = 0xFFFF_FFFF;
 
 /// Returns the number of bytes that `write_external` appends for a term, or `usize::MAX` if it is greater.
 pub fn external_size(term: &Term) -> usize
-    ensures { result ≡ min (length (written term.now)) usize.MAX }
+    ensures { result ≡ min (length (encode_with_version term.now)) usize.MAX }
 {
     size_of_term(term).saturating_add(1)
 }
@@ -26,9 +26,9 @@ pub fn external_size(term: &Term) -> usize
 /// Appends the version and the term. First reserves memory for all bytes. Changes nothing if memory is refused, or if
 /// the bytes are more than `MAX_BYTES`.
 pub fn write_external(term: &Term, out: &mut Vec<u8>) -> Result<(), ExternalWriteFault>
-    ensures ok { OnOk result (out.new.items ≡ out.old.items ++ written term.now) }
+    ensures ok { OnOk result (out.new.items ≡ out.old.items ++ encode_with_version term.now) }
     ensures err { OnErr result (out.new.items ≡ out.old.items) }
-    ensures large { IsErrOf result ExternalWriteFault.TooLarge ↔ 2 ^ 32 ≤ length (written term.now) }
+    ensures large { IsErrOf result ExternalWriteFault.TooLarge ↔ 2 ^ 32 ≤ length (encode_with_version term.now) }
 {
     let size = external_size(term);
     if size > MAX_BYTES {
@@ -125,8 +125,8 @@ fn append_long_list(items: &[Term], out: &mut Vec<u8>)
 /// Appends some terms, one after another.
 #[cycle(append)]
 fn append_items(items: &[Term], out: &mut Vec<u8>)
-    requires { vec_len out.old + length (joined (map encode items.now)) ≤ vec_capacity out.old }
-    ensures items { out.new.items ≡ out.old.items ++ joined (map encode items.now) }
+    requires { vec_len out.old + length (concat (map encode items.now)) ≤ vec_capacity out.old }
+    ensures items { out.new.items ≡ out.old.items ++ concat (map encode items.now) }
     ensures capacity { vec_capacity out.old ≤ vec_capacity out.new }
 {
     for item in items {

@@ -22,7 +22,7 @@ use Rattle.table_ops.specs.declared.refusal.Refusal.TheVariants.{Badarg, SystemL
 use Rattle.table_ops.specs.Content.{Content, is_object, objects_under}
 use Rattle.table_ops.specs.Put.{add, SetsObjects, PutsAll, InsertsWithinLimit, Inserts, InsertsNew, is_taken}
 use Rattle.table_ops.specs.Refusals.{RefinesChange}
-use Rattle.table_ops.specs.Update.{is_set, ops_avoid_key, specs_avoid_key, default_is_object, with_object, UpdatesCounterOf, InsertsDefault, UpdatesOrInsertsCounter, UpdatesCounter, UpdatesElementOf, with_true, UpdatesOrInsertsElement, UpdatesElement}
+use Rattle.table_ops.specs.Update.{is_set, ops_avoid_key, element_specs_avoid_key, default_is_object, with_object, UpdatesCounterOf, InsertsDefault, UpdatesOrInsertsCounter, UpdatesCounter, UpdatesElementOf, with_true, UpdatesOrInsertsElement, UpdatesElement}
 use Rattle.table_ops.specs.Outcomes.{gives}
 
 abbrev pub is_end : Term → Bool
@@ -178,7 +178,7 @@ module _ (Q : List Slot → List Slot → Type 0) (keeping : Keeping Q) where
   specs_at false key specs default old new r c = unchanged old new c.1
 
   pub element-keeps : (key : Term) (specs : ElementSpecs) (default : Option Term) (old new : Content) (r : Result Bool Refusal) → UpdatesElement key specs default old r new → Q old.slots new.slots
-  element-keeps key specs default old new r c = specs_at (is_set old.kind && (specs_avoid_key old.keypos specs && default_is_object old.keypos key default)) key specs default old new r c
+  element-keeps key specs default old new r c = specs_at (is_set old.kind && (element_specs_avoid_key old.keypos specs && default_is_object old.keypos key default)) key specs default old new r c
 
   -- out of memory, nothing changes
   pub comes-keep : {X : Type 0} (change : Content → Result X Refusal → Content → Type 0) → ((old new : Content) (r : Result X Refusal) → change old r new → Q old.slots new.slots)

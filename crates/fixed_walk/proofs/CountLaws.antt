@@ -7,7 +7,8 @@ use Rattle.std.specs.Cmp.{nat_cmp_total}
 use Rattle.std.specs.Map.{lookup}
 use Rattle.std.specs.FinMap.{FinMap, find, entries, get-entries, len-entries, get, len, empty, insert, remove, from_entries, get-from_entries, get-insert, get-remove, get-empty, len-empty, same_map, nat_cmp-IsAntisymmetric, empty_of_len}
 use Rattle.std.specs.List.{slice_get}
-use Rattle.fixed_walk.specs.Fixes.{FixCounts, AreCounted, IsFixedBySome, fix_count, is_fixed, with_count}
+use Rattle.fixed_walk.specs.Fixes.{FixCounts, fix_count, is_fixed, with_count}
+use Rattle.fixed_walk.specs.Invariants.{AreCounted, IsFixedBySome}
 
 eq_symm : (a b : ℕ) → nat_eq a b ≡ nat_eq b a
 eq_symm a b = grind (arith, nat_tests)

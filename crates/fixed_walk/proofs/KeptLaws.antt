@@ -6,7 +6,7 @@ use Rattle.std.specs.Map.{keys_of}
 use Rattle.std.proofs.lemmas.Map.{keys-set_value}
 use Rattle.ets_term.specs.declared.term.Term.{Term}
 use Rattle.ets_term.specs.Order.{same}
-use Rattle.bucket_table.specs.Slots.{Slot, HasDistinctKeys, objects_of, has_objects, with_objects, Enters, purged}
+use Rattle.bucket_table.specs.Slots.{Slot, HasDistinctKeys, objects_of, has_objects, with_objects, Enters, without_tombstones}
 use Rattle.bucket_table.proofs.slots.Distinct.{distinct-added}
 use Rattle.counters.specs.declared.elements.ElementSpecs.{ElementSpecs}
 use Rattle.counters.specs.declared.ops.Ops.{Ops}
@@ -14,10 +14,9 @@ use Rattle.table_ops.specs.declared.refusal.Refusal.{Refusal}
 use Rattle.table_ops.specs.declared.refusal.Refusal.TheVariants.{Badarg, SystemLimit, Memory}
 use Rattle.table_ops.specs.Content.{Content, key_of}
 use Rattle.table_ops.specs.Put.{Inserts, InsertsNew}
-use Rattle.table_ops.specs.Drop.{Which, remaining, after_drop, without_those, equal_to, DeletesObject}
-use Rattle.table_ops.specs.Refusals.{Change}
+use Rattle.table_ops.specs.Drop.{Which, objects_left, after_drop, without_those, equal_to, DeletesObject}
+use Rattle.table_ops.specs.Outcomes.{Change, gives}
 use Rattle.table_ops.specs.Update.{UpdatesCounter, UpdatesElement}
-use Rattle.table_ops.specs.Outcomes.{gives}
 use Rattle.fixed_walk.specs.declared.fault.FixFault.{FixFault}
 use Rattle.fixed_walk.specs.declared.fault.FixFault.TheVariants.{SystemLimit as FixLimit, Memory as FixMemory}
 use Rattle.fixed_walk.specs.Fixes.{FixCounts, is_fixed, with_count, fix_count}
@@ -75,17 +74,17 @@ one-fewer false s new ss rest e k = sub-on (keys_of rest) (keys_of ss) s.0 k
 
 dropped-among : (hold : Bool) (which : Which) (slots : List Slot) → KeysStay (after_drop hold which slots) slots
 dropped-among hold which [] = tt
-dropped-among hold which (s ∷ ss) = one-fewer (hold || has_objects (remaining which s) || not (has_objects s.1)) s (s.0, remaining which s) ss (after_drop hold which ss) refl (dropped-among hold which ss)
+dropped-among hold which (s ∷ ss) = one-fewer (hold || has_objects (objects_left which s) || not (has_objects s.1)) s (s.0, objects_left which s) ss (after_drop hold which ss) refl (dropped-among hold which ss)
 
-purged-among : (slots : List Slot) → KeysStay (purged slots) slots
-purged-among [] = tt
-purged-among (s ∷ ss) = one-fewer (has_objects s.1) s s ss (purged ss) refl (purged-among ss)
+without_tombstones-among : (slots : List Slot) → KeysStay (without_tombstones slots) slots
+without_tombstones-among [] = tt
+without_tombstones-among (s ∷ ss) = one-fewer (has_objects s.1) s s ss (without_tombstones ss) refl (without_tombstones-among ss)
 
 dropped-apart : (hold : Bool) (which : Which) (slots : List Slot) → StayApart slots (after_drop hold which slots)
 dropped-apart hold which slots d = sub-distinct (keys_of (after_drop hold which slots)) (keys_of slots) (dropped-among hold which slots) d
 
-purged-apart : (slots : List Slot) → StayApart slots (purged slots)
-purged-apart slots d = sub-distinct (keys_of (purged slots)) (keys_of slots) (purged-among slots) d
+without_tombstones-apart : (slots : List Slot) → StayApart slots (without_tombstones slots)
+without_tombstones-apart slots d = sub-distinct (keys_of (without_tombstones slots)) (keys_of slots) (without_tombstones-among slots) d
 
 -- ---- the state of a table
 same-content : (old new : TableState) → new.content ≡ old.content → KeepsKeys old new
@@ -144,9 +143,9 @@ fix-keeps pid old new (Ok x) c = same-content old new (ap (λ (t : TableState). 
 fix-keeps pid old new (Err FixLimit) c = same-content old new (ap (λ (t : TableState). t.content) c.1)
 fix-keeps pid old new (Err FixMemory) c = same-content old new (ap (λ (t : TableState). t.content) c.1)
 
-purge-keeps : (old : TableState) (fixes : FixCounts) (b : Bool) → is_fixed fixes ≡ b → KeepsKeys old (cond b (record old { fixes = fixes }) (record old { content = record old.content { slots = purged old.content.slots }; fixes = fixes }))
+purge-keeps : (old : TableState) (fixes : FixCounts) (b : Bool) → is_fixed fixes ≡ b → KeepsKeys old (cond b (record old { fixes = fixes }) (record old { content = record old.content { slots = without_tombstones old.content.slots }; fixes = fixes }))
 purge-keeps old fixes true e = record { distinct = λ d. d; order = λ fixed still. sub-same (keys_of old.content.slots) }
-purge-keeps old fixes false e = record { distinct = purged-apart old.content.slots; order = λ fixed still. absurd (true≢false (sym still ∙ e)) }
+purge-keeps old fixes false e = record { distinct = without_tombstones-apart old.content.slots; order = λ fixed still. absurd (true≢false (sym still ∙ e)) }
 
 pub release-keeps : (pid : ℕ) (old : TableState) → KeepsKeys old (after_release pid old)
 release-keeps pid old = purge-keeps old (with_count old.fixes pid (fix_count old.fixes pid - 1)) (is_fixed (with_count old.fixes pid (fix_count old.fixes pid - 1))) refl

@@ -4,19 +4,20 @@ use Rattle.std.specs.Prelude.{MatchOption, not, ◌||◌, Ok, Err, Result}
 use Rattle.std.specs.Map.{set_value}
 use Rattle.ets_term.specs.declared.term.Term.{Term}
 use Rattle.ets_term.specs.Order.{same}
-use Rattle.bucket_table.specs.Slots.{Slot, objects_of, purged, has_objects, Enters}
+use Rattle.bucket_table.specs.Slots.{Slot, objects_of, without_tombstones, has_objects, Enters}
 use Rattle.table_ops.specs.declared.refusal.Refusal.{Refusal}
 use Rattle.table_ops.specs.declared.refusal.Refusal.TheVariants.{Badarg}
 use Rattle.table_ops.specs.Content.{Content, key_of}
 use Rattle.table_ops.specs.Put.{Inserts, InsertsNew}
-use Rattle.table_ops.specs.Drop.{Which, remaining, after_drop, without_those, equal_to, DeletesObject}
+use Rattle.table_ops.specs.Drop.{Which, objects_left, after_drop, without_those, equal_to, DeletesObject}
 use Rattle.table_ops.specs.Refusals.{RefinesChange}
 use Rattle.table_ops.specs.Update.{UpdatesCounter, UpdatesElement}
 use Rattle.counters.specs.declared.elements.ElementSpecs.{ElementSpecs}
 use Rattle.counters.specs.declared.ops.Ops.{Ops}
 use Rattle.table_ops.specs.Outcomes.{gives}
 use Rattle.fixed_walk.specs.Fixes.{is_fixed}
-use Rattle.fixed_walk.specs.TableState.{TableState, HasNoTombstones, TombstonesOnlyWhileFixed, after_release, after_release_all}
+use Rattle.fixed_walk.specs.TableState.{TableState, after_release, after_release_all}
+use Rattle.fixed_walk.specs.Invariants.{HasNoTombstones, TombstonesOnlyWhileFixed}
 use Rattle.fixed_walk.proofs.ChangeLaws.{Keeping, is_end, comes-keep, inserts-keep, news-keep, counter-keeps, element-keeps}
 use Rattle.fixed_walk.proofs.CountLaws.{free-released, free-cleared}
 
@@ -29,18 +30,18 @@ module _ (k : Term → Bool) where
   set-none [] w h n = tt
   set-none (s ∷ ss) w h n = set_at (k s.0) s ss w h n (set-none ss w h n.1)
 
-purge_at : (b : Bool) (s : Slot) (ss : List Slot) → has_objects s.1 ≡ b → HasNoTombstones (purged ss) → HasNoTombstones (cond b (s ∷ purged ss) (purged ss))
+purge_at : (b : Bool) (s : Slot) (ss : List Slot) → has_objects s.1 ≡ b → HasNoTombstones (without_tombstones ss) → HasNoTombstones (cond b (s ∷ without_tombstones ss) (without_tombstones ss))
 purge_at true s ss e n = (e, n)
 purge_at false s ss e n = n
 
-pub purged-none : (ss : List Slot) → HasNoTombstones (purged ss)
-purged-none [] = tt
-purged-none (s ∷ ss) = purge_at (has_objects s.1) s ss refl (purged-none ss)
+pub without_tombstones-none : (ss : List Slot) → HasNoTombstones (without_tombstones ss)
+without_tombstones-none [] = tt
+without_tombstones-none (s ∷ ss) = purge_at (has_objects s.1) s ss refl (without_tombstones-none ss)
 
 -- a purge removes nothing if there are no tombstones
-pub purged-same : (ss : List Slot) → HasNoTombstones ss → purged ss ≡ ss
-purged-same [] n = refl
-purged-same (s ∷ ss) n = ap (λ (b : Bool). cond b (s ∷ purged ss) (purged ss)) n.0 ∙ ap (λ (zs : List Slot). s ∷ zs) (purged-same ss n.1)
+pub without_tombstones-same : (ss : List Slot) → HasNoTombstones ss → without_tombstones ss ≡ ss
+without_tombstones-same [] n = refl
+without_tombstones-same (s ∷ ss) n = ap (λ (b : Bool). cond b (s ∷ without_tombstones ss) (without_tombstones ss)) n.0 ∙ ap (λ (zs : List Slot). s ∷ zs) (without_tombstones-same ss n.1)
 
 pub between-none : (front back : List Slot) (s : Slot) → has_objects s.1 ≡ true → HasNoTombstones (front ++ back) → HasNoTombstones (front ++ s ∷ back)
 between-none [] back s h n = (h, n)
@@ -65,14 +66,14 @@ counter-none key ops default old new r c n = comes-keep _ keeping (UpdatesCounte
 pub element-none : (key : Term) (specs : ElementSpecs) (default : Option Term) (old new : Content) (r : Result Bool Refusal) → RefinesChange (UpdatesElement key specs default old) old r new → HasNoTombstones old.slots → HasNoTombstones new.slots
 element-none key specs default old new r c n = comes-keep _ keeping (UpdatesElement key specs default) (element-keeps _ keeping key specs default) old new r c n
 
-dropped_at : (which : Which) (s : Slot) (ss : List Slot) (b : Bool) → has_objects (remaining which s) ≡ b → has_objects s.1 ≡ true → HasNoTombstones (after_drop false which ss)
-    → HasNoTombstones (cond (b || not (has_objects s.1)) ((s.0, remaining which s) ∷ after_drop false which ss) (after_drop false which ss))
+dropped_at : (which : Which) (s : Slot) (ss : List Slot) (b : Bool) → has_objects (objects_left which s) ≡ b → has_objects s.1 ≡ true → HasNoTombstones (after_drop false which ss)
+    → HasNoTombstones (cond (b || not (has_objects s.1)) ((s.0, objects_left which s) ∷ after_drop false which ss) (after_drop false which ss))
 dropped_at which s ss true e h n = (e, n)
-dropped_at which s ss false e h n = subst (λ (b : Bool). HasNoTombstones (cond (not b) ((s.0, remaining which s) ∷ after_drop false which ss) (after_drop false which ss))) (sym h) n
+dropped_at which s ss false e h n = subst (λ (b : Bool). HasNoTombstones (cond (not b) ((s.0, objects_left which s) ∷ after_drop false which ss) (after_drop false which ss))) (sym h) n
 
 pub dropped-free : (which : Which) (slots : List Slot) → HasNoTombstones slots → HasNoTombstones (after_drop false which slots)
 dropped-free which [] n = tt
-dropped-free which (s ∷ ss) n = dropped_at which s ss (has_objects (remaining which s)) refl n.0 (dropped-free which ss n.1)
+dropped-free which (s ∷ ss) n = dropped_at which s ss (has_objects (objects_left which s)) refl n.0 (dropped-free which ss n.1)
 
 -- a deletion that leaves no tombstones makes none
 pub dropped-none : (hold : Bool) (which : Which) (slots : List Slot) → hold ≡ false → HasNoTombstones slots → HasNoTombstones (after_drop hold which slots)
@@ -87,15 +88,15 @@ object_at hold (Some key) object old new r e c n = subst (λ (t : Content). HasN
 pub object-none : (hold : Bool) (object : Term) (old new : Content) (r : Result (Unit {0}) Refusal) → hold ≡ false → DeletesObject hold object old r new → HasNoTombstones old.slots → HasNoTombstones new.slots
 object-none hold object old new r e c n = object_at hold (key_of old.keypos object) object old new r e c n
 
-pub ruleset no_tombstones = (inserts-none, news-none, counter-none, element-none, dropped-none, object-none, purged-none, purged-same)
+pub ruleset no_tombstones = (inserts-none, news-none, counter-none, element-none, dropped-none, object-none, without_tombstones-none, without_tombstones-same)
 
 -- a release of a table that no process fixes changes nothing
 release-unfixed-at : (table : TableState) (fixes : _) → fixes ≡ table.fixes → is_fixed table.fixes ≡ false → TombstonesOnlyWhileFixed table
-    → table ≡ cond (is_fixed fixes) (record table { fixes = fixes }) (record table { content = record table.content { slots = purged table.content.slots }; fixes = fixes })
+    → table ≡ cond (is_fixed fixes) (record table { fixes = fixes }) (record table { content = record table.content { slots = without_tombstones table.content.slots }; fixes = fixes })
 release-unfixed-at table fixes e free only_fixed =
-    sym (ap (λ f. cond (is_fixed f) (record table { fixes = f }) (record table { content = record table.content { slots = purged table.content.slots }; fixes = f })) e
-    ∙ ap (λ (b : Bool). cond b table (record table { content = record table.content { slots = purged table.content.slots } })) free
-    ∙ ap (λ slots. record table { content = record table.content { slots = slots } }) (purged-same table.content.slots (only_fixed free)))
+    sym (ap (λ f. cond (is_fixed f) (record table { fixes = f }) (record table { content = record table.content { slots = without_tombstones table.content.slots }; fixes = f })) e
+    ∙ ap (λ (b : Bool). cond b table (record table { content = record table.content { slots = without_tombstones table.content.slots } })) free
+    ∙ ap (λ slots. record table { content = record table.content { slots = slots } }) (without_tombstones-same table.content.slots (only_fixed free)))
 
 pub free-release : (pid : ℕ) (table : TableState) → is_fixed table.fixes ≡ false → TombstonesOnlyWhileFixed table → table ≡ after_release pid table
 free-release pid table free only_fixed = release-unfixed-at table _ (free-released table.fixes pid free) free only_fixed

@@ -1,5 +1,5 @@
 -- The number of fixes of each process (stdlib manual, module ets, safe_fixtable/2).
-use Rattle.std.specs.Prelude.{◌≢◌, ◌↔◌, ◌≡◌, ◌<◌, ℕ, zero, suc, nat_lt, Bool, true, Some, unwrap_or}
+use Rattle.std.specs.Prelude.{ℕ, zero, suc, nat_lt, Bool, unwrap_or}
 use Rattle.std.specs.Ordering.{nat_cmp}
 use Rattle.std.specs.FinMap as map
 
@@ -23,11 +23,3 @@ is_fixed fixes = nat_lt 0 (map.len fixes)
 abbrev pub with_count : FixCounts → ℕ → ℕ → FixCounts
 with_count fixes pid zero = map.remove fixes pid
 with_count fixes pid (suc n) = map.insert fixes pid (suc n)
-
--- each entry is above zero
-abbrev pub AreCounted : FixCounts → Type 0
-AreCounted fixes = (pid : ℕ) → map.get fixes pid ≢ Some 0
-
--- the table is fixed exactly if some process has a number of fixes above zero
-abbrev pub IsFixedBySome : FixCounts → Type 0
-IsFixedBySome fixes = (is_fixed fixes ≡ true) ↔ ((pid : ℕ) × (0 < fix_count fixes pid))

@@ -1,10 +1,8 @@
 -- A table with its fixes, and what fixing and releasing it do (stdlib manual, module ets, safe_fixtable/2).
-use Rattle.std.specs.Prelude.{◌≡◌, ℕ, ◌+◌, ◌-◌, ◌<◌, Bool, false, true, if◌then◌else◌, List, Result, Ok, Err}
-use Rattle.std.specs.List.{AllByRecursion}
-use Rattle.bucket_table.specs.Slots.{Slot, has_objects}
+use Rattle.std.specs.Prelude.{◌≡◌, ℕ, ◌+◌, ◌-◌, ◌<◌, Bool, if◌then◌else◌, List, Result, Ok, Err}
 use Rattle.table_ops.specs.Content.{Content, ContentState}
 use Rattle.table_ops.specs.Drop.{Which, without_those, without_held}
-use Rattle.table_ops.specs.Refusals.{Change}
+use Rattle.table_ops.specs.Outcomes.{Change}
 use Rattle.fixed_walk.specs.declared.fault.FixFault.{FixFault}
 use Rattle.fixed_walk.specs.declared.fault.FixFault.TheVariants.{SystemLimit, Memory}
 use Rattle.fixed_walk.specs.Fixes.{FixCounts, max_fixes, fix_count, is_fixed, with_count}
@@ -30,14 +28,6 @@ on_content change old r new =
 abbrev pub after_delete : Which → TableState → TableState
 after_delete which table =
     record table { content = without_those (is_fixed table.fixes) which table.content }
-
--- there are no tombstones: each slot has objects
-abbrev pub HasNoTombstones : List Slot → Type 0
-HasNoTombstones slots = AllByRecursion (λ slot. has_objects slot.1 ≡ true) slots
-
--- there are tombstones only while the table is fixed
-abbrev pub TombstonesOnlyWhileFixed : TableState → Type 0
-TombstonesOnlyWhileFixed table = is_fixed table.fixes ≡ false → HasNoTombstones table.content.slots
 
 -- the process has one more fix; system limit if it already has the greatest number of fixes
 abbrev pub IncrementsFix : ℕ → TableState → Result (Unit {0}) FixFault → TableState → Type 0

@@ -2,7 +2,8 @@
 //! a fix is fixed.
 ghost use Rattle.std.specs.Prelude.{◌≡◌, ◌+◌, ◌-◌, ◌<◌, OnOk, OnErr};
 ghost use Rattle.std.specs.FinMap as map;
-ghost use Rattle.fixed_walk.specs.Fixes.{max_fixes, fix_count, is_fixed, with_count, IsFixedBySome};
+ghost use Rattle.fixed_walk.specs.Fixes.{max_fixes, fix_count, is_fixed, with_count};
+ghost use Rattle.fixed_walk.specs.Invariants.{IsFixedBySome};
 
 use indexmap::IndexMap;
 use std::alloc::{AllocError, Global};
@@ -18,7 +19,8 @@ pub struct Fixes {
 impl Model for Fixes {
     ghost use Rattle.std.specs.Coded.{coded_ℕ};
     ghost use Rattle.std.specs.FinMap as map;
-    ghost use Rattle.fixed_walk.specs.Fixes.{FixCounts, AreCounted};
+    ghost use Rattle.fixed_walk.specs.Fixes.{FixCounts};
+    ghost use Rattle.fixed_walk.specs.Invariants.{AreCounted};
 
     ghost Value = { FixCounts };
 

@@ -5,8 +5,8 @@ ghost use Rattle.std.specs.FinMap as map;
 ghost use Rattle.bucket_table.specs.Buckets.{IsGrown, IsReadied};
 ghost use Rattle.bucket_table.specs.Slots.{object_count};
 ghost use Rattle.table_ops.specs.Content.{IsContent};
-ghost use Rattle.fixed_walk.specs.Fixes.{IsFixedBySome};
-ghost use Rattle.fixed_walk.specs.TableState.{HasNoTombstones, TombstonesOnlyWhileFixed, with_fixes};
+ghost use Rattle.fixed_walk.specs.Invariants.{IsFixedBySome, HasNoTombstones, TombstonesOnlyWhileFixed};
+ghost use Rattle.fixed_walk.specs.TableState.{with_fixes};
 
 use crate::fixes::Fixes;
 use bucket_table::{Growth, Readying, Rows};
@@ -32,7 +32,8 @@ pub struct Walked<R: Rows> {
 
 // The value that contracts see of this type (`view`), and what is true of its fields between calls (`invariant`).
 impl<R: Rows> Model for Walked<R> {
-    ghost use Rattle.fixed_walk.specs.TableState.{TableState, TombstonesOnlyWhileFixed, with_fixes};
+    ghost use Rattle.fixed_walk.specs.TableState.{TableState, with_fixes};
+    ghost use Rattle.fixed_walk.specs.Invariants.{TombstonesOnlyWhileFixed};
     ghost use Rattle.fixed_walk.specs.inside.Codes.{state_code};
 
     ghost Value = { TableState };
@@ -63,7 +64,7 @@ impl<R: Rows> Walked<R> {
 
     /// Returns the rows, for reading what the methods of the table do not return.
     pub fn rows(&self) -> &R
-        ensures slots { R.content result.now ≡ self.now.content.slots }
+        ensures slots { R.slots result.now ≡ self.now.content.slots }
         ensures buckets { R.readiness result.now ≡ self.now.buckets }
     {
         self.table.rows()

@@ -13,7 +13,7 @@ use Rattle.match_spec.specs.declared.expression.function.Function.{Function}
 use Rattle.match_spec.specs.declared.expression.function.Function.TheVariants.{Not, Abs, Hd, Tl, Length, Size, Xor, Element}
 use Rattle.match_spec.specs.declared.expression.guards.GuardKind.TheVariants.{Atom, Integer, List as AnyList, Tuple, Binary, Pid, Reference}
 use Rattle.match_spec.specs.Expressions.{strict_connective, short_circuit_connective, is_function}
-use Rattle.match_spec.specs.Functions.{truth, boolean, exclusive, absolute, head, tail, list_length, size, element, is_type, comparison, on_integers, divided, unary_function_of, binary_function_of, call}
+use Rattle.match_spec.specs.Functions.{truth, boolean, exclusive, absolute, head, tail, list_length, size, element, is_type, comparison, on_integers, divide, unary_function_of, binary_function_of, call}
 use Rattle.match_spec.specs.inside.Functions.{apply, deciding, is_or, calculate_or, compare_or, function_of, unary_function_of as one_by_enum, binary_function_of as two_by_enum, strict_connective as strict_by_enum, short_circuit_connective as short_circuit_by_enum, is_function as is_function_by_enum}
 
 abbrev pub of_one : Function → Data → Option Data
@@ -73,7 +73,7 @@ binary_function_of-is f =
     (bytes_eq f (codes "xor"))
     (bytes_eq f (codes "element"))
   where
-    by : (c0 c1 c2 c3 c4 c5 c6 c7 c8 c9 c10 c11 c12 : Bool) → (if c0 then Some (comparison is_gt) else if c1 then Some (comparison is_ge) else if c2 then Some (comparison is_lt) else if c3 then Some (comparison is_le) else if c4 then Some (comparison is_eq) else if c5 then Some (comparison is_ne) else if c6 then Some (on_integers (λ m n. in_range (m +ℤ n))) else if c7 then Some (on_integers (λ m n. in_range (m -ℤ n))) else if c8 then Some (on_integers (λ m n. in_range (m *ℤ n))) else if c9 then Some (on_integers (divided int_div)) else if c10 then Some (on_integers (divided int_rem)) else if c11 then Some (λ d e. option_map truth (exclusive (boolean d) (boolean e))) else if c12 then Some element else None)
+    by : (c0 c1 c2 c3 c4 c5 c6 c7 c8 c9 c10 c11 c12 : Bool) → (if c0 then Some (comparison is_gt) else if c1 then Some (comparison is_ge) else if c2 then Some (comparison is_lt) else if c3 then Some (comparison is_le) else if c4 then Some (comparison is_eq) else if c5 then Some (comparison is_ne) else if c6 then Some (on_integers (λ m n. in_range (m +ℤ n))) else if c7 then Some (on_integers (λ m n. in_range (m -ℤ n))) else if c8 then Some (on_integers (λ m n. in_range (m *ℤ n))) else if c9 then Some (on_integers (divide int_div)) else if c10 then Some (on_integers (divide int_rem)) else if c11 then Some (λ d e. option_map truth (exclusive (boolean d) (boolean e))) else if c12 then Some element else None)
         ≡ option_map of_two (compare_or (if c0 then Some Greater else if c1 then Some GreaterOrEqual else if c2 then Some Less else if c3 then Some LessOrEqual else if c4 then Some Equal else if c5 then Some NotEqual else None) (calculate_or (if c6 then Some Add else if c7 then Some Subtract else if c8 then Some Multiply else if c9 then Some Divide else if c10 then Some Remainder else None) (if c11 then Some Xor else if c12 then Some Element else None)))
     by true c1 c2 c3 c4 c5 c6 c7 c8 c9 c10 c11 c12 = refl
     by false true c2 c3 c4 c5 c6 c7 c8 c9 c10 c11 c12 = refl

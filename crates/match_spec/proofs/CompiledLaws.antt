@@ -7,7 +7,7 @@ use Rattle.ets_term.specs.declared.term.Term.{Term}
 use Rattle.ets_term.specs.declared.term.Term.TheVariants.{Atom}
 use Rattle.ets_term.specs.Data.{Data, int, atom, pid, tid, tuple, list, binary, DataList, no_terms, term, data_list}
 use Rattle.ets_term.specs.Order.{data_list_len}
-use Rattle.ets_term.specs.laws.Exact.{term_of}
+use Rattle.ets_term.specs.Trees.{term_of}
 use Rattle.match_spec.specs.declared.expression.Connective.{Connective}
 use Rattle.match_spec.specs.declared.expression.Connective.TheVariants.{And, Or}
 use Rattle.match_spec.specs.declared.expression.function.Function.{Function}

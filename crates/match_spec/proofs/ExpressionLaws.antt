@@ -6,7 +6,8 @@ use Rattle.ets_term.specs.declared.term.Term.{Term}
 use Rattle.ets_term.specs.declared.term.Term.TheVariants.{Atom, Tuple, List as Lst}
 use Rattle.ets_term.specs.Data.{Data, int, atom, pid, tid, tuple, list, binary, DataList, no_terms, term, data_list, data_of}
 use Rattle.ets_term.specs.Order.{data_list_len}
-use Rattle.ets_term.specs.laws.Exact.{term_of, back, data_of-Tuple, data_of-List}
+use Rattle.ets_term.specs.laws.Exact.{back, data_of-Tuple, data_of-List}
+use Rattle.ets_term.specs.Trees.{term_of}
 use Rattle.match_spec.specs.declared.expression.Expression.{Expression}
 use Rattle.match_spec.specs.declared.expression.Expression.TheVariants.{Constant, Object, Tuple as Parts}
 use Rattle.match_spec.specs.inside.CompiledExpressions.{expression_of, expressions_of, constant_else, call_expression}

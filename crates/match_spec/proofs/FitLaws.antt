@@ -5,7 +5,7 @@ use Rattle.std.specs.Option.{option_map}
 use Rattle.std.specs.Str.{bytes_eq}
 use Rattle.ets_term.specs.declared.term.Term.{Term}
 use Rattle.ets_term.specs.Data.{Data, int, atom, pid, tid, tuple, list, binary, DataList, no_terms, term}
-use Rattle.ets_term.specs.laws.Exact.{term_of}
+use Rattle.ets_term.specs.Trees.{term_of}
 use Rattle.match_spec.specs.declared.pattern.part.Part.{Part, the_lemmas}
 use Rattle.match_spec.specs.declared.pattern.part.Part.TheOpen.{Part-F}
 use Rattle.match_spec.specs.declared.pattern.part.Part.TheVariants.{Wildcard, Repeated, Tuple, List as Terms, Literal}
@@ -13,7 +13,7 @@ use Rattle.match_spec.specs.Patterns.{Bindings, equal_terms, matches, data_list_
 use Rattle.match_spec.specs.inside.CompiledExpressions.{subterms_at}
 use Rattle.match_spec.specs.inside.CompiledPatterns.{part_fits, part_step, all_fit, part_of, parts_from, name_part, IsCompiled}
 use Rattle.match_spec.specs.inside.FirstPaths.{FirstPaths, first_path, paths_of, first_paths_of}
-use Rattle.match_spec.specs.Paths.{Path, subterm_at, parts, element_or, variable_path, value_at}
+use Rattle.match_spec.specs.Paths.{Path, subterm_at, items_of, element_or, variable_path, value_at}
 use Rattle.match_spec.specs.Variables.{variable, variables}
 use Rattle.match_spec.proofs.PathLaws.{first_path-first, paths_of-first}
 use Rattle.match_spec.proofs.TreeLaws.{data_of-term_of, equal_terms-refl}
@@ -33,9 +33,9 @@ fits-List ps = search (rules, the_lemmas)
 fits-Literal : (c : Term) → part_fits (Literal c) ≡ part_step (Part-F.Literal c)
 fits-Literal c = search (rules, the_lemmas)
 
-subterm_at-snoc : (path : Path) (i : ℕ) (t : Data) → subterm_at (path ++ i ∷ []) t ≡ element_or (parts (subterm_at path t)) i (subterm_at path t)
+subterm_at-snoc : (path : Path) (i : ℕ) (t : Data) → subterm_at (path ++ i ∷ []) t ≡ element_or (items_of (subterm_at path t)) i (subterm_at path t)
 subterm_at-snoc [] i t = refl
-subterm_at-snoc (j ∷ path) i t = subterm_at-snoc path i (element_or (parts t) j t)
+subterm_at-snoc (j ∷ path) i t = subterm_at-snoc path i (element_or (items_of t) j t)
 
 -- a literal of any kind
 fits-constant : (d object t : Data) → part_fits (Literal (term_of d)) object t ≡ equal_terms d t
@@ -70,9 +70,9 @@ module _ (pattern object : Data) where
     fit : (current : Path) (p t : Data) → subterm_at current object ≡ t → part_fits (part_of first current p) object t ≡ matches b p t
     fit current (atom a) t e = fit_name current t e a (bytes_eq a (codes "_"))
     fit current (tuple ps) (tuple ts) e =
-        ap (λ f. f object (tuple ts)) (fits-Tuple _) ∙ fit_data_list current 0 ps ts (tuple ts) (λ j. rw zero-add (subterm_at-snoc current j object ∙ ap (λ d. element_or (parts d) j d) e))
+        ap (λ f. f object (tuple ts)) (fits-Tuple _) ∙ fit_data_list current 0 ps ts (tuple ts) (λ j. rw zero-add (subterm_at-snoc current j object ∙ ap (λ d. element_or (items_of d) j d) e))
     fit current (list ps) (list ts) e =
-        ap (λ f. f object (list ts)) (fits-List _) ∙ fit_data_list current 0 ps ts (list ts) (λ j. rw zero-add (subterm_at-snoc current j object ∙ ap (λ d. element_or (parts d) j d) e))
+        ap (λ f. f object (list ts)) (fits-List _) ∙ fit_data_list current 0 ps ts (list ts) (λ j. rw zero-add (subterm_at-snoc current j object ∙ ap (λ d. element_or (items_of d) j d) e))
     fit current (tuple ps) (int n) e = ap (λ f. f object (int n)) (fits-Tuple _)
     fit current (tuple ps) (atom n) e = ap (λ f. f object (atom n)) (fits-Tuple _)
     fit current (tuple ps) (pid n) e = ap (λ f. f object (pid n)) (fits-Tuple _)

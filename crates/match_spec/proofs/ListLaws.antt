@@ -7,7 +7,8 @@ use Rattle.ets_term.specs.declared.term.Term.{Term, the_lemmas}
 use Rattle.ets_term.specs.declared.term.Term.TheVariants.{Int, Atom, Pid, Tid, Tuple, List as Lst, Binary}
 use Rattle.ets_term.specs.Data.{Data, int, atom, pid, tid, tuple, list, binary, data_list, data_of}
 use Rattle.ets_term.specs.Depth.{elements, element_at}
-use Rattle.ets_term.specs.laws.Exact.{term_of, terms_of, back, data_of-Tuple, data_of-List}
+use Rattle.ets_term.specs.laws.Exact.{back, data_of-Tuple, data_of-List}
+use Rattle.ets_term.specs.Trees.{term_of, terms_of}
 use Rattle.match_spec.specs.Functions.{tail, list_length, size, count, data_list_element, tuple_element}
 use Rattle.match_spec.proofs.ExpressionLaws.{data_list_len_of}
 

@@ -1,13 +1,15 @@
 -- If a term matches by some bindings, each variable of the pattern is bound to the subterm at its first path.
 use Rattle.std.proofs.Common.{◌≡◌, ℕ, suc, ◌+◌, ◌==◌, ◌&&◌, ◌||◌, ◌++◌, is_some, map, unwrap_or, Bool, true, false, if◌then◌else◌, List, [], ◌∷◌, Option, Some, None, codes, refl, sym, ap, subst, ◌∙◌, arith, zero-add, add-zero}
 use Rattle.std.proofs.lemmas.Slice.Eq.{bytes_eq-Decides}
-use Rattle.std.specs.Option.{option_map, option_or}
+use Rattle.std.specs.Option.{option_map, option_map_or, option_or}
 use Rattle.std.specs.Str.{bytes_eq}
 use Rattle.ets_term.specs.Data.{Data, int, atom, pid, tid, tuple, list, binary, DataList, no_terms, term}
-use Rattle.match_spec.specs.Patterns.{Bindings, binding, Match, matches, data_list_matches, name_matches, is_bound_to, occurrences, bindings_of, values, IsBindings}
+use Rattle.match_spec.specs.Patterns.{Bindings, binding, matches, data_list_matches, name_matches, is_bound_to, occurrences, bindings_of, values}
+use Rattle.match_spec.specs.Matching.{Match, IsBindings}
 use Rattle.match_spec.specs.laws.Bindings.{AreTheBindings}
-use Rattle.match_spec.specs.Paths.{Path, subterm_at, parts, element_or, path_of, path_from, is_number, value_at}
-use Rattle.match_spec.specs.Variables.{numbers_in, variable_numbers, data_list_variable_numbers, variable, variables}
+use Rattle.match_spec.specs.Paths.{Path, subterm_at, items_of, element_or, path_of, path_from, value_at}
+use Rattle.match_spec.specs.Variables.{variable_numbers, data_list_variable_numbers, variable, variables}
+use Rattle.std.specs.Prelude.{option_to_list}
 use Rattle.match_spec.proofs.BoolLaws.{both-true, or-left, or-right, or-cases, clash, same_Some, None-Some}
 use Rattle.match_spec.proofs.NumberLaws.{has, has-append, has-fold, same_number, itself, Rising, fold-rising, above-apart, above-rising}
 use Rattle.match_spec.proofs.PathLaws.{found}
@@ -28,7 +30,7 @@ module _ (b : ℕ → Option Data) (n : ℕ) where
   just None t h = cc
   just (Some u) t h = ap Some (equal_terms-exact u t h)
 
-  here : (a : List ℕ) (t : Data) (o : Option ℕ) (path : Path) → variable a ≡ o → (if is_number n o then Some [] else None) ≡ Some path → (bytes_eq a (codes "_") || name_matches b a o t) ≡ true → b n ≡ Some (subterm_at path t)
+  here : (a : List ℕ) (t : Data) (o : Option ℕ) (path : Path) → variable a ≡ o → (if option_map_or (λ k. n == k) o false then Some [] else None) ≡ Some path → (bytes_eq a (codes "_") || name_matches b a o t) ≡ true → b n ≡ Some (subterm_at path t)
   here a t None path v p h = cc
   here a t (Some m) path v p h = by (n == m) refl p
     where
@@ -60,17 +62,17 @@ module _ (b : ℕ → Option Data) (n : ℕ) where
     follow (binary x) t path e h = cc
 
     follow_data_list : (ps ts : DataList) (whole : Data) (i : ℕ) (path : Path) → path_from n i ps ≡ Some path → data_list_matches b ps ts ≡ true
-        → ((j : ℕ) → element_or (parts whole) (i + j) whole ≡ element_or ts j whole) → b n ≡ Some (subterm_at path whole)
+        → ((j : ℕ) → element_or (items_of whole) (i + j) whole ≡ element_or ts j whole) → b n ≡ Some (subterm_at path whole)
     follow_data_list no_terms ts whole i path e h elements = cc
     follow_data_list (term p ps) no_terms whole i path e h elements = cc
     follow_data_list (term p ps) (term t ts) whole i path e h elements =
         let both = both-true _ _ h in
         either (path_of n p) refl e
         (λ inner is. follow p t inner is both.0 ∙ ap (λ d. Some (subterm_at inner d)) (sym (rw add-zero at (elements 0))))
-        (λ rest. follow_data_list ps ts whole (suc i) path rest both.1 (λ j. subst (λ m. element_or (parts whole) m whole ≡ element_or ts j whole) (omega arith) (elements (suc j))))
+        (λ rest. follow_data_list ps ts whole (suc i) path rest both.1 (λ j. subst (λ m. element_or (items_of whole) m whole ≡ element_or ts j whole) (omega arith) (elements (suc j))))
       where
         either : (o : Option Path) → path_of n p ≡ o → option_or (option_map (λ q. i ∷ q) o) (path_from n (suc i) ps) ≡ Some path
-            → ((inner : Path) → path_of n p ≡ Some inner → b n ≡ Some (subterm_at inner (element_or (parts whole) i whole)))
+            → ((inner : Path) → path_of n p ≡ Some inner → b n ≡ Some (subterm_at inner (element_or (items_of whole) i whole)))
             → (path_from n (suc i) ps ≡ Some path → b n ≡ Some (subterm_at path whole)) → b n ≡ Some (subterm_at path whole)
         either None o-is q in_first in_rest = in_rest q
         either (Some inner) o-is q in_first in_rest = in_first inner o-is ∙ ap (λ (w : Path). Some (subterm_at w whole)) (same_Some q)
@@ -86,7 +88,7 @@ module _ (f g : ℕ → Option Data) where
   second_part : (xs ys : List ℕ) → Agree (xs ++ ys) → Agree ys
   second_part xs ys h n e = h n (has-append xs ys n ∙ or-right _ _ e)
 
-  alike_names : (a : List ℕ) (t : Data) (o : Option ℕ) → Agree (numbers_in o) → name_matches f a o t ≡ name_matches g a o t
+  alike_names : (a : List ℕ) (t : Data) (o : Option ℕ) → Agree (option_to_list o) → name_matches f a o t ≡ name_matches g a o t
   alike_names a t None h = refl
   alike_names a t (Some n) h = ap (λ u. is_bound_to u t) (h n (or-left _ _ (itself n)))
 
@@ -123,7 +125,7 @@ some-map f None = refl
 some-map f (Some x) = refl
 
 module _ (n : ℕ) where
-  name_placed : (o : Option ℕ) → has (numbers_in o) n ≡ true → is_some {T = Path} (if is_number n o then Some [] else None) ≡ true
+  name_placed : (o : Option ℕ) → has (option_to_list o) n ≡ true → is_some {T = Path} (if option_map_or (λ k. n == k) o false then Some [] else None) ≡ true
   name_placed None h = h
   name_placed (Some m) h = by (n == m) h
     where

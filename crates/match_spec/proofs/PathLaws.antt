@@ -7,13 +7,14 @@ use Rattle.std.specs.BTreeMap.{insert_entry}
 use Rattle.std.specs.Cmp.{unsigned_ties}
 use Rattle.std.specs.List.{list_any}
 use Rattle.std.specs.Map.{lookup}
-use Rattle.std.specs.Option.{option_map, option_or}
+use Rattle.std.specs.Option.{option_map, option_map_or, option_or}
 use Rattle.std.specs.Ordering.{nat_cmp}
 use Rattle.ets_term.specs.Data.{Data, int, atom, pid, tid, tuple, list, binary, DataList, no_terms, term}
 use Rattle.match_spec.specs.Expressions.{is_bound}
 use Rattle.match_spec.specs.Patterns.{Bindings}
-use Rattle.match_spec.specs.Paths.{Path, is_number, path_of, path_from, variable_path, value_at}
-use Rattle.match_spec.specs.Variables.{numbers_in, variable_numbers, data_list_variable_numbers, variable, variables, put}
+use Rattle.match_spec.specs.Paths.{Path, path_of, path_from, variable_path, value_at}
+use Rattle.match_spec.specs.Variables.{variable_numbers, data_list_variable_numbers, variable, variables, put}
+use Rattle.std.specs.Prelude.{option_to_list}
 use Rattle.match_spec.specs.inside.FirstPaths.{FirstPaths, path_in, first_path, numbers_of, paths_of, insert_unless, record_path, add_first_paths, add_first_paths_from, first_paths_of}
 use Rattle.match_spec.proofs.BoolLaws.{or-right, clash}
 use Rattle.match_spec.proofs.NumberLaws.{has, same_number, itself, Rising, put-rising, put-there, above-apart, above-rising}
@@ -87,7 +88,7 @@ abbrev below_here : Path → Option Path → Option Path
 below_here current = option_map (λ path. current ++ path)
 
 module _ (m : ℕ) where
-  lookup-record_path : (current : Path) (first : FirstPaths) (o : Option ℕ) → at_number (record_path current first o) m ≡ option_or (at_number first m) (if is_number m o then Some current else None)
+  lookup-record_path : (current : Path) (first : FirstPaths) (o : Option ℕ) → at_number (record_path current first o) m ≡ option_or (at_number first m) (if option_map_or (λ k. m == k) o false then Some current else None)
   lookup-record_path current first None = sym (or-None _)
   lookup-record_path current first (Some n) = by (path_in first n) refl (m == n) refl
     where
@@ -107,7 +108,7 @@ module _ (m : ℕ) where
 
   mutual
     lookup-first : (current : Path) (first : FirstPaths) (p : Data) → at_number (add_first_paths current first p) m ≡ option_or (at_number first m) (below_here current (path_of m p))
-    lookup-first current first (atom a) = lookup-record_path current first (variable a) ∙ ap (option_or (at_number first m)) (at_here current (is_number m (variable a)))
+    lookup-first current first (atom a) = lookup-record_path current first (variable a) ∙ ap (option_or (at_number first m)) (at_here current (option_map_or (λ k. m == k) (variable a) false))
     lookup-first current first (tuple ps) = lookup-from current 0 first ps
     lookup-first current first (list ps) = lookup-from current 0 first ps
     lookup-first current first (int n) = sym (or-None _)
@@ -126,7 +127,7 @@ module _ (m : ℕ) where
 abbrev putting : List ℕ → ℕ → List ℕ
 putting ms n = put n ms
 
-variable_numbers-record_path : (current : Path) (first : FirstPaths) (o : Option ℕ) → Rising (numbers_of first) → numbers_of (record_path current first o) ≡ fold putting (numbers_of first) (numbers_in o)
+variable_numbers-record_path : (current : Path) (first : FirstPaths) (o : Option ℕ) → Rising (numbers_of first) → numbers_of (record_path current first o) ≡ fold putting (numbers_of first) (option_to_list o)
 variable_numbers-record_path current first None a = refl
 variable_numbers-record_path current first (Some n) a = by (path_in first n) refl
   where

@@ -5,7 +5,8 @@ use Rattle.std.proofs.lemmas.Cmp.{tied_itself}
 use Rattle.ets_term.specs.declared.term.Term.{the_lemmas}
 use Rattle.ets_term.specs.declared.term.Term.TheVariants.{Int, Atom}
 use Rattle.ets_term.specs.Data.{Data, int, atom, pid, tid, tuple, list, binary, DataList, no_terms, term, data_list, data_of}
-use Rattle.ets_term.specs.laws.Exact.{term_of, terms_of, data_of-Tuple, data_of-List}
+use Rattle.ets_term.specs.laws.Exact.{data_of-Tuple, data_of-List}
+use Rattle.ets_term.specs.Trees.{term_of, terms_of}
 use Rattle.ets_term.specs.laws.Ordered.{order_total}
 use Rattle.match_spec.specs.Patterns.{equal_terms}
 

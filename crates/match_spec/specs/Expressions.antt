@@ -94,8 +94,7 @@ is_function f n =
 
 -- whether a variable is among these variables; None is a name that is not a variable
 abbrev pub is_bound : List ℕ → Option ℕ → Bool
-is_bound ns None = true
-is_bound ns (Some n) = list_any (λ m. n == m) ns
+is_bound ns found = option_map_or (λ n. list_any (λ m. n == m) ns) found true
 
 abbrev mutual
   -- whether a term is an expression, if the pattern of the clause binds these variables

@@ -92,15 +92,15 @@ on_integers f d e = None
 
 -- a quotient or remainder, which fails if the divisor is zero; a quotient is cut toward zero, and a remainder has the
 -- sign of the left operand
-abbrev pub divided : (ℤ → ℤ → ℤ) → ℤ → ℤ → Option ℤ
-divided f m n = if is_eq (int_cmp n (pos 0)) then None else in_range (f m n)
+abbrev pub divide : (ℤ → ℤ → ℤ) → ℤ → ℤ → Option ℤ
+divide f m n = if is_eq (int_cmp n (pos 0)) then None else in_range (f m n)
 
 -- whether exactly one of two booleans is true
 abbrev pub xor : Bool → Bool → Bool
 xor true b = not b
 xor false b = b
 
--- the same, if both are booleans
+-- whether exactly one is true; None if one is None
 abbrev pub exclusive : Option Bool → Option Bool → Option Bool
 exclusive a b = option_and_then (λ x. option_map (xor x) b) a
 
@@ -132,8 +132,8 @@ binary_function_of f =
     else if bytes_eq f (codes "+") then Some (on_integers (λ m n. in_range (m +ℤ n)))
     else if bytes_eq f (codes "-") then Some (on_integers (λ m n. in_range (m -ℤ n)))
     else if bytes_eq f (codes "*") then Some (on_integers (λ m n. in_range (m *ℤ n)))
-    else if bytes_eq f (codes "div") then Some (on_integers (divided int_div))
-    else if bytes_eq f (codes "rem") then Some (on_integers (divided int_rem))
+    else if bytes_eq f (codes "div") then Some (on_integers (divide int_div))
+    else if bytes_eq f (codes "rem") then Some (on_integers (divide int_rem))
     else if bytes_eq f (codes "xor") then Some (λ d e. option_map truth (exclusive (boolean d) (boolean e)))
     else if bytes_eq f (codes "element") then Some element
     else None

@@ -5,5 +5,6 @@ pub mod Patterns
 pub mod Paths
 pub mod Specifications
 pub mod Variables
+pub mod Matching
 pub mod inside
 pub mod laws

@@ -4,7 +4,8 @@ ghost use Rattle.std.specs.Prelude.{◌≡◌, ◌↔◌, true, false, Some, is_
 ghost use Rattle.std.specs.Option.{option_map};
 ghost use Rattle.ets_term.specs.Data.{data_of};
 ghost use Rattle.match_spec.specs.BoundKeys.{bound_key, IsKeyOfMatches};
-ghost use Rattle.match_spec.specs.Patterns.{bindings_of, values, IsBindings};
+ghost use Rattle.match_spec.specs.Patterns.{bindings_of, values};
+ghost use Rattle.match_spec.specs.Matching.{IsBindings};
 ghost use Rattle.match_spec.specs.Specifications.{is_pattern};
 
 // The modules: how to `compile` a pattern, a `part` of a compiled pattern, and the `path` from a term to a subterm.

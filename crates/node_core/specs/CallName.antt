@@ -1,5 +1,6 @@
 -- The names of calls (stdlib manual, module ets).
-use Rattle.std.specs.Prelude.{ℕ, if◌then◌else◌, List, [], ◌∷◌, Option, Some, None, codes}
+use Rattle.std.specs.Prelude.{ℕ, List, [], ◌∷◌, Option, codes}
+use Rattle.std.specs.Map.{lookup}
 use Rattle.std.specs.Str.{bytes_eq}
 use Rattle.node_core.specs.declared.call_name.CallName.{CallName}
 use Rattle.node_core.specs.declared.call_name.CallName.TheVariants.{Delete, DeleteAllObjects, DeleteObject, First, FirstLookup, GiveAway, Info, Insert, InsertNew, Lookup, LookupElement, Match, MatchDelete, MatchObject, Member, New, Next, NextLookup, Receive, SafeFixtable, Select, SelectCount, SelectDelete, SetOptions, Tab2list, Take, UpdateCounter, UpdateElement, Whereis}
@@ -38,11 +39,6 @@ spellings =
     ∷ (codes "whereis", Whereis)
     ∷ []
 
--- the name in the first entry with this text
-abbrev pub look_up : List ℕ → List (List ℕ × CallName) → Option CallName
-look_up text [] = None
-look_up text (s ∷ entries) = if bytes_eq text s.0 then Some s.1 else look_up text entries
-
 -- the name with this spelling
 abbrev pub call_name : List ℕ → Option CallName
-call_name text = look_up text spellings
+call_name text = lookup (bytes_eq text) spellings

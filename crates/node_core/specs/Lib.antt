@@ -1,6 +1,5 @@
 pub mod State
 pub mod Observable
-pub mod Positions
 pub mod Access
 pub mod rules
 pub mod CallName
@@ -11,4 +10,5 @@ pub mod Buckets
 pub mod Through
 pub mod laws
 pub mod Woven
+pub mod Pending
 pub mod inside

@@ -6,12 +6,12 @@ use Rattle.node_core.specs.State.{State}
 use Rattle.node_core.specs.rules.Tables.{first_buckets}
 
 -- a table's content and fixes, with the buckets of a new table in place of its own
-abbrev pub observable_fixed : TableState → TableState
-observable_fixed fixed = record fixed { buckets = first_buckets }
+abbrev pub observable_table_state : TableState → TableState
+observable_table_state state = record state { buckets = first_buckets }
 
 -- the same for a table with its metadata
 abbrev pub observable_table : Table → Table
-observable_table table = record table { fixed = observable_fixed table.fixed }
+observable_table table = record table { state = observable_table_state table.state }
 
 -- the same for all tables
 abbrev pub observable_tables : Tables → Tables
@@ -25,4 +25,4 @@ observable s = record s { world = record s.world { tables = observable_tables s.
 abbrev pub KeepsBuckets : State → State → Type 0
 KeepsBuckets old new =
     (t : ℕ) (was table : Table) → table_at old.world.tables t ≡ Some was
-    → table_at new.world.tables t ≡ Some table → table.fixed.buckets ≡ was.fixed.buckets
+    → table_at new.world.tables t ≡ Some table → table.state.buckets ≡ was.state.buckets

@@ -97,7 +97,7 @@ module _ (p t : ℕ) where
 
   -- the number of the process's fixes of the table
   abbrev pub fixes_in : State → ℕ
-  fixes_in s = option_map_or (λ table. fix_count table.fixed.fixes p) (table_at s.world.tables t) 0
+  fixes_in s = option_map_or (λ table. fix_count table.state.fixes p) (table_at s.world.tables t) 0
 
   -- the fix fails for this reason, and the traversal does not begin
   abbrev pub RefusesFix : WalkFault → State → Type 0

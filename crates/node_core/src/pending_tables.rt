@@ -11,7 +11,7 @@ use std::marker::Model;
 /// table, which was borrowed for a change last. Capacity is reserved before, so that adding a table takes no memory.
 #[derive(Drop)]
 pub struct PendingTables {
-    ordered: VecDeque<u32>,
+    queue: VecDeque<u32>,
     dirty: Option<u32>,
 }
 
@@ -24,53 +24,53 @@ impl Model for PendingTables {
     ghost coded = { pending_tables_code };
 
     ghost view = { λ s. record {
-      ordered = s.ordered.items;
+      queue = s.queue.items;
       dirty = s.dirty;
-      capacity = deque_capacity s.ordered;
+      capacity = deque_capacity s.queue;
     } };
 
-    ghost invariant = { λ s. Ascends s.ordered.items };
+    ghost invariant = { λ s. Ascends s.queue.items };
 }
 
 impl PendingTables {
     /// Makes an empty queue without a dirty table.
     pub fn new(alloc: Global) -> PendingTables
-        ensures { result.ordered ≡ [] }
+        ensures { result.queue ≡ [] }
     {
         PendingTables {
-            ordered: VecDeque::new(alloc),
+            queue: VecDeque::new(alloc),
             dirty: None,
         }
     }
 
     /// Gives a proof the invariant that the queue ascends. It does nothing at run time.
     pub fn reveal_invariant(&self)
-        ensures { Ascends self.now.ordered }
+        ensures { Ascends self.now.queue }
     {
-        let _ = self.ordered.len();
+        let _ = self.queue.len();
     }
 
     /// Returns the length of the queue.
     pub fn len(&self) -> usize
-        ensures { result ≡ length self.now.ordered }
+        ensures { result ≡ length self.now.queue }
     {
-        self.ordered.len()
+        self.queue.len()
     }
 
     /// Returns whether no table is queued and none is dirty.
     #[inline(always)]
     pub fn is_empty(&self) -> bool
-        ensures ordered { result ≡ true → self.now.ordered ≡ [] }
+        ensures queue { result ≡ true → self.now.queue ≡ [] }
         ensures dirty { result ≡ true → self.now.dirty ≡ None }
     {
-        self.dirty.is_none() && self.ordered.len() == 0
+        self.dirty.is_none() && self.queue.len() == 0
     }
 
     /// Returns the identifier at an index of the queue.
     pub fn get(&self, index: usize) -> Option<u32>
-        ensures { result ≡ slice_get self.now.ordered index }
+        ensures { result ≡ slice_get self.now.queue index }
     {
-        self.ordered.get(index).copied()
+        self.queue.get(index).copied()
     }
 
     /// Returns the dirty table.
@@ -97,28 +97,28 @@ impl PendingTables {
 
     /// Reserves capacity for `len` identifiers in all.
     pub fn reserve(&mut self, len: usize) -> Result<(), AllocError>
-        ensures same { self.new.ordered ≡ self.old.ordered }
+        ensures same { self.new.queue ≡ self.old.queue }
         ensures dirty { self.new.dirty ≡ self.old.dirty }
         ensures more { self.old.capacity ≤ self.new.capacity }
         ensures ok { OnOk result (len ≤ self.new.capacity) }
     {
-        self.ordered.reserve(len.saturating_sub(self.ordered.len()))
+        self.queue.reserve(len.saturating_sub(self.queue.len()))
     }
 
     /// Queues an identifier, unless the queue has it.
     #[inline(never)]
     pub fn insert(&mut self, id: u32)
         requires { HasRoomFor self.old id }
-        ensures new { IsAmong self.new.ordered id }
-        ensures old { (other : ℕ) → IsAmong self.old.ordered other
-            → IsAmong self.new.ordered other }
-        ensures below { (bound : ℕ) → AreBelow self.old.ordered bound → id < bound
-            → AreBelow self.new.ordered bound }
+        ensures new { IsAmong self.new.queue id }
+        ensures old { (other : ℕ) → IsAmong self.old.queue other
+            → IsAmong self.new.queue other }
+        ensures below { (bound : ℕ) → AreBelow self.old.queue bound → id < bound
+            → AreBelow self.new.queue bound }
         ensures dirty { self.new.dirty ≡ self.old.dirty }
         ensures capacity { self.old.capacity ≤ self.new.capacity }
     {
-        if let Err(index) = self.ordered.binary_search(&id) {
-            if self.ordered.insert(index, id).is_err() {
+        if let Err(index) = self.queue.binary_search(&id) {
+            if self.queue.insert(index, id).is_err() {
                 unreachable!()
             }
         }
@@ -126,10 +126,10 @@ impl PendingTables {
 
     /// Removes the front of the queue.
     pub fn pop_front(&mut self)
-        ensures rest { self.new.ordered ≡ drop 1 self.old.ordered }
+        ensures rest { self.new.queue ≡ drop 1 self.old.queue }
         ensures dirty { self.new.dirty ≡ self.old.dirty }
         ensures capacity { self.new.capacity ≡ self.old.capacity }
     {
-        let _ = self.ordered.pop_front();
+        let _ = self.queue.pop_front();
     }
 }

@@ -21,7 +21,7 @@ pub trait Others {
     /// The steps added so far, each with its turn: the index, from 0, of the key after which it runs.
     ghost steps: { Self → List (ℕ × event.Step) };
 
-    /// Returns the visited keys, in the order of the traversal.
+    /// Returns the keys so far, in the order of the traversal.
     fn seen(&self) -> &[Term]
         ensures { result.now ≡ keys self.now };
 
@@ -29,7 +29,7 @@ pub trait Others {
     fn given(&self) -> &[(usize, Step)]
         ensures { result.now ≡ steps self.now };
 
-    /// Observes a visited key: called when the traversal reaches it. Appends the key to `seen`, and may append steps to
+    /// Observes the next key: called when the traversal reaches it. Appends the key to `seen`, and may append steps to
     /// `given`, with the key's index as their turn; they run before the traversal continues. Running out of memory
     /// changes nothing.
     fn between(&mut self, last: &Term) -> Result<(), AllocError>

@@ -6,18 +6,18 @@ use Rattle.std.proofs.lemmas.List.Sums.{sum_by-cons}
 use Rattle.ets_term.specs.declared.term.Term.{Term}
 use Rattle.node_list.specs.declared.node.Item.{Item}
 use Rattle.node_list.specs.Cells.{Cell, Sorted, StartsWithDummy, new_cell}
-use Rattle.node_list.specs.Places.{IsFresh, IsPlaceOf, HasKeyAtMost, HasItem, from, cells_after, all_but_first, first_place}
-use Rattle.node_list.specs.Search.{is_it, place_of, passed}
+use Rattle.node_list.specs.Places.{IsFresh, IsPlaceOf, HasSplitKeyAtMost, HasItem, from, cells_after, all_but_first, first_place}
+use Rattle.node_list.specs.Search.{is_it, place_of, visited_cells}
 use Rattle.node_list.specs.Changes.{put_cell, without}
 use Rattle.node_list.proofs.CellLaws.{put-past, put-on, from-here, from-on, without-here, without-on, at-most-from, search-past, search-on}
 use Rattle.node_list.proofs.PlaceLaws.{from-has, fresh-other}
 
 -- the key of the head is at most every key
-pub head-has_key_at_most : (at key : ℕ) (cs : List Cell) → first_place cs ≡ Some at → StartsWithDummy cs → HasKeyAtMost key at cs
+pub head-has_key_at_most : (at key : ℕ) (cs : List Cell) → first_place cs ≡ Some at → StartsWithDummy cs → HasSplitKeyAtMost key at cs
 head-has_key_at_most at key [] e d = absurd d
 head-has_key_at_most at key (c ∷ cs) e d =
     let same : c.at ≡ at = cc in
-    let zero : c.key ≡ 0 = d.0 in
+    let zero : c.split_key ≡ 0 = d.0 in
     record { cell = c; later = cs; is = from-here at c cs same; up_to = omega arith }
 
 pub head-is_place : (at : ℕ) (cs : List Cell) → first_place cs ≡ Some at → StartsWithDummy cs → IsPlaceOf at cs
@@ -48,7 +48,7 @@ pub put-from_new : (x : Cell) (cs : List Cell) → IsFresh x.at cs → (later : 
 put-from_new x [] f = ([], from-here x.at x [] refl)
 put-from_new x (c ∷ cs) f =
     let P : List Cell → Type 0 = λ zs. (later : List Cell) × (from x.at zs ≡ x ∷ later) in
-    elim (cases_lt x.key c.key) [
+    elim (cases_lt x.split_key c.split_key) [
       | inl past ↦ subst P (sym (put-past x c cs past)) (c ∷ cs, from-here x.at x (c ∷ cs) refl)
       | inr on ↦
           let later = put-from_new x cs f.1 in
@@ -65,7 +65,7 @@ pub put-from_other : (x : Cell) (cs : List Cell) (at : ℕ) (d : Cell) (ds : Lis
 put-from_other x [] at d ds n e = absurd (cc)
 put-from_other x (c ∷ cs) at d ds n e =
     let P : List Cell → Type 0 = λ zs. (later : List Cell) × (from at zs ≡ d ∷ later) in
-    elim (cases_lt x.key c.key) [
+    elim (cases_lt x.split_key c.split_key) [
       | inl past ↦ subst P (sym (put-past x c cs past)) (ds, from-on at x (c ∷ cs) n ∙ e)
       | inr on ↦
           subst P (sym (put-on x c cs on))
@@ -90,7 +90,7 @@ pub put-fresh : (x : Cell) (cs : List Cell) (at : ℕ) → x.at ≢ at → IsFre
 put-fresh x [] at n f = (n, tt)
 put-fresh x (c ∷ cs) at n f =
     let P : List Cell → Type 0 = λ zs. IsFresh at zs in
-    elim (cases_lt x.key c.key) [
+    elim (cases_lt x.split_key c.split_key) [
       | inl past ↦ subst P (sym (put-past x c cs past)) (n, f)
       | inr on ↦ subst P (sym (put-on x c cs on)) (f.0, put-fresh x cs at n f.1)
     ]
@@ -119,47 +119,47 @@ without-from_other gone (c ∷ cs) at d ds n e =
 
 -- ---- search
 
-not_it-lower : (key : ℕ) (term : Term) (c : Cell) → c.key < key → is_it key term c ≡ false
+not_it-lower : (key : ℕ) (term : Term) (c : Cell) → c.split_key < key → is_it key term c ≡ false
 not_it-lower key term c h = grind (arith, nat_tests)
 
 -- a search from a node of a lower key finds what a search of the whole list finds
-pub place_of-from : (key : ℕ) (term : Term) (start : ℕ) (cs : List Cell) (d : Cell) (ds : List Cell) → Sorted cs → from start cs ≡ d ∷ ds → d.key < key → place_of key term cs ≡ place_of key term (d ∷ ds)
+pub place_of-from : (key : ℕ) (term : Term) (start : ℕ) (cs : List Cell) (d : Cell) (ds : List Cell) → Sorted cs → from start cs ≡ d ∷ ds → d.split_key < key → place_of key term cs ≡ place_of key term (d ∷ ds)
 place_of-from key term start [] d ds o e h = absurd (cc)
 place_of-from key term start (c ∷ cs) d ds o e h =
     elim (cases_eq c.at start) [
       | inl here ↦ ap (place_of key term) (sym (from-here start c cs here) ∙ e)
       | inr other ↦
           let later : from start cs ≡ d ∷ ds = sym (from-on start c cs other) ∙ e in
-          let low : c.key ≤ d.key = at-most-from start c.key cs d ds o.0 o.1 later in
+          let low : c.split_key ≤ d.split_key = at-most-from start c.split_key cs d ds o.0 o.1 later in
           let no : is_it key term c ≡ false = not_it-lower key term c (omega arith) in
           (search-on key term c cs (omega arith) no).found ∙ place_of-from key term start cs d ds o.1 later h
     ]
 
 -- an item below a key
 abbrev pub is_item_below : ℕ → Cell → Bool
-is_item_below high c = nat_lt c.key high && is_some c.item
+is_item_below high c = nat_lt c.split_key high && is_some c.item
 
 -- below this key there are only items
 abbrev pub HasOnlyItemsBelow : ℕ → List Cell → Type 0
 HasOnlyItemsBelow high [] = Unit {0}
-HasOnlyItemsBelow high (c ∷ cs) = (c.key < high → is_some c.item ≡ true) × HasOnlyItemsBelow high cs
+HasOnlyItemsBelow high (c ∷ cs) = (c.split_key < high → is_some c.item ≡ true) × HasOnlyItemsBelow high cs
 
-one-more-at-most : (key : ℕ) (term : Term) (c : Cell) (cs : List Cell) (b : Bool) → (nat_lt key c.key || is_it key term c) ≡ b → length (passed key term (c ∷ cs)) ≤ length (passed key term cs) + 1
-one-more-at-most key term c cs true e = let P : Bool → Type 0 = λ b. length (cond b (c ∷ []) (c ∷ passed key term cs)) ≤ length (passed key term cs) + 1 in subst P (sym e) (omega arith)
-one-more-at-most key term c cs false e = let P : Bool → Type 0 = λ b. length (cond b (c ∷ []) (c ∷ passed key term cs)) ≤ length (passed key term cs) + 1 in subst P (sym e) (omega arith)
+one-more-at-most : (key : ℕ) (term : Term) (c : Cell) (cs : List Cell) (b : Bool) → (nat_lt key c.split_key || is_it key term c) ≡ b → length (visited_cells key term (c ∷ cs)) ≤ length (visited_cells key term cs) + 1
+one-more-at-most key term c cs true e = let P : Bool → Type 0 = λ b. length (cond b (c ∷ []) (c ∷ visited_cells key term cs)) ≤ length (visited_cells key term cs) + 1 in subst P (sym e) (omega arith)
+one-more-at-most key term c cs false e = let P : Bool → Type 0 = λ b. length (cond b (c ∷ []) (c ∷ visited_cells key term cs)) ≤ length (visited_cells key term cs) + 1 in subst P (sym e) (omega arith)
 
 count-yes : (p : Cell → Bool) (c : Cell) (cs : List Cell) → p c ≡ true → count_by p (c ∷ cs) ≡ count_by p cs + 1
 count-yes p c cs h = sum_by-cons (λ z. cond (p z) 1 0) c cs ∙ rw h (omega arith)
 
-is_item_below-yes : (high : ℕ) (c : Cell) → c.key < high → is_some c.item ≡ true → is_item_below high c ≡ true
+is_item_below-yes : (high : ℕ) (c : Cell) → c.split_key < high → is_some c.item ≡ true → is_item_below high c ≡ true
 is_item_below-yes high c h e = grind (arith, nat_tests)
 
 -- a search for a key below `high` passes the items below `high`, and one more node
-pub length-passed : (key : ℕ) (term : Term) (high : ℕ) (cs : List Cell) → Sorted cs → key < high → HasOnlyItemsBelow high cs → length (passed key term cs) ≤ count_by (is_item_below high) cs + 1
+pub length-passed : (key : ℕ) (term : Term) (high : ℕ) (cs : List Cell) → Sorted cs → key < high → HasOnlyItemsBelow high cs → length (visited_cells key term cs) ≤ count_by (is_item_below high) cs + 1
 length-passed key term high [] o h b = omega arith
 length-passed key term high (c ∷ cs) o h b =
-    elim (cases_lt c.key high) [
+    elim (cases_lt c.split_key high) [
       | inl low ↦
-          omega (arith, one-more-at-most key term c cs (nat_lt key c.key || is_it key term c) refl, length-passed key term high cs o.1 h b.1, count-yes (is_item_below high) c cs (is_item_below-yes high c low (b.0 low)))
-      | inr past ↦ let far : key < c.key = omega arith in omega (arith, (search-past key term c cs o far).passed)
+          omega (arith, one-more-at-most key term c cs (nat_lt key c.split_key || is_it key term c) refl, length-passed key term high cs o.1 h b.1, count-yes (is_item_below high) c cs (is_item_below-yes high c low (b.0 low)))
+      | inr past ↦ let far : key < c.split_key = omega arith in omega (arith, (search-past key term c cs o far).passed)
     ]

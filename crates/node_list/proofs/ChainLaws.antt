@@ -22,8 +22,8 @@ cell-same at w c e = grind (arith, nat_tests)
 cell-other : (at : ℕ) (w : List Term) (c : Cell) → c.at ≢ at → cell_with at w c ≡ c
 cell-other at w c e = grind (arith, nat_tests)
 
-cell-keeps : (at : ℕ) (w : List Term) (c : Cell) → ((cell_with at w c).at ≡ c.at) × ((cell_with at w c).key ≡ c.key)
-cell-keeps at w c = elim (nat_eq c.at at) as (λ b. ((if b then record c { item = item_with c.item w } else c).at ≡ c.at) × ((if b then record c { item = item_with c.item w } else c).key ≡ c.key)) [ true ↦ (refl, refl) | false ↦ (refl, refl) ]
+cell-keeps : (at : ℕ) (w : List Term) (c : Cell) → ((cell_with at w c).at ≡ c.at) × ((cell_with at w c).split_key ≡ c.split_key)
+cell-keeps at w c = elim (nat_eq c.at at) as (λ b. ((if b then record c { item = item_with c.item w } else c).at ≡ c.at) × ((if b then record c { item = item_with c.item w } else c).split_key ≡ c.split_key)) [ true ↦ (refl, refl) | false ↦ (refl, refl) ]
 
 pub length-with : (at : ℕ) (w : List Term) (cs : List Cell) → length (cells_with at w cs) ≡ length cs
 length-with at w [] = refl
@@ -50,12 +50,12 @@ starts-with bound at w (c ∷ cs) s = let P : ℕ → Type 0 = λ z. bound ≤ z
 sorted-with : (at : ℕ) (w : List Term) (cs : List Cell) → Sorted cs → Sorted (cells_with at w cs)
 sorted-with at w [] o = o
 sorted-with at w (c ∷ cs) o =
-    (let P : ℕ → Type 0 = λ z. StartsFrom z (cells_with at w cs) in subst P (sym (cell-keeps at w c).1) (starts-with c.key at w cs o.0), sorted-with at w cs o.1)
+    (let P : ℕ → Type 0 = λ z. StartsFrom z (cells_with at w cs) in subst P (sym (cell-keeps at w c).1) (starts-with c.split_key at w cs o.0), sorted-with at w cs o.1)
 
 starts-dummy-with : (at : ℕ) (w : List Term) (cs : List Cell) → StartsWithDummy cs → StartsWithDummy (cells_with at w cs)
 starts-dummy-with at w [] d = d
 starts-dummy-with at w (c ∷ cs) d =
-    let P : Cell → Type 0 = λ z. (z.key ≡ 0) × (z.item ≡ None) in
+    let P : Cell → Type 0 = λ z. (z.split_key ≡ 0) × (z.item ≡ None) in
     elim (cases_eq c.at at) [
       | inl same ↦ subst P (sym (cell-same at w c same)) (d.0, ap (λ o. item_with o w) d.1)
       | inr other ↦ subst P (sym (cell-other at w c other)) d

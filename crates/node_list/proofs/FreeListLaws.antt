@@ -91,7 +91,7 @@ remove-free_list s t free_head at len left q a none u free next n =
     let g : ℕ → Option ListNode = λ k. free_in (get s k) in
     let h : ℕ → Option ListNode = λ k. free_in (get t k) in
     let fresh : IsFresh at a.cells = links-fresh g at none free_head a.cells a.links in
-    let c : Cell = record { at = at; key = q.split_key; item = None } in
+    let c : Cell = record { at = at; split_key = q.split_key; item = None } in
     let shown : h at ≡ Some (node_of c free_head) = ap free_in u.changed ∙ (free-is q free ∙ ap (λ (o : Option ℕ). let m : ListNode = record { split_key = q.split_key; next = o; item = None } in Some m) next) in
     record {
       cells = c ∷ a.cells;

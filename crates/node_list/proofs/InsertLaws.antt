@@ -5,21 +5,21 @@ use Rattle.slab.specs.Slab.{Slab, get, slab_len, Updates, with_value}
 use Rattle.slab.proofs.SlabLemmas.{Updates-with_value}
 use Rattle.node_list.specs.declared.node.ListNode.{ListNode}
 use Rattle.node_list.specs.Cells.{Cell, Sorted}
-use Rattle.node_list.specs.Places.{from, HasKeyAtMost, IsFresh}
+use Rattle.node_list.specs.Places.{from, HasSplitKeyAtMost, IsFresh}
 use Rattle.node_list.specs.Changes.{put_cell}
-use Rattle.node_list.specs.inside.Walks.{Links, IsLinked, cells_from, cell_of, node_of, NodeHasKeyAtMost, last_not_above_in}
+use Rattle.node_list.specs.inside.Walks.{Links, IsLinked, cells_from, cell_of, node_of, NodeHasSplitKeyAtMost, last_not_above_in}
 use Rattle.node_list.proofs.WalkLaws.{walk-is, walk-length, walk-none, cells_from-step_at}
 use Rattle.node_list.proofs.CellLaws.{last_not_above_in-past, last_not_above_in-on, put-past, put-on, from-here, from-on, length-put, length-from, at-most-from}
 use Rattle.node_list.proofs.PlaceLaws.{links-head_fresh, links-fresh, links-frame, links-from}
 
 abbrev pub Past : ℕ → List Cell → Type 0
 Past key [] = Unit {0}
-Past key (c ∷ cs) = key < c.key
+Past key (c ∷ cs) = key < c.split_key
 
 -- the place of the last node whose key is at most `key`
 abbrev pub Spot : ℕ → ℕ → List Cell → Type 0
 Spot key last [] = ⊥
-Spot key last (c ∷ cs) = (c.key ≤ key) × (((c.at ≡ last) × Past key cs) ⊎ Spot key last cs)
+Spot key last (c ∷ cs) = (c.split_key ≤ key) × (((c.at ≡ last) × Past key cs) ⊎ Spot key last cs)
 
 spot-apart : (key last p : ℕ) (cs : List Cell) → Spot key last cs → IsFresh p cs → last ≢ p
 spot-apart key last p [] h a = absurd h
@@ -35,7 +35,7 @@ pub record Spliced (g h : ℕ → Option ListNode) (last : ℕ) (x : Cell) : Typ
   pub put : h x.at ≡ Some (node_of x node.next)
   pub others : (k : ℕ) → k ≢ last → k ≢ x.at → h k ≡ g k
 
-put-past_all : (x : Cell) (cs : List Cell) → Past x.key cs → put_cell x cs ≡ x ∷ cs
+put-past_all : (x : Cell) (cs : List Cell) → Past x.split_key cs → put_cell x cs ≡ x ∷ cs
 put-past_all x [] h = refl
 put-past_all x (c ∷ cs) h = put-past x c cs h
 
@@ -43,7 +43,7 @@ node-next : (n m : ListNode) → n ≡ m → n.next ≡ m.next
 node-next n m e = ap (λ (k : ListNode). k.next) e
 
 splice : (g h : ℕ → Option ListNode) (last : ℕ) (x : Cell) → Spliced g h last x
-    → (link : Option ℕ) (cs : List Cell) → Links g link cs → Spot x.key last cs → Links h link (put_cell x cs)
+    → (link : Option ℕ) (cs : List Cell) → Links g link cs → Spot x.split_key last cs → Links h link (put_cell x cs)
 splice g h last x s link [] l spot = absurd spot
 splice g h last x s link (c ∷ cs) l spot =
     let apart : IsFresh x.at (c ∷ cs) = links-fresh g x.at s.free_head link (c ∷ cs) l in
@@ -62,20 +62,20 @@ splice g h last x s link (c ∷ cs) l spot =
       | inr later ↦
           let full : Links g (Some c.at) (c ∷ cs) = (refl, l.1) in
           let once : IsFresh c.at cs = links-head_fresh g c cs full l.1.0 cs l.1.2 (omega arith) in
-          let other : c.at ≢ last = λ e. spot-apart x.key last c.at cs later once (sym e) in
+          let other : c.at ≢ last = λ e. spot-apart x.split_key last c.at cs later once (sym e) in
           (l.0, (l.1.0, s.others c.at other apart.0 ∙ l.1.1, splice g h last x s l.1.0 cs l.1.2 later))
     ])
 
 -- ---- the node at `last_not_above_in`
-spot-last : (key : ℕ) (c : Cell) (cs : List Cell) → c.key ≤ key → Spot key (last_not_above_in key c.at cs) (c ∷ cs)
+spot-last : (key : ℕ) (c : Cell) (cs : List Cell) → c.split_key ≤ key → Spot key (last_not_above_in key c.at cs) (c ∷ cs)
 spot-last key c [] h = (h, inl (refl, tt))
 spot-last key c (d ∷ ds) h =
-    elim (cases_lt key d.key) [
+    elim (cases_lt key d.split_key) [
       | inl past ↦ let P : ℕ → Type 0 = λ z. Spot key z (c ∷ d ∷ ds) in subst P (sym (last_not_above_in-past key c.at d ds past)) (h, inl (refl, past))
       | inr on ↦ let P : ℕ → Type 0 = λ z. Spot key z (c ∷ d ∷ ds) in subst P (sym (last_not_above_in-on key c.at d ds on)) (h, inr (spot-last key d ds on))
     ]
 
-pub spot-from : (key start : ℕ) (cs : List Cell) (d : Cell) (ds : List Cell) → Sorted cs → from start cs ≡ d ∷ ds → d.key ≤ key → Spot key (last_not_above_in key d.at ds) cs
+pub spot-from : (key start : ℕ) (cs : List Cell) (d : Cell) (ds : List Cell) → Sorted cs → from start cs ≡ d ∷ ds → d.split_key ≤ key → Spot key (last_not_above_in key d.at ds) cs
 spot-from key start [] d ds o e h = absurd (cc)
 spot-from key start (c ∷ cs) d ds o e h =
     elim (cases_eq c.at start) [
@@ -85,17 +85,17 @@ spot-from key start (c ∷ cs) d ds o e h =
           subst P (sym same) (spot-last key d ds h)
       | inr other ↦
           let later : from start cs ≡ d ∷ ds = sym (from-on start c cs other) ∙ e in
-          let lower : c.key ≤ d.key = at-most-from start c.key cs d ds o.0 o.1 later in
+          let lower : c.split_key ≤ d.split_key = at-most-from start c.split_key cs d ds o.0 o.1 later in
           (omega arith, inr (spot-from key start cs d ds o.1 later h))
     ]
 
 -- what the node at the start gives
 pub record Begun (s : Slab ListNode) (key start : ℕ) : Type 0 where
   pub linked : IsLinked s (Some start)
-  pub up_to : NodeHasKeyAtMost s start key
+  pub up_to : NodeHasSplitKeyAtMost s start key
   pub spot : Spot key (last_not_above_in key start (cells_from s (Some start))) (cells_from s (Some 0))
 
-pub start-spot : (s : Slab ListNode) (key start : ℕ) → IsLinked s (Some 0) → Sorted (cells_from s (Some 0)) → HasKeyAtMost key start (cells_from s (Some 0)) → Begun s key start
+pub start-spot : (s : Slab ListNode) (key start : ℕ) → IsLinked s (Some 0) → Sorted (cells_from s (Some 0)) → HasSplitKeyAtMost key start (cells_from s (Some 0)) → Begun s key start
 start-spot s key start l o h =
     let f = links-from (get s) start (Some 0) (cells_from s (Some 0)) h.cell h.later l.links h.is in
     let short : length (h.cell ∷ h.later) ≤ slab_len s = omega (arith, ap length h.is, length-from start (cells_from s (Some 0)), walk-length (slab_len s) (get s) (Some 0)) in
@@ -118,7 +118,7 @@ spot-node g key last link (c ∷ cs) l h =
       | inr later ↦ spot-node g key last l.1.0 cs l.1.2 later
     ]
 
-pub spliced-cells_from : (s t : Slab ListNode) (last : ℕ) (x : Cell) → IsLinked s (Some 0) → Spliced (get s) (get t) last x → Spot x.key last (cells_from s (Some 0)) → slab_len t ≡ slab_len s + 1
+pub spliced-cells_from : (s t : Slab ListNode) (last : ℕ) (x : Cell) → IsLinked s (Some 0) → Spliced (get s) (get t) last x → Spot x.split_key last (cells_from s (Some 0)) → slab_len t ≡ slab_len s + 1
     → (IsLinked t (Some 0)) × (cells_from t (Some 0) ≡ put_cell x (cells_from s (Some 0)))
 spliced-cells_from s t last x l p h n =
     let links : Links (get t) (Some 0) (put_cell x (cells_from s (Some 0))) = splice (get s) (get t) last x p (Some 0) (cells_from s (Some 0)) l.links h in
@@ -133,18 +133,18 @@ pub record Hop (s : Slab ListNode) (key last place : ℕ) (m : ListNode) : Type 
   pub linked : IsLinked s (Some place)
   pub smaller : length (cells_from s (Some place)) < length (cells_from s (Some last))
 
-last_not_above_in-head : (s : Slab ListNode) (key last : ℕ) (n : ListNode) → IsLinked s (Some last) → NodeHasKeyAtMost s last key → get s last ≡ Some n → last_not_above_in key last (cells_from s (Some last)) ≡ last_not_above_in key last (cells_from s n.next)
+last_not_above_in-head : (s : Slab ListNode) (key last : ℕ) (n : ListNode) → IsLinked s (Some last) → NodeHasSplitKeyAtMost s last key → get s last ≡ Some n → last_not_above_in key last (cells_from s (Some last)) ≡ last_not_above_in key last (cells_from s n.next)
 last_not_above_in-head s key last n l u e =
     let st = cells_from-step_at s last n l e in
     let same : u.node ≡ n = cc (u.is, e) in
     let low : n.split_key ≤ key = rw same at u.up_to in
     ap (last_not_above_in key last) st.is ∙ last_not_above_in-on key last (cell_of last n) (cells_from s n.next) low
 
-pub last_not_above-end : (s : Slab ListNode) (key last : ℕ) (n : ListNode) → IsLinked s (Some last) → NodeHasKeyAtMost s last key → get s last ≡ Some n → n.next ≡ None → last_not_above_in key last (cells_from s (Some last)) ≡ last
+pub last_not_above-end : (s : Slab ListNode) (key last : ℕ) (n : ListNode) → IsLinked s (Some last) → NodeHasSplitKeyAtMost s last key → get s last ≡ Some n → n.next ≡ None → last_not_above_in key last (cells_from s (Some last)) ≡ last
 last_not_above-end s key last n l u e none =
     last_not_above_in-head s key last n l u e ∙ (ap (λ (z : Option ℕ). last_not_above_in key last (cells_from s z)) none ∙ ap (last_not_above_in key last) (walk-none (slab_len s) (get s)))
 
-pub last_not_above-step : (s : Slab ListNode) (key last place : ℕ) (n m : ListNode) → IsLinked s (Some last) → NodeHasKeyAtMost s last key → get s last ≡ Some n → n.next ≡ Some place → get s place ≡ Some m → Hop s key last place m
+pub last_not_above-step : (s : Slab ListNode) (key last place : ℕ) (n m : ListNode) → IsLinked s (Some last) → NodeHasSplitKeyAtMost s last key → get s last ≡ Some n → n.next ≡ Some place → get s place ≡ Some m → Hop s key last place m
 last_not_above-step s key last place n m l u e next f =
     let st = cells_from-step_at s last n l e in
     let on = rw next at st.onward in
@@ -165,7 +165,7 @@ pub record Inserted (s t : Slab ListNode) (x : Cell) : Type 0 where
 
 -- a node is written at a free place, and then the link to it
 pub insert-list : (s m : Slab ListNode) (x : Cell) (start last : ℕ) (n n' : ListNode)
-    → Begun s x.key start → IsLinked s (Some 0) → last ≡ last_not_above_in x.key start (cells_from s (Some start))
+    → Begun s x.split_key start → IsLinked s (Some 0) → last ≡ last_not_above_in x.split_key start (cells_from s (Some start))
     → get s last ≡ Some n → get s x.at ≡ None → Updates s m x.at (Some (node_of x n.next)) → slab_len m ≡ slab_len s + 1
     → get m last ≡ Some n' → slab_len (with_value m last (record n' { next = Some x.at })) ≡ slab_len s + 1
     → Inserted s (with_value m last (record n' { next = Some x.at })) x
@@ -174,7 +174,7 @@ insert-list s m x start last n n' b l e was free_head u len now len' =
     let apart : last ≢ x.at = λ same. let f : get s last ≡ None = ap (get s) same ∙ free_head in absurd (cc (f, was)) in
     let same : n ≡ n' = cc (was, now, u.others last apart) in
     let w = Updates-with_value m last (record n' { next = Some x.at }) (let P : Option ListNode → Type 0 = λ o. IsSome o in subst P (sym now) refl) in
-    let spot : Spot x.key last (cells_from s (Some 0)) = let P : ℕ → Type 0 = λ z. Spot x.key z (cells_from s (Some 0)) in subst P (sym e) b.spot in
+    let spot : Spot x.split_key last (cells_from s (Some 0)) = let P : ℕ → Type 0 = λ z. Spot x.split_key z (cells_from s (Some 0)) in subst P (sym e) b.spot in
     let before : get (with_value m last (record n' { next = Some x.at })) last ≡ Some (record n { next = Some x.at }) =
     w.changed ∙ ap (λ (z : ListNode). Some (record z { next = Some x.at })) (sym same) in
     let put : get (with_value m last (record n' { next = Some x.at })) x.at ≡ Some (node_of x n.next) =

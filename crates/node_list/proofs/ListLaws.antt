@@ -16,7 +16,7 @@ starts-put : (x : Cell) (cs : List Cell) → StartsWithDummy cs → StartsWithDu
 starts-put x [] d = absurd d
 starts-put x (c ∷ cs) d =
     let P : List Cell → Type 0 = λ zs. StartsWithDummy zs in
-    let zero : c.key ≡ 0 = d.0 in
+    let zero : c.split_key ≡ 0 = d.0 in
     subst P (sym (put-on x c cs (omega arith))) d
 
 starts-without : (at : ℕ) (cs : List Cell) (d : Cell) (ds : List Cell) (item : Item) → StartsWithDummy cs → from at cs ≡ d ∷ ds → d.item ≡ Some item → StartsWithDummy (without at cs)

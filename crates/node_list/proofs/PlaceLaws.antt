@@ -70,7 +70,7 @@ links-first g link (c ∷ cs) l = l.0
 pub record PlaceNode (s : Slab ListNode) (at : ℕ) (d : Cell) (ds : List Cell) : Type 0 where
   pub node : ListNode
   pub is : get s at ≡ Some node
-  pub key : node.split_key ≡ d.key
+  pub key : node.split_key ≡ d.split_key
   pub item : node.item ≡ d.item
   pub next : node.next ≡ first_place ds
 

@@ -7,7 +7,7 @@ use Rattle.node_list.specs.Cells.{Cell}
 -- the list with a new node after all nodes whose split keys are at most its own
 abbrev pub put_cell : Cell → List Cell → List Cell
 put_cell x [] = x ∷ []
-put_cell x (c ∷ cs) = if nat_lt x.key c.key then x ∷ c ∷ cs else c ∷ put_cell x cs
+put_cell x (c ∷ cs) = if nat_lt x.split_key c.split_key then x ∷ c ∷ cs else c ∷ put_cell x cs
 
 -- the list without the node at a place
 abbrev pub without : ℕ → List Cell → List Cell

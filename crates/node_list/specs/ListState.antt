@@ -20,8 +20,8 @@ cell_code =
     code_by
     (ℕ × (ℕ × Option Item))
     (coded× coded_ℕ (coded× coded_ℕ (coded_option item.the_row.coded)))
-    (λ c. (c.at, (c.key, c.item)))
-    (λ p. record { at = p.0; key = p.1.0; item = p.1.1 })
+    (λ c. (c.at, (c.split_key, c.item)))
+    (λ p. record { at = p.0; split_key = p.1.0; item = p.1.1 })
     (λ _. refl)
 
 -- the code of a list, as a tuple of its fields

@@ -24,12 +24,12 @@ pub record IsPlaceOf (at : ℕ) (cells : List Cell) : Type 0 where
   pub later : List Cell
   pub is : from at cells ≡ cell ∷ later
 
--- a node has this place, and its split key is at most `key`
-pub record HasKeyAtMost (key at : ℕ) (cells : List Cell) : Type 0 where
+-- a node has this place, and its split key is at most `split_key`
+pub record HasSplitKeyAtMost (split_key at : ℕ) (cells : List Cell) : Type 0 where
   pub cell : Cell
   pub later : List Cell
   pub is : from at cells ≡ cell ∷ later
-  pub up_to : cell.key ≤ key
+  pub up_to : cell.split_key ≤ split_key
 
 -- an item has this place
 pub record HasItem (at : ℕ) (cells : List Cell) : Type 0 where
@@ -74,13 +74,13 @@ first_item [] = None
 first_item (c ∷ cs) = c.item
 
 -- the split key of the first node, None if there are no nodes
-abbrev pub first_key : List Cell → Option ℕ
-first_key [] = None
-first_key (c ∷ cs) = Some c.key
+abbrev pub first_split_key : List Cell → Option ℕ
+first_split_key [] = None
+first_split_key (c ∷ cs) = Some c.split_key
 
 -- the split key of the node at a place, None if no node has the place
-abbrev pub key_at : ℕ → List Cell → Option ℕ
-key_at at cells = first_key (from at cells)
+abbrev pub split_key_at : ℕ → List Cell → Option ℕ
+split_key_at at cells = first_split_key (from at cells)
 
 -- the item at a place, None for a dummy or if no node has the place
 abbrev pub item_at : ℕ → List Cell → Option Item

@@ -10,17 +10,18 @@ abbrev pub holds : Term → Option Item → Bool
 holds term None = false
 holds term (Some item) = same item.term term
 
--- whether the node is the searched item: its split key is `key`, and its item's key is `term`
+-- whether the node is the searched item: its split key is `split_key`, and its item's key is `term`
 abbrev pub is_it : ℕ → Term → Cell → Bool
-is_it key term c = nat_eq c.key key && holds term c.item
+is_it split_key term c = nat_eq c.split_key split_key && holds term c.item
 
--- the place of the first item with the split key `key` and the key `term`, None if there is none
+-- the place of the first item with the split key `split_key` and the key `term`, None if there is none
 abbrev pub place_of : ℕ → Term → List Cell → Option ℕ
-place_of key term [] = None
-place_of key term (c ∷ cs) = if is_it key term c then Some c.at else place_of key term cs
+place_of split_key term [] = None
+place_of split_key term (c ∷ cs) = if is_it split_key term c then Some c.at else place_of split_key term cs
 
 -- the nodes that the search reads: all up to the searched item or the first node with a greater split key, including
 -- that node; all nodes if there is no such node
-abbrev pub passed : ℕ → Term → List Cell → List Cell
-passed key term [] = []
-passed key term (c ∷ cs) = if nat_lt key c.key || is_it key term c then c ∷ [] else c ∷ passed key term cs
+abbrev pub visited_cells : ℕ → Term → List Cell → List Cell
+visited_cells split_key term [] = []
+visited_cells split_key term (c ∷ cs) =
+    if nat_lt split_key c.split_key || is_it split_key term c then c ∷ [] else c ∷ visited_cells split_key term cs

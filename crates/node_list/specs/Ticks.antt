@@ -1,7 +1,7 @@
 -- Counting up to the greatest number of 64 bits.
 use Rattle.std.specs.Prelude.{ℕ, ◌+◌, ◌-◌, ◌^◌, min}
 
--- the count after one more node, unless it is the greatest number
+-- the count after one more tick, at most the greatest number
 abbrev pub tick : ℕ → ℕ
 tick n = min (n + 1) (2 ^ 64 - 1)
 

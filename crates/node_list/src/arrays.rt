@@ -1,5 +1,5 @@
-//! The two arrays of nodes, the slab of headers and the array of slots: how they grow, and how one element is written.
-//! A slot has an item, or a placeholder where there is no item.
+//! The two arrays of nodes, the slab of headers and the array of items: how they grow, and how one element is written.
+//! An element of the second is an item, or a placeholder where there is no item.
 ghost use Rattle.std.specs.Prelude.{◌≡◌, ◌<◌, ◌≤◌, ◌-◌, ◌^◌, Some, OnOk, vec_capacity};
 ghost use Rattle.slab.specs.Slab.{get, with_value, ContainsKey, HasRoomFor};
 ghost use Rattle.node_list.specs.inside.Slots.{WritesItem};
@@ -59,7 +59,7 @@ pub fn replace_at(nodes: &mut Slab<PackedHeader>, at: usize, header: PackedHeade
     mem::replace(&mut nodes[at], header)
 }
 
-/// Writes a slot at a place. If the place is past the end of the array, placeholders fill the gap. The slab gives out
+/// Writes an item, or a placeholder, at a place. If the place is past the end of the array, placeholders fill the gap. The slab gives out
 /// consecutive places, so there is no gap in fact, but its contract does not promise this.
 #[inline(always)]
 pub fn write_item(items: &mut Vec<Item>, at: usize, slot: Item)

@@ -140,12 +140,12 @@ fn set_element(term: &mut Term, index: usize, value: Term)
     let Term::Tuple(elements) = term else {
         return;
     };
-    set_item(elements, index, value);
+    set_element_in(elements, index, value);
 }
 
-/// Sets the item at `index`, counted from 0, and drops the old item. If `index` is past the end, changes nothing.
+/// Sets the element at `index`, counted from 0, and drops the old element. If `index` is past the end, changes nothing.
 #[inline]
-fn set_item(items: &mut Items<Term>, index: usize, item: Term)
+fn set_element_in(items: &mut Items<Term>, index: usize, item: Term)
     ensures { items.new ≡ slice_set items.old index item }
 {
     if index < items.len() {

@@ -2,7 +2,7 @@
 //! counts each node that it reads.
 ghost use Rattle.std.specs.Prelude.{◌≡◌, Some, length};
 ghost use Rattle.node_list.specs.Cells.{Sorted};
-ghost use Rattle.node_list.specs.Search.{place_of, passed};
+ghost use Rattle.node_list.specs.Search.{place_of, visited_cells};
 ghost use Rattle.node_list.specs.Ticks.{ticks};
 ghost use Rattle.node_list.specs.inside.Walks.{cells_from, IsLinked};
 
@@ -23,7 +23,7 @@ pub fn find_from(
     requires sorted { Sorted (cells_from nodes.nodes.now (Some start)) }
     ensures found { result ≡ place_of split_key term.now (cells_from nodes.entry.nodes.now (Some start)) }
     ensures ticks { steps.new
-        ≡ ticks (length (passed split_key term.now (cells_from nodes.entry.nodes.now (Some start)))) steps.old }
+        ≡ ticks (length (visited_cells split_key term.now (cells_from nodes.entry.nodes.now (Some start)))) steps.old }
 {
     let mut at = Some(start);
     while let Some(place) = at {

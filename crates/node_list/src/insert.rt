@@ -4,9 +4,9 @@
 ghost use Rattle.std.specs.Prelude.{◌≡◌, ◌+◌, ◌-◌, ◌^◌, ◌<◌, Some};
 ghost use Rattle.slab.specs.Slab.{get, slab_len, HasRoomFor};
 ghost use Rattle.node_list.specs.Cells.{Sorted, new_cell};
-ghost use Rattle.node_list.specs.Places.{HasKeyAtMost, IsFresh};
+ghost use Rattle.node_list.specs.Places.{HasSplitKeyAtMost, IsFresh};
 ghost use Rattle.node_list.specs.Changes.{put_cell};
-ghost use Rattle.node_list.specs.inside.Walks.{cells_from, IsLinked, NodeHasKeyAtMost, last_not_above_in};
+ghost use Rattle.node_list.specs.inside.Walks.{cells_from, IsLinked, NodeHasSplitKeyAtMost, last_not_above_in};
 
 use crate::link::Link;
 use crate::node::{Item, ListNode};
@@ -15,7 +15,7 @@ use crate::nodes::Nodes;
 /// Returns the place of the last node from `start` on whose split key is at most `split_key`.
 fn last_not_above(nodes: &Nodes, start: usize, split_key: u64) -> usize
     requires linked { IsLinked nodes.now (Some start) }
-    requires up_to { NodeHasKeyAtMost nodes.now start split_key }
+    requires up_to { NodeHasSplitKeyAtMost nodes.now start split_key }
     ensures { result ≡ last_not_above_in split_key start (cells_from nodes.now (Some start)) }
 {
     let mut last = start;
@@ -35,7 +35,7 @@ pub fn insert_from(nodes: &mut Nodes, start: usize, split_key: u64, item: Option
     requires room { HasRoomFor nodes.old 1 }
     requires linked { IsLinked nodes.old (Some 0) }
     requires sorted { Sorted (cells_from nodes.old (Some 0)) }
-    requires start { HasKeyAtMost split_key start (cells_from nodes.old (Some 0)) }
+    requires start { HasSplitKeyAtMost split_key start (cells_from nodes.old (Some 0)) }
     ensures linked { IsLinked nodes.new (Some 0) }
     ensures cells { cells_from nodes.new (Some 0)
         ≡ put_cell (new_cell result split_key item) (cells_from nodes.old (Some 0)) }

@@ -3,8 +3,7 @@ ghost use Rattle.std.specs.Prelude.{◌≡◌, ◌<◌, ◌-◌, ◌^◌, Some, 
 
 use std::marker::Model;
 
-/// The place of the next node, or none, in one word, whereas an `Option<usize>` takes two words. A contract sees an
-/// option.
+/// The place of the next node, or none, in one word; an `Option<usize>` takes two. A contract sees an option.
 #[derive(Clone, Copy)]
 pub struct Link {
     place: usize,

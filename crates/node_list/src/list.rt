@@ -47,8 +47,8 @@ impl Model for NodeList {
 
 impl NodeList {
     ghost use Rattle.node_list.specs.Cells.{new_cell, new_item, Sorted, StartsWithDummy};
-    ghost use Rattle.node_list.specs.Places.{first_place, HasDistinctPlaces, from, cells_after, item_at, key_at, place_after, IsFresh, IsPlaceOf, HasKeyAtMost, HasItem, IsNextItem};
-    ghost use Rattle.node_list.specs.Search.{place_of, passed};
+    ghost use Rattle.node_list.specs.Places.{first_place, HasDistinctPlaces, from, cells_after, item_at, split_key_at, place_after, IsFresh, IsPlaceOf, HasSplitKeyAtMost, HasItem, IsNextItem};
+    ghost use Rattle.node_list.specs.Search.{place_of, visited_cells};
     ghost use Rattle.node_list.specs.Changes.{put_cell, without};
     ghost use Rattle.node_list.specs.ListState.{HasRoom};
     ghost use Rattle.node_list.specs.Lending.{LendsChainAt};
@@ -122,7 +122,7 @@ impl NodeList {
     #[inline(always)]
     pub fn insert_dummy(&mut self, start: At, split_key: u64) -> At
         requires room { HasRoom self.old 1 }
-        requires start { HasKeyAtMost split_key start self.old.cells }
+        requires start { HasSplitKeyAtMost split_key start self.old.cells }
         ensures cells { self.new.cells ≡ put_cell (new_cell result split_key None) self.old.cells }
         ensures fresh { IsFresh result self.old.cells }
         ensures place { result < 2 ^ 64 - 1 }
@@ -137,7 +137,7 @@ impl NodeList {
     #[inline(always)]
     pub fn insert_item(&mut self, start: At, split_key: u64, term: Term, chain: Chain) -> At
         requires room { HasRoom self.old 1 }
-        requires start { HasKeyAtMost split_key start self.old.cells }
+        requires start { HasSplitKeyAtMost split_key start self.old.cells }
         ensures cells { self.new.cells
             ≡ put_cell (new_cell result split_key (Some (new_item term chain))) self.old.cells }
         ensures fresh { IsFresh result self.old.cells }
@@ -159,7 +159,8 @@ impl NodeList {
     pub fn find(&self, start: At, split_key: u64, term: &Term, steps: &mut Steps) -> Option<At>
         requires { IsPlaceOf start self.now.cells }
         ensures found { result ≡ place_of split_key term.now (from start self.now.cells) }
-        ensures ticks { steps.new ≡ ticks (length (passed split_key term.now (from start self.now.cells))) steps.old }
+        ensures ticks { steps.new
+            ≡ ticks (length (visited_cells split_key term.now (from start self.now.cells))) steps.old }
     {
         let nodes = CountingReader::new(&self.nodes);
         find_from(nodes, start, split_key, term, steps)
@@ -207,7 +208,7 @@ impl NodeList {
     /// Returns the split key of the node at a place.
     pub fn split_key(&self, at: At) -> u64
         requires { IsPlaceOf at self.now.cells }
-        ensures { key_at at self.now.cells ≡ Some result }
+        ensures { split_key_at at self.now.cells ≡ Some result }
     {
         self.nodes.header(at).split_key
     }

@@ -1,5 +1,5 @@
 //! A node with all its parts, as it is inserted and removed. It is an item (a key with its objects) or a dummy (the
-//! first node of a bucket). In memory, a slot has an item, or a placeholder where there is no item.
+//! first node of a bucket). In memory, a dummy has a placeholder in place of an item.
 ghost use Rattle.std.specs.Prelude.{◌≡◌, is_some};
 ghost use Rattle.node_list.specs.inside.Slots.{placeholder, item_if};
 
@@ -18,7 +18,7 @@ pub struct Item {
 }
 
 impl Item {
-    /// Returns the placeholder, which fills the slot of a place without an item.
+    /// Returns the placeholder, which fills a place without an item.
     pub fn placeholder(alloc: Global) -> Item
         ensures { result ≡ placeholder }
     {
@@ -28,7 +28,7 @@ impl Item {
         }
     }
 
-    /// Returns the slot of a node: its item, or a placeholder for a dummy.
+    /// Returns the item of a node, or a placeholder for a dummy.
     #[inline(always)]
     pub fn or_placeholder(item: Option<Item>, alloc: Global) -> Item
         ensures { item_if (is_some item) result ≡ item }

@@ -1,5 +1,5 @@
-//! A node as a search sees it: its header by value, and its slot by reference. A slot has an item (a key with its
-//! objects), or a placeholder where there is no item.
+//! A node as a search sees it: its header by value, and by reference its item (a key with its objects), or a
+//! placeholder where there is no item.
 ghost use Rattle.std.specs.Prelude.{◌≡◌};
 ghost use Rattle.node_list.specs.Search.{holds};
 ghost use Rattle.node_list.specs.inside.NodeRef.{node_of_ref};
@@ -8,7 +8,7 @@ use crate::header::NodeHeader;
 use crate::node::Item;
 use ets_term::Term;
 
-/// A node as a search sees it: its header, and a reference to its slot.
+/// A node as a search sees it: its header, and a reference to its item, or to a placeholder.
 #[derive(Clone, Copy)]
 pub struct NodeRef<'a> {
     pub header: NodeHeader,

@@ -24,14 +24,14 @@ use std::mem;
 
 /// Nodes by place: a slab of headers and an array of items. A search that passes a node reads only its header. A
 /// contract sees one slab of nodes, whose `vacant_key` is the first free place. A place is added to the slab only after
-/// there is capacity for its item, and never goes back. Places without a node form the *free list*: each leads to the
+/// there is capacity for its item, and is never returned to it. Places without a node form the *free list*: each leads to the
 /// next. A header packs a place with a tag of two bits, so a place has 62 bits at most.
 #[derive(Drop)]
 pub struct Nodes {
     /// The headers of all places: the split key, the kind (item, dummy or free place) and the link of each.
     nodes: Slab<PackedHeader>,
-    /// The items, each in the slot of its place: the key (a term) and the chain of its objects. There is capacity for
-    /// a slot at each place of the slab. A place without an item has a placeholder, or is past the end.
+    /// The items, each at its place: the key (a term) and the chain of its objects. There is capacity for an element
+    /// at each place of the slab. A place without an item has a placeholder, or is past the end.
     items: Vec<Item>,
     /// The first-item bound of `items`: no place below it has an item.
     first_item_bound: usize,

@@ -38,7 +38,7 @@ use Rattle.node_reasons.specs.Laws.{Explains, ReasonsAreExact}
 use Rattle.node_reasons.specs.inside.LastRules.{NamesReason}
 use Rattle.node_reasons.specs.inside.LastRuleOfCalls.{last_rule_of_call, last_rule_of_refused, last_rule, reason_by_reply, reason_for}
 use Rattle.node_reasons.proofs.Explained.{ReasonExplains, ReasonExplainsAll, Either}
-use Rattle.node_reasons.proofs.ExplainedCalls.{asks-explained, within-explained, where-explained, call-explained}
+use Rattle.node_reasons.proofs.ExplainedCalls.{changes_world-explained, within-explained, where-explained, call-explained}
 use Rattle.node_reasons.proofs.NamedRules.{last-where}
 use Rattle.node_reasons.proofs.Named.{call-named, last_rule-seen}
 
@@ -119,7 +119,7 @@ module _ (old : State) where
 
   enrol-explained : (p : ℕ) → ReasonExplainsAll (if is_some (process_at old.world.processes p) then Some (about_whole_call rule.AlreadyEnrolled) else None) (step old (Enrol p))
   enrol-explained p =
-      asks-explained old (if is_some (process_at old.world.processes p) then Some (about_whole_call rule.AlreadyEnrolled) else None) (λ _. Value (Pid p)) (tables.Enrol old.world p)
+      changes_world-explained old (if is_some (process_at old.world.processes p) then Some (about_whole_call rule.AlreadyEnrolled) else None) (λ _. Value (Pid p)) (tables.Enrol old.world p)
       (where-explained old None (Some (about_whole_call rule.AlreadyEnrolled)) (λ _. Value (Pid p)) (is_some (process_at old.world.processes p))
       (refuse old.world (nat_le old.world.max_processes (length old.world.processes)) (Err fault.SystemLimit) (gives (Ok (tt {0})) (after_enrol old.world p))) (λ reply e. (e, refl))
       (within-explained old (λ _. Value (Pid p)) (nat_le old.world.max_processes (length old.world.processes)) (tt {0}) (after_enrol old.world p) refl))

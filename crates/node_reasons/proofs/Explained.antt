@@ -16,7 +16,7 @@ use Rattle.node_core.specs.declared.node.access.Access.TheVariants.{Read, Write}
 use Rattle.node_core.specs.declared.step.Reply.{Reply}
 use Rattle.node_core.specs.declared.step.Reply.TheVariants.{Badarg, SystemLimit}
 use Rattle.node_core.specs.State.{State}
-use Rattle.node_core.specs.Access.{may_access, allowed, usable, with_table, CallRule, ChangeResultToReply, WorldResultToReply, reads, changes}
+use Rattle.node_core.specs.Access.{may_access, table_if_allowed, usable, with_table, CallRule, ChangeResultToReply, WorldResultToReply, reads, changes}
 use Rattle.node_core.specs.rules.Replies.{truth_reply, is_value}
 use Rattle.node_reasons.specs.declared.reason.Reason.{Reason}
 use Rattle.node_reasons.specs.Reasons.{refusal_of, argument, table_of_term, on_table, rule_of_access}
@@ -48,16 +48,16 @@ lacks-explained : (access : Access) (old : State) → ReasonExplainsAll (Some (a
 lacks-explained Read old reply new h = (h.0, refl)
 lacks-explained Write old reply new h = (h.0, refl)
 
-module _ (old : State) (p : ℕ) (access : Access) (rest : Content → Option Reason) (outcome : ℕ × Table → Outcome Reply State) (explains : (found : ℕ × Table) → ReasonExplainsAll (rest found.1.fixed.content) (outcome found)) where
-  may_access-explained : (t : ℕ) (table : Table) (b : Bool) → ReasonExplainsAll (if b then rest table.fixed.content else Some (argument 1 (rule_of_access access))) (Where (if b then Some (t, table) else None) old outcome)
+module _ (old : State) (p : ℕ) (access : Access) (rest : Content → Option Reason) (outcome : ℕ × Table → Outcome Reply State) (explains : (found : ℕ × Table) → ReasonExplainsAll (rest found.1.state.content) (outcome found)) where
+  may_access-explained : (t : ℕ) (table : Table) (b : Bool) → ReasonExplainsAll (if b then rest table.state.content else Some (argument 1 (rule_of_access access))) (Where (if b then Some (t, table) else None) old outcome)
   may_access-explained t table true = explains (t, table)
   may_access-explained t table false = lacks-explained access old
 
-  at-explained : (t : ℕ) (o : Option Table) → ReasonExplainsAll (on_table access p o rest) (Where (option_and_then (allowed access p t) o) old outcome)
+  at-explained : (t : ℕ) (o : Option Table) → ReasonExplainsAll (on_table access p o rest) (Where (option_and_then (table_if_allowed access p t) o) old outcome)
   at-explained t None = λ reply new h. (h.0, refl)
   at-explained t (Some table) = may_access-explained t table (may_access access table.metadata p)
 
-  resolved-explained : (o : Option ℕ) → ReasonExplainsAll (on_table access p (option_and_then (table_at old.world.tables) o) rest) (Where (option_and_then (λ t. option_and_then (allowed access p t) (table_at old.world.tables t)) o) old outcome)
+  resolved-explained : (o : Option ℕ) → ReasonExplainsAll (on_table access p (option_and_then (table_at old.world.tables) o) rest) (Where (option_and_then (λ t. option_and_then (table_if_allowed access p t) (table_at old.world.tables t)) o) old outcome)
   resolved-explained None = λ reply new h. (h.0, refl)
   resolved-explained (Some t) = at-explained t (table_at old.world.tables t)
 
@@ -66,11 +66,11 @@ module _ (old : State) (p : ℕ) (access : Access) (rest : Content → Option Re
 
 module _ (old : State) (p : ℕ) (term : Term) where
   pub reads-explained : (rest : Content → Option Reason) (answer : TableState → Reply) → ((f : TableState) → ReasonExplains (rest f.content) (answer f)) → ReasonExplainsAll (on_table Read p (table_of_term old.world.tables term) rest) (reads old p term answer)
-  reads-explained rest answer explains = used-explained old p Read rest (λ found. gives (answer found.1.fixed) old) (λ found. gives-explained (rest found.1.fixed.content) (answer found.1.fixed) old (explains found.1.fixed)) term
+  reads-explained rest answer explains = used-explained old p Read rest (λ found. gives (answer found.1.state) old) (λ found. gives-explained (rest found.1.state.content) (answer found.1.state) old (explains found.1.state)) term
 
   pub changes-explained : (access : Access) (rest : Content → Option Reason) (rule : CallRule) → ((f g : TableState) (reply : Reply) → rule f reply g → ReasonExplains (rest f.content) reply)
       → ReasonExplainsAll (on_table access p (table_of_term old.world.tables term) rest) (changes old p access term rule)
-  changes-explained access rest rule explains = used-explained old p access rest (λ found reply new. (fixed : TableState) × rule found.1.fixed reply fixed × (new ≡ with_table old found.0 fixed)) (λ found reply new h. explains found.1.fixed h.0 reply h.1) term
+  changes-explained access rest rule explains = used-explained old p access rest (λ found reply new. (fixed : TableState) × rule found.1.state reply fixed × (new ≡ with_table old found.0 fixed)) (λ found reply new h. explains found.1.state h.0 reply h.1) term
 
 -- ---- replies to changes
 pub value-of : {X : Type 0} (answer : X → Reply) (result : Result X Refusal) (x : X) (reply : Reply) → is_value (answer x) ≡ true → result ≡ Ok x → ChangeResultToReply answer result reply → is_value reply ≡ true

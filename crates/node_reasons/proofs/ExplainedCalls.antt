@@ -1,10 +1,11 @@
 -- The reason of a call explains each of its replies, call by call.
-use Rattle.std.proofs.Common.{◌≡◌, ℕ, inl, inr, Bool, true, false, not, List, [], ◌∷◌, Option, None, Some, option_and_then, Result, Ok, Err, refl, ap, ◌∙◌, codes}
+use Rattle.std.proofs.Common.{◌≡◌, ℕ, inl, inr, Bool, true, false, not, List, [], ◌∷◌, Option, None, Some, option_map, option_and_then, Result, Ok, Err, refl, ap, ◌∙◌, codes}
 use Rattle.std.specs.Prelude.{◌==◌, ◌&&◌, if◌then◌else◌, is_some, MatchOption, nat_le, length}
 use Rattle.std.specs.Option.{option_map_or}
 use Rattle.ets_term.specs.declared.term.Term.{Term, out-Term}
 use Rattle.ets_term.specs.declared.term.Term.TheVariants.{Tid}
-use Rattle.ets_term.specs.Atoms.{text_of, is_atom}
+use Rattle.ets_term.specs.Atoms.{is_atom}
+use Rattle.ets_term.specs.Views.{as_atom, pid_form}
 use Rattle.table_ops.specs.Content.{is_present}
 use Rattle.table_ops.specs.Outcomes.{Outcome, gives, refuse}
 use Rattle.fixed_walk.specs.Walk.{first_key, first_slot}
@@ -13,18 +14,18 @@ use Rattle.ownership.specs.declared.fault.WorldFault.TheVariants as fault
 use Rattle.ownership.specs.declared.metadata.Heir.{Heir}
 use Rattle.ownership.specs.declared.info.InfoItem.{InfoItem}
 use Rattle.ownership.specs.declared.options.NewOptions.{NewOptions}
-use Rattle.ownership.specs.World.{Table, World, table_at, resolve, whereis, lives}
+use Rattle.ownership.specs.World.{Table, World, table_at, resolve, whereis, lives, with_changed}
 use Rattle.ownership.specs.Access.{is_owner}
-use Rattle.ownership.specs.Options.{options_of, pid_form, heir_after}
+use Rattle.ownership.specs.Options.{options_of, heir_after}
 use Rattle.ownership.specs.Info.{item_of}
 use Rattle.ownership.specs.Messages.{name_or_identifier, push_message, transfer_message}
 use Rattle.ownership.specs.Tables as tables
-use Rattle.ownership.specs.Tables.{without_table, with_changed, with_owner, with_heir, with_table, new_metadata}
+use Rattle.ownership.specs.Tables.{without_table, with_owner, with_heir, with_table, new_metadata}
 use Rattle.node_core.specs.declared.node.access.Access.TheVariants.{Read, Write}
 use Rattle.node_core.specs.declared.step.Reply.{Reply}
 use Rattle.node_core.specs.declared.step.Reply.TheVariants.{Value, Badarg}
 use Rattle.node_core.specs.State.{State}
-use Rattle.node_core.specs.Access.{WorldResultToReply, asks}
+use Rattle.node_core.specs.Access.{WorldResultToReply, changes_world}
 use Rattle.node_core.specs.Calls.{call}
 use Rattle.node_core.specs.declared.call_name.CallName.{CallName}
 use Rattle.node_core.specs.declared.call_name.CallName.TheVariants as name
@@ -54,12 +55,12 @@ value_or_undefined-is_value (Some term) = refl
 
 module _ (old : State) where
   naming-explained : (name : Term) → ReasonExplainsAll (why_whereis name) (Whereis old name)
-  naming-explained name = by (text_of name)
+  naming-explained name = by (as_atom name)
     where
       by : (o : Option (List ℕ)) → ReasonExplainsAll (if is_some o then None else Some (argument 1 rule.NotAnAtom))
-          (Where o old (λ text. gives (value_or_undefined (option_map_or (λ t. Some (Tid t)) (whereis old.world.tables text) None)) old))
+          (Where o old (λ text. gives (value_or_undefined (option_map Tid (whereis old.world.tables text))) old))
       by None reply new h = (h.0, refl)
-      by (Some text) reply new h = inl (ap is_value h.0 ∙ value_or_undefined-is_value (option_map_or (λ t. Some (Tid t)) (whereis old.world.tables text) None))
+      by (Some text) reply new h = inl (ap is_value h.0 ∙ value_or_undefined-is_value (option_map Tid (whereis old.world.tables text)))
 
   informing-explained : (term item : Term) → ReasonExplainsAll (why_info term item) (Info old term item)
   informing-explained term item = by (item_of item)
@@ -87,8 +88,8 @@ module _ (old : State) where
   abbrev ReasonExplainsWorld : {X : Type 0} → Option Reason → (X → Reply) → Outcome (Result X WorldFault) World → Type 0
   ReasonExplainsWorld {X = X} v answer outcome = (r : Result X WorldFault) (new : World) (reply : Reply) → outcome r new → WorldResultToReply answer r reply → ReasonExplains v reply
 
-  pub asks-explained : {X : Type 0} (v : Option Reason) (answer : X → Reply) (outcome : Outcome (Result X WorldFault) World) → ReasonExplainsWorld v answer outcome → ReasonExplainsAll v (asks old answer outcome)
-  asks-explained v answer outcome explains reply new h = explains h.0 new.world reply h.1 h.2
+  pub changes_world-explained : {X : Type 0} (v : Option Reason) (answer : X → Reply) (outcome : Outcome (Result X WorldFault) World) → ReasonExplainsWorld v answer outcome → ReasonExplainsAll v (changes_world old answer outcome)
+  changes_world-explained v answer outcome explains reply new h = explains h.0 new.world reply h.1 h.2
 
   pub done-explained : {X : Type 0} (answer : X → Reply) (x : X) (after : World) → is_value (answer x) ≡ true → ReasonExplainsWorld None answer (gives (Ok x) after)
   done-explained answer x after v r new reply h e = inl (world-value answer r x reply v h.0 e)
@@ -125,14 +126,14 @@ module _ (old : State) where
       (within-explained Value (nat_le old.world.max_tables (length old.world.tables)) (name_or_identifier options.named text (length old.world.tables)) (with_table old.world (new_metadata p text options) (new_table_of old.limits.objects options)) refl)
 
   abbrev Makes : ℕ → List ℕ → NewOptions → Outcome Reply State
-  Makes p text options reply new = asks old Value (Enters p text options) reply new
+  Makes p text options reply new = changes_world old Value (Enters p text options) reply new
 
   making-explained : (p : ℕ) (name options : Term) → ReasonExplainsAll (why_new old.world.tables name options) (New old p name options)
-  making-explained p name options = by (text_of name)
+  making-explained p name options = by (as_atom name)
     where
       given : (text : List ℕ) (o : Option NewOptions) → ReasonExplainsAll (why_new_with old.world.tables text o) (Where o old (λ options. Makes p text options))
       given text None = λ reply new h. (h.0, refl)
-      given text (Some options) = λ reply new h. asks-explained (why_new_with old.world.tables text (Some options)) Value (Enters p text options) (enters-explained p text options) reply new h
+      given text (Some options) = λ reply new h. changes_world-explained (why_new_with old.world.tables text (Some options)) Value (Enters p text options) (enters-explained p text options) reply new h
 
       by : (o : Option (List ℕ)) → ReasonExplainsAll (option_map_or (λ text. why_new_with old.world.tables text (options_of options)) o (Some (argument 1 rule.NotAnAtom)))
           (Where o old (λ text. Where (options_of options) old (λ options. Makes p text options)))
@@ -162,10 +163,10 @@ module _ (old : State) where
   setting-explained : (p : ℕ) (term options : Term) → ReasonExplainsAll (why_setopts p (table_of_term old.world.tables term) options) (SetOptions old p term options)
   setting-explained p term options = by (resolve old.world.tables term)
     where
-      by : (o : Option ℕ) → ReasonExplainsAll (why_setopts p (option_and_then (table_at old.world.tables) o) options) (Where o old (λ t. asks old (λ _. true_reply) (tables.SetOptions old.world p t options)))
+      by : (o : Option ℕ) → ReasonExplainsAll (why_setopts p (option_and_then (table_at old.world.tables) o) options) (Where o old (λ t. changes_world old (λ _. true_reply) (tables.SetOptions old.world p t options)))
       by None = λ reply new h. (h.0, refl)
       by (Some t) =
-          asks-explained (why_setopts p (table_at old.world.tables t) options) (λ _. true_reply) (tables.SetOptions old.world p t options)
+          changes_world-explained (why_setopts p (table_at old.world.tables t) options) (λ _. true_reply) (tables.SetOptions old.world p t options)
           (owns-explained p (why_heir options) (λ _. true_reply) (Heirs t options) (table_at old.world.tables t) (heirs-explained t options))
 
   receiving-explained : (p q : ℕ) (after : World) → ReasonExplainsWorld (why_receiver old.world.processes p q) (λ _. true_reply)
@@ -183,21 +184,21 @@ module _ (old : State) where
   giving-explained : (p : ℕ) (term pid gift : Term) → ReasonExplainsAll (why_give_away old.world.processes p (table_of_term old.world.tables term) pid) (GiveAway old p term pid gift)
   giving-explained p term pid gift = by (resolve old.world.tables term)
     where
-      nowhere : (t : ℕ) (q : Option ℕ) → ReasonExplainsAll (Some (argument 1 rule.NoTable)) (Where q old (λ q. asks old (λ _. true_reply) (Owns p (Gives p gift t q) None)))
+      nowhere : (t : ℕ) (q : Option ℕ) → ReasonExplainsAll (Some (argument 1 rule.NoTable)) (Where q old (λ q. changes_world old (λ _. true_reply) (Owns p (Gives p gift t q) None)))
       nowhere t None = λ reply new h. (h.0, refl)
-      nowhere t (Some q) = asks-explained (Some (argument 1 rule.NoTable)) (λ _. true_reply) (Owns p (Gives p gift t q) None) (λ r new reply h e. (world-badarg (λ _. true_reply) r reply h.0 e, refl))
+      nowhere t (Some q) = changes_world-explained (Some (argument 1 rule.NoTable)) (λ _. true_reply) (Owns p (Gives p gift t q) None) (λ r new reply h e. (world-badarg (λ _. true_reply) r reply h.0 e, refl))
 
-      to : (t : ℕ) (table : Table) (q : Option ℕ) → ReasonExplainsAll (why_give_away_to old.world.processes p (Some table) q) (Where q old (λ q. asks old (λ _. true_reply) (Owns p (Gives p gift t q) (Some table))))
+      to : (t : ℕ) (table : Table) (q : Option ℕ) → ReasonExplainsAll (why_give_away_to old.world.processes p (Some table) q) (Where q old (λ q. changes_world old (λ _. true_reply) (Owns p (Gives p gift t q) (Some table))))
       to t table None = λ reply new h. (h.0, refl)
       to t table (Some q) =
-          asks-explained (on_owned_table p (Some table) (λ _. why_receiver old.world.processes p q)) (λ _. true_reply) (Owns p (Gives p gift t q) (Some table))
+          changes_world-explained (on_owned_table p (Some table) (λ _. why_receiver old.world.processes p q)) (λ _. true_reply) (Owns p (Gives p gift t q) (Some table))
           (owns-explained p (λ _. why_receiver old.world.processes p q) (λ _. true_reply) (Gives p gift t q) (Some table) (λ own. receiving-explained p q (after-gift p gift t q own)))
 
-      at : (t : ℕ) (o : Option Table) → ReasonExplainsAll (why_give_away old.world.processes p o pid) (Where (pid_form (out-Term pid)) old (λ q. asks old (λ _. true_reply) (Owns p (Gives p gift t q) o)))
+      at : (t : ℕ) (o : Option Table) → ReasonExplainsAll (why_give_away old.world.processes p o pid) (Where (pid_form (out-Term pid)) old (λ q. changes_world old (λ _. true_reply) (Owns p (Gives p gift t q) o)))
       at t None = nowhere t (pid_form (out-Term pid))
       at t (Some table) = to t table (pid_form (out-Term pid))
 
-      by : (o : Option ℕ) → ReasonExplainsAll (why_give_away old.world.processes p (option_and_then (table_at old.world.tables) o) pid) (Where o old (λ t. Where (pid_form (out-Term pid)) old (λ q. asks old (λ _. true_reply) (tables.GiveAway old.world p t q gift))))
+      by : (o : Option ℕ) → ReasonExplainsAll (why_give_away old.world.processes p (option_and_then (table_at old.world.tables) o) pid) (Where o old (λ t. Where (pid_form (out-Term pid)) old (λ q. changes_world old (λ _. true_reply) (tables.GiveAway old.world p t q gift))))
       by None = λ reply new h. (h.0, refl)
       by (Some t) = at t (table_at old.world.tables t)
 

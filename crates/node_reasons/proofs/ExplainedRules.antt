@@ -1,6 +1,6 @@
 -- What the rules of calls on objects say comes true.
 use Rattle.std.proofs.Common.{◌≡◌, ℕ, ◌⊎◌, inl, inr, Bool, true, false, List, [], ◌∷◌, Option, None, Some, option_map, option_and_then, Result, Ok, Err, refl, ap}
-use Rattle.std.specs.Prelude.{◌==◌, if◌then◌else◌, is_some, MatchOption, nat_lt, filter}
+use Rattle.std.specs.Prelude.{◌==◌, if◌then◌else◌, is_some, MatchOption, nat_lt, filter, filter_map}
 use Rattle.std.specs.Bool.{MatchBool}
 use Rattle.std.specs.List.{list_any, list_all}
 use Rattle.std.specs.Option.{option_map_or}
@@ -16,7 +16,7 @@ use Rattle.table_ops.specs.declared.kind.Kind.TheVariants.{Set, Bag, DuplicateBa
 use Rattle.table_ops.specs.Content.{Content, key_of, is_object, objects_under}
 use Rattle.table_ops.specs.Put.{PutsAll, InsertsWithinLimit, is_taken}
 use Rattle.table_ops.specs.Drop.{Which, without_those, equal_to}
-use Rattle.table_ops.specs.Queries.{answers, bound_in, matches, chosen_count, spec_result, is_chosen}
+use Rattle.table_ops.specs.Queries.{bound_in, matches, chosen_count, spec_result, is_chosen}
 use Rattle.table_ops.specs.Read.{lookup_element, lookup_element_or, all_objects}
 use Rattle.table_ops.specs.Outcomes.{gives}
 use Rattle.fixed_walk.specs.declared.fault.FixFault.TheVariants as fix
@@ -26,12 +26,12 @@ use Rattle.fixed_walk.specs.Walk.{first_key, first_slot}
 use Rattle.node_core.specs.declared.step.Reply.{Reply}
 use Rattle.node_core.specs.declared.step.Reply.TheVariants.{Badarg}
 use Rattle.node_core.specs.Access.{ChangeResultToReply}
-use Rattle.node_core.specs.Positions.{position_of}
+use Rattle.ets_term.specs.Views.{as_natural}
 use Rattle.node_core.specs.rules.Replies.{true_reply, truth_reply, list_reply, term_reply, is_value}
 use Rattle.node_core.specs.rules.Insertion.{objects_in, Insert, InsertNew}
 use Rattle.node_core.specs.rules.Reading.{lookup_element_reply, lookup_element_or_reply}
 use Rattle.node_core.specs.rules.Removal.{DeleteObject}
-use Rattle.node_core.specs.rules.Searching.{Deletes, match_reply, match_object_reply, MatchDelete, select_reply, select_count_reply, SelectDelete, answers_reply, count_reply}
+use Rattle.node_core.specs.rules.Searching.{Deletes, match_reply, match_object_reply, MatchDelete, select_reply, select_count_reply, SelectDelete, results_reply, count_reply}
 use Rattle.node_core.specs.rules.Walking.{FixResultToReply, Fixes, key_reply, slot_reply, next_reply, next_lookup_reply}
 use Rattle.node_reasons.specs.declared.reason.Rule.TheVariants as rule
 use Rattle.node_reasons.specs.declared.reason.Reason.{Reason}
@@ -117,9 +117,9 @@ fixes-explained p f g reply h = by h.0 h.2
 
 -- ---- searches
 pub match-explained : (pattern : Term) (f : TableState) → ReasonExplains (why_match pattern f.content) (match_reply pattern f)
-match-explained pattern f = by (is_pattern (data_of pattern)) (answers (bound_in pattern) (all_objects f.content.slots))
+match-explained pattern f = by (is_pattern (data_of pattern)) (filter_map (bound_in pattern) (all_objects f.content.slots))
   where
-    by : (b : Bool) (found : List Data) → ReasonExplains (if b then None else Some (argument 2 rule.NotAPattern)) (if b then answers_reply found else Badarg)
+    by : (b : Bool) (found : List Data) → ReasonExplains (if b then None else Some (argument 2 rule.NotAPattern)) (if b then results_reply found else Badarg)
     by true found = inl refl
     by false found = (refl, refl)
 
@@ -143,7 +143,7 @@ selected true value v = inl v
 selected false value v = (refl, refl)
 
 pub select-explained : (spec : Term) (f : TableState) → ReasonExplains (why_select spec f.content) (select_reply spec f)
-select-explained spec f = selected (is_spec (data_of spec)) (answers_reply (answers (spec_result spec) (all_objects f.content.slots))) refl
+select-explained spec f = selected (is_spec (data_of spec)) (results_reply (filter_map (spec_result spec) (all_objects f.content.slots))) refl
 
 pub select_count-explained : (spec : Term) (f : TableState) → ReasonExplains (why_select spec f.content) (select_count_reply spec f)
 select_count-explained spec f = selected (is_spec (data_of spec)) (count_reply (chosen_count (is_chosen spec) (all_objects f.content.slots))) refl
@@ -190,14 +190,14 @@ module _ (kind : Kind) (n : ℕ) where
   or-at default (object ∷ objects) = under object objects None (n == 0) refl
 
 pub element-explained : (key position : Term) (f : TableState) → ReasonExplains (why_lookup_element key position f.content) (lookup_element_reply key position f)
-element-explained key position f = by (position_of position)
+element-explained key position f = by (as_natural position)
   where
     by : (o : Option ℕ) → ReasonExplains (why_element_at (Some (argument 2 rule.NoKey)) (objects_under f.content.slots key) f.content.kind o) (term_reply (option_and_then (λ n. lookup_element f.content.kind n (objects_under f.content.slots key)) o))
     by None = (refl, refl)
     by (Some n) = element-explained-at f.content.kind n (objects_under f.content.slots key)
 
 pub element-or-explained : (key position default : Term) (f : TableState) → ReasonExplains (why_lookup_element_or key position f.content) (lookup_element_or_reply key position default f)
-element-or-explained key position default f = by (position_of position)
+element-or-explained key position default f = by (as_natural position)
   where
     by : (o : Option ℕ) → ReasonExplains (why_element_at None (objects_under f.content.slots key) f.content.kind o) (term_reply (option_and_then (λ n. lookup_element_or f.content.kind n default (objects_under f.content.slots key)) o))
     by None = (refl, refl)

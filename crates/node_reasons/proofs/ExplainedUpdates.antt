@@ -20,13 +20,14 @@ use Rattle.counters.specs.declared.ops.Ops.{Ops}
 use Rattle.counters.specs.declared.ops.Ops.TheVariants as updates
 use Rattle.counters.specs.Counters.{apply_ops}
 use Rattle.counters.specs.Defaults.{with_key, start_counter, start_elements}
-use Rattle.counters.specs.Elements.{spec_of_parts, all_specs, specs_form, specs_of, apply_elements}
+use Rattle.counters.specs.Elements.{element_spec_of_parts, all_element_specs, element_specs_form, element_specs_of, apply_elements}
 use Rattle.counters.specs.Ops.{threshold_of, op_from, op_of_parts, op_of, all_ops, ops_form, ops_of}
-use Rattle.counters.specs.Positions.{integer_of, position_at, updatable_position}
+use Rattle.counters.specs.Positions.{position_at, updatable_position}
+use Rattle.ets_term.specs.Views.{as_int}
 use Rattle.table_ops.specs.declared.refusal.Refusal.{Refusal}
 use Rattle.table_ops.specs.declared.refusal.Refusal.TheVariants as refusal
 use Rattle.table_ops.specs.Content.{Content, objects_under}
-use Rattle.table_ops.specs.Update.{is_set, may_update, ops_avoid_key, specs_avoid_key, default_is_object, UpdatesCounterOf, InsertsDefault, UpdatesOrInsertsCounter, UpdatesElementOf, with_true, UpdatesOrInsertsElement, UpdatesCounter, UpdatesElement}
+use Rattle.table_ops.specs.Update.{is_set, may_update, ops_avoid_key, element_specs_avoid_key, default_is_object, UpdatesCounterOf, InsertsDefault, UpdatesOrInsertsCounter, UpdatesElementOf, with_true, UpdatesOrInsertsElement, UpdatesCounter, UpdatesElement}
 use Rattle.table_ops.specs.Outcomes.{gives}
 use Rattle.fixed_walk.specs.TableState.{TableState, on_content}
 use Rattle.node_core.specs.declared.step.Reply.{Reply}
@@ -65,18 +66,18 @@ module _ (keypos : ℕ) where
   open-from position None threshold op (Some p) at e = absurd (cc)
   open-from position (Some i) threshold op (Some p) at e =
       let found : Some p ≡ Some op.position = ap (option_map (λ (o : Op). o.position)) e in
-      open-position (integer_of position) op.position (at ∙ found)
+      open-position (as_int position) op.position (at ∙ found)
 
   open-op : (parts : List Term) (op : Op) → op_of_parts keypos parts ≡ Some op → may_update keypos op.position ≡ true
   open-op [] op e = absurd (cc)
   open-op (a ∷ []) op e = absurd (cc)
-  open-op (a ∷ b ∷ []) op e = open-from a (integer_of b) None op (updatable_position keypos a) refl e
+  open-op (a ∷ b ∷ []) op e = open-from a (as_int b) None op (updatable_position keypos a) refl e
   open-op (a ∷ b ∷ c ∷ []) op e = absurd (cc)
   open-op (a ∷ b ∷ c ∷ d ∷ []) op e = by (threshold_of c d) e
     where
       by : (o : Option Threshold) → option_and_then (λ x. op_from keypos a b (Some x)) o ≡ Some op → may_update keypos op.position ≡ true
       by None e = absurd (cc)
-      by (Some x) e = open-from a (integer_of b) (Some x) op (updatable_position keypos a) refl e
+      by (Some x) e = open-from a (as_int b) (Some x) op (updatable_position keypos a) refl e
   open-op (a ∷ b ∷ c ∷ d ∷ x ∷ more) op e = absurd (cc)
 
   open-all : (terms : List Term) (ops : List Op) → all_ops keypos terms ≡ Some ops → list_all (λ (op : Op). may_update keypos op.position) ops ≡ true
@@ -111,7 +112,7 @@ module _ (keypos : ℕ) where
       by (Some list) eo e = let same : updates.Many list ≡ ops = cc in subst (λ os. ops_avoid_key keypos os ≡ true) same (open-all terms list eo)
   open-ops _ ops e = absurd (cc)
 
-  open-spec : (parts : List Term) (spec : ElementSpec) → spec_of_parts keypos parts ≡ Some spec → may_update keypos spec.position ≡ true
+  open-spec : (parts : List Term) (spec : ElementSpec) → element_spec_of_parts keypos parts ≡ Some spec → may_update keypos spec.position ≡ true
   open-spec [] spec e = absurd (cc)
   open-spec (a ∷ []) spec e = absurd (cc)
   open-spec (a ∷ b ∷ []) spec e = by (updatable_position keypos a) refl e
@@ -120,15 +121,15 @@ module _ (keypos : ℕ) where
       by None eo e = absurd (cc)
       by (Some p) eo e =
           let found : Some p ≡ Some spec.position = ap (option_map (λ (s : ElementSpec). s.position)) e in
-          open-position (integer_of a) spec.position (eo ∙ found)
+          open-position (as_int a) spec.position (eo ∙ found)
   open-spec (a ∷ b ∷ c ∷ more) spec e = absurd (cc)
 
-  open-every : (terms : List Term) (specs : List ElementSpec) → all_specs keypos terms ≡ Some specs → list_all (λ (spec : ElementSpec). may_update keypos spec.position) specs ≡ true
+  open-every : (terms : List Term) (specs : List ElementSpec) → all_element_specs keypos terms ≡ Some specs → list_all (λ (spec : ElementSpec). may_update keypos spec.position) specs ≡ true
   open-every [] specs e = let same : [] ≡ specs = cc in subst (λ ss. list_all (λ (spec : ElementSpec). may_update keypos spec.position) ss ≡ true) same refl
-  open-every (term ∷ terms) specs e = by (spec_of_parts keypos (elements term)) (all_specs keypos terms) refl refl e (λ others er. open-every terms others er)
+  open-every (term ∷ terms) specs e = by (element_spec_of_parts keypos (elements term)) (all_element_specs keypos terms) refl refl e (λ others er. open-every terms others er)
     where
-      by : (o : Option ElementSpec) (rest : Option (List ElementSpec)) → spec_of_parts keypos (elements term) ≡ o → all_specs keypos terms ≡ rest → option_and_then (λ first. option_map (λ rest. first ∷ rest) rest) o ≡ Some specs
-          → ((others : List ElementSpec) → all_specs keypos terms ≡ Some others → list_all (λ (spec : ElementSpec). may_update keypos spec.position) others ≡ true) → list_all (λ (spec : ElementSpec). may_update keypos spec.position) specs ≡ true
+      by : (o : Option ElementSpec) (rest : Option (List ElementSpec)) → element_spec_of_parts keypos (elements term) ≡ o → all_element_specs keypos terms ≡ rest → option_and_then (λ first. option_map (λ rest. first ∷ rest) rest) o ≡ Some specs
+          → ((others : List ElementSpec) → all_element_specs keypos terms ≡ Some others → list_all (λ (spec : ElementSpec). may_update keypos spec.position) others ≡ true) → list_all (λ (spec : ElementSpec). may_update keypos spec.position) specs ≡ true
       by None rest eo er e all = absurd (cc)
       by (Some spec) None eo er e all = absurd (cc)
       by (Some spec) (Some others) eo er e all =
@@ -137,20 +138,20 @@ module _ (keypos : ℕ) where
           let behind : list_all (λ (spec : ElementSpec). may_update keypos spec.position) others ≡ true = all others er in
           subst (λ ss. list_all (λ (spec : ElementSpec). may_update keypos spec.position) ss ≡ true) same (rw first behind)
 
-  open-specs : (form : Term-F Term) (specs : ElementSpecs) → specs_form keypos form ≡ Some specs → specs_avoid_key keypos specs ≡ true
-  open-specs (Term-F.Tuple parts) specs e = by (spec_of_parts keypos parts) refl e
+  open-specs : (form : Term-F Term) (specs : ElementSpecs) → element_specs_form keypos form ≡ Some specs → element_specs_avoid_key keypos specs ≡ true
+  open-specs (Term-F.Tuple parts) specs e = by (element_spec_of_parts keypos parts) refl e
     where
-      by : (o : Option ElementSpec) → spec_of_parts keypos parts ≡ o → option_map values.One o ≡ Some specs → specs_avoid_key keypos specs ≡ true
+      by : (o : Option ElementSpec) → element_spec_of_parts keypos parts ≡ o → option_map values.One o ≡ Some specs → element_specs_avoid_key keypos specs ≡ true
       by None eo e = absurd (cc)
       by (Some spec) eo e =
           let same : values.One spec ≡ specs = cc in
           let first : may_update keypos spec.position ≡ true = open-spec parts spec eo in
-          subst (λ ss. specs_avoid_key keypos ss ≡ true) same (rw first refl)
-  open-specs (Term-F.List terms) specs e = by (all_specs keypos terms) refl e
+          subst (λ ss. element_specs_avoid_key keypos ss ≡ true) same (rw first refl)
+  open-specs (Term-F.List terms) specs e = by (all_element_specs keypos terms) refl e
     where
-      by : (o : Option (List ElementSpec)) → all_specs keypos terms ≡ o → option_map values.Many o ≡ Some specs → specs_avoid_key keypos specs ≡ true
+      by : (o : Option (List ElementSpec)) → all_element_specs keypos terms ≡ o → option_map values.Many o ≡ Some specs → element_specs_avoid_key keypos specs ≡ true
       by None eo e = absurd (cc)
-      by (Some list) eo e = let same : values.Many list ≡ specs = cc in subst (λ ss. specs_avoid_key keypos ss ≡ true) same (open-every terms list eo)
+      by (Some list) eo e = let same : values.Many list ≡ specs = cc in subst (λ ss. element_specs_avoid_key keypos ss ≡ true) same (open-every terms list eo)
   open-specs _ specs e = absurd (cc)
 
 -- ---- a set, with a Default that is an object
@@ -232,13 +233,13 @@ module _ (key given : Term) (default : Option Term) (f g : TableState) (reply : 
   over specs [] h = began specs default h
   over specs (object ∷ objects) h = wrote (apply_elements specs object) h
 
-  writes-explained : (o : Option ElementSpecs) → specs_of f.content.keypos given ≡ o
+  writes-explained : (o : Option ElementSpecs) → element_specs_of f.content.keypos given ≡ o
       → MatchOption o (gives (Err refusal.Badarg) f r g) (λ specs. on_content (UpdatesElement key specs default) f r g)
       → ReasonExplains (option_map_or (λ specs. on_set key default f.content (why_elements_of_key key specs default f.content (objects_under f.content.slots key))) o (Some (argument 3 rule.NotAnUpdate))) reply
   writes-explained None e h = (badarg-of truth_reply r reply h.0 is, refl)
   writes-explained (Some specs) e h =
-      set-explained truth_reply r reply is f.content g.content (is_set f.content.kind) (specs_avoid_key f.content.keypos specs) (default_is_object f.content.keypos key default) (why_elements_of_key key specs default f.content (objects_under f.content.slots key)) _
+      set-explained truth_reply r reply is f.content g.content (is_set f.content.kind) (element_specs_avoid_key f.content.keypos specs) (default_is_object f.content.keypos key default) (why_elements_of_key key specs default f.content (objects_under f.content.slots key)) _
       (open-specs f.content.keypos (out-Term given) specs e) (over specs (objects_under f.content.slots key)) h.0
 
 pub update-explained : (key given : Term) (default : Option Term) (f g : TableState) (reply : Reply) → UpdateElement key given default f reply g → ReasonExplains (why_update_element key given default f.content) reply
-update-explained key given default f g reply h = writes-explained key given default f g reply h.0 h.2 (specs_of f.content.keypos given) refl h.1
+update-explained key given default f g reply h = writes-explained key given default f g reply h.0 h.2 (element_specs_of f.content.keypos given) refl h.1

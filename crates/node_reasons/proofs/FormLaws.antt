@@ -7,14 +7,15 @@ use Rattle.ets_term.specs.declared.term.Term.{Term, out-Term}
 use Rattle.ets_term.specs.declared.term.Term.TheOpen.{Term-F}
 use Rattle.ets_term.specs.Atoms.{is_atom}
 use Rattle.ets_term.specs.Depth.{elements}
-use Rattle.counters.specs.Positions.{integer_of, updatable_position}
+use Rattle.counters.specs.Positions.{updatable_position}
+use Rattle.ets_term.specs.Views.{as_int, natural_form, pid_form, list_form}
 use Rattle.counters.specs.declared.ops.Ops.TheVariants as updates
 use Rattle.counters.specs.declared.elements.ElementSpecs.TheVariants as values
 use Rattle.counters.specs.Ops.{threshold_of, op_from, op_of_parts, op_of, all_ops}
-use Rattle.counters.specs.Elements.{spec_of_parts, all_specs}
+use Rattle.counters.specs.Elements.{element_spec_of_parts, all_element_specs}
 use Rattle.ownership.specs.declared.metadata.Heir.{Heir}
 use Rattle.ownership.specs.declared.options.NewOptions.{NewOptions}
-use Rattle.ownership.specs.Options.{default_options, natural_form, pid_form, keypos_option, other_word, word_option, parse_heir, is_tuning, pair_option, plain_tuple, tuple_saying, option_form, options_from, options_form, options_of}
+use Rattle.ownership.specs.Options.{default_options, keypos_option, other_word, word_option, parse_heir, is_tuning, pair_option, plain_tuple, heir_or_option, option_form, options_from, options_of}
 use Rattle.node_reasons.specs.inside.Forms.{is_other_word, is_word, is_keypos_form, is_option_pair, is_name_and_value, is_option_form, is_option, are_options_form, are_options}
 
 -- ---- options: whether one is read does not rest on what was read before
@@ -61,7 +62,7 @@ plain-tuple (x ∷ []) o = refl
 plain-tuple (x ∷ y ∷ []) o = pair-option x y o
 plain-tuple (x ∷ y ∷ z ∷ more) o = refl
 
-tuple-saying : (said : Option (Option Heir)) (es : List Term) (o : NewOptions) → is_some (tuple_saying said es o) ≡ (is_some said || is_name_and_value es)
+tuple-saying : (said : Option (Option Heir)) (es : List Term) (o : NewOptions) → is_some (heir_or_option said es o) ≡ (is_some said || is_name_and_value es)
 tuple-saying None es o = plain-tuple es o
 tuple-saying (Some heir) es o = refl
 
@@ -80,7 +81,7 @@ options-from o (term ∷ terms) = by (option_form (out-Term term) o) (is_option 
     by (Some next) true e rest = rest next
     by (Some next) false e rest = absurd (cc)
 
-options-form : (form : Term-F Term) → is_some (options_form form) ≡ are_options_form form
+options-form : (form : Term-F Term) → is_some (option_and_then (options_from default_options) (list_form form)) ≡ are_options_form form
 options-form (Term-F.List terms) = options-from default_options terms
 options-form _ = refl
 
@@ -98,9 +99,9 @@ module _ (keypos : ℕ) where
   ops-some [] = refl
   ops-some (term ∷ terms) = all-some (op_of keypos term) (all_ops keypos terms) (list_all (λ term. is_some (op_of_parts keypos (elements term))) terms) (ops-some terms)
 
-  pub specs-some : (terms : List Term) → is_some (all_specs keypos terms) ≡ list_all (λ term. is_some (spec_of_parts keypos (elements term))) terms
+  pub specs-some : (terms : List Term) → is_some (all_element_specs keypos terms) ≡ list_all (λ term. is_some (element_spec_of_parts keypos (elements term))) terms
   specs-some [] = refl
-  specs-some (term ∷ terms) = all-some (spec_of_parts keypos (elements term)) (all_specs keypos terms) (list_all (λ term. is_some (spec_of_parts keypos (elements term))) terms) (specs-some terms)
+  specs-some (term ∷ terms) = all-some (element_spec_of_parts keypos (elements term)) (all_element_specs keypos terms) (list_all (λ term. is_some (element_spec_of_parts keypos (elements term))) terms) (specs-some terms)
 
   pub map-some : {X Y : Type 0} (f : X → Y) (o : Option X) → is_some (option_map f o) ≡ is_some o
   map-some f None = refl
@@ -110,8 +111,8 @@ module _ (keypos : ℕ) where
   both-some f None b = refl
   both-some f (Some x) b = map-some (f x) b
 
-  pub op-from-some : (position increment : Term) (bound : Option _) → is_some (op_from keypos position increment bound) ≡ (is_some (updatable_position keypos position) && is_some (integer_of increment))
-  op-from-some position increment bound = both-some _ (updatable_position keypos position) (integer_of increment)
+  pub op-from-some : (position increment : Term) (bound : Option _) → is_some (op_from keypos position increment bound) ≡ (is_some (updatable_position keypos position) && is_some (as_int increment))
+  op-from-some position increment bound = both-some _ (updatable_position keypos position) (as_int increment)
 
   bounded : {X Y : Type 0} (o : Option X) (f : X → Option Y) (b : Bool) → ((x : X) → is_some (f x) ≡ b) → is_some (option_and_then f o) ≡ (is_some o && b)
   bounded None f b e = refl
@@ -129,11 +130,11 @@ module _ (keypos : ℕ) where
   swapped false i false s = refl
 
   pub op-four-some : (position increment threshold value : Term)
-      → is_some (op_of_parts keypos (position ∷ increment ∷ threshold ∷ value ∷ [])) ≡ (is_some (updatable_position keypos position) && (is_some (integer_of increment) && (is_some (integer_of threshold) && is_some (integer_of value))))
+      → is_some (op_of_parts keypos (position ∷ increment ∷ threshold ∷ value ∷ [])) ≡ (is_some (updatable_position keypos position) && (is_some (as_int increment) && (is_some (as_int threshold) && is_some (as_int value))))
   op-four-some position increment threshold value =
-      bounded (threshold_of threshold value) (λ b. op_from keypos position increment (Some b)) (is_some (updatable_position keypos position) && is_some (integer_of increment)) (λ b. op-from-some position increment (Some b))
-      ∙ ap (λ c. c && (is_some (updatable_position keypos position) && is_some (integer_of increment))) (both-some _ (integer_of threshold) (integer_of value))
-      ∙ swapped (is_some (updatable_position keypos position)) (is_some (integer_of increment)) (is_some (integer_of threshold)) (is_some (integer_of value))
+      bounded (threshold_of threshold value) (λ b. op_from keypos position increment (Some b)) (is_some (updatable_position keypos position) && is_some (as_int increment)) (λ b. op-from-some position increment (Some b))
+      ∙ ap (λ c. c && (is_some (updatable_position keypos position) && is_some (as_int increment))) (both-some _ (as_int threshold) (as_int value))
+      ∙ swapped (is_some (updatable_position keypos position)) (is_some (as_int increment)) (is_some (as_int threshold)) (is_some (as_int value))
 
   pub one-op : (parts : List Term) → is_some (option_map updates.One (op_of_parts keypos parts)) ≡ is_some (op_of_parts keypos parts)
   one-op parts = map-some updates.One (op_of_parts keypos parts)
@@ -141,13 +142,13 @@ module _ (keypos : ℕ) where
   pub many-ops : (terms : List Term) → is_some (option_map updates.Many (all_ops keypos terms)) ≡ list_all (λ term. is_some (op_of_parts keypos (elements term))) terms
   many-ops terms = map-some updates.Many (all_ops keypos terms) ∙ ops-some terms
 
-  pub one-spec : (parts : List Term) → is_some (option_map values.One (spec_of_parts keypos parts)) ≡ is_some (spec_of_parts keypos parts)
-  one-spec parts = map-some values.One (spec_of_parts keypos parts)
+  pub one-spec : (parts : List Term) → is_some (option_map values.One (element_spec_of_parts keypos parts)) ≡ is_some (element_spec_of_parts keypos parts)
+  one-spec parts = map-some values.One (element_spec_of_parts keypos parts)
 
-  pub many-specs : (terms : List Term) → is_some (option_map values.Many (all_specs keypos terms)) ≡ list_all (λ term. is_some (spec_of_parts keypos (elements term))) terms
-  many-specs terms = map-some values.Many (all_specs keypos terms) ∙ specs-some terms
+  pub many-specs : (terms : List Term) → is_some (option_map values.Many (all_element_specs keypos terms)) ≡ list_all (λ term. is_some (element_spec_of_parts keypos (elements term))) terms
+  many-specs terms = map-some values.Many (all_element_specs keypos terms) ∙ specs-some terms
 
-  pub op-two-some : (position increment : Term) → is_some (op_of_parts keypos (position ∷ increment ∷ [])) ≡ (is_some (updatable_position keypos position) && is_some (integer_of increment))
+  pub op-two-some : (position increment : Term) → is_some (op_of_parts keypos (position ∷ increment ∷ [])) ≡ (is_some (updatable_position keypos position) && is_some (as_int increment))
   op-two-some position increment = op-from-some position increment None
 
 pub ruleset update_forms = (one-op, many-ops, one-spec, many-specs, op-two-some, op-four-some)

@@ -21,7 +21,7 @@ use Rattle.node_reasons.specs.Updates.{why_update_counter, why_update_element}
 use Rattle.node_reasons.specs.Calls.{why_call}
 use Rattle.node_reasons.specs.Why.{limit_of}
 use Rattle.node_reasons.specs.inside.LastRules.{NamesReason, last_rule_of_lookup_element, last_rule_of_update_counter, last_rule_of_update_element}
-use Rattle.node_reasons.specs.inside.LastRuleOfCalls.{fixed_of, content_in, table_of_first, last_rule_of_known, last_rule_of_call, last_rule_of_refused, last_rule}
+use Rattle.node_reasons.specs.inside.LastRuleOfCalls.{state_of, content_in, table_of_first, last_rule_of_known, last_rule_of_call, last_rule_of_refused, last_rule}
 use Rattle.node_reasons.proofs.NamedRules.{last, on-named, content-named, use-named, fixing-named, informing-named, making-named, setting-named, giving-named, element-named, element-or-named, counting-named, counting-or-named, writing-named}
 
 module _ (w : World) (p : ℕ) where
@@ -74,9 +74,9 @@ named-first ts [] = refl
 named-first ts (x ∷ args) = named-seen ts x
 
 call-seen : (w : World) (p : ℕ) (name : CallName) (args : List Term) → last_rule_of_call (observable_world w) p name args ≡ last_rule_of_call w p name args
-call-seen w p name args = ap (λ o. last_rule_of_known p (metadata_of o) (content_in (fixed_of o)) name args) (named-first w.tables args) ∙ by (table_of_first w.tables args)
+call-seen w p name args = ap (λ o. last_rule_of_known p (metadata_of o) (content_in (state_of o)) name args) (named-first w.tables args) ∙ by (table_of_first w.tables args)
   where
-    by : (o : Option Table) → last_rule_of_known p (metadata_of (option_map observable_table o)) (content_in (fixed_of (option_map observable_table o))) name args ≡ last_rule_of_known p (metadata_of o) (content_in (fixed_of o)) name args
+    by : (o : Option Table) → last_rule_of_known p (metadata_of (option_map observable_table o)) (content_in (state_of (option_map observable_table o))) name args ≡ last_rule_of_known p (metadata_of o) (content_in (state_of o)) name args
     by None = refl
     by (Some table) = refl
 

@@ -3,14 +3,15 @@ use Rattle.std.proofs.Common.{◌≡◌, ℕ, Bool, true, false, List, [], ◌�
 use Rattle.std.specs.Prelude.{◌==◌, ◌&&◌, if◌then◌else◌, is_some}
 use Rattle.std.specs.Option.{option_map_or}
 use Rattle.ets_term.specs.declared.term.Term.{Term, out-Term}
-use Rattle.ets_term.specs.Atoms.{text_of, is_atom}
+use Rattle.ets_term.specs.Atoms.{is_atom}
+use Rattle.ets_term.specs.Views.{as_atom, as_natural, pid_form}
 use Rattle.counters.specs.declared.fault.CounterFault.{CounterFault}
 use Rattle.counters.specs.declared.fault.CounterFault.TheVariants as fault
 use Rattle.counters.specs.declared.elements.ElementSpecs.{ElementSpecs}
 use Rattle.counters.specs.declared.ops.Ops.{Ops}
 use Rattle.counters.specs.Counters.{apply_ops}
 use Rattle.counters.specs.Defaults.{with_key, start_counter, start_elements}
-use Rattle.counters.specs.Elements.{specs_of, apply_elements}
+use Rattle.counters.specs.Elements.{element_specs_of, apply_elements}
 use Rattle.counters.specs.Ops.{ops_of}
 use Rattle.table_ops.specs.declared.kind.Kind.{Kind}
 use Rattle.table_ops.specs.Content.{Content, objects_under}
@@ -19,10 +20,9 @@ use Rattle.table_ops.specs.Update.{is_set, default_is_object}
 use Rattle.ownership.specs.declared.options.NewOptions.{NewOptions}
 use Rattle.ownership.specs.World.{Table, Tables, Processes, metadata_of, lives, whereis}
 use Rattle.ownership.specs.Access.{is_owner}
-use Rattle.ownership.specs.Options.{options_of, pid_form, heir_after}
+use Rattle.ownership.specs.Options.{options_of, heir_after}
 use Rattle.ownership.specs.Info.{item_of}
 use Rattle.node_core.specs.Access.{may_access}
-use Rattle.node_core.specs.Positions.{position_of}
 use Rattle.node_core.specs.declared.node.access.Access.{Access}
 use Rattle.node_core.specs.declared.node.access.Access.TheVariants.{Read}
 use Rattle.node_core.specs.rules.Owning.{names_form}
@@ -34,8 +34,8 @@ use Rattle.node_reasons.specs.Objects.{no_further_rule, why_element_of_key, why_
 use Rattle.node_reasons.specs.Updates.{if_badarg, on_set, why_counter_of_key, why_update_counter, why_elements_of_key, why_update_element}
 use Rattle.node_reasons.specs.Tables.{why_new_with, why_new, why_info, why_safe_fixtable, on_owned_table, why_heir, why_setopts, why_receiver, why_give_away_to, why_give_away}
 use Rattle.node_reasons.specs.inside.Forms.{are_options}
-use Rattle.node_reasons.specs.inside.LastRules.{NamesReason, needs_access, last_rule_of_use, last_rule_of_content, needs_owner, last_rule_of_give_away_to, last_rule_of_give_away, last_rule_of_safe_fixtable, last_rule_of_new, last_rule_of_info, needs_key, needs_position, last_rule_of_lookup_element, needs_set, last_rule_of_update_counter, last_rule_of_update_element}
-use Rattle.node_reasons.specs.inside.LastRuleOfCalls.{fixed_of, content_in}
+use Rattle.node_reasons.specs.inside.LastRules.{NamesReason, access_reason_or, last_rule_of_use, last_rule_of_content, owner_reason_or, last_rule_of_give_away_to, last_rule_of_give_away, last_rule_of_safe_fixtable, last_rule_of_new, last_rule_of_info, key_reason_or, position_reason_or, last_rule_of_lookup_element, set_reason_or, last_rule_of_update_counter, last_rule_of_update_element}
+use Rattle.node_reasons.specs.inside.LastRuleOfCalls.{state_of, content_in}
 use Rattle.node_reasons.proofs.FormLaws.{options-some}
 
 -- the last rule
@@ -49,20 +49,20 @@ last-where false r = tt {0}
 
 -- ---- on a table
 module _ (access : Access) (p : ℕ) (rest : Content → Option Reason) where
-  pub on-named : (o : Option Table) (r : Reason) → ((content : Content) → NamesReason (rest content) r) → NamesReason (on_table access p o rest) (needs_access access p (metadata_of o) r)
+  pub on-named : (o : Option Table) (r : Reason) → ((content : Content) → NamesReason (rest content) r) → NamesReason (on_table access p o rest) (access_reason_or access p (metadata_of o) r)
   on-named None r named = refl
   on-named (Some table) r named = by (may_access access table.metadata p)
     where
-      by : (b : Bool) → NamesReason (if b then rest table.fixed.content else Some (argument 1 (rule_of_access access))) (if b then r else argument 1 (rule_of_access access))
-      by true = named table.fixed.content
+      by : (b : Bool) → NamesReason (if b then rest table.state.content else Some (argument 1 (rule_of_access access))) (if b then r else argument 1 (rule_of_access access))
+      by true = named table.state.content
       by false = refl
 
-  pub content-named : (o : Option Table) (last_rule : Content → Reason) → ((content : Content) → NamesReason (rest content) (last_rule content)) → NamesReason (on_table access p o rest) (last_rule_of_content access p (metadata_of o) (content_in (fixed_of o)) last_rule)
+  pub content-named : (o : Option Table) (last_rule : Content → Reason) → ((content : Content) → NamesReason (rest content) (last_rule content)) → NamesReason (on_table access p o rest) (last_rule_of_content access p (metadata_of o) (content_in (state_of o)) last_rule)
   content-named None last_rule named = refl
   content-named (Some table) last_rule named = by (may_access access table.metadata p)
     where
-      by : (b : Bool) → NamesReason (if b then rest table.fixed.content else Some (argument 1 (rule_of_access access))) (if b then last_rule table.fixed.content else argument 1 (rule_of_access access))
-      by true = named table.fixed.content
+      by : (b : Bool) → NamesReason (if b then rest table.state.content else Some (argument 1 (rule_of_access access))) (if b then last_rule table.state.content else argument 1 (rule_of_access access))
+      by true = named table.state.content
       by false = refl
 
 pub use-named : (access : Access) (p : ℕ) (o : Option Table) → NamesReason (on_table access p o no_further_rule) (last_rule_of_use access p (metadata_of o))
@@ -85,7 +85,7 @@ informing-named term item = by (is_some (item_of item))
     by false = refl
 
 pub making-named : (ts : Tables) (name options : Term) → NamesReason (why_new ts name options) (last_rule_of_new name options)
-making-named ts name options = by (text_of name)
+making-named ts name options = by (as_atom name)
   where
     given : (text : List ℕ) (o : Option NewOptions) (b : Bool) → is_some o ≡ b → NamesReason (why_new_with ts text o) (if b then argument 1 rule.NameIsTaken else argument 2 rule.NotOptions)
     given text None true e = absurd (cc)
@@ -98,7 +98,7 @@ making-named ts name options = by (text_of name)
     by None = refl
     by (Some text) = given text (options_of options) (are_options options) (options-some options)
 
-own-named : (p : ℕ) (o : Option Table) (rest : Table → Option Reason) (r : Reason) → ((table : Table) → NamesReason (rest table) r) → NamesReason (on_owned_table p o rest) (needs_owner p (metadata_of o) r)
+own-named : (p : ℕ) (o : Option Table) (rest : Table → Option Reason) (r : Reason) → ((table : Table) → NamesReason (rest table) r) → NamesReason (on_owned_table p o rest) (owner_reason_or p (metadata_of o) r)
 own-named p None rest r named = refl
 own-named p (Some table) rest r named = by (is_owner table.metadata p)
   where
@@ -106,7 +106,7 @@ own-named p (Some table) rest r named = by (is_owner table.metadata p)
     by true = named table
     by false = refl
 
-pub setting-named : (p : ℕ) (o : Option Table) (options : Term) → NamesReason (why_setopts p o options) (needs_owner p (metadata_of o) (argument 2 rule.NotOptions))
+pub setting-named : (p : ℕ) (o : Option Table) (options : Term) → NamesReason (why_setopts p o options) (owner_reason_or p (metadata_of o) (argument 2 rule.NotOptions))
 setting-named p o options = own-named p o (why_heir options) (argument 2 rule.NotOptions) (λ table. last (is_some (heir_after table.metadata.heir options)) (argument 2 rule.NotOptions))
 
 receiving-named : (processes : Processes) (p q : ℕ) → NamesReason (why_receiver processes p q) (if q == p then argument 2 rule.ToSelf else argument 2 rule.NotAlive)
@@ -126,11 +126,11 @@ giving-named processes p (Some table) pid = by (pid_form (out-Term pid))
 
 -- ---- elements of objects
 module _ (kind : Kind) (n : ℕ) where
-  under-needed : (objects : List Term) → NamesReason (why_element_of_key (Some (argument 2 rule.NoKey)) kind n objects) (needs_key true (argument 3 rule.NoElement) objects)
+  under-needed : (objects : List Term) → NamesReason (why_element_of_key (Some (argument 2 rule.NoKey)) kind n objects) (key_reason_or true (argument 3 rule.NoElement) objects)
   under-needed [] = refl
   under-needed (object ∷ objects) = last (is_some (lookup_element kind n (object ∷ objects))) (argument 3 rule.NoElement)
 
-  under-free : (objects : List Term) → NamesReason (why_element_of_key None kind n objects) (needs_key false (argument 3 rule.NoElement) objects)
+  under-free : (objects : List Term) → NamesReason (why_element_of_key None kind n objects) (key_reason_or false (argument 3 rule.NoElement) objects)
   under-free [] = tt {0}
   under-free (object ∷ objects) = last (is_some (lookup_element kind n (object ∷ objects))) (argument 3 rule.NoElement)
 
@@ -139,16 +139,16 @@ module _ (kind : Kind) (n : ℕ) where
   at-zero v r false named = named
 
 pub element-named : (key position : Term) (content : Content) → NamesReason (why_lookup_element key position content) (last_rule_of_lookup_element key position true content)
-element-named key position content = by (position_of position)
+element-named key position content = by (as_natural position)
   where
-    by : (o : Option ℕ) → NamesReason (why_element_at (Some (argument 2 rule.NoKey)) (objects_under content.slots key) content.kind o) (needs_position o (needs_key true (argument 3 rule.NoElement) (objects_under content.slots key)))
+    by : (o : Option ℕ) → NamesReason (why_element_at (Some (argument 2 rule.NoKey)) (objects_under content.slots key) content.kind o) (position_reason_or o (key_reason_or true (argument 3 rule.NoElement) (objects_under content.slots key)))
     by None = refl
     by (Some n) = at-zero content.kind n _ _ (n == 0) (under-needed content.kind n (objects_under content.slots key))
 
 pub element-or-named : (key position : Term) (content : Content) → NamesReason (why_lookup_element_or key position content) (last_rule_of_lookup_element key position false content)
-element-or-named key position content = by (position_of position)
+element-or-named key position content = by (as_natural position)
   where
-    by : (o : Option ℕ) → NamesReason (why_element_at None (objects_under content.slots key) content.kind o) (needs_position o (needs_key false (argument 3 rule.NoElement) (objects_under content.slots key)))
+    by : (o : Option ℕ) → NamesReason (why_element_at None (objects_under content.slots key) content.kind o) (position_reason_or o (key_reason_or false (argument 3 rule.NoElement) (objects_under content.slots key)))
     by None = refl
     by (Some n) = at-zero content.kind n _ _ (n == 0) (under-free content.kind n (objects_under content.slots key))
 
@@ -159,7 +159,7 @@ badarg-named broken (Err fault.Badarg) = refl
 badarg-named broken (Err fault.SystemLimit) = tt {0}
 badarg-named broken (Err fault.Memory) = tt {0}
 
-set-named : (key : Term) (default : Option Term) (content : Content) (v : Option Reason) (r : Reason) → NamesReason v r → NamesReason (on_set key default content v) (needs_set key default content r)
+set-named : (key : Term) (default : Option Term) (content : Content) (v : Option Reason) (r : Reason) → NamesReason v r → NamesReason (on_set key default content v) (set_reason_or key default content r)
 set-named key default content v r named = by (is_set content.kind) (default_is_object content.keypos key default)
   where
     by : (a b : Bool) → NamesReason (if a then (if b then v else Some (argument 4 rule.NotAnObject)) else Some (argument 1 rule.NotASet)) (if a then (if b then r else argument 4 rule.NotAnObject) else argument 1 rule.NotASet)
@@ -177,7 +177,7 @@ counting-named key given content =
     formed (ops_of content.keypos given) (λ ops. on_set key None content (why_counter_of_key key ops None content (objects_under content.slots key))) _
     (λ ops. set-named key None content _ _ (under ops (objects_under content.slots key)))
   where
-    under : (ops : Ops) (objects : List Term) → NamesReason (why_counter_of_key key ops None content objects) (needs_key true (argument 3 rule.NotACounter) objects)
+    under : (ops : Ops) (objects : List Term) → NamesReason (why_counter_of_key key ops None content objects) (key_reason_or true (argument 3 rule.NotACounter) objects)
     under ops [] = refl
     under ops (object ∷ objects) = badarg-named rule.NotACounter (apply_ops ops object)
 
@@ -186,13 +186,13 @@ counting-or-named key given default content =
     formed (ops_of content.keypos given) (λ ops. on_set key (Some default) content (why_counter_of_key key ops (Some default) content (objects_under content.slots key))) _
     (λ ops. set-named key (Some default) content _ _ (under ops (objects_under content.slots key)))
   where
-    under : (ops : Ops) (objects : List Term) → NamesReason (why_counter_of_key key ops (Some default) content objects) (needs_key false (argument 3 rule.NotACounter) objects)
+    under : (ops : Ops) (objects : List Term) → NamesReason (why_counter_of_key key ops (Some default) content objects) (key_reason_or false (argument 3 rule.NotACounter) objects)
     under ops [] = badarg-named rule.NotACounter (start_counter ops (with_key content.keypos key default))
     under ops (object ∷ objects) = badarg-named rule.NotACounter (apply_ops ops object)
 
 pub writing-named : (key given : Term) (default : Option Term) (content : Content) → NamesReason (why_update_element key given default content) (last_rule_of_update_element key given default content)
 writing-named key given default content =
-    formed (specs_of content.keypos given) (λ specs. on_set key default content (why_elements_of_key key specs default content (objects_under content.slots key))) _
+    formed (element_specs_of content.keypos given) (λ specs. on_set key default content (why_elements_of_key key specs default content (objects_under content.slots key))) _
     (λ specs. set-named key default content _ _ (under specs (objects_under content.slots key)))
   where
     started : (specs : ElementSpecs) (o : Option Term) → NamesReason (option_map_or (λ d. if_badarg rule.NoElement (start_elements specs (with_key content.keypos key d))) o None) (argument 3 rule.NoElement)

@@ -8,7 +8,7 @@ use Rattle.table_ops.specs.declared.kind.Kind.{Kind}
 use Rattle.table_ops.specs.Content.{Content, is_object, objects_under}
 use Rattle.table_ops.specs.Read.{lookup_element}
 use Rattle.fixed_walk.specs.Walk.{next_key}
-use Rattle.node_core.specs.Positions.{position_of}
+use Rattle.ets_term.specs.Views.{as_natural}
 use Rattle.node_core.specs.rules.Insertion.{objects_in}
 use Rattle.node_reasons.specs.declared.reason.Rule.TheVariants as rule
 use Rattle.node_reasons.specs.declared.reason.Reason.{Reason}
@@ -58,9 +58,9 @@ why_element_at missing objects kind (Some position) =
 -- lookup_element: Pos is a position, then the key has an object, then each of these has the element
 abbrev pub why_lookup_element : Term → Term → Content → Option Reason
 why_lookup_element key position content =
-    why_element_at (Some (argument 2 rule.NoKey)) (objects_under content.slots key) content.kind (position_of position)
+    why_element_at (Some (argument 2 rule.NoKey)) (objects_under content.slots key) content.kind (as_natural position)
 
 -- lookup_element with a default: the key needs no object
 abbrev pub why_lookup_element_or : Term → Term → Content → Option Reason
 why_lookup_element_or key position content =
-    why_element_at None (objects_under content.slots key) content.kind (position_of position)
+    why_element_at None (objects_under content.slots key) content.kind (as_natural position)

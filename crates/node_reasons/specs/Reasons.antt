@@ -46,4 +46,4 @@ rule_of_access Write = rule.NotWritable
 abbrev pub on_table : Access → ℕ → Option Table → (Content → Option Reason) → Option Reason
 on_table access p None rest = Some (argument 1 rule.NoTable)
 on_table access p (Some table) rest =
-    if may_access access table.metadata p then rest table.fixed.content else Some (argument 1 (rule_of_access access))
+    if may_access access table.metadata p then rest table.state.content else Some (argument 1 (rule_of_access access))

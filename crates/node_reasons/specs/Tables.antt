@@ -3,11 +3,12 @@
 use Rattle.std.specs.Prelude.{ℕ, ◌==◌, ◌&&◌, if◌then◌else◌, List, Option, Some, None, is_some, codes}
 use Rattle.std.specs.Option.{option_map_or}
 use Rattle.ets_term.specs.declared.term.Term.{Term, out-Term}
-use Rattle.ets_term.specs.Atoms.{text_of, is_atom}
+use Rattle.ets_term.specs.Atoms.{is_atom}
+use Rattle.ets_term.specs.Views.{as_atom, pid_form}
 use Rattle.ownership.specs.declared.options.NewOptions.{NewOptions}
 use Rattle.ownership.specs.World.{Table, Tables, Processes, lives, whereis}
 use Rattle.ownership.specs.Access.{is_owner}
-use Rattle.ownership.specs.Options.{options_of, pid_form, heir_after}
+use Rattle.ownership.specs.Options.{options_of, heir_after}
 use Rattle.ownership.specs.Info.{item_of}
 use Rattle.node_core.specs.declared.node.access.Access.TheVariants.{Read}
 use Rattle.node_core.specs.rules.Owning.{names_form}
@@ -18,7 +19,7 @@ use Rattle.node_reasons.specs.Objects.{no_further_rule}
 
 -- whereis: the name is an atom
 abbrev pub why_whereis : Term → Option Reason
-why_whereis name = if is_some (text_of name) then None else Some (argument 1 rule.NotAnAtom)
+why_whereis name = if is_some (as_atom name) then None else Some (argument 1 rule.NotAnAtom)
 
 -- new, with a name that is an atom: the options have their form; then, of a new named table, no table has the name
 abbrev pub why_new_with : Tables → List ℕ → Option NewOptions → Option Reason
@@ -29,7 +30,7 @@ why_new_with tables text (Some options) =
 -- new: the name is an atom; then as why_new_with
 abbrev pub why_new : Tables → Term → Term → Option Reason
 why_new tables name options =
-    option_map_or (λ text. why_new_with tables text (options_of options)) (text_of name)
+    option_map_or (λ text. why_new_with tables text (options_of options)) (as_atom name)
     (Some (argument 1 rule.NotAnAtom))
 
 -- info: the second argument is an item; then the first can name a table

@@ -8,7 +8,7 @@ use Rattle.counters.specs.declared.elements.ElementSpecs.{ElementSpecs}
 use Rattle.counters.specs.declared.ops.Ops.{Ops}
 use Rattle.counters.specs.Counters.{apply_ops}
 use Rattle.counters.specs.Defaults.{with_key, start_counter, start_elements}
-use Rattle.counters.specs.Elements.{specs_of, apply_elements}
+use Rattle.counters.specs.Elements.{element_specs_of, apply_elements}
 use Rattle.counters.specs.Ops.{ops_of}
 use Rattle.table_ops.specs.Content.{Content, objects_under}
 use Rattle.table_ops.specs.Update.{is_set, default_is_object}
@@ -61,5 +61,5 @@ abbrev pub why_update_element : Term → Term → Option Term → Content → Op
 why_update_element key values default content =
     option_map_or
     (λ specs. on_set key default content (why_elements_of_key key specs default content (objects_under content.slots key)))
-    (specs_of content.keypos values)
+    (element_specs_of content.keypos values)
     (Some (argument 3 rule.NotAnUpdate))

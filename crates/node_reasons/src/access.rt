@@ -4,8 +4,8 @@ ghost use Rattle.std.specs.Prelude.{◌≡◌, option_copied};
 ghost use Rattle.ownership.specs.World.{metadata_of};
 ghost use Rattle.node_core.specs.declared.node.access.Access.TheVariants.{Read, Write};
 ghost use Rattle.node_reasons.specs.Reasons.{table_of_term};
-ghost use Rattle.node_reasons.specs.inside.LastRules.{needs_access, last_rule_of_use, needs_owner};
-ghost use Rattle.node_reasons.specs.inside.LastRuleOfCalls.{fixed_of};
+ghost use Rattle.node_reasons.specs.inside.LastRules.{access_reason_or, last_rule_of_use, owner_reason_or};
+ghost use Rattle.node_reasons.specs.inside.LastRuleOfCalls.{state_of};
 
 use crate::reason::{Reason, Rule};
 use bucket_table::Rows;
@@ -28,7 +28,7 @@ impl<'a, R: Rows> TableUse<'a, R> {
         ensures pid { result.pid ≡ pid }
         ensures term { result.term.now ≡ term.now }
         ensures metadata { option_copied result.metadata ≡ metadata_of (table_of_term world.now.tables term.now) }
-        ensures table { option_copied result.table ≡ fixed_of (table_of_term world.now.tables term.now) }
+        ensures table { option_copied result.table ≡ state_of (table_of_term world.now.tables term.now) }
     {
         match world.resolve(term) {
             None => TableUse {
@@ -47,8 +47,8 @@ impl<'a, R: Rows> TableUse<'a, R> {
     }
 
     /// Returns the reason if the table does not exist, or the process may not read it; else returns `rest`.
-    pub fn needs_read(&self, rest: Reason) -> Reason
-        ensures { result ≡ needs_access Read self.now.pid (option_copied self.now.metadata) rest }
+    pub fn read_reason_or(&self, rest: Reason) -> Reason
+        ensures { result ≡ access_reason_or Read self.now.pid (option_copied self.now.metadata) rest }
     {
         match self.metadata {
             None => Reason::argument(1, Rule::NoTable),
@@ -58,8 +58,8 @@ impl<'a, R: Rows> TableUse<'a, R> {
     }
 
     /// Returns the reason if the table does not exist, or the process may not write to it; else returns `rest`.
-    pub fn needs_write(&self, rest: Reason) -> Reason
-        ensures { result ≡ needs_access Write self.now.pid (option_copied self.now.metadata) rest }
+    pub fn write_reason_or(&self, rest: Reason) -> Reason
+        ensures { result ≡ access_reason_or Write self.now.pid (option_copied self.now.metadata) rest }
     {
         match self.metadata {
             None => Reason::argument(1, Rule::NoTable),
@@ -72,19 +72,19 @@ impl<'a, R: Rows> TableUse<'a, R> {
     pub fn last_rule_of_read(&self) -> Reason
         ensures { result ≡ last_rule_of_use Read self.now.pid (option_copied self.now.metadata) }
     {
-        self.needs_read(Reason::argument(1, Rule::NotReadable))
+        self.read_reason_or(Reason::argument(1, Rule::NotReadable))
     }
 
     /// Returns the reason of a refused call whose last rule is that the process may write to the table.
     pub fn last_rule_of_write(&self) -> Reason
         ensures { result ≡ last_rule_of_use Write self.now.pid (option_copied self.now.metadata) }
     {
-        self.needs_write(Reason::argument(1, Rule::NotWritable))
+        self.write_reason_or(Reason::argument(1, Rule::NotWritable))
     }
 
     /// Returns the reason if the table does not exist, or the process does not own it; else returns `rest`.
-    pub fn needs_owner(&self, rest: Reason) -> Reason
-        ensures { result ≡ needs_owner self.now.pid (option_copied self.now.metadata) rest }
+    pub fn owner_reason_or(&self, rest: Reason) -> Reason
+        ensures { result ≡ owner_reason_or self.now.pid (option_copied self.now.metadata) rest }
     {
         match self.metadata {
             None => Reason::argument(1, Rule::NoTable),

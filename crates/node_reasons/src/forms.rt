@@ -3,9 +3,10 @@
 ghost use Rattle.std.specs.Prelude.{◌≡◌, is_some};
 ghost use Rattle.std.specs.List.{list_all};
 ghost use Rattle.ets_term.specs.Depth.{elements};
-ghost use Rattle.counters.specs.Positions.{integer_of, updatable_position};
+ghost use Rattle.counters.specs.Positions.{updatable_position};
+ghost use Rattle.ets_term.specs.Views.{as_int};
 ghost use Rattle.counters.specs.Ops.{op_of_parts, ops_of};
-ghost use Rattle.counters.specs.Elements.{spec_of_parts, specs_of};
+ghost use Rattle.counters.specs.Elements.{element_spec_of_parts, element_specs_of};
 
 use ets_term::{Position, Term};
 
@@ -25,7 +26,7 @@ pub fn are_ops(keypos: u32, term: &Term) -> bool
 /// Checks whether a term is an update of elements: an element value or a list of them.
 #[tactic(auto, using(crate::proofs::FormLaws::update_forms))]
 pub fn are_element_specs(keypos: u32, term: &Term) -> bool
-    ensures { result ≡ is_some (specs_of keypos term.now) }
+    ensures { result ≡ is_some (element_specs_of keypos term.now) }
 {
     match term {
         Term::Tuple(parts) => is_element_spec(keypos, parts.as_slice()),
@@ -43,7 +44,7 @@ fn are_all_ops(keypos: u32, terms: &[Term]) -> bool
 
 /// Checks whether each term is an element value that does not change the key.
 fn are_all_element_specs(keypos: u32, terms: &[Term]) -> bool
-    ensures { result ≡ list_all (λ term. is_some (spec_of_parts keypos (elements term))) terms.now }
+    ensures { result ≡ list_all (λ term. is_some (element_spec_of_parts keypos (elements term))) terms.now }
 {
     terms
         .iter()
@@ -79,7 +80,7 @@ fn is_op(keypos: u32, parts: &[Term]) -> bool
 
 /// Checks whether the elements form an element value that does not change the key.
 fn is_element_spec(keypos: u32, parts: &[Term]) -> bool
-    ensures { result ≡ is_some (spec_of_parts keypos parts.now) }
+    ensures { result ≡ is_some (element_spec_of_parts keypos parts.now) }
 {
     match parts {
         [position, _] => is_position(keypos, position),
@@ -99,7 +100,7 @@ fn is_position(keypos: u32, term: &Term) -> bool
 
 /// Checks whether a term is an integer.
 fn is_integer(term: &Term) -> bool
-    ensures { result ≡ is_some (integer_of term.now) }
+    ensures { result ≡ is_some (as_int term.now) }
 {
     matches!(term, Term::Int(_))
 }

@@ -66,5 +66,5 @@ pub fn last_rule_of_give_away<R: Rows>(table_use: &TableUse<R>, to: &Term) -> Re
     } else {
         Rule::NotAlive
     };
-    table_use.needs_owner(Reason::argument(2, rule))
+    table_use.owner_reason_or(Reason::argument(2, rule))
 }

@@ -2,9 +2,9 @@
 //! not tried: it is broken if all others hold.
 ghost use Rattle.std.specs.Prelude.{◌≡◌, option_copied};
 ghost use Rattle.table_ops.specs.Update.{is_set, default_is_object};
-ghost use Rattle.node_core.specs.Positions.{position_of};
+ghost use Rattle.ets_term.specs.Views.{as_natural};
 ghost use Rattle.node_core.specs.declared.node.access.Access.TheVariants.{Read, Write};
-ghost use Rattle.node_reasons.specs.inside.LastRules.{last_rule_of_content, needs_key, needs_position, last_rule_of_lookup_element, needs_set, last_rule_of_update_counter, last_rule_of_update_element};
+ghost use Rattle.node_reasons.specs.inside.LastRules.{last_rule_of_content, key_reason_or, position_reason_or, last_rule_of_lookup_element, set_reason_or, last_rule_of_update_counter, last_rule_of_update_element};
 ghost use Rattle.node_reasons.specs.inside.LastRuleOfCalls.{content_in};
 
 use crate::access::TableUse;
@@ -28,11 +28,11 @@ pub fn last_rule_of_lookup_element<R: Rows>(
         (content_in (option_copied table_use.now.table)) (last_rule_of_lookup_element key.now position.now needed) }
 {
     let Some(table) = table_use.table else {
-        return table_use.needs_read(Reason::argument(1, Rule::NoTable));
+        return table_use.read_reason_or(Reason::argument(1, Rule::NoTable));
     };
     let element = Reason::argument(3, Rule::NoElement);
-    let rest = needs_position(position, needs_key(needed, element, table.lookup(key)));
-    table_use.needs_read(rest)
+    let rest = position_reason_or(position, key_reason_or(needed, element, table.lookup(key)));
+    table_use.read_reason_or(rest)
 }
 
 /// Returns the reason of a refused `update_counter`: the first broken rule of these. The process may write to the
@@ -49,20 +49,20 @@ pub fn last_rule_of_update_counter<R: Rows>(
         (last_rule_of_update_counter key.now updates.now (option_copied default.entry)) }
 {
     let Some(table) = table_use.table else {
-        return table_use.needs_write(Reason::argument(1, Rule::NoTable));
+        return table_use.write_reason_or(Reason::argument(1, Rule::NoTable));
     };
     let rest = if are_ops(table.keypos(), updates) {
         let counter = Reason::argument(3, Rule::NotACounter);
-        needs_set(
+        set_reason_or(
             table,
             key,
             default,
-            needs_key(default.is_none(), counter, table.lookup(key)),
+            key_reason_or(default.is_none(), counter, table.lookup(key)),
         )
     } else {
         Reason::argument(3, Rule::NotAnUpdate)
     };
-    table_use.needs_write(rest)
+    table_use.write_reason_or(rest)
 }
 
 /// Returns the reason of a refused `update_element`: the first broken rule of these. The process may write to the
@@ -79,19 +79,19 @@ pub fn last_rule_of_update_element<R: Rows>(
         (last_rule_of_update_element key.now values.now (option_copied default.entry)) }
 {
     let Some(table) = table_use.table else {
-        return table_use.needs_write(Reason::argument(1, Rule::NoTable));
+        return table_use.write_reason_or(Reason::argument(1, Rule::NoTable));
     };
     let rest = if are_element_specs(table.keypos(), values) {
-        needs_set(table, key, default, Reason::argument(3, Rule::NoElement))
+        set_reason_or(table, key, default, Reason::argument(3, Rule::NoElement))
     } else {
         Reason::argument(3, Rule::NotAnUpdate)
     };
-    table_use.needs_write(rest)
+    table_use.write_reason_or(rest)
 }
 
 /// Returns the reason if argument 3 is not a position, else `rest`.
-fn needs_position(position: &Term, rest: Reason) -> Reason
-    ensures { result ≡ needs_position (position_of position.now) rest }
+fn position_reason_or(position: &Term, rest: Reason) -> Reason
+    ensures { result ≡ position_reason_or (as_natural position.now) rest }
 {
     match position {
         Term::Int(n) if *n >= 1 => rest,
@@ -100,8 +100,8 @@ fn needs_position(position: &Term, rest: Reason) -> Reason
 }
 
 /// Returns the reason if the key needs an object and has none, else `rest`.
-fn needs_key(needed: bool, rest: Reason, objects: &[Term]) -> Reason
-    ensures { result ≡ needs_key needed rest objects.now }
+fn key_reason_or(needed: bool, rest: Reason, objects: &[Term]) -> Reason
+    ensures { result ≡ key_reason_or needed rest objects.now }
 {
     match objects {
         [] if needed => Reason::argument(2, Rule::NoKey),
@@ -117,8 +117,13 @@ fn is_set<R: Rows>(table: &Walked<R>) -> bool
 }
 
 /// Returns the reason if the table is not a set, or the default, with the key in it, is not an object; else `rest`.
-fn needs_set<R: Rows>(table: &Walked<R>, key: &Term, default: Option<&Term>, rest: Reason) -> Reason
-    ensures { result ≡ needs_set key.now (option_copied default.entry) table.now.content rest }
+fn set_reason_or<R: Rows>(
+    table: &Walked<R>,
+    key: &Term,
+    default: Option<&Term>,
+    rest: Reason,
+) -> Reason
+    ensures { result ≡ set_reason_or key.now (option_copied default.entry) table.now.content rest }
 {
     if !is_set(table) {
         Reason::argument(1, Rule::NotASet)

@@ -7,7 +7,7 @@ use Rattle.atomic_table.specs.Table.{Allows, Splits, step, keeps}
 use Rattle.atomic_table.proofs.Lists.{at_set, at_snoc, set_here, set_else, at_longer}
 use Rattle.node_shared.specs.declared.pids.rule.View.{View}
 use Rattle.node_shared.specs.declared.pids.rule.View.TheVariants.{Opening, Undrawn, Drawn}
-use Rattle.node_shared.specs.Numbers.{HasDrawn, IsNumbered, Numbered, DrawsNumber, numbers_left, all_numbers_left, one_fewer}
+use Rattle.node_shared.specs.Numbers.{HasDrawn, IsNumbered, HoldsNumbers, DrawsNumber, numbers_left, all_numbers_left, one_fewer}
 
 -- what is numbers_left after one view is another
 owed_set : (views : List View) (i : ℕ) (v w : View) → get_elem? views i ≡ some v → all_numbers_left (set views i w) + numbers_left v ≡ all_numbers_left views + numbers_left w
@@ -44,7 +44,7 @@ begins n few = record {
     none zero x e = let d : Opening n ≡ Drawn x = some-injective _ _ e in cc
     none (suc i) x e = some-ne-none _ (sym e)
 
-pub splits : (n id k : ℕ) → 0 < k → Splits (Numbered n) id (Opening k) (one_fewer (Opening k)) Undrawn
+pub splits : (n id k : ℕ) → 0 < k → Splits (HoldsNumbers n) id (Opening k) (one_fewer (Opening k)) Undrawn
 splits n id k some_left s h at =
     let r = h.2 in
     let now = set s.views id (Opening (k - 1)) in
@@ -89,7 +89,7 @@ draw_step n id word views at r =
     split_at : (x w : ℕ) → x < w + 1 → (x < w) ⊎ (w ≡ x)
     split_at x w lt = grind arith
 
-pub draws : (n slots id : ℕ) → Allows (Numbered n) slots id (Undrawn, []) 0 (λ m. (m + 1) % 2 ^ 64) (DrawsNumber (step slots 0 1 0 none) (Undrawn, []))
+pub draws : (n slots id : ℕ) → Allows (HoldsNumbers n) slots id (Undrawn, []) 0 (λ m. (m + 1) % 2 ^ 64) (DrawsNumber (step slots 0 1 0 none) (Undrawn, []))
 draws n slots id s h homes at fits =
     let r = h.2 in
     let word = h.0 in

@@ -9,7 +9,7 @@ use Rattle.node_core.specs.declared.step.Step.{Step}
 use Rattle.node_core.specs.declared.step.Step.TheVariants.{Enrol, End, Ask, Grow, Ready}
 use Rattle.node_shared.specs.declared.entry.Entry.{Entry}
 use Rattle.node_core.specs.Woven.{is_step_of}
-use Rattle.node_shared.specs.Journal.{process_of, is_entry_of, of, has_entries}
+use Rattle.node_shared.specs.Journal.{process_of, is_entry_of, entries_of, has_entries}
 use Rattle.node_shared.specs.Records.{RecordState}
 use Rattle.node_shared.specs.Closing.{has_client}
 use Rattle.node_shared.specs.inside.Closing.{FindsMissing}
@@ -27,40 +27,40 @@ beyond [] (suc i) le = refl
 beyond (x ∷ xs) zero le = absurd (omega arith)
 beyond (x ∷ xs) (suc i) le = beyond xs i (omega arith)
 
-module _ (p : ℕ) (journal entries : List Entry) (i at : ℕ) (d : Entry) (within : i < length journal) (so_far : of p (take i journal) ≡ take at entries) (own : is_entry_of p (get_or journal i d) ≡ true) where
+module _ (p : ℕ) (journal entries : List Entry) (i at : ℕ) (d : Entry) (within : i < length journal) (so_far : entries_of p (take i journal) ≡ take at entries) (own : is_entry_of p (get_or journal i d) ≡ true) where
   -- what is left of the part begins with this entry
-  rest : of p journal ≡ entries → drop at entries ≡ get_or journal i d ∷ of p (drop (suc i) journal)
+  rest : entries_of p journal ≡ entries → drop at entries ≡ get_or journal i d ∷ entries_of p (drop (suc i) journal)
   rest whole =
-      let front : of p journal ≡ of p (take i journal) ++ of p (drop i journal) = ap (of p) (sym (take-append-drop i journal)) ∙ filter-append (is_entry_of p) (take i journal) (drop i journal) in
-      let here : of p (drop i journal) ≡ get_or journal i d ∷ of p (drop (suc i) journal) =
-      ap (of p) (from journal i d within) ∙ ap (λ (b : Bool). cond b (get_or journal i d ∷ of p (drop (suc i) journal)) (of p (drop (suc i) journal))) own in
-      append_cancel_left (take at entries) (drop at entries) (get_or journal i d ∷ of p (drop (suc i) journal))
+      let front : entries_of p journal ≡ entries_of p (take i journal) ++ entries_of p (drop i journal) = ap (entries_of p) (sym (take-append-drop i journal)) ∙ filter-append (is_entry_of p) (take i journal) (drop i journal) in
+      let here : entries_of p (drop i journal) ≡ get_or journal i d ∷ entries_of p (drop (suc i) journal) =
+      ap (entries_of p) (from journal i d within) ∙ ap (λ (b : Bool). cond b (get_or journal i d ∷ entries_of p (drop (suc i) journal)) (entries_of p (drop (suc i) journal))) own in
+      append_cancel_left (take at entries) (drop at entries) (get_or journal i d ∷ entries_of p (drop (suc i) journal))
       (take-append-drop at entries ∙ sym whole ∙ front ∙ (λ k. so_far k ++ here k))
 
-  pub ends-short : length entries ≤ at → of p journal ≡ entries → ⊥
-  ends-short le whole = let e : [] ≡ get_or journal i d ∷ of p (drop (suc i) journal) = sym (beyond entries at le) ∙ rest whole in cc
+  pub ends-short : length entries ≤ at → entries_of p journal ≡ entries → ⊥
+  ends-short le whole = let e : [] ≡ get_or journal i d ∷ entries_of p (drop (suc i) journal) = sym (beyond entries at le) ∙ rest whole in cc
 
-  pub differs-here : (x : Entry) → at < length entries → x ≡ get_or entries at x → (get_or journal i d ≡ x → ⊥) → of p journal ≡ entries → ⊥
+  pub differs-here : (x : Entry) → at < length entries → x ≡ get_or entries at x → (get_or journal i d ≡ x → ⊥) → entries_of p journal ≡ entries → ⊥
   differs-here x lt is other whole =
-      let e : get_or entries at x ∷ drop (suc at) entries ≡ get_or journal i d ∷ of p (drop (suc i) journal) = sym (from entries at x lt) ∙ rest whole in
+      let e : get_or entries at x ∷ drop (suc at) entries ≡ get_or journal i d ∷ entries_of p (drop (suc i) journal) = sym (from entries at x lt) ∙ rest whole in
       let head : get_or entries at x ≡ get_or journal i d = cc in
       other (sym head ∙ sym is)
 
 -- an entry more
-pub part-own : (p : ℕ) (journal entries : List Entry) (i at : ℕ) (d : Entry) → i < length journal → at < length entries → of p (take i journal) ≡ take at entries
-    → is_entry_of p (get_or journal i d) ≡ true → get_or journal i d ≡ get_or entries at d → of p (take (i + 1) journal) ≡ take (at + 1) entries
+pub part-own : (p : ℕ) (journal entries : List Entry) (i at : ℕ) (d : Entry) → i < length journal → at < length entries → entries_of p (take i journal) ≡ take at entries
+    → is_entry_of p (get_or journal i d) ≡ true → get_or journal i d ≡ get_or entries at d → entries_of p (take (i + 1) journal) ≡ take (at + 1) entries
 part-own p journal entries i at d lt room so_far own same =
     filter_more (is_entry_of p) journal i d lt
-    ∙ ap (λ (b : Bool). of p (take i journal) ++ cond b (get_or journal i d ∷ []) []) own
+    ∙ ap (λ (b : Bool). entries_of p (take i journal) ++ cond b (get_or journal i d ∷ []) []) own
     ∙ (λ k. so_far k ++ same k ∷ [])
     ∙ sym (Rattle.std.proofs.lemmas.List.take_more entries at d room)
 
-pub part-other : (p : ℕ) (journal entries : List Entry) (i at : ℕ) (d : Entry) → i < length journal → of p (take i journal) ≡ take at entries
-    → is_entry_of p (get_or journal i d) ≡ false → of p (take (i + 1) journal) ≡ take at entries
+pub part-other : (p : ℕ) (journal entries : List Entry) (i at : ℕ) (d : Entry) → i < length journal → entries_of p (take i journal) ≡ take at entries
+    → is_entry_of p (get_or journal i d) ≡ false → entries_of p (take (i + 1) journal) ≡ take at entries
 part-other p journal entries i at d lt so_far other =
     filter_more (is_entry_of p) journal i d lt
-    ∙ ap (λ (b : Bool). of p (take i journal) ++ cond b (get_or journal i d ∷ []) []) other
-    ∙ append-nil (of p (take i journal))
+    ∙ ap (λ (b : Bool). entries_of p (take i journal) ++ cond b (get_or journal i d ∷ []) []) other
+    ∙ append-nil (entries_of p (take i journal))
     ∙ so_far
 
 -- ---- the least that is missing
@@ -98,12 +98,12 @@ owned p (Ask x call) is = let same : x ≡ p = cc in (Decides-eqb x p).1 same
 owned p (Grow t) is = cc
 owned p (Ready t bucket) is = cc
 
-of-none : (q : ℕ) (s : Step) → process_of s ≡ None → is_step_of q s ≡ false
-of-none q (Enrol x) is = cc
-of-none q (End x) is = cc
-of-none q (Ask x call) is = cc
-of-none q (Grow t) is = refl
-of-none q (Ready t bucket) is = refl
+entries_of-none : (q : ℕ) (s : Step) → process_of s ≡ None → is_step_of q s ≡ false
+entries_of-none q (Enrol x) is = cc
+entries_of-none q (End x) is = cc
+entries_of-none q (Ask x call) is = cc
+entries_of-none q (Grow t) is = refl
+entries_of-none q (Ready t bucket) is = refl
 
 module _ (journal : List Entry) (clients : List RecordState) (e : Entry) where
   -- one more entry that adds nothing that is missing
@@ -116,7 +116,7 @@ module _ (journal : List Entry) (clients : List RecordState) (e : Entry) where
   }
 
   pub misses-of-none : (least : Option ℕ) → process_of e.step ≡ None → FindsMissing journal clients least → FindsMissing (journal ++ e ∷ []) clients least
-  misses-of-none least is h = misses-still least (λ q own. let bad : false ≡ true = sym (of-none q e.step is) ∙ own in absurd (cc)) h
+  misses-of-none least is h = misses-still least (λ q own. let bad : false ≡ true = sym (entries_of-none q e.step is) ∙ own in absurd (cc)) h
 
   pub misses-known : (least : Option ℕ) (p : ℕ) → process_of e.step ≡ Some p → has_client p clients ≡ true → FindsMissing journal clients least → FindsMissing (journal ++ e ∷ []) clients least
   misses-known least p is known h = misses-still least (λ q own. subst (λ (x : ℕ). has_client x clients ≡ true) (owner q p e.step is own) known) h

@@ -1,4 +1,4 @@
--- A client after the reply that it borrowed is released.
+-- A client after the borrow of its last reply ends.
 use Rattle.std.specs.Prelude.{◌≡◌, ⊤, Result, MatchResult}
 use Rattle.std.specs.Borrow.{Fml, RattleType, Bor, MutBor, follows_so}
 use Rattle.std.specs.declared.sync.ledger.Ledger as ledger

@@ -7,12 +7,12 @@ use Rattle.node_shared.specs.declared.entry.Entry.{Entry}
 use Rattle.node_shared.specs.declared.transcript.Transcript.{Transcript}
 use Rattle.node_shared.specs.declared.transcript.CloseFault.{CloseFault}
 use Rattle.node_shared.specs.declared.transcript.CloseFault.TheVariants.{Differs, Missing, Memory}
-use Rattle.node_shared.specs.Journal.{IsRun, of, has_entries}
+use Rattle.node_shared.specs.Journal.{IsRun, entries_of, has_entries}
 use Rattle.node_shared.specs.Records.{RecordState}
 
 -- the record is the client's part of the journal
 abbrev pub IsPart : List Entry → RecordState → Type 0
-IsPart journal client = of client.pid journal ≡ client.entries
+IsPart journal client = entries_of client.pid journal ≡ client.entries
 
 -- each record is its client's part of the journal
 abbrev pub AreParts : List Entry → List RecordState → Type 0

@@ -43,8 +43,8 @@ abbrev pub is_entry_of : ℕ → Entry → Bool
 is_entry_of p e = is_step_of p e.step
 
 -- the entries of a process, in order
-abbrev pub of : ℕ → List Entry → List Entry
-of p entries = filter (is_entry_of p) entries
+abbrev pub entries_of : ℕ → List Entry → List Entry
+entries_of p entries = filter (is_entry_of p) entries
 
 -- whether a process has entries
 abbrev pub has_entries : ℕ → List Entry → Bool

@@ -49,9 +49,9 @@ pub record IsNumbered (n word : ℕ) (views : List View) : Type 0 where
   pub few : n ≤ 4096
 
 -- the rule that always holds of the word and the seats
-abbrev pub Numbered : ℕ → State (Unit {0}) View → Type 0
-Numbered n s = (word : ℕ) × (s.words ≡ word ∷ []) × IsNumbered n word s.views
+abbrev pub HoldsNumbers : ℕ → State (Unit {0}) View → Type 0
+HoldsNumbers n s = (word : ℕ) × (s.words ≡ word ∷ []) × IsNumbered n word s.views
 
--- the seat has drawn the value that the word had
+-- the seat has drawn the value that the word had, which is below 4096
 abbrev pub DrawsNumber : Step (Unit {0}) → Me (Unit {0}) View → ℕ → Me (Unit {0}) View → Type 0
 DrawsNumber st m r m' = (m' ≡ (Drawn r, m.1)) × (r < 4096)

@@ -11,7 +11,7 @@ mod reads;
 use crate::history::{HistoryId, HistoryWord, HistoryWriter};
 use crate::served::ServedNode;
 use crate::server::Server;
-use crate::server_lock::LockKind;
+use crate::server_lock::AnyLock;
 use ets_term::{Items, KeyHash};
 use node_core::{Call, Reply, RunFault, Step};
 use std::alloc::{AllocError, Global};
@@ -85,10 +85,10 @@ impl<B: HistoryId> Caller<B> {
         ensures err { IfErr result (λ fault. HasAsked B.limits self.old calls.items fault.replies self.new) }
     {
         match &server.lock.kind {
-            LockKind::Single(lock) => {
+            AnyLock::Single(lock) => {
                 self.ask_and_grow(&server.word, &mut *lock.write(rt), calls, max_growth_steps)
             }
-            LockKind::Sharded(lock) => {
+            AnyLock::Sharded(lock) => {
                 self.ask_and_grow(&server.word, &mut **lock.write(rt), calls, max_growth_steps)
             }
         }
@@ -102,7 +102,7 @@ impl<B: HistoryId> Caller<B> {
         calls: Vec<Call>,
         max_growth_steps: u32,
     ) -> Result<Vec<Reply>, RunFault>
-        requires table { word.now.shared.table_id ≡ B.table }
+        requires table { word.now.shared.table_id ≡ B.word }
         requires one { word.now.shared.table_id.words ≡ 1 }
         ensures ok { IfOk result (λ replies. HasAsked B.limits self.old calls.items replies.items self.new) }
         ensures all { IfOk result (λ replies. length replies.items ≡ length calls.items) }
@@ -129,7 +129,7 @@ impl<B: HistoryId> Caller<B> {
         calls: Vec<Call>,
         mut replies: Vec<Reply>,
     ) -> Result<Vec<Reply>, RunFault>
-        requires table { word.now.shared.table_id ≡ B.table }
+        requires table { word.now.shared.table_id ≡ B.word }
         requires one { word.now.shared.table_id.words ≡ 1 }
         requires none { replies.items ≡ [] }
         requires room { length calls.items ≤ vec_capacity replies }
@@ -174,8 +174,8 @@ impl<B: HistoryId> Caller<B> {
         ensures err { OnErr result (self.new ≡ self.old) }
     {
         match &server.lock.kind {
-            LockKind::Single(lock) => self.step_locked(&server.word, &mut *lock.write(rt), event),
-            LockKind::Sharded(lock) => self.step_locked(&server.word, &mut **lock.write(rt), event),
+            AnyLock::Single(lock) => self.step_locked(&server.word, &mut *lock.write(rt), event),
+            AnyLock::Sharded(lock) => self.step_locked(&server.word, &mut **lock.write(rt), event),
         }
     }
 
@@ -186,7 +186,7 @@ impl<B: HistoryId> Caller<B> {
         served: &mut ServedNode<B, H>,
         event: Step,
     ) -> Result<Reply, AllocError>
-        requires table { word.now.shared.table_id ≡ B.table }
+        requires table { word.now.shared.table_id ≡ B.word }
         requires one { word.now.shared.table_id.words ≡ 1 }
         ensures ok { IfOk result (λ r. self.new.own ≡ with_entry self.old.own event r) }
         ensures order { IfOk result (ContinuesTo B.limits self.old.own.entries event self.new.seen) }

@@ -3,10 +3,9 @@
 /// Callbacks around each job of a client, in its thread, without a lock. Clients, and the jobs of each, are numbered
 /// from 0.
 pub trait Gate {
-    /// Runs before a job of a client. `call` is the number of the job.
-    fn before(&self, client: usize, call: usize);
+    /// Runs before a job of a client. Both are numbers from 0.
+    fn before(&self, client: usize, job: usize);
 
-    /// Runs after a job of a client, unless the job ran out of memory. `call` is the number of the job. The reply is in
-    /// the client's record.
-    fn after(&self, client: usize, call: usize);
+    /// Runs after a job of a client, unless the job ran out of memory. The reply is in the client's record.
+    fn after(&self, client: usize, job: usize);
 }

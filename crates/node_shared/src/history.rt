@@ -20,15 +20,17 @@ pub trait HistoryId {
     ghost use Rattle.atomic_table.specs.Seated.{TableId};
     ghost use Rattle.node_core.specs.declared.limits.Limits.{Limits};
 
-    ghost table: { TableId };
+    /// The atomic word of the history: which table of the crate `atomic_table` has it.
+    ghost word: { TableId };
 
+    /// The limits of the node.
     ghost limits: { Limits };
 }
 
 impl HistoryId for Brand {
     ghost use Rattle.node_shared.specs.History.{no_table, no_limits};
 
-    ghost table = { no_table };
+    ghost word = { no_table };
 
     ghost limits = { no_limits };
 }
@@ -67,7 +69,7 @@ impl<B: HistoryId> Model for HistoryOwner<B> {
 
     ghost view = { λ o. o.seat.me.0.all };
 
-    ghost invariant = { λ o. (o.seat.table_id ≡ B.table) × (o.seat.me ≡ (owner_view o.seat.me.0.all [], [])) };
+    ghost invariant = { λ o. (o.seat.table_id ≡ B.word) × (o.seat.me ≡ (owner_view o.seat.me.0.all [], [])) };
 }
 
 /// The token of a writer of entries. A contract sees it as the entries that it added.
@@ -90,7 +92,7 @@ impl<B: HistoryId> Model for HistoryWriter<B> {
 
     ghost view = { λ w. w.seat.me.0.own };
 
-    ghost invariant = { λ w. (w.seat.table_id ≡ B.table) × (w.seat.me ≡ (writer_view w.seat.me.0.own, [])) };
+    ghost invariant = { λ w. (w.seat.table_id ≡ B.word) × (w.seat.me ≡ (writer_view w.seat.me.0.own, [])) };
 }
 
 impl NewHistory {
@@ -104,9 +106,9 @@ impl NewHistory {
 
     /// Gives the history the name `B`, and returns its word and its owner.
     pub(crate) fn into_named<B: HistoryId>(self) -> (HistoryWord, HistoryOwner<B>)
-        requires { self.word.shared.table_id ≡ B.table }
+        requires { self.word.shared.table_id ≡ B.word }
         ensures same { result.0 ≡ self.word }
-        ensures table { result.0.shared.table_id ≡ B.table }
+        ensures table { result.0.shared.table_id ≡ B.word }
         ensures word { result.0.shared.table_id.words ≡ 1 }
         ensures none { result.1 ≡ [] }
     {
@@ -125,7 +127,7 @@ impl<B: HistoryId> HistoryOwner<B> {
     /// Creates a writer, which has added nothing. It takes a part of the owner's token, but the owner knows as much as
     /// before.
     pub(crate) fn new_writer(&mut self, word: &HistoryWord) -> HistoryWriter<B>
-        requires table { word.now.shared.table_id ≡ B.table }
+        requires table { word.now.shared.table_id ≡ B.word }
         requires one { word.now.shared.table_id.words ≡ 1 }
         ensures same { self.new ≡ self.old }
         ensures none { result ≡ [] }
@@ -146,7 +148,7 @@ impl<B: HistoryId> HistoryOwner<B> {
         step: Step,
         reply: Reply,
     ) -> Reply
-        requires table { word.now.shared.table_id ≡ B.table }
+        requires table { word.now.shared.table_id ≡ B.word }
         requires one { word.now.shared.table_id.words ≡ 1 }
         ensures all { self.new ≡ self.old ++ entry step reply ∷ [] }
         ensures own { writer.new ≡ writer.old ++ entry step reply ∷ [] }

@@ -111,7 +111,7 @@ impl<B: HistoryId, H: KeyHash + Copy + Drop> ServedNode<B, H> {
         writer: &mut HistoryWriter<B>,
         event: Step,
     ) -> Result<Reply, AllocError>
-        requires table { word.now.shared.table_id ≡ B.table }
+        requires table { word.now.shared.table_id ≡ B.word }
         requires one { word.now.shared.table_id.words ≡ 1 }
         ensures step { IfOk result (λ r. ServesStep self.old event r self.new) }
         ensures own { IfOk result (λ r. writer.new ≡ writer.old ++ entry event r ∷ []) }
@@ -131,7 +131,7 @@ impl<B: HistoryId, H: KeyHash + Copy + Drop> ServedNode<B, H> {
         word: &HistoryWord,
         pid: u32,
     ) -> Result<(HistoryWriter<B>, Reply), BookFault>
-        requires table { word.now.shared.table_id ≡ B.table }
+        requires table { word.now.shared.table_id ≡ B.word }
         requires one { word.now.shared.table_id.words ≡ 1 }
         ensures step { IfOk result (λ joined. ServesStep self.old (Enrol pid) joined.1 self.new) }
         ensures value { IfOk result (λ joined. is_value joined.1 ≡ true) }
@@ -158,7 +158,7 @@ impl<B: HistoryId, H: KeyHash + Copy + Drop> ServedNode<B, H> {
     /// Runs the pending growth step, if any, and adds its entry to the history. Returns whether it ran one. Running out
     /// of memory changes nothing.
     pub fn tend(&mut self, word: &HistoryWord) -> Result<bool, AllocError>
-        requires table { word.now.shared.table_id ≡ B.table }
+        requires table { word.now.shared.table_id ≡ B.word }
         requires one { word.now.shared.table_id.words ≡ 1 }
         ensures growth { IfOk result (ServesGrowth self.old self.new) }
         ensures err { OnErr result (self.new ≡ self.old) }
@@ -175,7 +175,7 @@ impl<B: HistoryId, H: KeyHash + Copy + Drop> ServedNode<B, H> {
 
     /// Runs the pending growth step as `tend` does. Returns false if none is pending or memory runs out.
     pub(crate) fn try_tend(&mut self, word: &HistoryWord) -> bool
-        requires table { word.now.shared.table_id ≡ B.table }
+        requires table { word.now.shared.table_id ≡ B.word }
         requires one { word.now.shared.table_id.words ≡ 1 }
         ensures { TriesServingGrowth self.old self.new result }
     {

@@ -13,7 +13,7 @@ use crate::caller::Caller;
 use crate::history::{HistoryId, HistoryWord, NewHistory};
 use crate::pids::Drawn;
 use crate::served::ServedNode;
-use crate::server_lock::{LockKind, Locking, ServerLock};
+use crate::server_lock::{AnyLock, Locking, ServerLock};
 use crate::shared::JoinFault;
 use ets_term::KeyHash;
 use node_core::Limits;
@@ -27,7 +27,7 @@ use std::sync::Wait;
 pub struct Server<B: HistoryId, H: KeyHash + Copy + Drop> {
     pub(crate) word: HistoryWord,
     pub(crate) lock: ServerLock<B, H>,
-    ghost table: { word.shared.table_id ≡ B.table },
+    ghost table: { word.shared.table_id ≡ B.word },
     ghost one_word: { word.shared.table_id.words ≡ 1 },
 }
 
@@ -42,7 +42,7 @@ impl<B: HistoryId, H: KeyHash + Copy + Drop> Server<B, H> {
         limits: Limits,
         hasher: H,
     ) -> Result<Self, AllocError>
-        requires table { history.word.shared.table_id ≡ B.table }
+        requires table { history.word.shared.table_id ≡ B.word }
         requires limits { limits ≡ B.limits }
         ensures { IfOk result (λ server. server.word ≡ history.word) }
     {
@@ -76,8 +76,8 @@ impl<B: HistoryId, H: KeyHash + Copy + Drop> Server<B, H> {
         ensures refused_run { IfErr result (RefusesWith (RefusesCaller B.limits pid)) }
     {
         match &self.lock.kind {
-            LockKind::Single(lock) => self.join_locked(&mut *lock.write(rt), pid),
-            LockKind::Sharded(lock) => self.join_locked(&mut **lock.write(rt), pid),
+            AnyLock::Single(lock) => self.join_locked(&mut *lock.write(rt), pid),
+            AnyLock::Sharded(lock) => self.join_locked(&mut **lock.write(rt), pid),
         }
     }
 
@@ -111,8 +111,8 @@ impl<B: HistoryId, H: KeyHash + Copy + Drop> Server<B, H> {
     /// Takes the lock and runs the pending growth step. Returns false if none is pending or memory runs out.
     fn try_tend<R: Wait>(&self, rt: &R) -> bool {
         match &self.lock.kind {
-            LockKind::Single(lock) => lock.write(rt).try_tend(&self.word),
-            LockKind::Sharded(lock) => lock.write(rt).try_tend(&self.word),
+            AnyLock::Single(lock) => lock.write(rt).try_tend(&self.word),
+            AnyLock::Sharded(lock) => lock.write(rt).try_tend(&self.word),
         }
     }
 }

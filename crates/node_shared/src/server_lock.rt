@@ -21,11 +21,12 @@ pub enum Locking {
 /// The lock of a server. A contract says nothing of the value under it but the invariant of its type.
 #[derive(Drop)]
 pub struct ServerLock<B: HistoryId, H: KeyHash + Copy + Drop> {
-    pub kind: LockKind<B, H>,
+    pub kind: AnyLock<B, H>,
 }
 
+/// The lock itself, of one kind or the other.
 #[derive(Drop)]
-pub enum LockKind<B: HistoryId, H: KeyHash + Copy + Drop> {
+pub enum AnyLock<B: HistoryId, H: KeyHash + Copy + Drop> {
     Single(RwLock<ServedNode<B, H>>),
     /// A writer moves the value out of this lock and back, so it is a box.
     Sharded(ShardedLock<Box<ServedNode<B, H>>>),
@@ -42,17 +43,17 @@ impl<B: HistoryId, H: KeyHash + Copy + Drop> Model for ServerLock<B, H> {
 }
 
 impl<B: HistoryId, H: KeyHash + Copy + Drop> ServerLock<B, H> {
-    /// Locks a node. `Err` is out of memory for the lock.
+    /// Puts a node under a lock of this kind. `Err` is out of memory for the lock.
     pub fn new(
         alloc: Global,
         locking: Locking,
         served: ServedNode<B, H>,
     ) -> Result<ServerLock<B, H>, AllocError> {
         let kind = match locking {
-            Locking::Single => LockKind::Single(RwLock::new(served)),
+            Locking::Single => AnyLock::Single(RwLock::new(served)),
             Locking::Sharded => {
                 let served = Box::new(alloc, served)?;
-                LockKind::Sharded(ShardedLock::new(alloc, served)?)
+                AnyLock::Sharded(ShardedLock::new(alloc, served)?)
             }
         };
         Ok(ServerLock { kind })

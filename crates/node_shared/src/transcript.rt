@@ -2,7 +2,7 @@
 //! has the steps of one client, each with its reply.
 ghost use Rattle.std.specs.Prelude.{◌≡◌, map, IfOk};
 ghost use Rattle.std.specs.Bool.{Decides};
-ghost use Rattle.node_shared.specs.Journal.{IsRun, of};
+ghost use Rattle.node_shared.specs.Journal.{IsRun, entries_of};
 ghost use Rattle.node_shared.specs.Closing.{Closes, Compares, IsDecided, has_client};
 ghost use Rattle.node_shared.specs.inside.Closing.{FindsMismatch, FindsMissing, FindsMissingNext};
 
@@ -90,7 +90,7 @@ fn first_mismatch<L: Ledger>(journal: &[SharedEntry], clients: &[Client<L>]) -> 
 
 /// Returns whether these are the entries of the process, in order.
 fn is_part(journal: &[SharedEntry], pid: u32, own: &[SharedEntry]) -> bool
-    ensures { Decides result (of pid journal.now ≡ own.now) }
+    ensures { Decides result (entries_of pid journal.now ≡ own.now) }
 {
     let mut at = 0;
     for entry in journal {
@@ -148,7 +148,7 @@ fn has_client<L: Ledger>(pid: u32, clients: &[Client<L>]) -> bool
 impl Transcript {
     /// Returns the entries of a process, in order.
     pub fn of(&self, pid: u32) -> Result<Vec<&Entry>, AllocError>
-        ensures { IfOk result (λ own. map (λ e. e.now) own.items ≡ of pid self.now.entries.items) }
+        ensures { IfOk result (λ own. map (λ e. e.now) own.items ≡ entries_of pid self.now.entries.items) }
     {
         let mut own = Vec::new(*self.entries.allocator());
         for entry in self.entries.as_slice() {

@@ -10,8 +10,8 @@ use Rattle.node_core.specs.declared.step.Step.TheVariants.{Ask}
 use Rattle.node_core.specs.declared.step.Reply.TheVariants.{NoProcess}
 use Rattle.node_reasons.specs.Why.{why}
 use Rattle.script_reasons.specs.SyntaxProblems.{diagnose_in_call}
-use Rattle.term_text.specs.Printed.{printed}
-use Rattle.external_term.specs.Encoding.{written}
+use Rattle.term_text.specs.Printed.{text_of_term}
+use Rattle.external_term.specs.Encoding.{encode_with_version}
 use Rattle.node_external.specs.Calls as external
 use Rattle.node_external.specs.declared.parsed_call.ParsedCall.{ParsedCall as ExternalCall}
 use Rattle.node_external.specs.declared.parsed_call.ParsedCall.TheVariants as external_call
@@ -62,12 +62,12 @@ FaultReturns refusal at t old new =
 
 -- what a call by a text returns: the reply is a text
 abbrev pub CallReturns : List ℕ → ParsedCall → ℕ → WrittenReply → StoreState → StoreState → Type 0
-CallReturns text (Call name args) pid = AskReturns printed pid name args
+CallReturns text (Call name args) pid = AskReturns text_of_term pid name args
 CallReturns text (Faulty at) pid = FaultReturns (Syntax (diagnose_in_call text at)) at
 
 -- what a call by a term in the external format returns: the reply is in this format
 abbrev pub ExternalCallReturns : ExternalCall → ℕ → WrittenReply → StoreState → StoreState → Type 0
-ExternalCallReturns (external_call.Call name args) pid = AskReturns written pid name args
+ExternalCallReturns (external_call.Call name args) pid = AskReturns encode_with_version pid name args
 ExternalCallReturns (external_call.Faulty problem at) pid = FaultReturns (External problem) at
 
 -- What a call on a handle does. On an open handle, the rule holds of its store before and after. A closed handle stays

@@ -1,6 +1,6 @@
 //! Steps, calls and replies as texts, for people to read.
 ghost use Rattle.std.specs.Prelude.{◌≡◌, ◌++◌, map, false, IfOk, OnOk, string_bytes};
-ghost use Rattle.term_text.specs.Printed.{printed, atom_text, comma_separated, comma_if};
+ghost use Rattle.term_text.specs.Printed.{text_of_term, atom_text, join_with_commas, comma_if};
 ghost use Rattle.node_text.specs.Printed.{call_text, step_text, reply_text};
 
 use ets_term::{Atom, Term};
@@ -60,7 +60,7 @@ pub fn reply_text(alloc: Global, reply: &Reply) -> Result<String, AllocError>
 
 /// Returns a term's text.
 pub fn term_text(alloc: Global, term: &Term) -> Result<String, AllocError>
-    ensures { IfOk result (λ text. string_bytes text ≡ printed term.now) }
+    ensures { IfOk result (λ text. string_bytes text ≡ text_of_term term.now) }
 {
     let mut text = String::new(alloc);
     print_term(alloc, term, &mut text)?;
@@ -77,7 +77,7 @@ fn atom_text(alloc: Global, atom: &Atom) -> Result<String, AllocError>
 
 /// Returns the texts of terms with commas between them.
 fn arguments_text(alloc: Global, terms: &[Term]) -> Result<String, AllocError>
-    ensures { IfOk result (λ text. string_bytes text ≡ comma_separated false (map printed terms.now)) }
+    ensures { IfOk result (λ text. string_bytes text ≡ join_with_commas false (map text_of_term terms.now)) }
 {
     let mut text = String::new(alloc);
     let mut later = false;

@@ -21,19 +21,19 @@ module _ (tables : Tables) (ids : List ℕ) (last : ℕ) (table : Table) (at : t
     each = λ t own there. by t own there (listed.each t own there);
   }
     where
-      by : (t : ℕ) (own : Table) → table_at tables t ≡ Some own → (Some last ≡ Some t) ⊎ IsAmong t ids ⊎ IsUnfixed own.fixed → (None ≡ Some t) ⊎ IsAmong t new ⊎ IsUnfixed own.fixed
+      by : (t : ℕ) (own : Table) → table_at tables t ≡ Some own → (Some last ≡ Some t) ⊎ IsAmong t ids ⊎ IsUnfixed own.state → (None ≡ Some t) ⊎ IsAmong t new ⊎ IsUnfixed own.state
       by t own there (inl dirty) = inr (inl (subst (λ i. IsAmong i new) (same_Some _ _ dirty) put.here))
       by t own there (inr (inl among)) = inr (inl (put.more t among))
       by t own there (inr (inr idle)) = inr (inr idle)
 
   -- or it is idle
-  pub listed-idle : IsUnfixed table.fixed → FixedAreListed ids None tables
+  pub listed-idle : IsUnfixed table.state → FixedAreListed ids None tables
   listed-idle is = record { order = listed.order; each = λ t own there. by t own there (listed.each t own there) }
     where
-      by : (t : ℕ) (own : Table) → table_at tables t ≡ Some own → (Some last ≡ Some t) ⊎ IsAmong t ids ⊎ IsUnfixed own.fixed → (None ≡ Some t) ⊎ IsAmong t ids ⊎ IsUnfixed own.fixed
+      by : (t : ℕ) (own : Table) → table_at tables t ≡ Some own → (Some last ≡ Some t) ⊎ IsAmong t ids ⊎ IsUnfixed own.state → (None ≡ Some t) ⊎ IsAmong t ids ⊎ IsUnfixed own.state
       by t own there (inl dirty) =
           let same : Some own ≡ Some table = sym there ∙ ap (table_at tables) (sym (same_Some _ _ dirty)) ∙ at in
-          inr (inr (subst (λ (x : Table). IsUnfixed x.fixed) (sym (same_Some _ _ same)) is))
+          inr (inr (subst (λ (x : Table). IsUnfixed x.state) (sym (same_Some _ _ same)) is))
       by t own there (inr (inl among)) = inr (inl among)
       by t own there (inr (inr idle)) = inr (inr idle)
 
@@ -41,6 +41,6 @@ module _ (tables : Tables) (ids : List ℕ) (last : ℕ) (table : Table) (at : t
 pub listed-dirty : (ids : List ℕ) (id : ℕ) (tables : Tables) → FixedAreListed ids None tables → FixedAreListed ids (Some id) tables
 listed-dirty ids id tables listed = record { order = listed.order; each = λ t own there. by t own (listed.each t own there) }
   where
-    by : (t : ℕ) (own : Table) → (None ≡ Some t) ⊎ IsAmong t ids ⊎ IsUnfixed own.fixed → (Some id ≡ Some t) ⊎ IsAmong t ids ⊎ IsUnfixed own.fixed
+    by : (t : ℕ) (own : Table) → (None ≡ Some t) ⊎ IsAmong t ids ⊎ IsUnfixed own.state → (Some id ≡ Some t) ⊎ IsAmong t ids ⊎ IsUnfixed own.state
     by t own (inl dirty) = absurd (cc)
     by t own (inr other) = inr other

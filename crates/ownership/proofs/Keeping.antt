@@ -13,8 +13,8 @@ use Rattle.fixed_walk.specs.TableState.{TableState, after_release_all}
 use Rattle.ownership.specs.declared.metadata.Metadata.{Metadata}
 use Rattle.ownership.specs.declared.metadata.Heir.{Heir}
 use Rattle.ownership.specs.declared.indices.Indices.{Indices}
-use Rattle.ownership.specs.World.{Table, Tables, Processes, lives, table_at, all_metadata, metadata_of, is_named}
-use Rattle.ownership.specs.Tables.{with_owner, with_heir, with_changed}
+use Rattle.ownership.specs.World.{Table, Tables, Processes, lives, table_at, all_metadata, metadata_of, is_named, with_changed}
+use Rattle.ownership.specs.Tables.{with_owner, with_heir}
 use Rattle.ownership.specs.Access.{is_owner}
 use Rattle.ownership.specs.End.{living_heir, table_after_exit}
 use Rattle.ownership.specs.inside.Names.{NameIndexIsExact}
@@ -106,7 +106,7 @@ module _ (indices : Indices) (tables : Tables) (kept : IndicesInvariant indices 
 
   -- one place changes
   pub kept-set : (new : Indices) → new ≡ record indices { names = new.names } → (t : ℕ) (o : Option Table) → NameIndexIsExact (get_by_text new.names) (all_metadata (set tables t o))
-      → ((table : Table) → o ≡ Some table → IsAmong t (ids_under indices table.metadata.owner) × ((indices.dirty ≡ Some t) ⊎ IsAmong t indices.fixed.items ⊎ IsUnfixed table.fixed)) → IndicesInvariant new (set tables t o)
+      → ((table : Table) → o ≡ Some table → IsAmong t (ids_under indices table.metadata.owner) × ((indices.dirty ≡ Some t) ⊎ IsAmong t indices.fixed.items ⊎ IsUnfixed table.state)) → IndicesInvariant new (set tables t o)
   kept-set new rest t o by_name here = subst (λ (i : Indices). IndicesInvariant i (set tables t o)) (sym rest) (record {
     few = omega (arith, length-set {A = Option Table}, kept.few);
     room = omega (arith, length-set {A = Option Table}, kept.room);
@@ -123,8 +123,8 @@ module _ (indices : Indices) (tables : Tables) (kept : IndicesInvariant indices 
       owner u table (inl is) = subst (λ i. IsAmong i (ids_under indices table.metadata.owner)) (sym is.0) (here table is.1).0
       owner u table (inr there) = owner-at (ids_under indices) tables kept.by_owner u table there
 
-      each : (u : ℕ) (table : Table) → ((u ≡ t) × (o ≡ Some table)) ⊎ (table_at tables u ≡ Some table) → (indices.dirty ≡ Some u) ⊎ IsAmong u indices.fixed.items ⊎ IsUnfixed table.fixed
-      each u table (inl is) = subst (λ i. (indices.dirty ≡ Some i) ⊎ IsAmong i indices.fixed.items ⊎ IsUnfixed table.fixed) (sym is.0) (here table is.1).1
+      each : (u : ℕ) (table : Table) → ((u ≡ t) × (o ≡ Some table)) ⊎ (table_at tables u ≡ Some table) → (indices.dirty ≡ Some u) ⊎ IsAmong u indices.fixed.items ⊎ IsUnfixed table.state
+      each u table (inl is) = subst (λ i. (indices.dirty ≡ Some i) ⊎ IsAmong i indices.fixed.items ⊎ IsUnfixed table.state) (sym is.0) (here table is.1).1
       each u table (inr there) = kept.listed.each u table there
 
   -- a place that is written as it is
@@ -132,21 +132,21 @@ module _ (indices : Indices) (tables : Tables) (kept : IndicesInvariant indices 
   kept-same t o at = subst (λ (ts : Tables). IndicesInvariant indices ts) (sym (ap (set tables t) (sym at) ∙ same-place tables t)) kept
 
   -- a table that keeps its objects and fixes keeps its entries
-  pub listed-same : (t : ℕ) (old new : Table) → table_at tables t ≡ Some old → new.fixed ≡ old.fixed → (indices.dirty ≡ Some t) ⊎ IsAmong t indices.fixed.items ⊎ IsUnfixed new.fixed
+  pub listed-same : (t : ℕ) (old new : Table) → table_at tables t ≡ Some old → new.state ≡ old.state → (indices.dirty ≡ Some t) ⊎ IsAmong t indices.fixed.items ⊎ IsUnfixed new.state
   listed-same t old new at same = by (kept.listed.each t old at)
     where
-      by : (indices.dirty ≡ Some t) ⊎ IsAmong t indices.fixed.items ⊎ IsUnfixed old.fixed → (indices.dirty ≡ Some t) ⊎ IsAmong t indices.fixed.items ⊎ IsUnfixed new.fixed
+      by : (indices.dirty ≡ Some t) ⊎ IsAmong t indices.fixed.items ⊎ IsUnfixed old.state → (indices.dirty ≡ Some t) ⊎ IsAmong t indices.fixed.items ⊎ IsUnfixed new.state
       by (inl is) = inl is
       by (inr (inl among)) = inr (inl among)
       by (inr (inr idle)) = inr (inr (subst IsUnfixed (sym same) idle))
 
   -- the table at a place, if it exists, gets other metadata with the same name
-  kept-metadata : (t : ℕ) (o : Option Table) (change : Table → Table) → table_at tables t ≡ o → ((table : Table) (name : List ℕ) → is_named name (Some (change table).metadata) ≡ is_named name (Some table.metadata)) → ((table : Table) → (change table).fixed ≡ table.fixed)
+  kept-metadata : (t : ℕ) (o : Option Table) (change : Table → Table) → table_at tables t ≡ o → ((table : Table) (name : List ℕ) → is_named name (Some (change table).metadata) ≡ is_named name (Some table.metadata)) → ((table : Table) → (change table).state ≡ table.state)
       → ((table : Table) → table_at tables t ≡ Some table → IsAmong t (ids_under indices (change table).metadata.owner)) → IndicesInvariant indices (set tables t (option_map change o))
   kept-metadata t None change e same holds own = kept-set indices refl t None (names-none (get_by_text indices.names) tables t e kept.by_name) (λ table is. absurd (cc))
   kept-metadata t (Some old) change e same holds own =
       kept-set indices refl t (Some (change old)) (names-stay (get_by_text indices.names) tables t old (change old) e (same old) kept.by_name)
-      (λ table is. let it = same_Some _ _ is in subst (λ (x : Table). IsAmong t (ids_under indices x.metadata.owner) × ((indices.dirty ≡ Some t) ⊎ IsAmong t indices.fixed.items ⊎ IsUnfixed x.fixed)) it (own old e, listed-same t old (change old) e (holds old)))
+      (λ table is. let it = same_Some _ _ is in subst (λ (x : Table). IsAmong t (ids_under indices x.metadata.owner) × ((indices.dirty ≡ Some t) ⊎ IsAmong t indices.fixed.items ⊎ IsUnfixed x.state)) it (own old e, listed-same t old (change old) e (holds old)))
 
   pub kept-passed : (t q : ℕ) → IsAmong t (ids_under indices q) → IndicesInvariant indices (with_changed (with_owner q) tables t)
   kept-passed t q own = kept-metadata t (table_at tables t) (with_owner q) refl (λ table name. refl) (λ table. refl) (λ table e. own)
@@ -155,22 +155,22 @@ module _ (indices : Indices) (tables : Tables) (kept : IndicesInvariant indices 
   kept-heir t heir = kept-metadata t (table_at tables t) (with_heir heir) refl (λ table name. refl) (λ table. refl) (λ table e. owner-at (ids_under indices) tables kept.by_owner t table e)
 
   -- the dirty table changes under its metadata
-  pub kept-fixed : (t : ℕ) (table : Table) (f : TableState) → table_at tables t ≡ Some table → indices.dirty ≡ Some t → IndicesInvariant indices (set tables t (Some (record table { fixed = f })))
+  pub kept-fixed : (t : ℕ) (table : Table) (f : TableState) → table_at tables t ≡ Some table → indices.dirty ≡ Some t → IndicesInvariant indices (set tables t (Some (record table { state = f })))
   kept-fixed t table f e last =
-      kept-set indices refl t (Some (record table { fixed = f })) (subst (NameIndexIsExact (get_by_text indices.names)) (sym (all_metadata-same tables t table f e)) kept.by_name)
-      (λ it is. let same = same_Some _ _ is in subst (λ (x : Table). IsAmong t (ids_under indices x.metadata.owner) × ((indices.dirty ≡ Some t) ⊎ IsAmong t indices.fixed.items ⊎ IsUnfixed x.fixed)) same (owner-at (ids_under indices) tables kept.by_owner t table e, inl last))
+      kept-set indices refl t (Some (record table { state = f })) (subst (NameIndexIsExact (get_by_text indices.names)) (sym (all_metadata-same tables t table f e)) kept.by_name)
+      (λ it is. let same = same_Some _ _ is in subst (λ (x : Table). IsAmong t (ids_under indices x.metadata.owner) × ((indices.dirty ≡ Some t) ⊎ IsAmong t indices.fixed.items ⊎ IsUnfixed x.state)) same (owner-at (ids_under indices) tables kept.by_owner t table e, inl last))
 
   -- a table keeps its name, and the fixes of a process are released
-  pub kept-released : (p t : ℕ) (old new : Table) → table_at tables t ≡ Some old → new.fixed ≡ after_release_all p old.fixed → ((name : List ℕ) → is_named name (Some new.metadata) ≡ is_named name (Some old.metadata)) → IsAmong t (ids_under indices new.metadata.owner)
+  pub kept-released : (p t : ℕ) (old new : Table) → table_at tables t ≡ Some old → new.state ≡ after_release_all p old.state → ((name : List ℕ) → is_named name (Some new.metadata) ≡ is_named name (Some old.metadata)) → IsAmong t (ids_under indices new.metadata.owner)
       → IndicesInvariant indices (set tables t (Some new))
   kept-released p t old new at left same own =
       kept-set indices refl t (Some new) (names-stay (get_by_text indices.names) tables t old new at same kept.by_name)
-      (λ it is. subst (λ (x : Table). IsAmong t (ids_under indices x.metadata.owner) × ((indices.dirty ≡ Some t) ⊎ IsAmong t indices.fixed.items ⊎ IsUnfixed x.fixed)) (same_Some _ _ is) (own, by (kept.listed.each t old at)))
+      (λ it is. subst (λ (x : Table). IsAmong t (ids_under indices x.metadata.owner) × ((indices.dirty ≡ Some t) ⊎ IsAmong t indices.fixed.items ⊎ IsUnfixed x.state)) (same_Some _ _ is) (own, by (kept.listed.each t old at)))
     where
-      by : (indices.dirty ≡ Some t) ⊎ IsAmong t indices.fixed.items ⊎ IsUnfixed old.fixed → (indices.dirty ≡ Some t) ⊎ IsAmong t indices.fixed.items ⊎ IsUnfixed new.fixed
+      by : (indices.dirty ≡ Some t) ⊎ IsAmong t indices.fixed.items ⊎ IsUnfixed old.state → (indices.dirty ≡ Some t) ⊎ IsAmong t indices.fixed.items ⊎ IsUnfixed new.state
       by (inl is) = inl is
       by (inr (inl among)) = inr (inl among)
-      by (inr (inr idle)) = inr (inr (subst IsUnfixed (sym (left ∙ idle-stays p old.fixed idle)) idle))
+      by (inr (inr idle)) = inr (inr (subst IsUnfixed (sym (left ∙ idle-stays p old.state idle)) idle))
 
   -- one table more
   pub kept-push : (new : Indices) → new ≡ record indices { names = new.names } → (table : Table) → length tables + 1 < 4294967296 → length tables + 1 ≤ vec_capacity indices.fixed → NameIndexIsExact (get_by_text new.names) (all_metadata (tables ++ Some table ∷ []))
@@ -191,7 +191,7 @@ module _ (indices : Indices) (tables : Tables) (kept : IndicesInvariant indices 
       owner u it (inl is) = subst (λ i. IsAmong i (ids_under indices it.metadata.owner)) (sym is.0) (subst (λ (x : Table). IsAmong (length tables) (ids_under indices x.metadata.owner)) (same_Some _ _ is.1) own)
       owner u it (inr there) = owner-at (ids_under indices) tables kept.by_owner u it there
 
-      each : (u : ℕ) (it : Table) → ((u ≡ length tables) × (Some table ≡ Some it)) ⊎ (table_at tables u ≡ Some it) → (indices.dirty ≡ Some u) ⊎ IsAmong u indices.fixed.items ⊎ IsUnfixed it.fixed
+      each : (u : ℕ) (it : Table) → ((u ≡ length tables) × (Some table ≡ Some it)) ⊎ (table_at tables u ≡ Some it) → (indices.dirty ≡ Some u) ⊎ IsAmong u indices.fixed.items ⊎ IsUnfixed it.state
       each u it (inl is) = inl (last ∙ ap Some (sym is.0))
       each u it (inr there) = kept.listed.each u it there
 

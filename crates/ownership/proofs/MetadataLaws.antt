@@ -2,20 +2,21 @@
 use Rattle.std.proofs.Common.{◌≡◌, ℕ, zero, suc, [], ◌∷◌, ◌++◌, Option, Some, refl, sym, ap, length}
 use Rattle.std.specs.Prelude.{slice_set}
 use Rattle.fixed_walk.specs.TableState.{TableState}
-use Rattle.ownership.specs.World.{Table, Tables, all_metadata, metadata_of, table_at, with_fixed, fixed_in}
+use Rattle.ownership.specs.World.{Table, Tables, all_metadata, metadata_of, table_at, with_state}
+use Rattle.ownership.specs.inside.States.{table_with_state}
 use Rattle.ownership.specs.inside.Names.{metadata_at}
 
-pub all_metadata-same : (tables : Tables) (t : ℕ) (table : Table) (f : TableState) → table_at tables t ≡ Some table → all_metadata (slice_set tables t (Some (record table { fixed = f }))) ≡ all_metadata tables
+pub all_metadata-same : (tables : Tables) (t : ℕ) (table : Table) (f : TableState) → table_at tables t ≡ Some table → all_metadata (slice_set tables t (Some (record table { state = f }))) ≡ all_metadata tables
 all_metadata-same [] t table f e = refl
 all_metadata-same (x ∷ xs) zero table f e = let same : x ≡ Some table = e in rw same refl
 all_metadata-same (x ∷ xs) (suc t) table f e = ap (λ hs. metadata_of x ∷ hs) (all_metadata-same xs t table f e)
 
 -- the table at a place under the same metadata
-pub fixed-there : (tables : Tables) (t : ℕ) (table : Table) (f : TableState) → table_at tables t ≡ Some table → slice_set tables t (Some (record table { fixed = f })) ≡ with_fixed tables t f
-fixed-there tables t table f e = ap (λ o. slice_set tables t (fixed_in o f)) (sym e)
+pub fixed-there : (tables : Tables) (t : ℕ) (table : Table) (f : TableState) → table_at tables t ≡ Some table → slice_set tables t (Some (record table { state = f })) ≡ with_state tables t f
+fixed-there tables t table f e = ap (λ o. slice_set tables t (table_with_state o f)) (sym e)
 
 -- the same table again
-pub fixed-same : (tables : Tables) (t : ℕ) (table : Table) → table_at tables t ≡ Some table → with_fixed tables t table.fixed ≡ tables
+pub fixed-same : (tables : Tables) (t : ℕ) (table : Table) → table_at tables t ≡ Some table → with_state tables t table.state ≡ tables
 fixed-same [] t table e = refl
 fixed-same (x ∷ xs) zero table e = let same : x ≡ Some table = e in rw same refl
 fixed-same (x ∷ xs) (suc t) table e = ap (λ ts. x ∷ ts) (fixed-same xs t table e)

@@ -9,10 +9,10 @@ use Rattle.std.specs.FinMap.{remove, get, get-remove, same_map, nat_cmp-IsAntisy
 use Rattle.std.proofs.lemmas.Bool.{cases_eq}
 use Rattle.std.proofs.lemmas.Option.{same_Some}
 use Rattle.std.proofs.lemmas.List.{get_or-set_other, length-map}
-use Rattle.bucket_table.specs.Slots.{purged}
+use Rattle.bucket_table.specs.Slots.{without_tombstones}
 use Rattle.fixed_walk.specs.Fixes.{FixCounts, is_fixed}
 use Rattle.fixed_walk.specs.TableState.{TableState, after_release_all}
-use Rattle.fixed_walk.proofs.TombstoneLaws.{free-release_all, purged-none}
+use Rattle.fixed_walk.proofs.TombstoneLaws.{free-release_all, without_tombstones-none}
 use Rattle.ownership.specs.declared.metadata.Metadata.{Metadata}
 use Rattle.ownership.specs.declared.metadata.Heir.{Heir}
 use Rattle.ownership.specs.World.{Table, Tables, Processes, table_at, lives}
@@ -37,8 +37,8 @@ released-at true f p e =
     let once : after_release_all p f ≡ record f { fixes = remove f.fixes p } = rw e refl in
     rw once (rw (gone-twice f.fixes p) (rw e refl))
 released-at false f p e =
-    let once : after_release_all p f ≡ record f { content = record f.content { slots = purged f.content.slots }; fixes = remove f.fixes p } = rw e refl in
-    rw once (sym (free-release_all p (record f { content = record f.content { slots = purged f.content.slots }; fixes = remove f.fixes p }) e (λ free. purged-none f.content.slots)))
+    let once : after_release_all p f ≡ record f { content = record f.content { slots = without_tombstones f.content.slots }; fixes = remove f.fixes p } = rw e refl in
+    rw once (sym (free-release_all p (record f { content = record f.content { slots = without_tombstones f.content.slots }; fixes = remove f.fixes p }) e (λ free. without_tombstones-none f.content.slots)))
 
 released-twice : (p : ℕ) (f : TableState) → after_release_all p (after_release_all p f) ≡ after_release_all p f
 released-twice p f = released-at (is_fixed (remove f.fixes p)) f p refl
@@ -74,18 +74,18 @@ module _ (ps : Processes) (p : ℕ) (dead : lives ps p ≡ false) where
   twice-at true table (Some heir) own e =
       let once : table_after_exit ps p (Some table) ≡ Some (with_owner heir.pid (without_fixes p table)) = rw (own, e) refl in
       let other : nat_eq heir.pid p ≡ false = other-pid heir.pid (heir-lives table.metadata heir e) in
-      rw once (rw other (ap (λ f. Some (record (with_owner heir.pid table) { fixed = f })) (released-twice p table.fixed)))
+      rw once (rw other (ap (λ f. Some (record (with_owner heir.pid table) { state = f })) (released-twice p table.state)))
   twice-at false table h own e =
       let once : table_after_exit ps p (Some table) ≡ Some (without_fixes p table) = rw own refl in
-      rw once (rw own (ap (λ f. Some (record table { fixed = f })) (released-twice p table.fixed)))
+      rw once (rw own (ap (λ f. Some (record table { state = f })) (released-twice p table.state)))
 
   pub reassigned-twice : (o : Option Table) → table_after_exit ps p (table_after_exit ps p o) ≡ table_after_exit ps p o
   reassigned-twice None = refl
   reassigned-twice (Some table) = twice-at (is_owner table.metadata p) table (living_heir ps table.metadata) refl refl
 
   -- an idle table of another process needs no visit
-  pub reassigned-idle : (table : Table) → is_owner table.metadata p ≡ false → IsUnfixed table.fixed → table_after_exit ps p (Some table) ≡ Some table
-  reassigned-idle table other idle = rw other (ap (λ f. Some (record table { fixed = f })) (idle-stays p table.fixed idle))
+  pub reassigned-idle : (table : Table) → is_owner table.metadata p ≡ false → IsUnfixed table.state → table_after_exit ps p (Some table) ≡ Some table
+  reassigned-idle table other idle = rw other (ap (λ f. Some (record table { state = f })) (idle-stays p table.state idle))
 
 -- ---- lists of tables that are reassigned at places
 module _ (after : Option Table → Option Table) (empty : after None ≡ None) (twice : (o : Option Table) → after (after o) ≡ after o) where
@@ -139,7 +139,7 @@ all-reassigned after (o ∷ tables) s = let here = s 0 in let rest = all-reassig
 pub record Left (ps : Processes) (p : ℕ) (o : Option Table) (new : Table) : Type 0 where
   pub table : Table
   pub was : o ≡ Some table
-  pub fixed : new.fixed ≡ after_release_all p table.fixed
+  pub fixed : new.state ≡ after_release_all p table.state
   pub metadata : (new.metadata ≡ table.metadata × (is_owner table.metadata p ≡ false)) ⊎ ((heir : Heir) × (living_heir ps table.metadata ≡ Some heir) × (is_owner table.metadata p ≡ true) × (new.metadata ≡ record table.metadata { owner = heir.pid }))
 
 module _ (ps : Processes) (p : ℕ) where
@@ -148,10 +148,10 @@ module _ (ps : Processes) (p : ℕ) where
   left-at true None table new own l e = absurd (cc)
   left-at true (Some heir) table new own l e =
       let same : with_owner heir.pid (without_fixes p table) ≡ new = same_Some _ _ e in
-      record { table = table; was = refl; fixed = ap (λ (t : Table). t.fixed) (sym same); metadata = inr (heir, l, own, ap (λ (t : Table). t.metadata) (sym same)) }
+      record { table = table; was = refl; fixed = ap (λ (t : Table). t.state) (sym same); metadata = inr (heir, l, own, ap (λ (t : Table). t.metadata) (sym same)) }
   left-at false h table new own l e =
       let same : without_fixes p table ≡ new = same_Some _ _ e in
-      record { table = table; was = refl; fixed = ap (λ (t : Table). t.fixed) (sym same); metadata = inl (ap (λ (t : Table). t.metadata) (sym same), own) }
+      record { table = table; was = refl; fixed = ap (λ (t : Table). t.state) (sym same); metadata = inl (ap (λ (t : Table). t.metadata) (sym same), own) }
 
   pub left-over : (o : Option Table) (new : Table) → table_after_exit ps p o ≡ Some new → Left ps p o new
   left-over None new e = absurd (cc)
@@ -171,8 +171,8 @@ released-idle-at true p f e free =
     let once : after_release_all p f ≡ record f { fixes = remove f.fixes p } = rw e refl in
     absurd (true≢false (sym e ∙ ap (λ (g : TableState). is_fixed g.fixes) (sym once) ∙ free))
 released-idle-at false p f e free =
-    let once : after_release_all p f ≡ record f { content = record f.content { slots = purged f.content.slots }; fixes = remove f.fixes p } = rw e refl in
-    subst IsUnfixed (sym once) (e, purged-none f.content.slots)
+    let once : after_release_all p f ≡ record f { content = record f.content { slots = without_tombstones f.content.slots }; fixes = remove f.fixes p } = rw e refl in
+    subst IsUnfixed (sym once) (e, without_tombstones-none f.content.slots)
 
 -- a table is idle if the fixes of the process were its last
 pub released-idle : (p : ℕ) (f : TableState) → is_fixed (after_release_all p f).fixes ≡ false → IsUnfixed (after_release_all p f)
@@ -183,7 +183,7 @@ module _ (ps : Processes) (p : ℕ) (dead : lives ps p ≡ false) (old : Tables)
   reassigned-first t None e = inr (inr refl)
   reassigned-first t (Some table) e = by (is_owner table.metadata p) refl (listed.each t table e)
     where
-      by : (b : Bool) → is_owner table.metadata p ≡ b → (None ≡ Some t) ⊎ IsAmong t fixed ⊎ IsUnfixed table.fixed → IsAmong t own ⊎ IsAmong t fixed ⊎ (table_after_exit ps p (Some table) ≡ Some table)
+      by : (b : Bool) → is_owner table.metadata p ≡ b → (None ≡ Some t) ⊎ IsAmong t fixed ⊎ IsUnfixed table.state → IsAmong t own ⊎ IsAmong t fixed ⊎ (table_after_exit ps p (Some table) ≡ Some table)
       by true is n = inl (owned t table e is)
       by false is (inl dirty) = absurd (cc)
       by false is (inr (inl among)) = inr (inl among)
@@ -208,14 +208,14 @@ module _ (ps : Processes) (p : ℕ) (dead : lives ps p ≡ false) (old : Tables)
     each = λ t table there. each t table there (left-over ps p (table_at old t) table (sym (get_or-map (table_after_exit ps p) old t None) ∙ ap (λ ts. table_at ts t) (sym is) ∙ there));
   }
     where
-      fixed-at : (t : ℕ) (table was : Table) → table_at new t ≡ Some table → table.fixed ≡ after_release_all p was.fixed → IsAmong t fixed → (b : Bool) → is_fixed table.fixed.fixes ≡ b → IsAmong t (filter (is_fixed_at new) fixed) ⊎ IsUnfixed table.fixed
-      fixed-at t table was there f a true e = inl (among-filter (is_fixed_at new) fixed t (ap (λ o. option_map_or (λ (x : Table). is_fixed x.fixed.fixes) o false) there ∙ e) a)
-      fixed-at t table was there f a false e = inr (subst IsUnfixed (sym f) (released-idle p was.fixed (ap (λ (g : TableState). is_fixed g.fixes) (sym f) ∙ e)))
+      fixed-at : (t : ℕ) (table was : Table) → table_at new t ≡ Some table → table.state ≡ after_release_all p was.state → IsAmong t fixed → (b : Bool) → is_fixed table.state.fixes ≡ b → IsAmong t (filter (is_fixed_at new) fixed) ⊎ IsUnfixed table.state
+      fixed-at t table was there f a true e = inl (among-filter (is_fixed_at new) fixed t (ap (λ o. option_map_or (λ (x : Table). is_fixed x.state.fixes) o false) there ∙ e) a)
+      fixed-at t table was there f a false e = inr (subst IsUnfixed (sym f) (released-idle p was.state (ap (λ (g : TableState). is_fixed g.fixes) (sym f) ∙ e)))
 
-      by : (t : ℕ) (table was : Table) → table_at new t ≡ Some table → table.fixed ≡ after_release_all p was.fixed → (None ≡ Some t) ⊎ IsAmong t fixed ⊎ IsUnfixed was.fixed → (None ≡ Some t) ⊎ IsAmong t (filter (is_fixed_at new) fixed) ⊎ IsUnfixed table.fixed
+      by : (t : ℕ) (table was : Table) → table_at new t ≡ Some table → table.state ≡ after_release_all p was.state → (None ≡ Some t) ⊎ IsAmong t fixed ⊎ IsUnfixed was.state → (None ≡ Some t) ⊎ IsAmong t (filter (is_fixed_at new) fixed) ⊎ IsUnfixed table.state
       by t table was there f (inl dirty) = absurd (cc)
-      by t table was there f (inr (inl among)) = inr (fixed-at t table was there f among (is_fixed table.fixed.fixes) refl)
-      by t table was there f (inr (inr idle)) = inr (inr (subst IsUnfixed (sym (f ∙ idle-stays p was.fixed idle)) idle))
+      by t table was there f (inr (inl among)) = inr (fixed-at t table was there f among (is_fixed table.state.fixes) refl)
+      by t table was there f (inr (inr idle)) = inr (inr (subst IsUnfixed (sym (f ∙ idle-stays p was.state idle)) idle))
 
-      each : (t : ℕ) (table : Table) → table_at new t ≡ Some table → Left ps p (table_at old t) table → (None ≡ Some t) ⊎ IsAmong t (filter (is_fixed_at new) fixed) ⊎ IsUnfixed table.fixed
+      each : (t : ℕ) (table : Table) → table_at new t ≡ Some table → Left ps p (table_at old t) table → (None ≡ Some t) ⊎ IsAmong t (filter (is_fixed_at new) fixed) ⊎ IsUnfixed table.state
       each t table there left = by t table left.table there left.fixed (listed.each t left.table left.was)

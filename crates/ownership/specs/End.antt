@@ -25,7 +25,7 @@ living_heir processes metadata =
 
 -- a table after the fixes of a process are released; its tombstones are removed if no other process fixes it
 abbrev pub without_fixes : ℕ → Table → Table
-without_fixes p table = record table { fixed = after_release_all p table.fixed }
+without_fixes p table = record table { state = after_release_all p table.state }
 
 -- a table after the end of a process, whose fixes are released; if the process owned the table, the table passes to its
 -- heir, or is deleted (None) if no heir lives

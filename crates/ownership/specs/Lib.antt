@@ -4,6 +4,7 @@ pub mod Access
 pub mod Options
 pub mod Messages
 pub mod Tables
+pub mod Heirs
 pub mod End
 pub mod Info
 pub mod inside

@@ -1,10 +1,11 @@
 -- The options of `new`, and the heirs that `setopts` sets (stdlib manual, module ets, new/2 and setopts/2). Options
 -- are read in their order, and a later option overrides an earlier option.
-use Rattle.std.specs.Prelude.{ℕ, pos, nat_le, ◌&&◌, ◌||◌, Bool, true, false, if◌then◌else◌, List, [], ◌∷◌, Option, Some, None, codes, option_map}
+use Rattle.std.specs.Prelude.{ℕ, nat_le, ◌&&◌, ◌||◌, Bool, true, false, if◌then◌else◌, List, [], ◌∷◌, Option, Some, None, codes, option_map}
 use Rattle.std.specs.Option.{option_and_then}
 use Rattle.std.specs.Str.{bytes_eq}
 use Rattle.ets_term.specs.declared.term.Term.{Term, out-Term}
 use Rattle.ets_term.specs.declared.term.Term.TheOpen.{Term-F}
+use Rattle.ets_term.specs.Views.{as_natural, as_pid, as_list}
 use Rattle.ets_term.specs.Atoms.{is_atom}
 use Rattle.table_ops.specs.declared.kind.Kind.TheVariants.{Set, Bag, DuplicateBag}
 use Rattle.ownership.specs.declared.metadata.Heir.{Heir}
@@ -14,16 +15,6 @@ use Rattle.ownership.specs.declared.options.NewOptions.{NewOptions}
 -- the options of an empty list
 abbrev pub default_options : NewOptions
 default_options = record { kind = Set; keypos = 1; protection = Protected; named = false; heir = None }
-
--- the value of an integer of at least 0, by the first level of a term
-abbrev pub natural_form : Term-F Term → Option ℕ
-natural_form (Term-F.Int (pos n)) = Some n
-natural_form _ = None
-
--- the number of a pid, by the first level of a term
-abbrev pub pid_form : Term-F Term → Option ℕ
-pid_form (Term-F.Pid p) = Some p
-pid_form _ = None
 
 -- whether a term is the atom `true` or `false`
 abbrev pub is_boolean : Term → Bool
@@ -61,7 +52,7 @@ parse_heir (name ∷ none ∷ []) =
     if is_atom (codes "heir") name && is_atom (codes "none") none then Some None else None
 parse_heir (name ∷ pid ∷ gift ∷ []) =
     if is_atom (codes "heir") name
-    then option_map (λ p. Some (record { pid = p; gift = gift })) (pid_form (out-Term pid))
+    then option_map (λ p. Some (record { pid = p; gift = gift })) (as_pid pid)
     else None
 parse_heir _ = None
 
@@ -78,7 +69,7 @@ is_tuning name value =
 abbrev pub pair_option : Term → Term → NewOptions → Option NewOptions
 pair_option name value options =
     if is_atom (codes "keypos") name
-    then option_and_then (λ n. keypos_option n options) (natural_form (out-Term value))
+    then option_and_then (λ n. keypos_option n options) (as_natural value)
     else if is_tuning name value then Some options
     else None
 
@@ -89,13 +80,13 @@ plain_tuple _ options = None
 
 -- the options after a tuple: if it was read as an heir option, the heir is set or removed; else it must be another
 -- option
-abbrev pub tuple_saying : Option (Option Heir) → List Term → NewOptions → Option NewOptions
-tuple_saying (Some heir) elements options = Some (record options { heir = heir })
-tuple_saying None elements options = plain_tuple elements options
+abbrev pub heir_or_option : Option (Option Heir) → List Term → NewOptions → Option NewOptions
+heir_or_option (Some heir) elements options = Some (record options { heir = heir })
+heir_or_option None elements options = plain_tuple elements options
 
 -- the options after an option that is a tuple; None if there is no such option
 abbrev pub tuple_option : List Term → NewOptions → Option NewOptions
-tuple_option elements options = tuple_saying (parse_heir elements) elements options
+tuple_option elements options = heir_or_option (parse_heir elements) elements options
 
 -- the options after one more option, by the first level of its term; None if there is no such option
 abbrev pub option_form : Term-F Term → NewOptions → Option NewOptions
@@ -109,14 +100,9 @@ options_from options [] = Some options
 options_from options (option ∷ rest) =
     option_and_then (λ o. options_from o rest) (option_form (out-Term option) options)
 
--- the options of a term, by its first level
-abbrev pub options_form : Term-F Term → Option NewOptions
-options_form (Term-F.List terms) = options_from default_options terms
-options_form _ = None
-
 -- the options of a term; None if it is not a list of options
 abbrev pub options_of : Term → Option NewOptions
-options_of term = options_form (out-Term term)
+options_of term = option_and_then (options_from default_options) (as_list term)
 
 -- the heir, or no heir, that one option of setopts names, by the first level of the term; None for any other term
 abbrev pub heir_form : Term-F Term → Option (Option Heir)

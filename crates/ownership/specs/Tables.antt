@@ -1,6 +1,6 @@
 -- Processes are enrolled; tables are created, deleted and passed on (stdlib manual, module ets, new/2, delete/1,
 -- give_away/3, setopts/2).
-use Rattle.std.specs.Prelude.{ℕ, ◌==◌, ◌&&◌, not, nat_le, true, List, [], ◌∷◌, ◌++◌, Option, Some, None, is_some, length, slice_set, option_map, Result, Ok, Err}
+use Rattle.std.specs.Prelude.{ℕ, ◌==◌, ◌&&◌, not, nat_le, true, List, [], ◌∷◌, ◌++◌, Option, Some, None, is_some, length, slice_set, Result, Ok, Err}
 use Rattle.ets_term.specs.declared.term.Term.{Term}
 use Rattle.table_ops.specs.Outcomes.{Outcome, gives, refuse, refuse_none}
 use Rattle.fixed_walk.specs.TableState.{TableState}
@@ -9,7 +9,7 @@ use Rattle.ownership.specs.declared.fault.WorldFault.TheVariants.{Badarg, System
 use Rattle.ownership.specs.declared.metadata.Metadata.{Metadata}
 use Rattle.ownership.specs.declared.metadata.Heir.{Heir}
 use Rattle.ownership.specs.declared.options.NewOptions.{NewOptions}
-use Rattle.ownership.specs.World.{Table, Tables, World, process_at, lives, table_at, whereis}
+use Rattle.ownership.specs.World.{Table, World, with_changed, process_at, lives, table_at, whereis}
 use Rattle.ownership.specs.Access.{is_owner}
 use Rattle.ownership.specs.Messages.{name_or_identifier, transfer_message, push_message}
 use Rattle.ownership.specs.Options.{heir_after}
@@ -40,7 +40,7 @@ new_metadata p name options =
 -- the world with a new table under the next identifier
 abbrev pub with_table : World → Metadata → TableState → World
 with_table w metadata state =
-    record w { tables = w.tables ++ Some (record { metadata = metadata; fixed = state }) ∷ [] }
+    record w { tables = w.tables ++ Some (record { metadata = metadata; state = state }) ∷ [] }
 
 -- new: badarg if the table is to be named and another named table has the name; system limit if the greatest number of
 -- tables is reached; the answer is the name of a named table, else the identifier
@@ -63,10 +63,6 @@ with_owner q table = record table { metadata = record table.metadata { owner = q
 abbrev pub with_heir : Option Heir → Table → Table
 with_heir heir table = record table { metadata = record table.metadata { heir = heir } }
 
--- the tables after a change of the table with this identifier, if it exists
-abbrev pub with_changed : (Table → Table) → Tables → ℕ → Tables
-with_changed change tables t = slice_set tables t (option_map change (table_at tables t))
-
 -- the world after a table is passed to another owner, which gets a message
 abbrev pub after_transfer : World → ℕ → ℕ → Term → World
 after_transfer w t q message =
@@ -85,13 +81,6 @@ GiveAway old p t q gift =
 -- the world after the heir of a table was set or removed
 abbrev pub after_set_heir : World → ℕ → Option Heir → World
 after_set_heir w t heir = record w { tables = with_changed (with_heir heir) w.tables t }
-
--- the owner of a table sets or removes its heir; badarg for any other process
-abbrev pub SetHeir : World → ℕ → ℕ → Option Heir → Outcome (Result (Unit {0}) WorldFault) World
-SetHeir old p t heir =
-    refuse_none old (table_at old.tables t) (Err Badarg) (λ table.
-    refuse old (not (is_owner table.metadata p)) (Err Badarg) (
-    gives (Ok tt) (after_set_heir old t heir)))
 
 -- setopts: the owner of a table sets or removes its heir by options; badarg for any other process, and for a term that
 -- is not an option or list of options

@@ -9,13 +9,13 @@ use Rattle.fixed_walk.specs.TableState.{TableState}
 use Rattle.ownership.specs.declared.metadata.Metadata.{Metadata}
 use Rattle.ownership.specs.declared.process.Process.{Process}
 
--- a table: its metadata, and `fixed`, the state of the table (content, ready buckets and fixes), whether or not a
+-- a table: its metadata, and `state`, the state of the table (content, ready buckets and fixes), whether or not a
 -- process fixes it
 pub record Table : Type 0 where
   pub metadata : Metadata
-  pub fixed : TableState
+  pub state : TableState
 
--- The tables ever made, in order. The place of a table is its identifier; the place of a deleted table stays empty.
+-- The tables ever made, in order of creation. The index of a table is its identifier; a deleted table leaves None.
 abbrev pub Tables : Type 0
 Tables = List (Option Table)
 
@@ -49,13 +49,12 @@ table_at tables t = slice_index_or tables t None
 
 -- the state (content, ready buckets and fixes) of the table with this identifier, whether or not a process fixes it;
 -- None if it does not exist
-abbrev pub fixed_at : Tables → ℕ → Option TableState
-fixed_at tables t = option_map (λ table. table.fixed) (table_at tables t)
+abbrev pub state_at : Tables → ℕ → Option TableState
+state_at tables t = option_map (λ table. table.state) (table_at tables t)
 
 -- the metadata of a table, None if it does not exist
 abbrev pub metadata_of : Option Table → Option Metadata
-metadata_of None = None
-metadata_of (Some table) = Some table.metadata
+metadata_of table = option_map (λ t. t.metadata) table
 
 -- the metadata of all tables, by identifier; None for each deleted table
 abbrev pub all_metadata : Tables → List (Option Metadata)
@@ -80,11 +79,10 @@ resolve_form tables _ = None
 abbrev pub resolve : Tables → Term → Option ℕ
 resolve tables term = resolve_form tables (out-Term term)
 
--- the table with another state (content, ready buckets and fixes) and the same metadata
-abbrev pub fixed_in : Option Table → TableState → Option Table
-fixed_in None fixed = None
-fixed_in (Some table) fixed = Some (record table { fixed = fixed })
+-- the tables after a change of the table with this identifier, if it exists
+abbrev pub with_changed : (Table → Table) → Tables → ℕ → Tables
+with_changed change tables t = slice_set tables t (option_map change (table_at tables t))
 
 -- the tables after the state of the table with this identifier is changed
-abbrev pub with_fixed : Tables → ℕ → TableState → Tables
-with_fixed tables t fixed = slice_set tables t (fixed_in (table_at tables t) fixed)
+abbrev pub with_state : Tables → ℕ → TableState → Tables
+with_state tables t state = with_changed (λ table. record table { state = state }) tables t

@@ -4,3 +4,4 @@ pub mod Lending
 pub mod Reading
 pub mod Ending
 pub mod Indices
+pub mod States

@@ -2,7 +2,7 @@
 ghost use Rattle.std.specs.Prelude.{◌≡◌, IfOk};
 ghost use Rattle.ets_term.specs.Character.{IsAtomText};
 ghost use Rattle.ets_term.specs.declared.term.Term.TheVariants as term;
-ghost use Rattle.ownership.specs.Info.{item_of, word_item, table_item, truth, protection_word, kind_word, heir_term};
+ghost use Rattle.ownership.specs.Info.{item_of, word_item, table_item, boolean_atom, protection_atom, kind_atom, heir_term};
 
 use crate::metadata::{Heir, Protection};
 use ets_term::{Atom, Term};
@@ -93,8 +93,8 @@ fn atom(alloc: Global, text: &[u8]) -> Result<Term, AllocError>
 }
 
 /// Makes the atom `true` or `false`.
-pub fn truth(alloc: Global, value: bool) -> Result<Term, AllocError>
-    ensures { IfOk result (λ t. t ≡ truth value) }
+pub fn boolean_atom(alloc: Global, value: bool) -> Result<Term, AllocError>
+    ensures { IfOk result (λ t. t ≡ boolean_atom value) }
 {
     if value {
         atom(alloc, b"true")
@@ -105,7 +105,7 @@ pub fn truth(alloc: Global, value: bool) -> Result<Term, AllocError>
 
 /// Makes the atom that names a protection.
 pub fn protection_term(alloc: Global, protection: Protection) -> Result<Term, AllocError>
-    ensures { IfOk result (λ t. t ≡ term.Atom (protection_word protection)) }
+    ensures { IfOk result (λ t. t ≡ term.Atom (protection_atom protection)) }
 {
     match protection {
         Protection::Public => atom(alloc, b"public"),
@@ -116,7 +116,7 @@ pub fn protection_term(alloc: Global, protection: Protection) -> Result<Term, Al
 
 /// Makes the atom that names a kind of table.
 pub fn kind_term(alloc: Global, kind: Kind) -> Result<Term, AllocError>
-    ensures { IfOk result (λ t. t ≡ term.Atom (kind_word kind)) }
+    ensures { IfOk result (λ t. t ≡ term.Atom (kind_atom kind)) }
 {
     match kind {
         Kind::Set => atom(alloc, b"set"),

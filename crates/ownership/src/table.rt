@@ -23,7 +23,7 @@ struct Parts<R: Rows> {
     table: Walked<R>,
 }
 
-// The value that contracts see of this type (`view`). Its field `fixed` is the table with its fixes, whether or not a
+// The value that contracts see of this type (`view`). Its field `state` is the table with its fixes, whether or not a
 // process fixes it.
 impl<R: Rows> Model for OwnedTable<R> {
     ghost use Rattle.ownership.specs.World.{Table};
@@ -33,7 +33,7 @@ impl<R: Rows> Model for OwnedTable<R> {
 
     ghost coded = { table_code };
 
-    ghost view = { λ t. record { metadata = t.parts.value.metadata; fixed = t.parts.value.table } };
+    ghost view = { λ t. record { metadata = t.parts.value.metadata; state = t.parts.value.table } };
 }
 
 impl<R: Rows> OwnedTable<R> {
@@ -41,7 +41,7 @@ impl<R: Rows> OwnedTable<R> {
 
     /// Puts a table and its metadata into a box. If memory is refused, both are dropped.
     pub fn new(alloc: Global, metadata: Metadata, table: Walked<R>) -> Result<Self, AllocError>
-        ensures { IfOk result (λ owned. owned ≡ record { metadata = metadata; fixed = table }) }
+        ensures { IfOk result (λ owned. owned ≡ record { metadata = metadata; state = table }) }
     {
         let parts = Box::new(alloc, Parts { metadata, table })?;
         Ok(OwnedTable { parts })
@@ -56,7 +56,7 @@ impl<R: Rows> OwnedTable<R> {
 
     /// Returns the table without its metadata.
     pub fn table(&self) -> &Walked<R>
-        ensures { result.now ≡ self.now.fixed }
+        ensures { result.now ≡ self.now.state }
     {
         &self.parts.table
     }
@@ -65,7 +65,7 @@ impl<R: Rows> OwnedTable<R> {
     // `lends`: when the borrow ends, the table has what the borrower wrote, and its metadata is as before.
     pub fn table_mut(&mut self) -> &mut Walked<R>
         ensures* lends { sem 𝓛 (LendsFixed R.row R.Rows self.entry result) }
-        ensures value { result.now ≡ self.old.fixed }
+        ensures value { result.now ≡ self.old.state }
     {
         &mut self.parts.table
     }

@@ -40,9 +40,9 @@ abbrev pub last_byte : List ℕ → ℕ
 last_byte text = slice_index text (length text - 1)
 
 -- the last byte that is neither a space nor a tab, or 0
-abbrev pub last_sign : List ℕ → ℕ
-last_sign text = last_byte (filter (λ b. not (is_gap b)) text)
+abbrev pub last_non_blank : List ℕ → ℕ
+last_non_blank text = last_byte (filter (λ b. not (is_gap b)) text)
 
 -- a term can come after this text: its last sign is one of these
 abbrev pub expects_term : List ℕ → Bool
-expects_term before = among (codes ",{[<(") (last_sign before)
+expects_term before = among (codes ",{[<(") (last_non_blank before)

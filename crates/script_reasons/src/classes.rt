@@ -84,7 +84,7 @@ fn is_blank(byte: u8) -> bool
 pub fn expects_term(before: &[u8]) -> bool
     ensures { result ≡ spec.expects_term before.now }
 {
-    matches!(last_sign(before), b',' | b'{' | b'[' | b'<' | b'(')
+    matches!(last_non_blank(before), b',' | b'{' | b'[' | b'<' | b'(')
 }
 
 /// Returns the number of bytes at the front that can be in a name.
@@ -120,18 +120,18 @@ pub fn last_byte(text: &[u8]) -> u8
 }
 
 /// Returns the last byte that is neither a space nor a tab, or 0.
-fn last_sign(text: &[u8]) -> u8
-    ensures { result ≡ spec.last_sign text.now }
+fn last_non_blank(text: &[u8]) -> u8
+    ensures { result ≡ spec.last_non_blank text.now }
 {
     let mut last = 0;
     for byte in text {
-        last = update_last_sign(last, *byte);
+        last = update_last_non_blank(last, *byte);
     }
     last
 }
 
 /// Returns the last sign of a text after one more byte.
-fn update_last_sign(last: u8, byte: u8) -> u8
+fn update_last_non_blank(last: u8, byte: u8) -> u8
     ensures { result ≡ (if spec.is_gap byte then last else byte) }
 {
     if is_gap(byte) { last } else { byte }

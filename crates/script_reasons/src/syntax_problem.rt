@@ -167,7 +167,7 @@ fn diagnose_after_hash(byte: u8) -> SyntaxProblem
     }
 }
 
-/// Diagnoses a byte by the byte itself, whatever text is before it.
+/// Diagnoses a byte by the byte and the text after it, whatever text is before it.
 fn diagnose_sign(byte: u8, after: &[u8]) -> SyntaxProblem
     ensures { result ≡ spec.diagnose_sign byte after.now }
 {

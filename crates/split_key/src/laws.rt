@@ -31,7 +31,7 @@ pub fn doubling_splits_bucket(hash: u32, bucket: u32, size: u32)
 {}
 
 /// The parent of a bucket has a smaller number, and the parent's dummy comes before the bucket's dummy.
-pub fn parent_stands_before(bucket: u32, parent: u32)
+pub fn parent_comes_before(bucket: u32, parent: u32)
     requires { IsWithoutTopBit bucket parent }
     ensures below { parent < bucket }
     ensures before { key_of_dummy parent < key_of_dummy bucket }

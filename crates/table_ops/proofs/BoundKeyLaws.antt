@@ -1,9 +1,9 @@
 -- If only objects of the bound key can be chosen, those chosen from its slot are those chosen from all.
 use Rattle.std.proofs.Common.{◌≡◌, ℕ, ◌+◌, Bool, true, false, cond, List, [], ◌∷◌, ◌++◌, Option, None, Some, is_some, unwrap_or, refl, sym, ap, subst, ◌∙◌, length, map, filter, true≢false, if◌then◌else◌, codes, arith}
-use Rattle.std.specs.Prelude.{nat_lt, IfSome}
+use Rattle.std.specs.Prelude.{nat_lt, IfSome, filter_map}
 use Rattle.std.proofs.lemmas.List.{append-nil}
 use Rattle.std.proofs.lemmas.Option.{same_Some}
-use Rattle.std.specs.List.{AllByRecursion, IsDistinct}
+use Rattle.std.specs.List.{AllByRecursion, IsDistinct, cons_option}
 use Rattle.std.specs.Map.{keys_of}
 use Rattle.std.specs.Option.{option_map, option_and_then}
 use Rattle.ets_term.specs.declared.term.Term.{Term}
@@ -11,16 +11,19 @@ use Rattle.ets_term.specs.Atoms.{is_atom}
 use Rattle.ets_term.specs.Data.{Data, data_of, list, data_list}
 use Rattle.ets_term.specs.Depth.{element_at}
 use Rattle.ets_term.specs.Order.{same}
-use Rattle.ets_term.specs.laws.Exact.{term_of, back, data_of-exact}
+use Rattle.ets_term.specs.laws.Exact.{back, data_of-exact}
+use Rattle.ets_term.specs.Trees.{term_of}
 use Rattle.ets_term.specs.laws.Same.{same-exact, same-refl}
 use Rattle.bucket_table.specs.Slots.{Slot, HasDistinctKeys, objects_of}
 use Rattle.table_ops.specs.declared.kind.Kind.{Kind}
 use Rattle.table_ops.specs.Content.{objects_under, IsObjectOfKey, AreSlots}
 use Rattle.match_spec.specs.BoundKeys.{IsKeyOfMatches}
 use Rattle.match_spec.specs.Patterns.{values, bindings_of}
-use Rattle.table_ops.specs.Queries.{also, answers, bound_in, chosen_count, looks_of, matched_object, matches}
+use Rattle.table_ops.specs.Queries.{bound_in, chosen_count, matches}
+use Rattle.table_ops.specs.Results.{matched_object}
+use Rattle.table_ops.specs.Looks.{looks_of}
 use Rattle.table_ops.specs.Read.{all_objects}
-use Rattle.table_ops.specs.inside.DeletePlan.{RequiresKey, MatchesOnlyKey, unmatched, planned, planned_then, plan_of}
+use Rattle.table_ops.specs.inside.DeletePlan.{RequiresKey, MatchesOnlyKey, objects_kept, plan_of_slot, plan_with_slot, plan_of}
 use Rattle.table_ops.proofs.QueryLaws.{answers-append, chosen-append, more-at}
 
 element-of-at : (o : Option Term) (key : Term) → option_and_then (λ k. if is_atom (codes "$end_of_table") k then None else Some k) o ≡ Some key → o ≡ Some key
@@ -74,22 +77,22 @@ module _ (choose : Term → Bool) where
 
   plan-none : (ss : List Slot) → AllByRecursion (λ (s : Slot). chosen_count choose s.1 ≡ 0) ss → plan_of choose ss ≡ []
   plan-none [] a = refl
-  plan-none (s ∷ ss) a = ap (λ n. planned_then (nat_lt 0 n) s choose (plan_of choose ss)) a.0 ∙ plan-none ss a.1
+  plan-none (s ∷ ss) a = ap (λ n. plan_with_slot (nat_lt 0 n) s choose (plan_of choose ss)) a.0 ∙ plan-none ss a.1
 
-  plan-single : (b : Bool) (key : Term) (s : Slot) → key ≡ s.0 → planned_then b s choose [] ≡ (if b then (Some key, unmatched choose s.1) ∷ [] else [])
-  plan-single true key s e = λ i. (Some (sym e i), unmatched choose s.1) ∷ []
+  plan-single : (b : Bool) (key : Term) (s : Slot) → key ≡ s.0 → plan_with_slot b s choose [] ≡ (if b then (Some key, objects_kept choose s.1) ∷ [] else [])
+  plan-single true key s e = λ i. (Some (sym e i), objects_kept choose s.1) ∷ []
   plan-single false key s e = refl
 
   plan-at : (b : Bool) (key : Term) (c : List Term) (s : Slot) (ss : List Slot) → same key s.0 ≡ b → AllByRecursion (λ y. same s.0 y ≡ false) (keys_of ss) → MatchesOnlyKey choose (Some key) (s ∷ ss) → cond b (Some s.1) (objects_of ss key) ≡ Some c
-      → (objects_of ss key ≡ Some c → plan_of choose ss ≡ planned choose (key, c)) → plan_of choose (s ∷ ss) ≡ planned choose (key, c)
+      → (objects_of ss key ≡ Some c → plan_of choose ss ≡ plan_of_slot choose (key, c)) → plan_of choose (s ∷ ss) ≡ plan_of_slot choose (key, c)
   plan-at true key c s ss e d q h ih =
       let has : s.1 ≡ c = cc in
-      ap (planned_then (nat_lt 0 (chosen_count choose s.1)) s choose) (plan-none ss (all-apart choose key s.0 ss e d q.1))
-      ∙ plan-single (nat_lt 0 (chosen_count choose s.1)) key s (same-exact key s.0 e) ∙ ap (λ (os : List Term). planned choose (key, os)) has
-  plan-at false key c s ss e d q h ih = ap (λ n. planned_then (nat_lt 0 n) s choose (plan_of choose ss)) (q.0 e) ∙ ih h
+      ap (plan_with_slot (nat_lt 0 (chosen_count choose s.1)) s choose) (plan-none ss (all-apart choose key s.0 ss e d q.1))
+      ∙ plan-single (nat_lt 0 (chosen_count choose s.1)) key s (same-exact key s.0 e) ∙ ap (λ (os : List Term). plan_of_slot choose (key, os)) has
+  plan-at false key c s ss e d q h ih = ap (λ n. plan_with_slot (nat_lt 0 n) s choose (plan_of choose ss)) (q.0 e) ∙ ih h
 
   -- the plan for the key's slot is the plan for all
-  pub plan-under : (key : Term) (c : List Term) (ss : List Slot) → HasDistinctKeys ss → MatchesOnlyKey choose (Some key) ss → objects_of ss key ≡ Some c → plan_of choose ss ≡ planned choose (key, c)
+  pub plan-under : (key : Term) (c : List Term) (ss : List Slot) → HasDistinctKeys ss → MatchesOnlyKey choose (Some key) ss → objects_of ss key ≡ Some c → plan_of choose ss ≡ plan_of_slot choose (key, c)
   unfolding IsDistinct
   plan-under key c [] d q h = cc
   plan-under key c (s ∷ ss) d q h = plan-at (same key s.0) key c s ss refl d.0 q h (plan-under key c ss d.1 q.1)
@@ -112,28 +115,28 @@ module _ (give : Term → Option Data) where
   abbrev gives : Term → Bool
   gives object = is_some (give object)
 
-  silent-at : (o : Option Data) (x : Term) (l : List Data) (n : ℕ) → give x ≡ o → length (cond (is_some o) (x ∷ []) []) + n ≡ 0 → l ≡ [] → also o l ≡ []
+  silent-at : (o : Option Data) (x : Term) (l : List Data) (n : ℕ) → give x ≡ o → length (cond (is_some o) (x ∷ []) []) + n ≡ 0 → l ≡ [] → cons_option o l ≡ []
   silent-at None x l n e h f = f
   silent-at (Some d) x l n e h f = absurd (omega (arith, h))
 
-  silent : (os : List Term) → chosen_count gives os ≡ 0 → answers give os ≡ []
+  silent : (os : List Term) → chosen_count gives os ≡ 0 → filter_map give os ≡ []
   silent [] h = refl
   silent (o ∷ os) h =
       let more = more-at gives (gives o) o (filter gives os) in
       let both : length (cond (is_some (give o)) (o ∷ []) []) + chosen_count gives os ≡ 0 = omega (arith, h, more) in
-      silent-at (give o) o (answers give os) (chosen_count gives os) refl both (silent os (omega (arith, both)))
+      silent-at (give o) o (filter_map give os) (chosen_count gives os) refl both (silent os (omega (arith, both)))
 
-  answers-none : (ss : List Slot) → AllByRecursion (λ (s : Slot). chosen_count gives s.1 ≡ 0) ss → answers give (all_objects ss) ≡ []
+  answers-none : (ss : List Slot) → AllByRecursion (λ (s : Slot). chosen_count gives s.1 ≡ 0) ss → filter_map give (all_objects ss) ≡ []
   answers-none [] a = refl
-  answers-none (s ∷ ss) a = answers-append give s.1 (all_objects ss) ∙ ap (λ l. l ++ answers give (all_objects ss)) (silent s.1 a.0) ∙ answers-none ss a.1
+  answers-none (s ∷ ss) a = answers-append give s.1 (all_objects ss) ∙ ap (λ l. l ++ filter_map give (all_objects ss)) (silent s.1 a.0) ∙ answers-none ss a.1
 
-  under-at : (b : Bool) (key : Term) (s : Slot) (ss : List Slot) → same key s.0 ≡ b → AllByRecursion (λ y. same s.0 y ≡ false) (keys_of ss) → MatchesOnlyKey gives (Some key) (s ∷ ss) → answers give (objects_under ss key) ≡ answers give (all_objects ss)
-      → answers give (unwrap_or (cond b (Some s.1) (objects_of ss key)) []) ≡ answers give (s.1 ++ all_objects ss)
-  under-at true key s ss e d q ih = sym (answers-append give s.1 (all_objects ss) ∙ ap (λ l. answers give s.1 ++ l) (answers-none ss (all-apart gives key s.0 ss e d q.1)) ∙ append-nil (answers give s.1))
-  under-at false key s ss e d q ih = ih ∙ sym (answers-append give s.1 (all_objects ss) ∙ ap (λ l. l ++ answers give (all_objects ss)) (silent s.1 (q.0 e)))
+  under-at : (b : Bool) (key : Term) (s : Slot) (ss : List Slot) → same key s.0 ≡ b → AllByRecursion (λ y. same s.0 y ≡ false) (keys_of ss) → MatchesOnlyKey gives (Some key) (s ∷ ss) → filter_map give (objects_under ss key) ≡ filter_map give (all_objects ss)
+      → filter_map give (unwrap_or (cond b (Some s.1) (objects_of ss key)) []) ≡ filter_map give (s.1 ++ all_objects ss)
+  under-at true key s ss e d q ih = sym (answers-append give s.1 (all_objects ss) ∙ ap (λ l. filter_map give s.1 ++ l) (answers-none ss (all-apart gives key s.0 ss e d q.1)) ∙ append-nil (filter_map give s.1))
+  under-at false key s ss e d q ih = ih ∙ sym (answers-append give s.1 (all_objects ss) ∙ ap (λ l. l ++ filter_map give (all_objects ss)) (silent s.1 (q.0 e)))
 
   -- the results for the key's objects are those for all
-  pub answers-under : (key : Term) (ss : List Slot) → HasDistinctKeys ss → MatchesOnlyKey gives (Some key) ss → answers give (objects_under ss key) ≡ answers give (all_objects ss)
+  pub answers-under : (key : Term) (ss : List Slot) → HasDistinctKeys ss → MatchesOnlyKey gives (Some key) ss → filter_map give (objects_under ss key) ≡ filter_map give (all_objects ss)
   unfolding IsDistinct
   answers-under key [] d q = refl
   answers-under key (s ∷ ss) d q = under-at (same key s.0) key s ss refl d.0 q (answers-under key ss d.1 q.1)
@@ -143,13 +146,13 @@ pub tried-under : (key : Term) (ss : List Slot) → length (objects_under ss key
 tried-under key ss = ap (λ t. length (objects_under ss t)) (sym (back key))
 
 module _ (fits : Term → Bool) where
-  also-copy : (b : Bool) (x : Term) (l : List Term) → also (if b then Some (data_of x) else None) (map data_of l) ≡ map data_of (cond b (x ∷ l) l)
+  also-copy : (b : Bool) (x : Term) (l : List Term) → cons_option (if b then Some (data_of x) else None) (map data_of l) ≡ map data_of (cond b (x ∷ l) l)
   also-copy true x l = refl
   also-copy false x l = refl
 
-  copies : (xs : List Term) → answers (λ o. if fits o then Some (data_of o) else None) xs ≡ map data_of (filter fits xs)
+  copies : (xs : List Term) → filter_map (λ o. if fits o then Some (data_of o) else None) xs ≡ map data_of (filter fits xs)
   copies [] = refl
-  copies (x ∷ xs) = ap (also (if fits x then Some (data_of x) else None)) (copies xs) ∙ also-copy (fits x) x (filter fits xs)
+  copies (x ∷ xs) = ap (cons_option (if fits x then Some (data_of x) else None)) (copies xs) ∙ also-copy (fits x) x (filter fits xs)
 
   all-exact : (xs ys : List Term) → map data_of xs ≡ map data_of ys → xs ≡ ys
   all-exact [] [] h = refl
@@ -161,7 +164,7 @@ module _ (fits : Term → Bool) where
       λ i. data_of-exact x y a i ∷ all-exact xs ys b i
 
   -- terms with the trees of objects are these objects
-  pub copied : (found xs : List Term) → map data_of found ≡ answers (λ o. if fits o then Some (data_of o) else None) xs → found ≡ filter fits xs
+  pub copied : (found xs : List Term) → map data_of found ≡ filter_map (λ o. if fits o then Some (data_of o) else None) xs → found ≡ filter fits xs
   copied found xs h = all-exact found (filter fits xs) (h ∙ copies xs)
 
 tried-at : (o : Option Term) (key : Term) (ss : List Slot) → o ≡ Some key → length (objects_under ss key) ≡ looks_of (option_map data_of o) ss

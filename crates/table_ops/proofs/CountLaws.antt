@@ -5,7 +5,7 @@ use Rattle.std.specs.Prelude.{MatchOption}
 use Rattle.std.specs.Map.{lookup, set_value, remove_entry}
 use Rattle.ets_term.specs.declared.term.Term.{Term}
 use Rattle.ets_term.specs.Order.{same}
-use Rattle.bucket_table.specs.Slots.{Slot, objects_of, with_objects, purged, has_objects, object_count, Enters}
+use Rattle.bucket_table.specs.Slots.{Slot, objects_of, with_objects, without_tombstones, has_objects, object_count, Enters}
 use Rattle.table_ops.specs.Content.{objects_under}
 use Rattle.table_ops.specs.Put.{SetsObjects}
 
@@ -27,11 +27,11 @@ module _ (k : Term → Bool) where
   count-removed [] c h = cc
   count-removed (s ∷ ss) c h = gone_at (k s.0) s ss c h (count-removed ss c)
 
-purge_at : (s : Slot) (ss : List Slot) (os : List Term) → s.1 ≡ os → object_count (purged ss) ≡ object_count ss → object_count (cond (has_objects os) (s ∷ purged ss) (purged ss)) ≡ object_count (s ∷ ss)
+purge_at : (s : Slot) (ss : List Slot) (os : List Term) → s.1 ≡ os → object_count (without_tombstones ss) ≡ object_count ss → object_count (cond (has_objects os) (s ∷ without_tombstones ss) (without_tombstones ss)) ≡ object_count (s ∷ ss)
 purge_at s ss [] e ih = omega (arith, ap length e, ih)
 purge_at s ss (o ∷ os) e ih = omega (arith, ih)
 
-pub count-purged : (ss : List Slot) → object_count (purged ss) ≡ object_count ss
+pub count-purged : (ss : List Slot) → object_count (without_tombstones ss) ≡ object_count ss
 count-purged [] = refl
 count-purged (s ∷ ss) = purge_at s ss s.1 refl (count-purged ss)
 

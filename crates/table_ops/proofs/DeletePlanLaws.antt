@@ -8,14 +8,15 @@ use Rattle.std.specs.Map.{keys_of}
 use Rattle.ets_term.specs.declared.term.Term.{Term}
 use Rattle.ets_term.specs.Order.{same}
 use Rattle.ets_term.specs.laws.Same.{same-refl}
-use Rattle.bucket_table.specs.Slots.{Slot, HasDistinctKeys, objects_of, with_objects, without, has_objects, slots_behind, object_count}
+use Rattle.bucket_table.specs.Slots.{Slot, HasDistinctKeys, objects_of, with_objects, has_objects, slots_behind, object_count}
+use Rattle.bucket_table.specs.Rows.{without}
 use Rattle.bucket_table.specs.Walks.{ComesBefore}
 use Rattle.bucket_table.proofs.slots.Traverse.{before-other, before-without}
 use Rattle.table_ops.specs.declared.delete_plan.SlotDelete.{SlotDelete}
 use Rattle.table_ops.specs.Drop.{after_drop}
 use Rattle.table_ops.specs.Queries.{chosen_count}
 use Rattle.table_ops.specs.Read.{all_objects}
-use Rattle.table_ops.specs.inside.DeletePlan.{unmatched, PlannedSlot, planned, planned_then, plan_of, planned_at, with_kept, after_plan, IsBefore, AreInOrder}
+use Rattle.table_ops.specs.inside.DeletePlan.{objects_kept, PlannedSlot, plan_of_slot, plan_with_slot, plan_of, plan_at, with_kept, after_plan, IsBefore, AreInOrder}
 use Rattle.table_ops.proofs.DropLaws.{stays}
 use Rattle.table_ops.proofs.InvariantLaws.{turned}
 use Rattle.table_ops.proofs.QueryLaws.{chosen-append, more-at, take-next}
@@ -27,43 +28,43 @@ none-chosen : (n : ℕ) → nat_lt 0 n ≡ false → n ≡ 0
 none-chosen n h = grind (arith, nat_tests, h)
 
 module _ (choose : Term → Bool) where
-  kept-append : (xs ys : List Term) → unmatched choose (xs ++ ys) ≡ unmatched choose xs ++ unmatched choose ys
+  kept-append : (xs ys : List Term) → objects_kept choose (xs ++ ys) ≡ objects_kept choose xs ++ objects_kept choose ys
   kept-append [] ys = refl
   kept-append (x ∷ xs) ys = ap (λ l. cond (not (choose x)) (x ∷ l) l) (kept-append xs ys) ∙ on (not (choose x))
     where
-      on : (b : Bool) → cond b (x ∷ unmatched choose xs ++ unmatched choose ys) (unmatched choose xs ++ unmatched choose ys) ≡ cond b (x ∷ unmatched choose xs) (unmatched choose xs) ++ unmatched choose ys
+      on : (b : Bool) → cond b (x ∷ objects_kept choose xs ++ objects_kept choose ys) (objects_kept choose xs ++ objects_kept choose ys) ≡ cond b (x ∷ objects_kept choose xs) (objects_kept choose xs) ++ objects_kept choose ys
       on true = refl
       on false = refl
 
-  kept-by : (b : Bool) (x : Term) (xs : List Term) → choose x ≡ b → (chosen_count choose xs ≡ 0 → unmatched choose xs ≡ xs) → length (cond (choose x) (x ∷ []) []) + chosen_count choose xs ≡ 0 → unmatched choose (x ∷ xs) ≡ x ∷ xs
+  kept-by : (b : Bool) (x : Term) (xs : List Term) → choose x ≡ b → (chosen_count choose xs ≡ 0 → objects_kept choose xs ≡ xs) → length (cond (choose x) (x ∷ []) []) + chosen_count choose xs ≡ 0 → objects_kept choose (x ∷ xs) ≡ x ∷ xs
   kept-by true x xs e rest g = absurd (omega (arith, g, ap (λ (c : Bool). length (cond c (x ∷ []) [])) e))
-  kept-by false x xs e rest g = ap (λ (c : Bool). cond (not c) (x ∷ unmatched choose xs) (unmatched choose xs)) e ∙ ap (λ l. x ∷ l) (rest (omega (arith, g)))
+  kept-by false x xs e rest g = ap (λ (c : Bool). cond (not c) (x ∷ objects_kept choose xs) (objects_kept choose xs)) e ∙ ap (λ l. x ∷ l) (rest (omega (arith, g)))
 
   -- if none is chosen all stay
-  pub kept-all : (xs : List Term) → chosen_count choose xs ≡ 0 → unmatched choose xs ≡ xs
+  pub kept-all : (xs : List Term) → chosen_count choose xs ≡ 0 → objects_kept choose xs ≡ xs
   kept-all [] h = refl
   kept-all (x ∷ xs) h = kept-by (choose x) x xs refl (λ n. kept-all xs n) (omega (arith, h, more-at choose (choose x) x (filter choose xs)))
 
   -- the kept objects at the first one that is chosen
-  pub first-left : (xs : List Term) (i : ℕ) (x : Term) → slice_get xs i ≡ Some x → choose x ≡ true → chosen_count choose (take i xs) ≡ 0 → take i xs ≡ unmatched choose (take (i + 1) xs)
+  pub first-left : (xs : List Term) (i : ℕ) (x : Term) → slice_get xs i ≡ Some x → choose x ≡ true → chosen_count choose (take i xs) ≡ 0 → take i xs ≡ objects_kept choose (take (i + 1) xs)
   first-left xs i x at is none =
-      sym (ap (unmatched choose) (take-next xs i x at) ∙ kept-append (take i xs) (x ∷ []) ∙ ap (λ (c : Bool). unmatched choose (take i xs) ++ cond (not c) (x ∷ []) []) is ∙ append-nil (unmatched choose (take i xs)) ∙ kept-all (take i xs) none)
+      sym (ap (objects_kept choose) (take-next xs i x at) ∙ kept-append (take i xs) (x ∷ []) ∙ ap (λ (c : Bool). objects_kept choose (take i xs) ++ cond (not c) (x ∷ []) []) is ∙ append-nil (objects_kept choose (take i xs)) ∙ kept-all (take i xs) none)
 
   kept-count-at : (b : Bool) (x : Term) (l k : List Term) (n : ℕ) → length k + length l ≡ n → length (cond (not b) (x ∷ k) k) + length (cond b (x ∷ l) l) ≡ n + 1
   kept-count-at true x l k n h = omega (arith, h)
   kept-count-at false x l k n h = omega (arith, h)
 
-  pub kept-count : (xs : List Term) → length (unmatched choose xs) + chosen_count choose xs ≡ length xs
+  pub kept-count : (xs : List Term) → length (objects_kept choose xs) + chosen_count choose xs ≡ length xs
   kept-count [] = omega arith
-  kept-count (x ∷ xs) = omega (arith, kept-count-at (choose x) x (filter choose xs) (unmatched choose xs) (length xs) (kept-count xs))
+  kept-count (x ∷ xs) = omega (arith, kept-count-at (choose x) x (filter choose xs) (objects_kept choose xs) (length xs) (kept-count xs))
 
-  then-append : (b : Bool) (s : Slot) (ns ms : List PlannedSlot) → planned_then b s choose (ns ++ ms) ≡ planned_then b s choose ns ++ ms
+  then-append : (b : Bool) (s : Slot) (ns ms : List PlannedSlot) → plan_with_slot b s choose (ns ++ ms) ≡ plan_with_slot b s choose ns ++ ms
   then-append true s ns ms = refl
   then-append false s ns ms = refl
 
   plan-append : (ss ts : List Slot) → plan_of choose (ss ++ ts) ≡ plan_of choose ss ++ plan_of choose ts
   plan-append [] ts = refl
-  plan-append (s ∷ ss) ts = ap (planned_then (nat_lt 0 (chosen_count choose s.1)) s choose) (plan-append ss ts) ∙ then-append (nat_lt 0 (chosen_count choose s.1)) s (plan_of choose ss) (plan_of choose ts)
+  plan-append (s ∷ ss) ts = ap (plan_with_slot (nat_lt 0 (chosen_count choose s.1)) s choose) (plan-append ss ts) ∙ then-append (nat_lt 0 (chosen_count choose s.1)) s (plan_of choose ss) (plan_of choose ts)
 
   take-slot : (ss : List Slot) (i : ℕ) (s : Slot) → slice_get ss i ≡ Some s → take (suc i) ss ≡ take i ss ++ s ∷ []
   take-slot [] i s h = cc
@@ -71,14 +72,14 @@ module _ (choose : Term → Bool) where
   take-slot (x ∷ xs) (suc i) s h = ap (λ l. x ∷ l) (take-slot xs i s h)
 
   -- one more slot
-  pub plan-next : (ss : List Slot) (i : ℕ) (s : Slot) → slice_get ss i ≡ Some s → plan_of choose (take (i + 1) ss) ≡ plan_of choose (take i ss) ++ planned choose s
+  pub plan-next : (ss : List Slot) (i : ℕ) (s : Slot) → slice_get ss i ≡ Some s → plan_of choose (take (i + 1) ss) ≡ plan_of choose (take i ss) ++ plan_of_slot choose s
   plan-next ss i s h =
       let next : i + 1 ≡ suc i = omega arith in
       ap (λ n. plan_of choose (take n ss)) next ∙ ap (plan_of choose) (take-slot ss i s h) ∙ plan-append (take i ss) (s ∷ [])
 
-pub planned-append : (f : ℕ → Option Term) (xs ys : List SlotDelete) → planned_at f (xs ++ ys) ≡ planned_at f xs ++ planned_at f ys
-planned-append f [] ys = refl
-planned-append f (x ∷ xs) ys = ap (λ l. (f x.place, x.kept) ∷ l) (planned-append f xs ys)
+pub plan_of_slot-append : (f : ℕ → Option Term) (xs ys : List SlotDelete) → plan_at f (xs ++ ys) ≡ plan_at f xs ++ plan_at f ys
+plan_of_slot-append f [] ys = refl
+plan_of_slot-append f (x ∷ xs) ys = ap (λ l. (f x.place, x.kept) ∷ l) (plan_of_slot-append f xs ys)
 
 -- the last slot of a plan is changed first
 pub thin-append : (hold : Bool) (ns : List PlannedSlot) (m : PlannedSlot) (slots : List Slot) → after_plan hold (ns ++ m ∷ []) slots ≡ after_plan hold ns (with_kept hold m.0 m.1 slots)
@@ -147,9 +148,9 @@ order-thin hold slots m [] d a l = tt
 order-thin hold slots m (n ∷ ns) d a l = (a.0, all-thin hold slots m n ns d l.0 a.1 l.1, order-thin hold slots m ns d a.2 l.1)
 
 -- the slots before a changed slot keep their places
-pub planned-same : (f g : ℕ → Option Term) (slots : List Slot) (m : Option Term) (ms : List SlotDelete) → ((other : ℕ) → IsBefore slots (f other) m → g other ≡ f other) → AllByRecursion (λ n. IsBefore slots n.0 m) (planned_at f ms) → planned_at g ms ≡ planned_at f ms
-planned-same f g slots m [] same' a = refl
-planned-same f g slots m (x ∷ ms) same' a = λ i. (same' x.place a.0 i, x.kept) ∷ planned-same f g slots m ms same' a.1 i
+pub plan_of_slot-same : (f g : ℕ → Option Term) (slots : List Slot) (m : Option Term) (ms : List SlotDelete) → ((other : ℕ) → IsBefore slots (f other) m → g other ≡ f other) → AllByRecursion (λ n. IsBefore slots n.0 m) (plan_at f ms) → plan_at g ms ≡ plan_at f ms
+plan_of_slot-same f g slots m [] same' a = refl
+plan_of_slot-same f g slots m (x ∷ ms) same' a = λ i. (same' x.place a.0 i, x.kept) ∷ plan_of_slot-same f g slots m ms same' a.1 i
 
 module _ (choose : Term → Bool) where
   -- slots of different keys
@@ -169,7 +170,7 @@ module _ (choose : Term → Bool) where
   thin-under hold [] s ss a = refl
   thin-under hold (n ∷ ns) s ss a = ap (with_kept hold n.0 n.1) (thin-under hold ns s ss a.1) ∙ thin-apart hold n.0 n.1 s (after_plan hold ns ss) a.0
 
-  all-then : (P : Option Term → Type 0) (b : Bool) (s : Slot) (ns : List PlannedSlot) → P (Some s.0) → AllByRecursion (λ (n : PlannedSlot). P n.0) ns → AllByRecursion (λ (n : PlannedSlot). P n.0) (planned_then b s choose ns)
+  all-then : (P : Option Term → Type 0) (b : Bool) (s : Slot) (ns : List PlannedSlot) → P (Some s.0) → AllByRecursion (λ (n : PlannedSlot). P n.0) ns → AllByRecursion (λ (n : PlannedSlot). P n.0) (plan_with_slot b s choose ns)
   all-then P true s ns h a = (h, a)
   all-then P false s ns h a = a
 
@@ -194,15 +195,15 @@ module _ (choose : Term → Bool) where
   or-false true = refl
   or-false false = refl
 
-  drops-at : (b : Bool) (hold : Bool) (s : Slot) (ss : List Slot) (ns : List PlannedSlot) → nat_lt 0 (chosen_count choose s.1) ≡ b → AllByRecursion (λ n. Apart s.0 n.0) ns → after_plan hold ns ss ≡ after_drop hold (λ own. choose) ss → after_plan hold (planned_then b s choose ns) (s ∷ ss) ≡ after_drop hold (λ own. choose) (s ∷ ss)
+  drops-at : (b : Bool) (hold : Bool) (s : Slot) (ss : List Slot) (ns : List PlannedSlot) → nat_lt 0 (chosen_count choose s.1) ≡ b → AllByRecursion (λ n. Apart s.0 n.0) ns → after_plan hold ns ss ≡ after_drop hold (λ own. choose) ss → after_plan hold (plan_with_slot b s choose ns) (s ∷ ss) ≡ after_drop hold (λ own. choose) (s ∷ ss)
   drops-at true hold s ss ns e a ih =
       let has = has-chosen s.1 (some-chosen (chosen_count choose s.1) e) in
       let D = after_drop hold (λ own. choose) ss in
-      let l = unmatched choose s.1 in
+      let l = objects_kept choose s.1 in
       ap (with_kept hold (Some s.0) l) (thin-under hold ns s ss a ∙ ap (λ t. s ∷ t) ih) ∙ own-if hold (hold || has_objects l) s l D
       ∙ ap (λ (c : Bool). cond c ((s.0, l) ∷ D) D) (or-false (hold || has_objects l) ∙ ap (λ (c : Bool). hold || has_objects l || not c) (sym has))
   drops-at false hold s ss ns e a ih =
-      thin-under hold ns s ss a ∙ ap (λ t. s ∷ t) ih ∙ sym (stays hold s (unmatched choose s.1) (after_drop hold (λ own. choose) ss) (kept-all choose s.1 (none-chosen (chosen_count choose s.1) e)))
+      thin-under hold ns s ss a ∙ ap (λ t. s ∷ t) ih ∙ sym (stays hold s (objects_kept choose s.1) (after_drop hold (λ own. choose) ss) (kept-all choose s.1 (none-chosen (chosen_count choose s.1) e)))
 
   -- to execute the plan for all slots deletes the chosen objects
   pub drops : (hold : Bool) (ss : List Slot) → HasDistinctKeys ss → after_plan hold (plan_of choose ss) ss ≡ after_drop hold (λ own. choose) ss
@@ -236,7 +237,7 @@ module _ (choose : Term → Bool) where
   order-behind s ss [] e a = tt
   order-behind s ss (n ∷ ns) e a = (a.0, all-behind s ss n ns e.0 a.1, order-behind s ss ns e.1 a.2)
 
-  order-at : (b : Bool) (s : Slot) (ss : List Slot) (ns : List PlannedSlot) → AllByRecursion (λ n. IsBefore (s ∷ ss) (Some s.0) n.0) ns → AreInOrder (s ∷ ss) ns → AreInOrder (s ∷ ss) (planned_then b s choose ns)
+  order-at : (b : Bool) (s : Slot) (ss : List Slot) (ns : List PlannedSlot) → AllByRecursion (λ n. IsBefore (s ∷ ss) (Some s.0) n.0) ns → AreInOrder (s ∷ ss) ns → AreInOrder (s ∷ ss) (plan_with_slot b s choose ns)
   order-at true s ss ns f a = (refl, f, a)
   order-at false s ss ns f a = a
 
@@ -264,7 +265,7 @@ module _ (choose : Term → Bool) where
   drops-count hold (s ∷ ss) =
       omega (
         arith,
-        left-count (hold || has_objects (unmatched choose s.1) || not (has_objects s.1)) s.0 (unmatched choose s.1) (after_drop hold (λ own. choose) ss) (none-in hold (not (has_objects s.1)) (unmatched choose s.1)),
+        left-count (hold || has_objects (objects_kept choose s.1) || not (has_objects s.1)) s.0 (objects_kept choose s.1) (after_drop hold (λ own. choose) ss) (none-in hold (not (has_objects s.1)) (objects_kept choose s.1)),
         chosen-append choose s.1 (all_objects ss),
         kept-count choose s.1,
         drops-count hold ss,

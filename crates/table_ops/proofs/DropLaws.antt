@@ -7,11 +7,12 @@ use Rattle.std.specs.Map.{keys_of}
 use Rattle.ets_term.specs.declared.term.Term.{Term}
 use Rattle.ets_term.specs.Order.{same}
 use Rattle.ets_term.specs.laws.Same.{same-exact, same-refl}
-use Rattle.bucket_table.specs.Slots.{Slot, HasDistinctKeys, objects_of, with_objects, without, has_objects, cleared, purged, object_count}
+use Rattle.bucket_table.specs.Slots.{Slot, HasDistinctKeys, objects_of, with_objects, has_objects, without_tombstones, object_count}
+use Rattle.bucket_table.specs.Rows.{without, without_objects}
 use Rattle.table_ops.specs.declared.kind.Kind.{Kind}
 use Rattle.table_ops.specs.declared.kind.Kind.TheVariants.{Set, Bag, DuplicateBag}
 use Rattle.table_ops.specs.Content.{Content, key_of, IsObjectOfKey, FitsKind, IsSlot, AreSlots}
-use Rattle.table_ops.specs.Drop.{Which, remaining, after_drop, has_key, equal_to, every_object, DeletesObject}
+use Rattle.table_ops.specs.Drop.{Which, objects_left, after_drop, has_key, equal_to, every_object, DeletesObject}
 use Rattle.node_list.specs.Chains.{all_but}
 use Rattle.bucket_table.specs.Entries.{objects_in}
 use Rattle.table_ops.specs.inside.Counted.{IsCounted}
@@ -36,45 +37,45 @@ stays hold s l D e =
 
 -- slots of other keys lose no object
 abbrev pub KeepsOthers : Which → Term → List Slot → Type 0
-KeepsOthers which key slots = AllByRecursion (λ slot. same key slot.0 ≡ false → remaining which slot ≡ slot.1) slots
+KeepsOthers which key slots = AllByRecursion (λ slot. same key slot.0 ≡ false → objects_left which slot ≡ slot.1) slots
 
-apart-all : (which : Which) (key own : Term) (ss : List Slot) → same key own ≡ true → AllByRecursion (λ y. same own y ≡ false) (keys_of ss) → KeepsOthers which key ss → AllByRecursion (λ slot. remaining which slot ≡ slot.1) ss
+apart-all : (which : Which) (key own : Term) (ss : List Slot) → same key own ≡ true → AllByRecursion (λ y. same own y ≡ false) (keys_of ss) → KeepsOthers which key ss → AllByRecursion (λ slot. objects_left which slot ≡ slot.1) ss
 apart-all which key own [] e d sp = tt
 apart-all which key own (s ∷ ss) e d sp = (sp.0 (ap (λ t. same t s.0) (same-exact key own e) ∙ d.0), apart-all which key own ss e d.1 sp.1)
 
-drop-unchanged : (hold : Bool) (which : Which) (ss : List Slot) → AllByRecursion (λ slot. remaining which slot ≡ slot.1) ss → after_drop hold which ss ≡ ss
+drop-unchanged : (hold : Bool) (which : Which) (ss : List Slot) → AllByRecursion (λ slot. objects_left which slot ≡ slot.1) ss → after_drop hold which ss ≡ ss
 drop-unchanged hold which [] h = refl
-drop-unchanged hold which (s ∷ ss) h = stays hold s (remaining which s) (after_drop hold which ss) h.0 ∙ ap (λ l. s ∷ l) (drop-unchanged hold which ss h.1)
+drop-unchanged hold which (s ∷ ss) h = stays hold s (objects_left which s) (after_drop hold which ss) h.0 ∙ ap (λ l. s ∷ l) (drop-unchanged hold which ss h.1)
 
 cond-cons : (b : Bool) (s : Slot) (x y : List Slot) → cond b (s ∷ x) (s ∷ y) ≡ s ∷ cond b x y
 cond-cons true s x y = refl
 cond-cons false s x y = refl
 
 thinned-at : (b : Bool) (hold : Bool) (which : Which) (s : Slot) (ss : List Slot) (key : Term) (c : List Term) → same key s.0 ≡ b → AllByRecursion (λ y. same s.0 y ≡ false) (keys_of ss) → KeepsOthers which key (s ∷ ss)
-    → (objects_of ss key ≡ Some c → after_drop hold which ss ≡ after_removal hold ss key c (remaining which (key, c))) → cond b (Some s.1) (objects_of ss key) ≡ Some c
-    → cond (hold || has_objects (remaining which s) || not (has_objects s.1)) ((s.0, remaining which s) ∷ after_drop hold which ss) (after_drop hold which ss)
-    ≡ cond (hold || has_objects (remaining which (key, c)) || not (has_objects c)) (cond b ((s.0, remaining which (key, c)) ∷ ss) (s ∷ with_objects ss key (remaining which (key, c)))) (cond b ss (s ∷ without ss key))
+    → (objects_of ss key ≡ Some c → after_drop hold which ss ≡ after_removal hold ss key c (objects_left which (key, c))) → cond b (Some s.1) (objects_of ss key) ≡ Some c
+    → cond (hold || has_objects (objects_left which s) || not (has_objects s.1)) ((s.0, objects_left which s) ∷ after_drop hold which ss) (after_drop hold which ss)
+    ≡ cond (hold || has_objects (objects_left which (key, c)) || not (has_objects c)) (cond b ((s.0, objects_left which (key, c)) ∷ ss) (s ∷ with_objects ss key (objects_left which (key, c)))) (cond b ss (s ∷ without ss key))
 thinned-at true hold which s ss key c e d sp rest h =
     let has : s.1 ≡ c = cc in
     let is : s ≡ (key, c) = λ i. (sym (same-exact key s.0 e) i, has i) in
-    let l : remaining which s ≡ remaining which (key, c) = ap (remaining which) is in
+    let l : objects_left which s ≡ objects_left which (key, c) = ap (objects_left which) is in
     let D : after_drop hold which ss ≡ ss = drop-unchanged hold which ss (apart-all which key s.0 ss e d sp.1) in
     λ i. cond (hold || has_objects (l i) || not (has_objects (has i))) ((s.0, l i) ∷ D i) (D i)
 thinned-at false hold which s ss key c e d sp rest h =
-    stays hold s (remaining which s) (after_drop hold which ss) (sp.0 e) ∙ ap (λ l. s ∷ l) (rest h)
-    ∙ sym (cond-cons (hold || has_objects (remaining which (key, c)) || not (has_objects c)) s (with_objects ss key (remaining which (key, c))) (without ss key))
+    stays hold s (objects_left which s) (after_drop hold which ss) (sp.0 e) ∙ ap (λ l. s ∷ l) (rest h)
+    ∙ sym (cond-cons (hold || has_objects (objects_left which (key, c)) || not (has_objects c)) s (with_objects ss key (objects_left which (key, c))) (without ss key))
 
 pub one-thinned : (hold : Bool) (which : Which) (slots : List Slot) (key : Term) (c : List Term) → IsDistinct same (keys_of slots) → KeepsOthers which key slots → objects_of slots key ≡ Some c
-    → after_drop hold which slots ≡ after_removal hold slots key c (remaining which (key, c))
+    → after_drop hold which slots ≡ after_removal hold slots key c (objects_left which (key, c))
 unfolding IsDistinct
 one-thinned hold which [] key c d sp h = cc
 one-thinned hold which (s ∷ ss) key c d sp h = thinned-at (same key s.0) hold which s ss key c refl d.0 sp (one-thinned hold which ss key c d.1 sp.1) h
 
-none-at : (b : Bool) (which : Which) (key : Term) (s : Slot) (ss : List Slot) → same key s.0 ≡ b → KeepsOthers which key (s ∷ ss) → (objects_of ss key ≡ None → AllByRecursion (λ slot. remaining which slot ≡ slot.1) ss) → cond b (Some s.1) (objects_of ss key) ≡ None → AllByRecursion (λ slot. remaining which slot ≡ slot.1) (s ∷ ss)
+none-at : (b : Bool) (which : Which) (key : Term) (s : Slot) (ss : List Slot) → same key s.0 ≡ b → KeepsOthers which key (s ∷ ss) → (objects_of ss key ≡ None → AllByRecursion (λ slot. objects_left which slot ≡ slot.1) ss) → cond b (Some s.1) (objects_of ss key) ≡ None → AllByRecursion (λ slot. objects_left which slot ≡ slot.1) (s ∷ ss)
 none-at true which key s ss e sp rest h = cc
 none-at false which key s ss e sp rest h = (sp.0 e, rest h)
 
-drop-absent : (which : Which) (slots : List Slot) (key : Term) → KeepsOthers which key slots → objects_of slots key ≡ None → AllByRecursion (λ slot. remaining which slot ≡ slot.1) slots
+drop-absent : (which : Which) (slots : List Slot) (key : Term) → KeepsOthers which key slots → objects_of slots key ≡ None → AllByRecursion (λ slot. objects_left which slot ≡ slot.1) slots
 drop-absent which [] key sp h = tt
 drop-absent which (s ∷ ss) key sp h = none-at (same key s.0) which key s ss refl sp (drop-absent which ss key sp.1) h
 
@@ -97,7 +98,7 @@ pub keeps-others-key : (key : Term) (slots : List Slot) → KeepsOthers (has_key
 keeps-others-key key [] = tt
 keeps-others-key key (s ∷ ss) = (λ e. keeps-all (same key s.0) s.1 e, keeps-others-key key ss)
 
-pub left-key : (key : Term) (c : List Term) → remaining (has_key key) (key, c) ≡ []
+pub left-key : (key : Term) (c : List Term) → objects_left (has_key key) (key, c) ≡ []
 left-key key c = keeps-none (same key key) c (same-refl key)
 
 other-at : (b : Bool) (keypos : ℕ) (object key own o : Term) → key_of keypos object ≡ Some key → same key own ≡ false → IsObjectOfKey keypos own o → same o object ≡ b → b ≡ false
@@ -166,7 +167,7 @@ kept-filter Set t xs h = omega (arith, h, shorter t xs)
 kept-filter Bag t xs h = distinct-filter t xs h
 kept-filter DuplicateBag t xs h = tt
 
-slot-left : (kind : Kind) (keypos : ℕ) (which : Which) (s : Slot) → IsSlot kind keypos s → IsSlot kind keypos (s.0, remaining which s)
+slot-left : (kind : Kind) (keypos : ℕ) (which : Which) (s : Slot) → IsSlot kind keypos s → IsSlot kind keypos (s.0, objects_left which s)
 slot-left kind keypos which s h = record {
   key = h.key;
   stored = all-filter (IsObjectOfKey keypos s.0) (λ o. not (which s.0 o)) s.1 h.stored;
@@ -180,11 +181,11 @@ slots-one false kind keypos s ss h a = a
 pub slots-dropped : (hold : Bool) (which : Which) (kind : Kind) (keypos : ℕ) (slots : List Slot) → AreSlots kind keypos slots → AreSlots kind keypos (after_drop hold which slots)
 slots-dropped hold which kind keypos [] a = tt
 slots-dropped hold which kind keypos (s ∷ ss) a =
-    slots-one (hold || has_objects (remaining which s) || not (has_objects s.1)) kind keypos (s.0, remaining which s) (after_drop hold which ss) (slot-left kind keypos which s a.0) (slots-dropped hold which kind keypos ss a.1)
+    slots-one (hold || has_objects (objects_left which s) || not (has_objects s.1)) kind keypos (s.0, objects_left which s) (after_drop hold which ss) (slot-left kind keypos which s a.0) (slots-dropped hold which kind keypos ss a.1)
 
-pub slots-purged : (kind : Kind) (keypos : ℕ) (slots : List Slot) → AreSlots kind keypos slots → AreSlots kind keypos (purged slots)
+pub slots-purged : (kind : Kind) (keypos : ℕ) (slots : List Slot) → AreSlots kind keypos slots → AreSlots kind keypos (without_tombstones slots)
 slots-purged kind keypos [] a = tt
-slots-purged kind keypos (s ∷ ss) a = slots-one (has_objects s.1) kind keypos s (purged ss) a.0 (slots-purged kind keypos ss a.1)
+slots-purged kind keypos (s ∷ ss) a = slots-one (has_objects s.1) kind keypos s (without_tombstones ss) a.0 (slots-purged kind keypos ss a.1)
 
 -- all objects are removed
 each-left : (os : List Term) → filter (λ o. not true) os ≡ []
@@ -195,19 +196,19 @@ tombstone-one : (s : Slot) (os : List Term) (D : List Slot) → s.1 ≡ os → c
 tombstone-one s [] D e = λ i. (s.0, sym e i) ∷ D
 tombstone-one s (o ∷ os) D e = refl
 
-pub dropped-each : (hold : Bool) (slots : List Slot) → after_drop hold every_object slots ≡ cleared hold slots
+pub dropped-each : (hold : Bool) (slots : List Slot) → after_drop hold every_object slots ≡ without_objects hold slots
 dropped-each true [] = refl
 dropped-each true (s ∷ ss) = λ i. (s.0, each-left s.1 i) ∷ dropped-each true ss i
 dropped-each false [] = refl
 dropped-each false (s ∷ ss) =
     (λ i. cond (has_objects (each-left s.1 i) || not (has_objects s.1)) ((s.0, each-left s.1 i) ∷ dropped-each false ss i) (dropped-each false ss i))
-    ∙ tombstone-one s s.1 (cleared false ss) refl
+    ∙ tombstone-one s s.1 (without_objects false ss) refl
 
 pub nothing-left : (hold : Bool) (slots : List Slot) → object_count (after_drop hold every_object slots) ≡ 0
 nothing-left true [] = refl
 nothing-left true (s ∷ ss) = omega (arith, ap length (each-left s.1), nothing-left true ss)
 nothing-left false [] = refl
-nothing-left false (s ∷ ss) = nothing-at (not (has_objects s.1)) s (remaining every_object s) (after_drop false every_object ss) (each-left s.1) (nothing-left false ss)
+nothing-left false (s ∷ ss) = nothing-at (not (has_objects s.1)) s (objects_left every_object s) (after_drop false every_object ss) (each-left s.1) (nothing-left false ss)
   where
     nothing-at : (b : Bool) (t : Slot) (l : List Term) (D : List Slot) → l ≡ [] → object_count D ≡ 0 → object_count (cond (has_objects l || b) ((t.0, l) ∷ D) D) ≡ 0
     nothing-at true t [] D e h = omega (arith, h)

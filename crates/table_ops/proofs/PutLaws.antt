@@ -5,7 +5,8 @@ use Rattle.std.specs.Prelude.{MatchOption}
 use Rattle.std.specs.List.{list_any}
 use Rattle.ets_term.specs.declared.term.Term.{Term}
 use Rattle.ets_term.specs.Order.{same}
-use Rattle.bucket_table.specs.Slots.{Slot, objects_of, with_objects, without, has_objects, object_count, Enters}
+use Rattle.bucket_table.specs.Slots.{Slot, objects_of, with_objects, has_objects, object_count, Enters}
+use Rattle.bucket_table.specs.Rows.{without}
 use Rattle.bucket_table.specs.Entries.{objects_in, with_objects_in}
 use Rattle.table_ops.specs.declared.kind.Kind.{Kind}
 use Rattle.table_ops.specs.declared.kind.Kind.TheVariants.{Set, Bag, DuplicateBag}

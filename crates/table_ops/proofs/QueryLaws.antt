@@ -8,7 +8,9 @@ use Rattle.bucket_table.specs.Walks.{IsFirstPlace, IsNextPlace, behind_in}
 use Rattle.bucket_table.proofs.slots.Index.{at-place}
 use Rattle.node_list.specs.Ticks.{tick, ticks}
 use Rattle.table_ops.specs.declared.kind.Kind.{Kind}
-use Rattle.table_ops.specs.Queries.{also, answers, chosen_count}
+use Rattle.table_ops.specs.Queries.{chosen_count}
+use Rattle.std.specs.List.{cons_option}
+use Rattle.std.specs.Prelude.{filter_map}
 use Rattle.table_ops.specs.Read.{all_objects}
 use Rattle.table_ops.specs.inside.Counted.{IsCounted}
 use Rattle.table_ops.proofs.ReadLaws.{objects-push}
@@ -18,21 +20,21 @@ pub take-next : (xs : List Term) (i : ℕ) (x : Term) → slice_get xs i ≡ Som
 take-next xs i x h = let next : i + 1 ≡ suc i = omega arith in ap (λ n. take n xs) next ∙ take-one xs i x h
 
 module _ (give : Term → Option Data) where
-  also-on : (o : Option Data) (ds es : List Data) → also o (ds ++ es) ≡ also o ds ++ es
+  also-on : (o : Option Data) (ds es : List Data) → cons_option o (ds ++ es) ≡ cons_option o ds ++ es
   also-on None ds es = refl
   also-on (Some d) ds es = refl
 
-  pub answers-append : (xs ys : List Term) → answers give (xs ++ ys) ≡ answers give xs ++ answers give ys
+  pub answers-append : (xs ys : List Term) → filter_map give (xs ++ ys) ≡ filter_map give xs ++ filter_map give ys
   answers-append [] ys = refl
-  answers-append (x ∷ xs) ys = ap (also (give x)) (answers-append xs ys) ∙ also-on (give x) (answers give xs) (answers give ys)
+  answers-append (x ∷ xs) ys = ap (cons_option (give x)) (answers-append xs ys) ∙ also-on (give x) (filter_map give xs) (filter_map give ys)
 
   -- one more object
-  pub answers-next : (xs : List Term) (i : ℕ) (x : Term) → slice_get xs i ≡ Some x → answers give (take (i + 1) xs) ≡ answers give (take i xs) ++ also (give x) []
-  answers-next xs i x h = ap (answers give) (take-next xs i x h) ∙ answers-append (take i xs) (x ∷ [])
+  pub answers-next : (xs : List Term) (i : ℕ) (x : Term) → slice_get xs i ≡ Some x → filter_map give (take (i + 1) xs) ≡ filter_map give (take i xs) ++ cons_option (give x) []
+  answers-next xs i x h = ap (filter_map give) (take-next xs i x h) ∙ answers-append (take i xs) (x ∷ [])
 
   -- one more slot
-  pub answers-slot : (slots : List Slot) (i : ℕ) (s : Slot) → slice_get slots i ≡ Some s → answers give (all_objects (take (i + 1) slots)) ≡ answers give (all_objects (take i slots)) ++ answers give s.1
-  answers-slot slots i s h = ap (answers give) (objects-push slots i s h) ∙ answers-append (all_objects (take i slots)) s.1
+  pub answers-slot : (slots : List Slot) (i : ℕ) (s : Slot) → slice_get slots i ≡ Some s → filter_map give (all_objects (take (i + 1) slots)) ≡ filter_map give (all_objects (take i slots)) ++ filter_map give s.1
+  answers-slot slots i s h = ap (filter_map give) (objects-push slots i s h) ∙ answers-append (all_objects (take i slots)) s.1
 
 module _ (choose : Term → Bool) where
   pub more-at : (b : Bool) (x : Term) (l : List Term) → length (cond b (x ∷ l) l) ≡ length (cond b (x ∷ []) []) + length l

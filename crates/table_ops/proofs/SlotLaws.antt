@@ -4,7 +4,8 @@ use Rattle.std.specs.Map.{lookup, set_value, remove_entry}
 use Rattle.ets_term.specs.declared.term.Term.{Term}
 use Rattle.ets_term.specs.Order.{same}
 use Rattle.ets_term.specs.laws.Same.{same-refl}
-use Rattle.bucket_table.specs.Slots.{Slot, objects_of, without, Enters}
+use Rattle.bucket_table.specs.Slots.{Slot, objects_of, Enters}
+use Rattle.bucket_table.specs.Rows.{without}
 
 module _ {K X : Type 0} (t : K → Bool) where
   twice_at : (b : Bool) (e : K × X) (es : List (K × X)) (v w : X) → set_value t (set_value t es v) w ≡ set_value t es w → t e.0 ≡ b → set_value t (cond b ((e.0, v) ∷ es) (e ∷ set_value t es v)) w ≡ cond b ((e.0, w) ∷ es) (e ∷ set_value t es w)

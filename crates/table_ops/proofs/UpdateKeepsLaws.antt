@@ -1,8 +1,8 @@
 -- An update keeps the key of an object, and keeps it from being too deep.
 use Rattle.std.proofs.Common.{◌≡◌, ◌⊎◌, inl, inr, ℕ, zero, suc, ℤ, ◌+◌, ◌-◌, ◌<◌, ◌≤◌, ◌==◌, Bool, true, false, not, ◌&&◌, ◌||◌, List, [], ◌∷◌, Option, None, Some, Result, Ok, Err, refl, sym, ap, subst, ◌∙◌, length, slice_get, slice_set, true≢false, if◌then◌else◌, codes, arith}
-use Rattle.std.specs.Prelude.{nat_lt, nat_le}
+use Rattle.std.specs.Prelude.{nat_lt, nat_le, unwrap_or}
 use Rattle.std.specs.List.{list_all, list_any}
-use Rattle.std.specs.Option.{option_map, option_and_then}
+use Rattle.std.specs.Option.{option_map, option_map_or, option_and_then}
 use Rattle.std.specs.Result.{result_map_both}
 use Rattle.std.proofs.lemmas.Bool.Decides.{nat_tests}
 use Rattle.std.proofs.lemmas.Option.{same_Some}
@@ -11,9 +11,10 @@ use Rattle.ets_term.specs.declared.term.Term.TheOpen.{Term-F}
 use Rattle.ets_term.specs.declared.term.Term.TheVariants.{Tuple, Int}
 use Rattle.ets_term.specs.declared.term.TheConstants.{MAX_DEPTH}
 use Rattle.ets_term.specs.Atoms.{is_atom}
-use Rattle.ets_term.specs.Depth.{depth, is_too_deep, elements, elements_form, element_at}
-use Rattle.counters.specs.Counters.{apply_one, apply_all, apply, are_counters, or_limit, apply_ops_form, apply_ops}
-use Rattle.counters.specs.Defaults.{with_key, with_key_form, start_counter, refuse_deep_pair, refuse_deep, start_elements}
+use Rattle.ets_term.specs.Depth.{depth, is_too_deep, elements, element_at}
+use Rattle.ets_term.specs.Views.{tuple_form}
+use Rattle.counters.specs.Counters.{apply_one, apply_all, apply, are_counters, or_limit, apply_to_elements, apply_ops}
+use Rattle.counters.specs.Defaults.{with_key, with_key_form, start_counter, refuse_deep, start_elements}
 use Rattle.counters.specs.Elements as elements
 use Rattle.counters.specs.inside.Values as values
 use Rattle.counters.proofs.ValueLaws.{values-at}
@@ -25,7 +26,7 @@ use Rattle.counters.specs.declared.ops.Op.{Op}
 use Rattle.counters.specs.declared.ops.Ops.{Ops}
 use Rattle.counters.specs.declared.ops.Ops.TheVariants.{One, Many}
 use Rattle.table_ops.specs.Content.{key_of}
-use Rattle.table_ops.specs.Update.{may_update, ops_avoid_key, specs_avoid_key, with_true}
+use Rattle.table_ops.specs.Update.{may_update, ops_avoid_key, element_specs_avoid_key, with_true}
 use Rattle.table_ops.proofs.InsertLaws.{both}
 use Rattle.table_ops.proofs.InvariantLaws.{neither}
 use Rattle.table_ops.proofs.TupleLaws.{Fits, AllFit, depth-Int, elements-Tuple, fit-of, shallow-Tuple, get-set, get-other}
@@ -117,7 +118,7 @@ module _ (keypos : ℕ) where
   -- a property of the elements holds for the tuple
   tuple-keeps : (was object : Term) (es fs : List Term) → out-Term was ≡ Term-F.Tuple es → object ≡ Tuple fs → KeepsAll keypos es fs → KeepsKey keypos was object
   tuple-keeps was object es fs h is k =
-      let own : elements was ≡ es = ap elements_form h in
+      let own : elements was ≡ es = ap (λ y. unwrap_or (tuple_form y) []) h in
       let new : elements object ≡ fs = ap elements is ∙ elements-Tuple fs in
       let at : element_at keypos object ≡ element_at keypos was = ap (at_pos keypos) new ∙ k.own ∙ sym (ap (at_pos keypos) own) in
       record {
@@ -135,7 +136,7 @@ module _ (keypos : ℕ) where
   elements-at true ops es object answer e = limit-at (apply ops es) object answer e
   elements-at false ops es object answer e = cc
 
-  counted-form : (y : Term-F Term) (ops : Ops) (was object answer : Term) → out-Term was ≡ y → ops_avoid_key keypos ops ≡ true → apply_ops_form ops y ≡ Ok (object, answer) → KeepsKey keypos was object
+  counted-form : (y : Term-F Term) (ops : Ops) (was object answer : Term) → out-Term was ≡ y → ops_avoid_key keypos ops ≡ true → option_map_or (apply_to_elements ops) (tuple_form y) (Err fault.Badarg) ≡ Ok (object, answer) → KeepsKey keypos was object
   counted-form (Term-F.Tuple es) ops was object answer h may e =
       let t = elements-at (are_counters ops es) ops es object answer e in
       tuple-keeps was object es t.0 h t.2 (count-keeps ops es t.0 answer may t.1)
@@ -191,7 +192,7 @@ module _ (keypos : ℕ) where
   shallow-at true r object answer e h = cc
   shallow-at false r object answer e h = let is : r ≡ (object, answer) = cc in (is, ap (λ (p : Term × Term). is_too_deep p.0) (sym is) ∙ e)
 
-  shallow-of : (r : Result (Term × Term) CounterFault) (object answer : Term) → refuse_deep_pair r ≡ Ok (object, answer) → (r ≡ Ok (object, answer)) × (is_too_deep object ≡ false)
+  shallow-of : (r : Result (Term × Term) CounterFault) (object answer : Term) → refuse_deep {X = Term × Term} (λ p. p.0) r ≡ Ok (object, answer) → (r ≡ Ok (object, answer)) × (is_too_deep object ≡ false)
   shallow-of (Err f) object answer h = cc
   shallow-of (Ok r) object answer h = let s = shallow-at (is_too_deep r.0) r object answer refl h in (ap Ok s.0, s.1)
 
@@ -286,18 +287,18 @@ module _ (keypos : ℕ) where
   written-form (Term-F.List n) specs was object h may e = cc
   written-form (Term-F.Binary n) specs was object h may e = cc
 
-  pub written-keeps : (specs : ElementSpecs) (was object : Term) → specs_avoid_key keypos specs ≡ true → elements.apply_elements specs was ≡ Ok object → KeepsKey keypos was object
-  written-keeps specs was object may e = written-form (out-Term was) (elements.spec_list specs) was object refl may e
+  pub written-keeps : (specs : ElementSpecs) (was object : Term) → element_specs_avoid_key keypos specs ≡ true → elements.apply_elements specs was ≡ Ok object → KeepsKey keypos was object
+  written-keeps specs was object may e = written-form (out-Term was) (elements.element_spec_list specs) was object refl may e
 
   deep-at : (b : Bool) (made object : Term) → is_too_deep made ≡ b → (if b then Err fault.SystemLimit else Ok made) ≡ Ok object → (made ≡ object) × (is_too_deep object ≡ false)
   deep-at true made object e h = cc
   deep-at false made object e h = let is : made ≡ object = cc in (is, ap is_too_deep (sym is) ∙ e)
 
-  deep-of : (r : Result Term CounterFault) (object : Term) → refuse_deep r ≡ Ok object → (r ≡ Ok object) × (is_too_deep object ≡ false)
+  deep-of : (r : Result Term CounterFault) (object : Term) → refuse_deep {X = Term} (λ new. new) r ≡ Ok object → (r ≡ Ok object) × (is_too_deep object ≡ false)
   deep-of (Err f) object h = cc
   deep-of (Ok made) object h = let s = deep-at (is_too_deep made) made object refl h in (ap Ok s.0, s.1)
 
-  written-at : (o : Option Term) (specs : ElementSpecs) (key object : Term) → ((made : Term) → o ≡ Some made → key_of keypos made ≡ Some key) → specs_avoid_key keypos specs ≡ true → start_elements specs o ≡ Ok object → (key_of keypos object ≡ Some key) × (is_too_deep object ≡ false)
+  written-at : (o : Option Term) (specs : ElementSpecs) (key object : Term) → ((made : Term) → o ≡ Some made → key_of keypos made ≡ Some key) → element_specs_avoid_key keypos specs ≡ true → start_elements specs o ≡ Ok object → (key_of keypos object ≡ Some key) × (is_too_deep object ≡ false)
   written-at None specs key object its may h = cc
   written-at (Some made) specs key object its may h =
       let s = deep-of (elements.apply_elements specs made) object h in
@@ -308,7 +309,7 @@ module _ (keypos : ℕ) where
   true-of (Ok made) object answer e = let is : (made, true) ≡ (object, answer) = cc in ap (λ (p : Term × Bool). let r : Result Term CounterFault = Ok p.0 in r) is
 
   -- a Default with new elements is an object of the key
-  pub written-started : (specs : ElementSpecs) (key default object : Term) (answer : Bool) → specs_avoid_key keypos specs ≡ true → with_true (start_elements specs (with_key keypos key default)) ≡ Ok (object, answer)
+  pub written-started : (specs : ElementSpecs) (key default object : Term) (answer : Bool) → element_specs_avoid_key keypos specs ≡ true → with_true (start_elements specs (with_key keypos key default)) ≡ Ok (object, answer)
       → (key_of keypos object ≡ Some key) × (is_too_deep object ≡ false)
   written-started specs key default object answer may h =
       written-at (with_key keypos key default) specs key object (λ made e. with_key-key keypos key default made e) may (true-of (start_elements specs (with_key keypos key default)) object answer h)

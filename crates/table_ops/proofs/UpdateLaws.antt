@@ -19,8 +19,9 @@ use Rattle.table_ops.specs.Content.{Content, key_of, objects_under, AreSlots, Is
 use Rattle.table_ops.specs.Put.{add, SetsObjects, Puts}
 use Rattle.table_ops.specs.declared.refusal.Refusal.{Refusal}
 use Rattle.table_ops.specs.declared.refusal.Refusal.TheVariants.{Badarg, SystemLimit, Memory}
-use Rattle.table_ops.specs.Refusals.{Change, RefinesChange}
-use Rattle.table_ops.specs.Update.{refusal_of, is_set, ops_avoid_key, specs_avoid_key, default_is_object, InsertsDefault, UpdatesOrInsertsCounter, UpdatesCounter, with_true, UpdatesOrInsertsElement, UpdatesElement}
+use Rattle.table_ops.specs.Refusals.{RefinesChange}
+use Rattle.table_ops.specs.Outcomes.{Change}
+use Rattle.table_ops.specs.Update.{refusal_of, is_set, ops_avoid_key, element_specs_avoid_key, default_is_object, InsertsDefault, UpdatesOrInsertsCounter, UpdatesCounter, with_true, UpdatesOrInsertsElement, UpdatesElement}
 use Rattle.table_ops.specs.inside.Counted.{IsCounted}
 use Rattle.table_ops.specs.inside.Updated.{UpdatesCounterAt, UpdatesElementAt, InsertsDefaultAt}
 use Rattle.table_ops.proofs.CountLaws.{count-set, count-writes, written}
@@ -127,7 +128,7 @@ module _ (kind : Kind) (keypos limit count : ℕ) (old new : List Slot) (key : T
   counted-at ops (Err fault.SystemLimit) may c = subst (IsCounted kind keypos limit count) (sym c.2.1) i
   counted-at ops (Err fault.Memory) may c = subst (IsCounted kind keypos limit count) (sym c) i
 
-  pub written-at : (specs : ElementSpecs) (r : Result (Unit {0}) CounterFault) → specs_avoid_key keypos specs ≡ true → UpdatesElementAt specs at old r new → IsCounted kind keypos limit count new
+  pub written-at : (specs : ElementSpecs) (r : Result (Unit {0}) CounterFault) → element_specs_avoid_key keypos specs ≡ true → UpdatesElementAt specs at old r new → IsCounted kind keypos limit count new
   written-at specs (Ok tt) may c = one-counted c.0 c.2.0 c.1 (written-keeps keypos specs c.0 c.2.0 may c.2.1) c.2.2
   written-at specs (Err fault.Badarg) may c = subst (IsCounted kind keypos limit count) (sym c.2.1) i
   written-at specs (Err fault.SystemLimit) may c = subst (IsCounted kind keypos limit count) (sym c.2.1) i
@@ -228,9 +229,9 @@ module _ (key : Term) (specs : ElementSpecs) (d : Term) (old : Content) (count :
   writes-none r new [] e h = h
   writes-none r new (x ∷ xs) e h = cc
 
-  module _ (given : Option Term) (is : given ≡ Some d) (may : (is_set old.kind && (specs_avoid_key old.keypos specs && default_is_object old.keypos key given)) ≡ true) where
+  module _ (given : Option Term) (is : given ≡ Some d) (may : (is_set old.kind && (element_specs_avoid_key old.keypos specs && default_is_object old.keypos key given)) ≡ true) where
     writes-lifted : (r : Result Bool Refusal) (new : Content) → InsertsDefault key old (with_true (start_elements specs (with_key old.keypos key d))) r new → UpdatesElement key specs given old r new
-    writes-lifted r new h = full_at (is_set old.kind && (specs_avoid_key old.keypos specs && default_is_object old.keypos key given)) _ _ may
+    writes-lifted r new h = full_at (is_set old.kind && (element_specs_avoid_key old.keypos specs && default_is_object old.keypos key given)) _ _ may
         (subst (λ (o : Option Term). UpdatesOrInsertsElement key specs o old (objects_under old.slots key) r new) (sym is) (writes-none r new (objects_under old.slots key) none h))
 
     -- the elements of a key that has no object, from a Default

@@ -2,27 +2,26 @@
 use Rattle.std.specs.Prelude.{Bool, true, not, ◌||◌, if◌then◌else◌, List, [], ◌∷◌, filter, Ok, Err}
 use Rattle.ets_term.specs.declared.term.Term.{Term}
 use Rattle.ets_term.specs.Order.{same}
-use Rattle.bucket_table.specs.Slots.{Slot, has_objects, purged}
+use Rattle.bucket_table.specs.Slots.{Slot, has_objects, without_tombstones}
 use Rattle.table_ops.specs.declared.refusal.Refusal.TheVariants.{Badarg}
 use Rattle.table_ops.specs.Content.{Content, key_of}
-use Rattle.table_ops.specs.Refusals.{Change}
-use Rattle.table_ops.specs.Outcomes.{gives, refuse_none}
+use Rattle.table_ops.specs.Outcomes.{Change, gives, refuse_none}
 
 -- which objects a deletion removes: a test of the key and the object, true for each removed object
 abbrev pub Which : Type 0
 Which = Term → Term → Bool
 
 -- the objects of a slot that the deletion does not remove
-abbrev pub remaining : Which → Slot → List Term
-remaining which slot = filter (λ object. not (which slot.0 object)) slot.1
+abbrev pub objects_left : Which → Slot → List Term
+objects_left which slot = filter (λ object. not (which slot.0 object)) slot.1
 
 -- the slots after a deletion: if a slot loses its last object, it stays as a tombstone if `hold` is true, else it is
 -- removed; a slot that was a tombstone before stays; all other slots keep their remaining objects
 abbrev pub after_drop : Bool → Which → List Slot → List Slot
 after_drop hold which [] = []
 after_drop hold which (slot ∷ slots) =
-    if hold || has_objects (remaining which slot) || not (has_objects slot.1)
-    then (slot.0, remaining which slot) ∷ after_drop hold which slots
+    if hold || has_objects (objects_left which slot) || not (has_objects slot.1)
+    then (slot.0, objects_left which slot) ∷ after_drop hold which slots
     else after_drop hold which slots
 
 -- delete and take remove all objects with this key
@@ -47,7 +46,7 @@ without_chosen hold choose old = without_those hold (λ own. choose) old
 
 -- the content of a table after all tombstones are removed
 abbrev pub without_held : Content → Content
-without_held old = record old { slots = purged old.slots }
+without_held old = record old { slots = without_tombstones old.slots }
 
 -- delete_object(Table, Object): badarg if the term is not an object
 abbrev pub DeletesObject : Bool → Term → Content → Change (Unit {0}) Content

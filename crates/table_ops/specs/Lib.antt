@@ -6,4 +6,6 @@ pub mod Queries
 pub mod Read
 pub mod Refusals
 pub mod Update
+pub mod Looks
+pub mod Results
 pub mod inside

@@ -1,6 +1,7 @@
 -- The outcomes of a call that may be refused.
 use Rattle.std.specs.Prelude.{◌≡◌, Bool, Option, MatchOption, Result, IfOk}
 use Rattle.std.specs.Bool.{MatchBool}
+use Rattle.table_ops.specs.declared.refusal.Refusal.{Refusal}
 
 -- an outcome of a call: the pairs of result and new state that it allows
 abbrev pub Outcome : Type 0 → Type 0 → Type 1
@@ -24,3 +25,7 @@ refuse_none old found refusal otherwise given new =
 -- if the result is Ok, it is this value
 abbrev pub Returns : {X E : Type 0} → Result X E → X → Type 0
 Returns result wanted = IfOk result (λ answer. answer ≡ wanted)
+
+-- a call that may be refused, as an outcome
+abbrev pub Change : Type 0 → Type 0 → Type 1
+Change X A = Outcome (Result X Refusal) A

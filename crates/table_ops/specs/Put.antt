@@ -11,8 +11,7 @@ use Rattle.table_ops.specs.declared.kind.Kind.{Kind}
 use Rattle.table_ops.specs.declared.kind.Kind.TheVariants.{Set, Bag, DuplicateBag}
 use Rattle.table_ops.specs.declared.refusal.Refusal.TheVariants.{Badarg, SystemLimit}
 use Rattle.table_ops.specs.Content.{Content, key_of, is_object, objects_under, is_present}
-use Rattle.table_ops.specs.Refusals.{Change}
-use Rattle.table_ops.specs.Outcomes.{gives, refuse}
+use Rattle.table_ops.specs.Outcomes.{Change, gives, refuse}
 
 -- the objects of a key after an insertion: a set replaces its object; a bag changes nothing if it has an equal object;
 -- else the object is appended

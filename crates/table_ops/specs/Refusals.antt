@@ -4,11 +4,7 @@ use Rattle.table_ops.specs.declared.refusal.Refusal.{Refusal}
 use Rattle.table_ops.specs.declared.refusal.Refusal.TheVariants.{Badarg, SystemLimit, Memory}
 use Rattle.match_spec.specs.declared.fault.SpecFault.{SpecFault}
 use Rattle.match_spec.specs.declared.fault.SpecFault.TheVariants as spec_fault
-use Rattle.table_ops.specs.Outcomes.{Outcome}
-
--- a call that may be refused, as an outcome
-abbrev pub Change : Type 0 → Type 0 → Type 1
-Change X A = Outcome (Result X Refusal) A
+use Rattle.table_ops.specs.Outcomes.{Change}
 
 -- result and new state are an outcome of the change, or memory was refused and nothing changed
 abbrev pub RefinesChange : {X A : Type 0} → Change X A → A → Result X Refusal → A → Type 0

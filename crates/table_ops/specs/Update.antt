@@ -8,7 +8,7 @@ use Rattle.ets_term.specs.declared.term.Term.{Term}
 use Rattle.bucket_table.specs.Slots.{Slot, with_objects, object_count}
 use Rattle.counters.specs.Counters.{apply_ops}
 use Rattle.counters.specs.Defaults.{with_key, start_counter, start_elements}
-use Rattle.counters.specs.Elements.{spec_list, apply_elements}
+use Rattle.counters.specs.Elements.{element_spec_list, apply_elements}
 use Rattle.counters.specs.declared.elements.ElementSpecs.{ElementSpecs}
 use Rattle.counters.specs.declared.fault.CounterFault.{CounterFault}
 use Rattle.counters.specs.declared.fault.CounterFault.TheVariants as fault
@@ -20,8 +20,7 @@ use Rattle.table_ops.specs.declared.refusal.Refusal.{Refusal}
 use Rattle.table_ops.specs.declared.refusal.Refusal.TheVariants.{Badarg, SystemLimit, Memory}
 use Rattle.table_ops.specs.Content.{Content, objects_under}
 use Rattle.table_ops.specs.Put.{SetsObjects}
-use Rattle.table_ops.specs.Refusals.{Change}
-use Rattle.table_ops.specs.Outcomes.{gives, refuse, refuse_none}
+use Rattle.table_ops.specs.Outcomes.{Change, gives, refuse, refuse_none}
 
 -- whether a table of this kind is a set
 abbrev pub is_set : Kind → Bool
@@ -39,8 +38,8 @@ ops_avoid_key keypos (One op) = may_update keypos op.position
 ops_avoid_key keypos (Many ops) = list_all (λ op. may_update keypos op.position) ops
 
 -- whether each value has a position that an update may name
-abbrev pub specs_avoid_key : ℕ → ElementSpecs → Bool
-specs_avoid_key keypos specs = list_all (λ spec. may_update keypos spec.position) (spec_list specs)
+abbrev pub element_specs_avoid_key : ℕ → ElementSpecs → Bool
+element_specs_avoid_key keypos specs = list_all (λ spec. may_update keypos spec.position) (element_spec_list specs)
 
 -- the refusal of a call whose update has this fault
 abbrev pub refusal_of : CounterFault → Refusal
@@ -118,7 +117,7 @@ UpdatesOrInsertsElement key specs default old (object ∷ objects) r new =
 -- or becomes an object
 abbrev pub element_is_valid : Content → Term → ElementSpecs → Option Term → Bool
 element_is_valid table key specs default =
-    is_set table.kind && (specs_avoid_key table.keypos specs && default_is_object table.keypos key default)
+    is_set table.kind && (element_specs_avoid_key table.keypos specs && default_is_object table.keypos key default)
 
 -- update_element(Table, Key, Specs, Default): badarg if the table is not a set, if a value is for keypos, and if the
 -- Default is not an object, even if the key has an object

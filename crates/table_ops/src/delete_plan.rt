@@ -4,8 +4,9 @@ ghost use Rattle.std.specs.Prelude.{◌≡◌, ◌≤◌, ◌++◌, [], ℕ, Opt
 ghost use Rattle.ets_term.specs.declared.term.Term.{Term};
 ghost use Rattle.node_list.specs.Ticks.{ticks};
 ghost use Rattle.table_ops.specs.Outcomes.{Returns};
-ghost use Rattle.table_ops.specs.Queries.{chosen_count, CountsLooks};
-ghost use Rattle.table_ops.specs.inside.DeletePlan.{planned, planned_at};
+ghost use Rattle.table_ops.specs.Queries.{chosen_count};
+ghost use Rattle.table_ops.specs.Looks.{CountsLooks};
+ghost use Rattle.table_ops.specs.inside.DeletePlan.{plan_of_slot, plan_at};
 
 use crate::looks::Looks;
 use crate::partition::Partition;
@@ -57,9 +58,9 @@ impl DeletePlan {
         ensures at_least { looks.old ≤ looks.new }
         ensures plan { OnOk result
             ((key_at : ℕ → Option Term) (key : Term) → key_at place ≡ Some key
-            → planned_at key_at self.new.list.items
-            ≡ planned_at key_at self.old.list.items
-            ++ planned (P.tests trial.now.query.now) (key, objects.now)) }
+            → plan_at key_at self.new.list.items
+            ≡ plan_at key_at self.old.list.items
+            ++ plan_of_slot (P.tests trial.now.query.now) (key, objects.now)) }
     {
         let mut partition = Partition::new(self.alloc);
         partition.add_all(trial, objects, looks)?;

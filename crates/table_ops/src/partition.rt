@@ -2,7 +2,7 @@
 //! tested objects, and a chain is the list of objects of one slot.
 ghost use Rattle.std.specs.Prelude.{◌≡◌, ◌≤◌, ◌<◌, ◌^◌, ◌++◌, ◌+◌, [], take, length, OnOk};
 ghost use Rattle.node_list.specs.Ticks.{tick, ticks};
-ghost use Rattle.table_ops.specs.Queries.{CountsLooks};
+ghost use Rattle.table_ops.specs.Looks.{CountsLooks};
 ghost use Rattle.table_ops.specs.inside.DeletePlan.{IsPartition};
 
 use crate::looks::Looks;

@@ -3,7 +3,7 @@
 ghost use Rattle.std.specs.Prelude.{Option};
 ghost use Rattle.ets_term.specs.declared.term.Term.{Term};
 ghost use Rattle.ets_term.specs.Data.{Data};
-ghost use Rattle.table_ops.specs.Queries.{ReturnsData};
+ghost use Rattle.table_ops.specs.Results.{ReturnsData};
 
 use ets_term::{Items, Term};
 use match_spec::{Pattern, Spec};
@@ -52,7 +52,7 @@ pub struct MatchedObject<'a> {
 }
 
 impl<'a> Projection for MatchedObject<'a> {
-    ghost use Rattle.table_ops.specs.Queries.{matched_object};
+    ghost use Rattle.table_ops.specs.Results.{matched_object};
 
     ghost projects = { λ m. matched_object m.pattern.now };
 

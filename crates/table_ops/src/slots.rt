@@ -1,5 +1,5 @@
-//! An iterator over the slots of a table, each a key with its objects. It goes from place to place: a place is the
-//! index of a slot in its rows.
+//! An iterator over the slots of a table, each a key with its objects. It visits the places in ascending order: a place
+//! is the index of a slot in its rows.
 ghost use Rattle.std.specs.Prelude.{◌≡◌, IfSome, IsSome, option_map};
 ghost use Rattle.std.specs.Iterator.{YieldsFirstBy, item_count};
 ghost use Rattle.table_ops.specs.inside.SlotsLeft.{IsPlaced};
@@ -36,9 +36,9 @@ impl<'a, R: Rows> Model for Slots<'a, R> {
 
     ghost coded = { slots_code };
 
-    ghost view = { λ it. drop it.passed (R.content it.rows.now) };
+    ghost view = { λ it. drop it.passed (R.slots it.rows.now) };
 
-    ghost invariant = { λ it. SlotsInvariant (R.key_at it.rows.now) (R.content it.rows.now) it.passed it.next_slot };
+    ghost invariant = { λ it. SlotsInvariant (R.key_at it.rows.now) (R.slots it.rows.now) it.passed it.next_slot };
 }
 
 impl<'a, R: Rows> Iterator for Slots<'a, R> {
@@ -63,7 +63,7 @@ impl<'a, R: Rows> Iterator for Slots<'a, R> {
 fn slot_at<R: Rows>(rows: &R, place: Option<Place>) -> Option<PlacedSlot<'_>>
     requires { IfSome place (λ p. IsSome (R.key_at rows.now p)) }
     ensures place { option_map (λ slot. slot.place) result ≡ place }
-    ensures placed { IfSome result (IsPlaced (R.key_at rows.now) (R.content rows.now)) }
+    ensures placed { IfSome result (IsPlaced (R.key_at rows.now) (R.slots rows.now)) }
 {
     let place = place?;
     let (key, objects) = rows.slot_at(place);
@@ -76,7 +76,7 @@ fn slot_at<R: Rows>(rows: &R, place: Option<Place>) -> Option<PlacedSlot<'_>>
 
 /// Returns an iterator over all slots of `rows`.
 pub fn all_of<R: Rows>(rows: &R) -> Slots<'_, R>
-    ensures { result ≡ R.content rows.now }
+    ensures { result ≡ R.slots rows.now }
 {
     rows.reveal_invariant();
     // The call changes nothing. It gives the proof that the number of slots is a `usize`.

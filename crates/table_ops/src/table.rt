@@ -37,18 +37,18 @@ impl<R: Rows> Model for Table<R> {
     ghost coded = { content_state_code };
 
     ghost view = { λ t. record {
-      content = content_of R.content t.inner;
+      content = content_of R.slots t.inner;
       buckets = R.readiness t.inner.rows;
     } };
 
-    ghost invariant = { λ t. TableRowsInvariant R.content t.inner t.count };
+    ghost invariant = { λ t. TableRowsInvariant R.slots t.inner t.count };
 }
 
 impl<R: Rows> Table<R> {
     /// Makes a table over rows without slots. The table may have at most `max_objects` objects. The key of an object is
     /// its element at `keypos`, counted from 1.
     pub fn new(alloc: Global, rows: R, kind: Kind, keypos: u32, max_objects: u32) -> Self
-        requires empty { R.content rows ≡ [] }
+        requires empty { R.slots rows ≡ [] }
         requires keypos { 1 ≤ keypos }
         ensures content { result.content
             ≡ record { kind = kind; keypos = keypos; limit = max_objects; slots = [] } }
@@ -66,7 +66,7 @@ impl<R: Rows> Table<R> {
 
     /// Returns the rows.
     pub fn rows(&self) -> &R
-        ensures slots { R.content result.now ≡ self.now.content.slots }
+        ensures slots { R.slots result.now ≡ self.now.content.slots }
         ensures buckets { R.readiness result.now ≡ self.now.buckets }
     {
         &self.inner.rows

@@ -3,7 +3,7 @@
 ghost use Rattle.std.specs.Prelude.{◌≡◌};
 ghost use Rattle.node_list.specs.Ticks.{tick};
 ghost use Rattle.table_ops.specs.Outcomes.{Returns};
-ghost use Rattle.table_ops.specs.Queries.{ReturnsData};
+ghost use Rattle.table_ops.specs.Results.{ReturnsData};
 
 use crate::looks::Looks;
 use crate::predicate::Predicate;

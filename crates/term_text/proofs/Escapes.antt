@@ -9,8 +9,8 @@ use Rattle.std.specs.Io.KnownBytes.{Appends}
 use Rattle.std.specs.List.{list_all, flat_map}
 use Rattle.std.specs.Str.{IsAscii, IsCharBoundary}
 use Rattle.ets_term.specs.Character.{is_character}
-use Rattle.term_text.specs.Printed.{escaped}
-use Rattle.term_text.specs.Sent.{AppendsFront, AppendsOrFront}
+use Rattle.term_text.specs.Printed.{escape}
+use Rattle.term_text.specs.Sent.{AppendsPrefix, AppendsOrPrefix}
 use Rattle.term_text.proofs.Pieces.{appends-then, front-first, front-then, front-as, sends-as, sends-then, appends-nothing}
 use Rattle.term_text.proofs.Offsets.{if-true, if-false}
 
@@ -25,18 +25,18 @@ pub boundary : (bs : List ℕ) (i : ℕ) → list_all is_character bs ≡ true �
 boundary bs i h k = IsCharBoundary-from_ascii bs i (ascii bs h) k
 
 -- the escaped text of the first i characters and of the others
-pub escaped-parts : (i : ℕ) (bs : List ℕ) → flat_map escaped (take i bs) ++ flat_map escaped (drop i bs) ≡ flat_map escaped bs
-escaped-parts zero bs = refl
-escaped-parts (suc i) [] = refl
-escaped-parts (suc i) (b ∷ bs) = append_assoc (escaped b) (flat_map escaped (take i bs)) (flat_map escaped (drop i bs)) ∙ ap (λ (w : List ℕ). escaped b ++ w) (escaped-parts i bs)
+pub escape-parts : (i : ℕ) (bs : List ℕ) → flat_map escape (take i bs) ++ flat_map escape (drop i bs) ≡ flat_map escape bs
+escape-parts zero bs = refl
+escape-parts (suc i) [] = refl
+escape-parts (suc i) (b ∷ bs) = append_assoc (escape b) (flat_map escape (take i bs)) (flat_map escape (drop i bs)) ∙ ap (λ (w : List ℕ). escape b ++ w) (escape-parts i bs)
 
-pub escaped-more : (i : ℕ) (bs : List ℕ) → i < length bs → flat_map escaped (take (i + 1) bs) ≡ flat_map escaped (take i bs) ++ escaped (get_or bs i 0)
-escaped-more i bs h = rw add-one (more i bs h)
+pub escape-more : (i : ℕ) (bs : List ℕ) → i < length bs → flat_map escape (take (i + 1) bs) ≡ flat_map escape (take i bs) ++ escape (get_or bs i 0)
+escape-more i bs h = rw add-one (more i bs h)
   where
-    more : (i : ℕ) (bs : List ℕ) → i < length bs → flat_map escaped (take (suc i) bs) ≡ flat_map escaped (take i bs) ++ escaped (get_or bs i 0)
+    more : (i : ℕ) (bs : List ℕ) → i < length bs → flat_map escape (take (suc i) bs) ≡ flat_map escape (take i bs) ++ escape (get_or bs i 0)
     more i [] h = absurd (omega (arith, h))
-    more zero (b ∷ bs) h = append-nil (escaped b)
-    more (suc i) (b ∷ bs) h = ap (λ (w : List ℕ). escaped b ++ w) (more i bs (omega (arith, h))) ∙ sym (append_assoc (escaped b) (flat_map escaped (take i bs)) (escaped (get_or bs i 0)))
+    more zero (b ∷ bs) h = append-nil (escape b)
+    more (suc i) (b ∷ bs) h = ap (λ (w : List ℕ). escape b ++ w) (more i bs (omega (arith, h))) ∙ sym (append_assoc (escape b) (flat_map escape (take i bs)) (escape (get_or bs i 0)))
 
 -- the characters from start on, with one more
 pub slice-more : (start i : ℕ) (bs : List ℕ) → start ≤ i → i < length bs → take (i + 1 - start) (drop start bs) ≡ take (i - start) (drop start bs) ++ get_or bs i 0 ∷ []
@@ -58,57 +58,57 @@ slice-all start i bs h = take_all (i - start) (drop start bs) (omega (arith, h, 
 
 -- what was sent of the escaped text: all but the characters from start on, with the `\` of the first
 abbrev pub Escaped : Option (List ℕ) → Option (List ℕ) → ℕ → ℕ → List ℕ → Type 0
-Escaped a b start i bs = (sent : List ℕ) × (sent ++ take (i - start) (drop start bs) ≡ flat_map escaped (take i bs)) × Appends a b sent × (start ≤ i)
+Escaped a b start i bs = (sent : List ℕ) × (sent ++ take (i - start) (drop start bs) ≡ flat_map escape (take i bs)) × Appends a b sent × (start ≤ i)
 
-pub escaped-first : (a : Option (List ℕ)) (bs : List ℕ) → Escaped a a 0 0 bs
-escaped-first a bs = ([], refl, appends-nothing a, omega arith)
+pub escape-first : (a : Option (List ℕ)) (bs : List ℕ) → Escaped a a 0 0 bs
+escape-first a bs = ([], refl, appends-nothing a, omega arith)
 
-pub escaped-stays : (a b : Option (List ℕ)) (start i : ℕ) (bs : List ℕ) → Escaped a b start i bs → i < length bs → ((get_or bs i 0 == 39) || (get_or bs i 0 == 92)) ≡ false → Escaped a b start (i + 1) bs
-escaped-stays a b start i bs (sent, e, h, k) m plain =
+pub escape-stays : (a b : Option (List ℕ)) (start i : ℕ) (bs : List ℕ) → Escaped a b start i bs → i < length bs → ((get_or bs i 0 == 39) || (get_or bs i 0 == 92)) ≡ false → Escaped a b start (i + 1) bs
+escape-stays a b start i bs (sent, e, h, k) m plain =
     let c = get_or bs i 0 in (
       sent,
       ap (λ (w : List ℕ). sent ++ w) (slice-more start i bs k m) ∙ sym (append_assoc sent (take (i - start) (drop start bs)) (c ∷ [])) ∙ ap (λ (w : List ℕ). w ++ c ∷ []) e
-          ∙ ap (λ (w : List ℕ). flat_map escaped (take i bs) ++ w) (sym (if-false _ _ _ plain)) ∙ sym (escaped-more i bs m),
+          ∙ ap (λ (w : List ℕ). flat_map escape (take i bs) ++ w) (sym (if-false _ _ _ plain)) ∙ sym (escape-more i bs m),
       h,
       omega (arith, k),
     )
 
-pub escaped-turns : (a b z : Option (List ℕ)) (start i : ℕ) (bs : List ℕ) → Escaped a b start i bs → i < length bs → ((get_or bs i 0 == 39) || (get_or bs i 0 == 92)) ≡ true
+pub escape-turns : (a b z : Option (List ℕ)) (start i : ℕ) (bs : List ℕ) → Escaped a b start i bs → i < length bs → ((get_or bs i 0 == 39) || (get_or bs i 0 == 92)) ≡ true
     → Appends b z (take (i - start) (drop start bs) ++ 92 ∷ []) → Escaped a z i (i + 1) bs
-escaped-turns a b z start i bs (sent, e, h, k) l special y =
+escape-turns a b z start i bs (sent, e, h, k) l special y =
     let c = get_or bs i 0 in
     let slice : List ℕ = take (i - start) (drop start bs) in (
       sent ++ (slice ++ 92 ∷ []),
       ap (λ (w : List ℕ). (sent ++ (slice ++ 92 ∷ [])) ++ w) (slice-one i bs l)
           ∙ append_assoc sent (slice ++ 92 ∷ []) (c ∷ []) ∙ ap (λ (w : List ℕ). sent ++ w) (append_assoc slice (92 ∷ []) (c ∷ [])) ∙ sym (append_assoc sent slice (92 ∷ c ∷ []))
-          ∙ ap (λ (w : List ℕ). w ++ 92 ∷ c ∷ []) e ∙ ap (λ (w : List ℕ). flat_map escaped (take i bs) ++ w) (sym (if-true _ _ _ special)) ∙ sym (escaped-more i bs l),
+          ∙ ap (λ (w : List ℕ). w ++ 92 ∷ c ∷ []) e ∙ ap (λ (w : List ℕ). flat_map escape (take i bs) ++ w) (sym (if-true _ _ _ special)) ∙ sym (escape-more i bs l),
       appends-then a b z sent (slice ++ 92 ∷ []) h y,
       omega arith,
     )
 
 -- the characters from the i-th on, if the first needs a `\`
-special-rest : (i : ℕ) (bs : List ℕ) → i < length bs → ((get_or bs i 0 == 39) || (get_or bs i 0 == 92)) ≡ true → flat_map escaped (drop i bs) ≡ (92 ∷ []) ++ (get_or bs i 0 ∷ flat_map escaped (drop (i + 1) bs))
-special-rest i bs h special = at_drop_more (flat_map escaped) bs i 0 h ∙ ap (λ (w : List ℕ). w ++ flat_map escaped (drop (i + 1) bs)) (if-true _ _ _ special)
+special-rest : (i : ℕ) (bs : List ℕ) → i < length bs → ((get_or bs i 0 == 39) || (get_or bs i 0 == 92)) ≡ true → flat_map escape (drop i bs) ≡ (92 ∷ []) ++ (get_or bs i 0 ∷ flat_map escape (drop (i + 1) bs))
+special-rest i bs h special = at_drop_more (flat_map escape) bs i 0 h ∙ ap (λ (w : List ℕ). w ++ flat_map escape (drop (i + 1) bs)) (if-true _ _ _ special)
 
 pub piece-fails : (a b z : Option (List ℕ)) (start i : ℕ) (bs : List ℕ) → Escaped a b start i bs → i < length bs → ((get_or bs i 0 == 39) || (get_or bs i 0 == 92)) ≡ true
-    → AppendsFront b z (take (i - start) (drop start bs) ++ 92 ∷ []) → AppendsFront a z (flat_map escaped bs)
+    → AppendsPrefix b z (take (i - start) (drop start bs) ++ 92 ∷ []) → AppendsPrefix a z (flat_map escape bs)
 piece-fails a b z start i bs (sent, e, h, k) l special f =
     let slice : List ℕ = take (i - start) (drop start bs) in
-    let rest : List ℕ = get_or bs i 0 ∷ flat_map escaped (drop (i + 1) bs) in
-    front-as a z (sent ++ ((slice ++ 92 ∷ []) ++ rest)) (flat_map escaped bs)
+    let rest : List ℕ = get_or bs i 0 ∷ flat_map escape (drop (i + 1) bs) in
+    front-as a z (sent ++ ((slice ++ 92 ∷ []) ++ rest)) (flat_map escape bs)
     (ap (λ (w : List ℕ). sent ++ w) (append_assoc slice (92 ∷ []) rest) ∙ sym (append_assoc sent slice ((92 ∷ []) ++ rest))
-    ∙ ap (λ (w : List ℕ). w ++ ((92 ∷ []) ++ rest)) e ∙ ap (λ (w : List ℕ). flat_map escaped (take i bs) ++ w) (sym (special-rest i bs l special)) ∙ escaped-parts i bs)
+    ∙ ap (λ (w : List ℕ). w ++ ((92 ∷ []) ++ rest)) e ∙ ap (λ (w : List ℕ). flat_map escape (take i bs) ++ w) (sym (special-rest i bs l special)) ∙ escape-parts i bs)
     (front-then a b z sent ((slice ++ 92 ∷ []) ++ rest) h (front-first b z (slice ++ 92 ∷ []) rest f))
 
-pub escaped-ends : {A E : Type 0} (a b z : Option (List ℕ)) (start i : ℕ) (bs : List ℕ) (r : Result A E) → Escaped a b start i bs → length bs ≤ i → AppendsOrFront b z (take (length bs - start) (drop start bs)) r → AppendsOrFront a z (flat_map escaped bs) r
-escaped-ends a b z start i bs r (sent, e, h, k) l s =
+pub escape-ends : {A E : Type 0} (a b z : Option (List ℕ)) (start i : ℕ) (bs : List ℕ) (r : Result A E) → Escaped a b start i bs → length bs ≤ i → AppendsOrPrefix b z (take (length bs - start) (drop start bs)) r → AppendsOrPrefix a z (flat_map escape bs) r
+escape-ends a b z start i bs r (sent, e, h, k) l s =
     let whole : take (length bs - start) (drop start bs) ≡ drop start bs = take_all (length bs - start) (drop start bs) (omega (arith, length-drop start bs)) in
-    sends-as a z (sent ++ drop start bs) (flat_map escaped bs) r
-    (ap (λ (w : List ℕ). sent ++ w) (sym (slice-all start i bs l)) ∙ e ∙ ap (flat_map escaped) (take_all i bs l))
+    sends-as a z (sent ++ drop start bs) (flat_map escape bs) r
+    (ap (λ (w : List ℕ). sent ++ w) (sym (slice-all start i bs l)) ∙ e ∙ ap (flat_map escape) (take_all i bs l))
     (sends-then a b z sent (drop start bs) r h (sends-as b z _ (drop start bs) r whole s))
 
-pub escaped-same : (a b c : Option (List ℕ)) (start from i : ℕ) (bs : List ℕ) → c ≡ b → from ≡ start → Escaped a b start i bs → Escaped a c from i bs
-escaped-same a b c start from i bs e f h =
+pub escape-same : (a b c : Option (List ℕ)) (start from i : ℕ) (bs : List ℕ) → c ≡ b → from ≡ start → Escaped a b start i bs → Escaped a c from i bs
+escape-same a b c start from i bs e f h =
     let P : Option (List ℕ) → Type 0 = λ x. Escaped a x from i bs in
     let Q : ℕ → Type 0 = λ n. Escaped a b n i bs in
     subst P (sym e) (subst Q (sym f) h)

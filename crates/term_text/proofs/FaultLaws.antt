@@ -7,7 +7,7 @@ use Rattle.ets_term.specs.declared.term.Term.{Term}
 use Rattle.ets_term.specs.declared.term.Term.TheVariants.{Int, Atom}
 use Rattle.term_text.specs.declared.fault.TextFault.{TextFault}
 use Rattle.term_text.specs.declared.fault.TextFault.TheVariants.{Unexpected, Unclosed, OutOfRange, TooDeep, AtomTooLong, Memory}
-use Rattle.term_text.specs.inside.Reader.{OpenBracket, integer, Mode, number, name, wants, Reading, reads_on, found, fails, signed, put, next, take_byte, ending, closed, read_from, reading}
+use Rattle.term_text.specs.inside.Reader.{OpenBracket, integer, Mode, number, name, wants, Reading, reads_on, found, fails, with_sign, put, next, take_byte, ending, end_after_term, read_from, reading}
 use Rattle.term_text.specs.Prefixes.{state, so_far, HasNoFault, CanReachTerm}
 use Rattle.term_text.specs.Faults.{FaultMeans, IsFaultAt, CanBeCompleted, EndsEarly, IsFault, IsFaultOrMemory}
 use Rattle.term_text.specs.Reading.{ReaderReturns}
@@ -42,13 +42,13 @@ same-fault f h e = cc
 not-found : (t : Term) (n : ℕ) (f : TextFault) → found t n ≡ fails f → ⊥
 not-found t n f e = cc
 
-closed-fault : (at : ℕ) (os : List OpenBracket) (t : Term) (f : TextFault) → closed at (put os t at) ≡ fails f → f ≡ Unclosed at
-closed-fault at [] t f e = absurd (not-found t at f e)
-closed-fault at (o ∷ os) t f e = sym (same-fault (Unclosed at) f e)
+end_after_term-fault : (at : ℕ) (os : List OpenBracket) (t : Term) (f : TextFault) → end_after_term at (put os t at) ≡ fails f → f ≡ Unclosed at
+end_after_term-fault at [] t f e = absurd (not-found t at f e)
+end_after_term-fault at (o ∷ os) t f e = sym (same-fault (Unclosed at) f e)
 
 end-fault : (at : ℕ) (mode : Mode) (os : List OpenBracket) (f : TextFault) → ending at mode os ≡ fails f → f ≡ Unclosed at
-end-fault at (number (integer below) start n) os f e = closed-fault at os (Int (signed below n)) f e
-end-fault at (name start cs) os f e = closed-fault at os (Atom cs) f e
+end-fault at (number (integer below) start n) os f e = end_after_term-fault at os (Int (with_sign below n)) f e
+end-fault at (name start cs) os f e = end_after_term-fault at os (Atom cs) f e
 end-fault at mode os f e = sym (same-fault (Unclosed at) f e)
 
 fault-free-so : (pre : List ℕ) (mode : Mode) (os : List OpenBracket) → so_far pre ≡ reads_on mode os → HasNoFault (so_far pre)
@@ -207,13 +207,13 @@ unexpected-reported (reads_on mode os) pre b at rest e before after fault =
 unexpected-reported (found t n) pre b at rest e before after fault = absurd (after (has-found (pre ++ b ∷ []) t n (found-more pre b t n e)))
 unexpected-reported (fails f) pre b at rest e before after fault = absurd (not-stuck pre f e before)
 
-closed-not-reading : (at : ℕ) (os : List OpenBracket) (t : Term) (m2 : Mode) (os2 : List OpenBracket) → closed at (put os t at) ≡ reads_on m2 os2 → ⊥
-closed-not-reading at [] t m2 os2 e = not-reading-found t at m2 os2 e
-closed-not-reading at (o ∷ os) t m2 os2 e = not-reading-fails (Unclosed at) m2 os2 e
+end_after_term-not-reading : (at : ℕ) (os : List OpenBracket) (t : Term) (m2 : Mode) (os2 : List OpenBracket) → end_after_term at (put os t at) ≡ reads_on m2 os2 → ⊥
+end_after_term-not-reading at [] t m2 os2 e = not-reading-found t at m2 os2 e
+end_after_term-not-reading at (o ∷ os) t m2 os2 e = not-reading-fails (Unclosed at) m2 os2 e
 
 end-not-reading : (at : ℕ) (mode : Mode) (os : List OpenBracket) (m2 : Mode) (os2 : List OpenBracket) → ending at mode os ≡ reads_on m2 os2 → ⊥
-end-not-reading at (number (integer below) start n) os m2 os2 e = closed-not-reading at os (Int (signed below n)) m2 os2 e
-end-not-reading at (name start cs) os m2 os2 e = closed-not-reading at os (Atom cs) m2 os2 e
+end-not-reading at (number (integer below) start n) os m2 os2 e = end_after_term-not-reading at os (Int (with_sign below n)) m2 os2 e
+end-not-reading at (name start cs) os m2 os2 e = end_after_term-not-reading at os (Atom cs) m2 os2 e
 end-not-reading at mode os m2 os2 e = not-reading-fails (Unclosed at) m2 os2 e
 
 end-reported : (z : Reading) (text : List ℕ) (mode : Mode) (os : List OpenBracket) → ending (length text) mode os ≡ z → reading text ≡ z → ((t : Term) (n : ℕ) → Front text t n → ⊥) → reading text ≡ fails (Unclosed (length text))

@@ -8,7 +8,7 @@ use Rattle.term_text.specs.declared.fault.TextFault.{TextFault}
 use Rattle.term_text.specs.declared.fault.TextFault.TheVariants.{OutOfRange, TooDeep, AtomTooLong}
 use Rattle.term_text.specs.declared.quote_form.QuoteForm.{QuoteForm}
 use Rattle.term_text.specs.declared.quote_form.QuoteForm.TheVariants as form
-use Rattle.term_text.specs.Text.{is_blank, is_digit, is_lowercase, is_name, begins, spelled}
+use Rattle.term_text.specs.Text.{is_blank, is_digit, is_lowercase, is_name, begins, value_of_digits}
 use Rattle.term_text.specs.inside.Reader.{OpenBracket, Number, integer, pid, identifier, byte, digits, wants, digit, name, quoted, signs, angle, opened_binary, wants_byte, after_byte, after, Reading, reads_on, fails, opening, quote, admits, take_byte, read_from, reading}
 use Rattle.term_text.specs.Faults.{AwaitsItem, fresh, further, AwaitsTerm, AwaitsByte, opened, comma, LeadsNumber, number_start, PastRange, PastAtom, plain_form, quoted_form, PastDepth, a_term, a_character}
 use Rattle.term_text.specs.Grammar.{opening_sign}
@@ -133,17 +133,17 @@ atom-reported pre b start rest (quoted_form os k lead s cs e h st sp long char o
     ∙ ap (λ (m : ℕ). fails (AtomTooLong m)) (sym st)
 
 -- one digit after another
-spelled-least : (n : ℕ) (bs : List ℕ) → n ≤ spelled n bs
-spelled-least n [] = omega arith
-spelled-least n (b ∷ bs) = by-test (is_digit b)
-    (λ d. let v : spelled n (b ∷ bs) ≡ spelled (n * 10 + (b - 48)) bs = if-true _ _ _ d in let r = spelled-least (n * 10 + (b - 48)) bs in omega (arith, v, r))
-    (λ d. let v : spelled n (b ∷ bs) ≡ n = if-false _ _ _ d in omega (arith, v))
+value_of_digits-least : (n : ℕ) (bs : List ℕ) → n ≤ value_of_digits n bs
+value_of_digits-least n [] = omega arith
+value_of_digits-least n (b ∷ bs) = by-test (is_digit b)
+    (λ d. let v : value_of_digits n (b ∷ bs) ≡ value_of_digits (n * 10 + (b - 48)) bs = if-true _ _ _ d in let r = value_of_digits-least (n * 10 + (b - 48)) bs in omega (arith, v, r))
+    (λ d. let v : value_of_digits n (b ∷ bs) ≡ n = if-false _ _ _ d in omega (arith, v))
 
-spelled-on : (n : ℕ) (s t : List ℕ) → list_all is_digit s ≡ true → spelled n (s ++ t) ≡ spelled (spelled n s) t
-spelled-on n [] t h = refl
-spelled-on n (c ∷ s) t h =
+value_of_digits-on : (n : ℕ) (s t : List ℕ) → list_all is_digit s ≡ true → value_of_digits n (s ++ t) ≡ value_of_digits (value_of_digits n s) t
+value_of_digits-on n [] t h = refl
+value_of_digits-on n (c ∷ s) t h =
     let q = and_parts (is_digit c) (list_all is_digit s) h in
-    if-true _ _ _ q.0 ∙ spelled-on (n * 10 + (c - 48)) s t q.1 ∙ ap (λ (m : ℕ). spelled m t) (sym (if-true _ _ _ q.0))
+    if-true _ _ _ q.0 ∙ value_of_digits-on (n * 10 + (c - 48)) s t q.1 ∙ ap (λ (m : ℕ). value_of_digits m t) (sym (if-true _ _ _ q.0))
 
 -- what precedes the digits of a number leads to the state before them
 number-reached : (kind : Number) (at : ℕ) (op : Bool) (os : List OpenBracket) (before ds rest : List ℕ) → LeadsNumber kind before → length os < 128 → begins is_digit ds ≡ true
@@ -197,10 +197,10 @@ range-reported pre b start rest h =
     let arrived = here-run (suc h.k) h.os h.lead (h.before ++ (h.digits ++ tail)) h.here in
     let levels = here-len (suc h.k) h.os h.lead h.here in
     let p : ℕ = at + length h.before in
-    let on : spelled 0 (h.digits ++ tail) ≡ spelled (spelled 0 h.digits) tail = spelled-on 0 h.digits tail h.spells.each in
-    let value : spelled (spelled 0 h.digits) tail ≡ spelled h.value tail = ap (λ (m : ℕ). spelled m tail) h.spells.value in
-    let stepped_on : spelled h.value tail ≡ spelled (h.value * 10 + (b - 48)) rest = if-true _ _ _ h.digit in
-    let least = spelled-least (h.value * 10 + (b - 48)) rest in
+    let on : value_of_digits 0 (h.digits ++ tail) ≡ value_of_digits (value_of_digits 0 h.digits) tail = value_of_digits-on 0 h.digits tail h.spells.each in
+    let value : value_of_digits (value_of_digits 0 h.digits) tail ≡ value_of_digits h.value tail = ap (λ (m : ℕ). value_of_digits m tail) h.spells.value in
+    let stepped_on : value_of_digits h.value tail ≡ value_of_digits (h.value * 10 + (b - 48)) rest = if-true _ _ _ h.digit in
+    let least = value_of_digits-least (h.value * 10 + (b - 48)) rest in
     ap (λ (w : List ℕ). reading (w ++ tail)) h.cut
     ∙ ap reading (append_assoc h.lead (h.before ++ h.digits) tail ∙ ap (λ (w : List ℕ). h.lead ++ w) (append_assoc h.before h.digits tail))
     ∙ arrived.runs

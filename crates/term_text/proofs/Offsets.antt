@@ -8,8 +8,8 @@ use Rattle.term_text.specs.declared.fault.TextFault.{TextFault}
 use Rattle.term_text.specs.declared.fault.TextFault.TheVariants.{Unexpected, Unclosed, OutOfRange}
 use Rattle.term_text.specs.inside.Reader.{OpenBracket, Number, integer, pid, identifier, byte, Expect, wants, digit, number, Reading, reads_on, found, fails, max_magnitude, take_byte, end, read_from, reading, expect}
 use Rattle.term_text.specs.Reading.{ReaderFails, ReaderReturns}
-use Rattle.term_text.specs.inside.Parts.{Reaches, ReadsTerm, counted}
-use Rattle.term_text.specs.Text.{is_digit, spelled, begins}
+use Rattle.term_text.specs.inside.Parts.{Reaches, ReadsTerm, after_digits}
+use Rattle.term_text.specs.Text.{is_digit, value_of_digits, begins}
 use Rattle.term_text.proofs.Numbers.{spelled_grows, digit-small}
 
 pub if-false : {A : Type 0} (b : Bool) (x y : A) → b ≡ false → (if b then x else y) ≡ y
@@ -65,36 +65,36 @@ pub prefix-none : (p : ℕ → Bool) (b : ℕ) (bs : List ℕ) → p b ≡ false
 prefix-none p b bs h = if-false _ _ _ h
 
 -- The automaton reads a number in its range to the end of its digits.
-pub read-number : (at start n : ℕ) (kind : Number) (os : List OpenBracket) (bs : List ℕ) → spelled n bs ≤ max_magnitude kind
-    → read_from at (reads_on (number kind start n) os) bs ≡ read_from (at + prefix_len is_digit bs) (reads_on (number kind start (spelled n bs)) os) (drop (prefix_len is_digit bs) bs)
+pub read-number : (at start n : ℕ) (kind : Number) (os : List OpenBracket) (bs : List ℕ) → value_of_digits n bs ≤ max_magnitude kind
+    → read_from at (reads_on (number kind start n) os) bs ≡ read_from (at + prefix_len is_digit bs) (reads_on (number kind start (value_of_digits n bs)) os) (drop (prefix_len is_digit bs) bs)
 read-number at start n kind os [] h = number-same start kind os at (at + 0) n n [] [] (omega arith) refl refl
 read-number at start n kind os (b ∷ bs) h = by-test (is_digit b)
     (λ d.
     let more : ℕ = n * 10 + (b - 48) in
-    let v : spelled n (b ∷ bs) ≡ spelled more bs = if-true _ _ _ d in
+    let v : value_of_digits n (b ∷ bs) ≡ value_of_digits more bs = if-true _ _ _ d in
     let c : prefix_len is_digit (b ∷ bs) ≡ prefix_len is_digit bs + 1 = prefix-more is_digit b bs d in
-    let fits : spelled more bs ≤ max_magnitude kind = omega (arith, v, h) in
+    let fits : value_of_digits more bs ≤ max_magnitude kind = omega (arith, v, h) in
     let small : more ≤ max_magnitude kind = omega (arith, spelled_grows more bs, fits) in
     ap (λ (s : Reading). read_from (at + 1) s bs) (if-true _ _ _ d ∙ if-true _ _ _ (nat-le-true _ _ small))
     ∙ read-number (at + 1) start more kind os bs fits
-    ∙ number-same start kind os (at + 1 + prefix_len is_digit bs) (at + prefix_len is_digit (b ∷ bs)) (spelled more bs) (spelled n (b ∷ bs)) _ _ (omega (arith, c)) (sym v) (sym (ap (λ (k : ℕ). drop k (b ∷ bs)) c ∙ drop-past (prefix_len is_digit bs) b bs)))
+    ∙ number-same start kind os (at + 1 + prefix_len is_digit bs) (at + prefix_len is_digit (b ∷ bs)) (value_of_digits more bs) (value_of_digits n (b ∷ bs)) _ _ (omega (arith, c)) (sym v) (sym (ap (λ (k : ℕ). drop k (b ∷ bs)) c ∙ drop-past (prefix_len is_digit bs) b bs)))
     (λ d.
     let c : prefix_len is_digit (b ∷ bs) ≡ 0 = prefix-none is_digit b bs d in
-    number-same start kind os at (at + prefix_len is_digit (b ∷ bs)) n (spelled n (b ∷ bs)) (b ∷ bs) _ (omega (arith, c)) (sym (if-false _ _ _ d)) (sym (ap (λ (k : ℕ). drop k (b ∷ bs)) c)))
+    number-same start kind os at (at + prefix_len is_digit (b ∷ bs)) n (value_of_digits n (b ∷ bs)) (b ∷ bs) _ (omega (arith, c)) (sym (if-false _ _ _ d)) (sym (ap (λ (k : ℕ). drop k (b ∷ bs)) c)))
 
 -- It fails at the digit that takes a number out of its range.
-pub read-passes : (at start n : ℕ) (kind : Number) (os : List OpenBracket) (bs : List ℕ) → n ≤ max_magnitude kind → max_magnitude kind < spelled n bs
+pub read-passes : (at start n : ℕ) (kind : Number) (os : List OpenBracket) (bs : List ℕ) → n ≤ max_magnitude kind → max_magnitude kind < value_of_digits n bs
     → read_from at (reads_on (number kind start n) os) bs ≡ fails (OutOfRange start)
 read-passes at start n kind os [] small h = absurd (omega (arith, small, h))
 read-passes at start n kind os (b ∷ bs) small h = by-test (is_digit b)
     (λ d.
     let more : ℕ = n * 10 + (b - 48) in
-    let v : spelled n (b ∷ bs) ≡ spelled more bs = if-true _ _ _ d in
-    let far : max_magnitude kind < spelled more bs = omega (arith, v, h) in
+    let v : value_of_digits n (b ∷ bs) ≡ value_of_digits more bs = if-true _ _ _ d in
+    let far : max_magnitude kind < value_of_digits more bs = omega (arith, v, h) in
     by-test (nat_le more (max_magnitude kind))
     (λ k. ap (λ (s : Reading). read_from (at + 1) s bs) (if-true _ _ _ d ∙ if-true _ _ _ k) ∙ read-passes (at + 1) start more kind os bs (leb-true _ _ k) far)
     (λ k. ap (λ (s : Reading). read_from (at + 1) s bs) (if-true _ _ _ d ∙ if-false _ _ _ k) ∙ read-fails (at + 1) (OutOfRange start) bs))
-    (λ d. let v : spelled n (b ∷ bs) ≡ n = if-false _ _ _ d in absurd (omega (arith, v, small, h)))
+    (λ d. let v : value_of_digits n (b ∷ bs) ≡ n = if-false _ _ _ d in absurd (omega (arith, v, small, h)))
 
 -- the byte after the digits is not a digit
 pub prefix-ends : (p : ℕ → Bool) (bs : List ℕ) → begins p (drop (prefix_len p bs) bs) ≡ false
@@ -105,7 +105,7 @@ prefix-ends p (b ∷ bs) = by-test (p b)
 
 -- after its digits a number is what its kind says
 pub number-after : (at start v : ℕ) (kind : Number) (os : List OpenBracket) (rest : List ℕ) → begins is_digit rest ≡ false
-    → read_from at (reads_on (number kind start v) os) rest ≡ read_from at (counted at kind v os) rest
+    → read_from at (reads_on (number kind start v) os) rest ≡ read_from at (after_digits at kind v os) rest
 number-after at start v (integer below) [] [] h = refl
 number-after at start v (integer below) (o ∷ os) [] h = refl
 number-after at start v pid os [] h = refl
@@ -122,23 +122,23 @@ digit-first : (at start b : ℕ) (kind : Number) (os : List OpenBracket) (bs : L
     → read_from at (reads_on (digit kind start) os) (b ∷ bs) ≡ read_from (at + 1) (reads_on (number kind start (b - 48)) os) bs
 digit-first at start b kind os bs d = ap (λ (s : Reading). read_from (at + 1) s bs) (if-true _ _ _ d)
 
-first-value : (b : ℕ) (bs : List ℕ) → is_digit b ≡ true → spelled 0 (b ∷ bs) ≡ spelled (b - 48) bs
-first-value b bs d = if-true _ _ _ d ∙ ap (λ (n : ℕ). spelled n bs) (omega arith)
+first-value : (b : ℕ) (bs : List ℕ) → is_digit b ≡ true → value_of_digits 0 (b ∷ bs) ≡ value_of_digits (b - 48) bs
+first-value b bs d = if-true _ _ _ d ∙ ap (λ (n : ℕ). value_of_digits n bs) (omega arith)
 
 -- A number that begins before the byte at, by its digits.
-pub number-here : (at start : ℕ) (kind : Number) (os : List OpenBracket) (bs : List ℕ) → begins is_digit bs ≡ true → spelled 0 bs ≤ max_magnitude kind
-    → read_from at (reads_on (digit kind start) os) bs ≡ read_from (at + prefix_len is_digit bs) (counted (at + prefix_len is_digit bs) kind (spelled 0 bs) os) (drop (prefix_len is_digit bs) bs)
+pub number-here : (at start : ℕ) (kind : Number) (os : List OpenBracket) (bs : List ℕ) → begins is_digit bs ≡ true → value_of_digits 0 bs ≤ max_magnitude kind
+    → read_from at (reads_on (digit kind start) os) bs ≡ read_from (at + prefix_len is_digit bs) (after_digits (at + prefix_len is_digit bs) kind (value_of_digits 0 bs) os) (drop (prefix_len is_digit bs) bs)
 number-here at start kind os [] d h = absurd (false≢true d)
 number-here at start kind os (b ∷ bs) d h =
     let v = first-value b bs d in
     let c = prefix-more is_digit b bs d in
-    let fits : spelled (b - 48) bs ≤ max_magnitude kind = omega (arith, v, h) in
+    let fits : value_of_digits (b - 48) bs ≤ max_magnitude kind = omega (arith, v, h) in
     digit-first at start b kind os bs d
     ∙ read-number (at + 1) start (b - 48) kind os bs fits
-    ∙ number-same start kind os (at + 1 + prefix_len is_digit bs) (at + prefix_len is_digit (b ∷ bs)) (spelled (b - 48) bs) (spelled 0 (b ∷ bs)) _ _ (omega (arith, c)) (sym v) (sym (ap (λ (k : ℕ). drop k (b ∷ bs)) c ∙ drop-past (prefix_len is_digit bs) b bs))
+    ∙ number-same start kind os (at + 1 + prefix_len is_digit bs) (at + prefix_len is_digit (b ∷ bs)) (value_of_digits (b - 48) bs) (value_of_digits 0 (b ∷ bs)) _ _ (omega (arith, c)) (sym v) (sym (ap (λ (k : ℕ). drop k (b ∷ bs)) c ∙ drop-past (prefix_len is_digit bs) b bs))
     ∙ number-after _ start _ kind os _ (prefix-ends is_digit (b ∷ bs))
 
-pub number-past : (at start : ℕ) (kind : Number) (os : List OpenBracket) (bs : List ℕ) → begins is_digit bs ≡ true → 9 ≤ max_magnitude kind → max_magnitude kind < spelled 0 bs
+pub number-past : (at start : ℕ) (kind : Number) (os : List OpenBracket) (bs : List ℕ) → begins is_digit bs ≡ true → 9 ≤ max_magnitude kind → max_magnitude kind < value_of_digits 0 bs
     → read_from at (reads_on (digit kind start) os) bs ≡ fails (OutOfRange start)
 number-past at start kind os [] d nine h = absurd (false≢true d)
 number-past at start kind os (b ∷ bs) d nine h =
@@ -163,14 +163,14 @@ begins_in p (b ∷ bs) zero h = omega arith
 begins_in p (b ∷ bs) (suc n) h = let r = begins_in p bs n h in omega (arith, r)
 
 pub number-reaches : (text : List ℕ) (at start v n : ℕ) (kind : Number) (os : List OpenBracket) → at < length text → is_digit (get_or text at 0) ≡ true
-    → v ≡ spelled 0 (drop at text) → v ≤ max_magnitude kind → n ≡ at + prefix_len is_digit (drop at text) → Reaches text at (reads_on (digit kind start) os) n (counted n kind v os)
+    → v ≡ value_of_digits 0 (drop at text) → v ≤ max_magnitude kind → n ≡ at + prefix_len is_digit (drop at text) → Reaches text at (reads_on (digit kind start) os) n (after_digits n kind v os)
 number-reaches text at start v n kind os h d e fits en =
     number-here at start kind os (drop at text) (begins_at is_digit text at h ∙ d) (omega (arith, e, fits))
-    ∙ ap (λ (xs : List ℕ). read_from (at + prefix_len is_digit (drop at text)) (counted (at + prefix_len is_digit (drop at text)) kind (spelled 0 (drop at text)) os) xs) (drop-drop-at text at (prefix_len is_digit (drop at text)))
+    ∙ ap (λ (xs : List ℕ). read_from (at + prefix_len is_digit (drop at text)) (after_digits (at + prefix_len is_digit (drop at text)) kind (value_of_digits 0 (drop at text)) os) xs) (drop-drop-at text at (prefix_len is_digit (drop at text)))
     ∙ cc
 
 pub number-fails : (text : List ℕ) (at start : ℕ) (kind : Number) (os : List OpenBracket) → at < length text → is_digit (get_or text at 0) ≡ true
-    → 9 ≤ max_magnitude kind → max_magnitude kind < spelled 0 (drop at text) → read_from at (reads_on (digit kind start) os) (drop at text) ≡ fails (OutOfRange start)
+    → 9 ≤ max_magnitude kind → max_magnitude kind < value_of_digits 0 (drop at text) → read_from at (reads_on (digit kind start) os) (drop at text) ≡ fails (OutOfRange start)
 number-fails text at start kind os h d nine far = number-past at start kind os (drop at text) (begins_at is_digit text at h ∙ d) nine far
 
 -- signs at the end of the text, and before another byte

@@ -6,7 +6,7 @@ use Rattle.term_text.specs.declared.fault.TextFault.{TextFault}
 use Rattle.term_text.specs.declared.quote_form.QuoteForm.{QuoteForm}
 use Rattle.term_text.specs.declared.quote_form.QuoteForm.TheVariants as form
 use Rattle.term_text.specs.Text.{is_blank, is_digit, is_lowercase, is_name, closes}
-use Rattle.term_text.specs.inside.Reader.{OpenBracket, Number, integer, pid, identifier, byte, Expect, whole, digits, Mode, wants, digit, number, name, quoted, escaped, signs, angle, opened_binary, wants_byte, after_byte, after_string, after, Reading, reads_on, found, fails, signed, with_term, bracket, put, expect, next_sign, begin, next_after, next_unless_found, next_opened, next_after_byte, next_after_number, next_digit, quote, unquoted, admits, next, take_byte, read_from, reading}
+use Rattle.term_text.specs.inside.Reader.{OpenBracket, Number, integer, pid, identifier, byte, Expect, whole, digits, Mode, wants, digit, number, name, quoted, escaped, signs, angle, opened_binary, wants_byte, after_byte, after_string, after, Reading, reads_on, found, fails, with_sign, with_term, bracket, put, expect, next_sign, begin, next_after, next_unless_found, next_in_bracket, next_after_byte, next_after_number, next_digit, quote, after_quote, admits, next, take_byte, read_from, reading}
 use Rattle.term_text.specs.Prefixes.{state, so_far, HasNoFault, CanReachTerm}
 use Rattle.term_text.proofs.Offsets.{if-true, if-false, read-fails}
 use Rattle.term_text.proofs.FirstBytes.{begin-digit}
@@ -52,7 +52,7 @@ unless-found-in : (at : ℕ) (os : List OpenBracket) (t : Term) (b : ℕ) → le
 unless-found-in at [] t b h = tt
 unless-found-in at (o ∷ os) t b h = after-in at (with_term o t ∷ os) b (omega arith) h
 
-opened-in : (at : ℕ) (os : List OpenBracket) (b : ℕ) → length os ≤ 128 → InLevels (next_opened at os b)
+opened-in : (at : ℕ) (os : List OpenBracket) (b : ℕ) → length os ≤ 128 → InLevels (next_in_bracket at os b)
 opened-in at [] b h = begin-in at [] b
 opened-in at (o ∷ os) b h = search (arith, rules, levels-if, put-in, begin-in) depth 8
 
@@ -60,15 +60,15 @@ byte-in : (at : ℕ) (bs : List ℕ) (os : List OpenBracket) (b : ℕ) → lengt
 byte-in at bs os b h = search (arith, rules, levels-if, sign-in) depth 8
 
 number-in : (at : ℕ) (kind : Number) (n : ℕ) (os : List OpenBracket) (b : ℕ) → length os ≤ 127 → InLevels (next_after_number at kind n os b)
-number-in at (integer below) n os b h = unless-found-in at os (Int (signed below n)) b h
+number-in at (integer below) n os b h = unless-found-in at os (Int (with_sign below n)) b h
 number-in at pid n os b h = sign-in at (46 ∷ 48 ∷ 62 ∷ []) (whole (Pid n)) os b h
 number-in at identifier n os b h = sign-in at (62 ∷ []) (whole (Tid n)) os b h
 number-in at (byte bs) n os b h = byte-in at (bs ++ n ∷ []) os b h
 
-unquoted-in : (n : ℕ) (q : QuoteForm) (cs : List ℕ) (os : List OpenBracket) → length os ≤ 127 → InLevels (unquoted n q cs os)
-unquoted-in n (form.Atom start) cs os h = put-in os (Atom cs) n h
-unquoted-in n form.String cs os h = put-in os _ n h
-unquoted-in n form.Binary cs os h = h
+after_quote-in : (n : ℕ) (q : QuoteForm) (cs : List ℕ) (os : List OpenBracket) → length os ≤ 127 → InLevels (after_quote n q cs os)
+after_quote-in n (form.Atom start) cs os h = put-in os (Atom cs) n h
+after_quote-in n form.String cs os h = put-in os _ n h
+after_quote-in n form.Binary cs os h = h
 
 admits-in : (at : ℕ) (q : QuoteForm) (n : ℕ) (os : List OpenBracket) (s : Reading) → InLevels s → InLevels (admits at q n os s)
 admits-in at (form.Atom start) n os s h = search (arith, rules, levels-if) depth 8
@@ -84,7 +84,7 @@ next-in at (wants false) os b h = search (arith, rules, levels-if, begin-in) dep
 next-in at (digit kind start) os b h = digit_in at kind start os b h
 next-in at (number kind start n) os b h = search (arith, rules, levels-if, number-in) depth 9
 next-in at (name start cs) os b h = search (arith, rules, levels-if, unless-found-in) depth 9
-next-in at (quoted q cs) os b h = search (arith, rules, levels-if, unquoted-in, admits-in) depth 9
+next-in at (quoted q cs) os b h = search (arith, rules, levels-if, after_quote-in, admits-in) depth 9
 next-in at (escaped q cs) os b h = search (arith, rules, levels-if) depth 9
 next-in at (signs [] goal) os b h = absurd h
 next-in at (signs (c ∷ cs) goal) os b h = sign-in at (c ∷ cs) goal os b h
@@ -171,9 +171,9 @@ byte-ends : (at : ℕ) (bs : List ℕ) (os : List OpenBracket) → CanEnd at (re
 byte-ends at bs os = ends-by at (reads_on (after_byte bs) os) (expect (at + 1) (62 ∷ []) (whole (Binary bs)) os) 62 (if-false _ _ _ angle-blank) (signs-end (at + 1) (62 ∷ []) (Binary bs) os)
 
 number-ends : (at start : ℕ) (kind : Number) (n : ℕ) (os : List OpenBracket) → CanEnd at (reads_on (number kind start n) os)
-number-ends at start (integer below) n [] = ([], Int (signed below n), at, refl)
+number-ends at start (integer below) n [] = ([], Int (with_sign below n), at, refl)
 number-ends at start (integer below) n (o ∷ os) =
-    let t : Term = Int (signed below n) in
+    let t : Term = Int (with_sign below n) in
     ends-by at (reads_on (number (integer below) start n) (o ∷ os)) (put os (bracket (with_term o t)) (at + 1)) (closer o.square) (if-false _ _ _ (not-digit o.square) ∙ if-true _ _ _ (closes-closer o.square)) (finish os (bracket (with_term o t)) (at + 1) (at + 1))
 number-ends at start pid n os = ends-by at (reads_on (number pid start n) os) (expect (at + 1) (48 ∷ 62 ∷ []) (whole (Pid n)) os) 46 (if-false _ _ _ dot-digit) (signs-end (at + 1) (48 ∷ 62 ∷ []) (Pid n) os)
 number-ends at start identifier n os = ends-by at (reads_on (number identifier start n) os) (expect (at + 1) [] (whole (Tid n)) os) 62 (if-false _ _ _ angle-digit) (signs-end (at + 1) [] (Tid n) os)
@@ -195,13 +195,13 @@ name-ends at start cs (o ∷ os) =
 string_ends : (at : ℕ) (bs : List ℕ) (os : List OpenBracket) → CanEnd at (reads_on (after_string bs) os)
 string_ends at bs os = ends-by at (reads_on (after_string bs) os) (expect (at + 1) (62 ∷ []) (whole (Binary bs)) os) 62 (if-false _ _ _ angle-blank) (signs-end (at + 1) (62 ∷ []) (Binary bs) os)
 
-unquoted-ends : (at n : ℕ) (q : QuoteForm) (cs : List ℕ) (os : List OpenBracket) → CanEnd at (unquoted n q cs os)
-unquoted-ends at n (form.Atom start) cs os = finish os (Atom cs) at n
-unquoted-ends at n form.String cs os = finish os _ at n
-unquoted-ends at n form.Binary cs os = string_ends at cs os
+after_quote-ends : (at n : ℕ) (q : QuoteForm) (cs : List ℕ) (os : List OpenBracket) → CanEnd at (after_quote n q cs os)
+after_quote-ends at n (form.Atom start) cs os = finish os (Atom cs) at n
+after_quote-ends at n form.String cs os = finish os _ at n
+after_quote-ends at n form.Binary cs os = string_ends at cs os
 
 quoted-ends : (at : ℕ) (q : QuoteForm) (cs : List ℕ) (os : List OpenBracket) → CanEnd at (reads_on (quoted q cs) os)
-quoted-ends at q cs os = ends-by at (reads_on (quoted q cs) os) (unquoted (at + 1) q cs os) (quote q) (if-true _ _ _ (same (quote q))) (unquoted-ends (at + 1) (at + 1) q cs os)
+quoted-ends at q cs os = ends-by at (reads_on (quoted q cs) os) (after_quote (at + 1) q cs os) (quote q) (if-true _ _ _ (same (quote q))) (after_quote-ends (at + 1) (at + 1) q cs os)
 
 or-true : (a : Bool) → (a || true) ≡ true
 or-true true = refl

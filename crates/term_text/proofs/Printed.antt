@@ -3,25 +3,25 @@ use Rattle.std.proofs.Common.{◌≡◌, ℕ, ℤ, List, [], ◌∷◌, ◌++◌
 use Rattle.std.specs.Fmt.{signed_decimal}
 use Rattle.ets_term.specs.declared.term.Term.{Term, the_lemmas}
 use Rattle.ets_term.specs.declared.term.Term.TheVariants.{Int, Atom, Pid, Tid, Tuple, List as ListOf, Binary}
-use Rattle.term_text.specs.Printed.{printed, comma_separated, atom_text}
+use Rattle.term_text.specs.Printed.{text_of_term, join_with_commas, atom_text}
 
-pub printed-Int : (n : ℤ) → printed (Int n) ≡ signed_decimal n
-printed-Int n = search (rules, the_lemmas)
+pub text_of_term-Int : (n : ℤ) → text_of_term (Int n) ≡ signed_decimal n
+text_of_term-Int n = search (rules, the_lemmas)
 
-pub printed-Atom : (s : List ℕ) → printed (Atom s) ≡ atom_text s
-printed-Atom s = search (rules, the_lemmas)
+pub text_of_term-Atom : (s : List ℕ) → text_of_term (Atom s) ≡ atom_text s
+text_of_term-Atom s = search (rules, the_lemmas)
 
-pub printed-Pid : (n : ℕ) → printed (Pid n) ≡ (60 ∷ 48 ∷ 46 ∷ []) ++ (decimal n ++ 46 ∷ 48 ∷ 62 ∷ [])
-printed-Pid n = search (rules, the_lemmas)
+pub text_of_term-Pid : (n : ℕ) → text_of_term (Pid n) ≡ (60 ∷ 48 ∷ 46 ∷ []) ++ (decimal n ++ 46 ∷ 48 ∷ 62 ∷ [])
+text_of_term-Pid n = search (rules, the_lemmas)
 
-pub printed-Tid : (n : ℕ) → printed (Tid n) ≡ (35 ∷ 84 ∷ 105 ∷ 100 ∷ 60 ∷ []) ++ (decimal n ++ 62 ∷ [])
-printed-Tid n = search (rules, the_lemmas)
+pub text_of_term-Tid : (n : ℕ) → text_of_term (Tid n) ≡ (35 ∷ 84 ∷ 105 ∷ 100 ∷ 60 ∷ []) ++ (decimal n ++ 62 ∷ [])
+text_of_term-Tid n = search (rules, the_lemmas)
 
-pub printed-Tuple : (ts : List Term) → printed (Tuple ts) ≡ (123 ∷ []) ++ (comma_separated false (map printed ts) ++ 125 ∷ [])
-printed-Tuple ts = search (rules, the_lemmas)
+pub text_of_term-Tuple : (ts : List Term) → text_of_term (Tuple ts) ≡ (123 ∷ []) ++ (join_with_commas false (map text_of_term ts) ++ 125 ∷ [])
+text_of_term-Tuple ts = search (rules, the_lemmas)
 
-pub printed-List : (ts : List Term) → printed (ListOf ts) ≡ (91 ∷ []) ++ (comma_separated false (map printed ts) ++ 93 ∷ [])
-printed-List ts = search (rules, the_lemmas)
+pub text_of_term-List : (ts : List Term) → text_of_term (ListOf ts) ≡ (91 ∷ []) ++ (join_with_commas false (map text_of_term ts) ++ 93 ∷ [])
+text_of_term-List ts = search (rules, the_lemmas)
 
-pub printed-Binary : (bs : List ℕ) → printed (Binary bs) ≡ (60 ∷ 60 ∷ []) ++ (comma_separated false (map decimal bs) ++ 62 ∷ 62 ∷ [])
-printed-Binary bs = search (rules, the_lemmas)
+pub text_of_term-Binary : (bs : List ℕ) → text_of_term (Binary bs) ≡ (60 ∷ 60 ∷ []) ++ (join_with_commas false (map decimal bs) ++ 62 ∷ 62 ∷ [])
+text_of_term-Binary bs = search (rules, the_lemmas)

@@ -7,7 +7,7 @@ use Rattle.ets_term.specs.declared.term.Term.TheVariants.{Int, Atom}
 use Rattle.term_text.specs.declared.fault.TextFault.{TextFault}
 use Rattle.term_text.specs.declared.fault.TextFault.TheVariants.{OutOfRange, AtomTooLong}
 use Rattle.term_text.specs.Text.{is_blank, is_digit, is_lowercase, is_name, begins}
-use Rattle.term_text.specs.inside.Reader.{OpenBracket, integer, byte, Mode, wants, digit, number, name, quoted, escaped, signs, angle, opened_binary, wants_byte, after_byte, after_string, after, Reading, reads_on, found, fails, signed, max_magnitude, next, end, read_from, reading}
+use Rattle.term_text.specs.inside.Reader.{OpenBracket, integer, byte, Mode, wants, digit, number, name, quoted, escaped, signs, angle, opened_binary, wants_byte, after_byte, after_string, after, Reading, reads_on, found, fails, with_sign, max_magnitude, next, end, read_from, reading}
 use Rattle.term_text.specs.Faults.{plain_form}
 use Rattle.term_text.specs.Grammar.{Spells, Ends, Front, plain_atom}
 use Rattle.term_text.proofs.Offsets.{read-fails}
@@ -83,7 +83,7 @@ no-fault f t n e = cc
 -- the end of the text
 end-sound : (at : ℕ) (mode : Mode) (os : List OpenBracket) (pre : List ℕ) (t : Term) (n : ℕ) → at ≡ length pre → MeansIn pre mode os → end at (reads_on mode os) ≡ found t n → Front pre t n
 end-sound at (number (integer below) start v) [] pre t n len (s, ds, bef, a, num, st) e =
-    front-end pre (s ++ ds) (Int (signed below v)) t at n a (integer-spelled below a.k s ds v bef num) len (same-term _ t at n e) (same-count (Int (signed below v)) t at n e)
+    front-end pre (s ++ ds) (Int (with_sign below v)) t at n a (integer-spelled below a.k s ds v bef num) len (same-term _ t at n e) (same-count (Int (with_sign below v)) t at n e)
 end-sound at (number (integer below) start v) (o ∷ os) pre t n len h e = absurd (no-fault _ t n e)
 end-sound at (name start cs) [] pre t n len (a, small, names, few, st) e =
     front-end pre cs (Atom cs) t at n a (plain_atom a.k cs small names few) len (same-term _ t at n e) (same-count (Atom cs) t at n e)

@@ -6,7 +6,7 @@ use Rattle.std.proofs.lemmas.Bool.{leb-true}
 use Rattle.ets_term.specs.declared.term.Term.{Term}
 use Rattle.term_text.specs.declared.fault.TextFault.TheVariants.{Unexpected, TooDeep}
 use Rattle.term_text.specs.Text.{is_blank, is_digit, closes, begins_term}
-use Rattle.term_text.specs.inside.Reader.{OpenBracket, integer, wants, reads_on, bracket, opening, begin, next_opened}
+use Rattle.term_text.specs.inside.Reader.{OpenBracket, integer, wants, reads_on, bracket, opening, begin, next_in_bracket}
 use Rattle.term_text.specs.Faults.{AwaitsItem, fresh, further, AwaitsTerm, a_term}
 use Rattle.term_text.specs.Grammar.{AreBlanks, opening_sign, closing_sign, Spells, SpellsTerms, none, empty_bracket, first_term, more_terms}
 use Rattle.term_text.proofs.FirstBytes.{begins-small}
@@ -83,7 +83,7 @@ fresh-blanks k ts inner (further us row before behind r h i) e = absurd (some-te
         not-nil [] t e = cc
         not-nil (u ∷ ts) t e = cc
 
-pub opened-holds : (at : ℕ) (o : OpenBracket) (os : List OpenBracket) (pre : List ℕ) (b k : ℕ) → at ≡ length pre → AwaitsTerm k (o ∷ os) pre → o.terms ≡ [] → Holds (pre ++ b ∷ []) (next_opened at (o ∷ os) b)
+pub opened-holds : (at : ℕ) (o : OpenBracket) (os : List OpenBracket) (pre : List ℕ) (b k : ℕ) → at ≡ length pre → AwaitsTerm k (o ∷ os) pre → o.terms ≡ [] → Holds (pre ++ b ∷ []) (next_in_bracket at (o ∷ os) b)
 opened-holds at o os pre b k len h e = holds-if (closes o.square b) _ _
     (λ c.
     let sign = opening_sign o.square in

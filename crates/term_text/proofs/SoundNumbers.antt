@@ -6,8 +6,8 @@ use Rattle.std.proofs.lemmas.List.{append-nil}
 use Rattle.std.specs.List.{list_all}
 use Rattle.ets_term.specs.declared.term.Term.TheVariants.{Int, Pid, Tid, Binary}
 use Rattle.term_text.specs.declared.fault.TextFault.TheVariants.{Unexpected}
-use Rattle.term_text.specs.Text.{is_blank, is_digit, is_lowercase, begins, spelled}
-use Rattle.term_text.specs.inside.Reader.{OpenBracket, Number, integer, pid, identifier, byte, whole, signed, max_magnitude, next_after_byte, next_after_number, next_digit}
+use Rattle.term_text.specs.Text.{is_blank, is_digit, is_lowercase, begins, value_of_digits}
+use Rattle.term_text.specs.inside.Reader.{OpenBracket, Number, integer, pid, identifier, byte, whole, with_sign, max_magnitude, next_after_byte, next_after_number, next_digit}
 use Rattle.term_text.specs.Faults.{AwaitsByte, opened, comma, LeadsNumber, number_start}
 use Rattle.term_text.specs.Grammar.{AreBlanks, SpellsNumber, SpellsBytes, Spells, Ends, first, more, positive, negative, pid_form, identifier_form, bytes}
 use Rattle.term_text.proofs.Numbers.{digit-small}
@@ -17,11 +17,11 @@ use Rattle.term_text.proofs.Signs.{digit-no-small, is-byte, minus-no-small}
 use Rattle.term_text.proofs.SoundTerms.{angle-text, unless-found-holds, hash-text, sign-holds}
 
 -- digits
-spelled-more : (m : ℕ) (ds : List ℕ) (b : ℕ) → list_all is_digit ds ≡ true → is_digit b ≡ true → spelled m (ds ++ b ∷ []) ≡ spelled m ds * 10 + (b - 48)
-spelled-more m [] b h d = if-true _ _ _ d
-spelled-more m (c ∷ ds) b h d =
+value_of_digits-more : (m : ℕ) (ds : List ℕ) (b : ℕ) → list_all is_digit ds ≡ true → is_digit b ≡ true → value_of_digits m (ds ++ b ∷ []) ≡ value_of_digits m ds * 10 + (b - 48)
+value_of_digits-more m [] b h d = if-true _ _ _ d
+value_of_digits-more m (c ∷ ds) b h d =
     let q = and_parts (is_digit c) (list_all is_digit ds) h in
-    if-true _ _ _ q.0 ∙ spelled-more (m * 10 + (c - 48)) ds b q.1 d ∙ ap (λ (n : ℕ). n * 10 + (b - 48)) (sym (if-true _ _ _ q.0))
+    if-true _ _ _ q.0 ∙ value_of_digits-more (m * 10 + (c - 48)) ds b q.1 d ∙ ap (λ (n : ℕ). n * 10 + (b - 48)) (sym (if-true _ _ _ q.0))
 
 pub nine-fits : (kind : Number) (n : ℕ) → n ≤ 9 → n ≤ max_magnitude kind
 nine-fits (integer true) n h = omega (arith, h)
@@ -34,7 +34,7 @@ pub one-digit : (kind : Number) (b : ℕ) → is_digit b ≡ true → SpellsNumb
 one-digit kind b d = record { some = d; each = both_true d refl; value = if-true _ _ _ d ∙ omega arith; fits = nine-fits kind (b - 48) (digit-small b d) }
 
 pub more-digits : (kind : Number) (ds : List ℕ) (n b : ℕ) → SpellsNumber kind ds n → is_digit b ≡ true → n * 10 + (b - 48) ≤ max_magnitude kind → SpellsNumber kind (ds ++ b ∷ []) (n * 10 + (b - 48))
-more-digits kind ds n b h d fits = record { some = begins-more is_digit ds (b ∷ []) h.some; each = all-more is_digit ds b h.each d; value = spelled-more 0 ds b h.each d ∙ ap (λ (m : ℕ). m * 10 + (b - 48)) h.value; fits = fits }
+more-digits kind ds n b h d fits = record { some = begins-more is_digit ds (b ∷ []) h.some; each = all-more is_digit ds b h.each d; value = value_of_digits-more 0 ds b h.each d ∙ ap (λ (m : ℕ). m * 10 + (b - 48)) h.value; fits = fits }
 
 pub digit-holds : (at : ℕ) (kind : Number) (start : ℕ) (os : List OpenBracket) (pre s : List ℕ) (b : ℕ) → at ≡ length pre → LeadsNumber kind s → (a : At os pre s) → start ≡ number_start kind (length a.p) (length a.p + length s) → Holds (pre ++ b ∷ []) (next_digit at kind start os b)
 digit-holds at kind start os pre s b len bef a st = holds-if (is_digit b) _ _ (λ d. record { meaning = (s, b ∷ [], bef, at_more os pre s (s ++ b ∷ []) b a refl, one-digit kind b d, st) }) (λ d. noticed pre b (Unexpected at) len)
@@ -71,9 +71,9 @@ digits-no-small : (ds : List ℕ) → begins is_digit ds ≡ true → begins is_
 digits-no-small [] h = refl
 digits-no-small (b ∷ ds) h = digit-no-small b h
 
-pub integer-spelled : (below : Bool) (k : ℕ) (s ds : List ℕ) (n : ℕ) → LeadsNumber (integer below) s → SpellsNumber (integer below) ds n → Spells (suc k) (s ++ ds) (Int (signed below n))
-integer-spelled true k s ds n e num = let P : List ℕ → Type 0 = λ w. Spells (suc k) (w ++ ds) (Int (signed true n)) in subst P (sym e) (negative k ds n num)
-integer-spelled false k s ds n e num = let P : List ℕ → Type 0 = λ w. Spells (suc k) (w ++ ds) (Int (signed false n)) in subst P (sym e) (positive k ds n num)
+pub integer-spelled : (below : Bool) (k : ℕ) (s ds : List ℕ) (n : ℕ) → LeadsNumber (integer below) s → SpellsNumber (integer below) ds n → Spells (suc k) (s ++ ds) (Int (with_sign below n))
+integer-spelled true k s ds n e num = let P : List ℕ → Type 0 = λ w. Spells (suc k) (w ++ ds) (Int (with_sign true n)) in subst P (sym e) (negative k ds n num)
+integer-spelled false k s ds n e num = let P : List ℕ → Type 0 = λ w. Spells (suc k) (w ++ ds) (Int (with_sign false n)) in subst P (sym e) (positive k ds n num)
 
 integer-no-small : (below : Bool) (s ds : List ℕ) (n : ℕ) → LeadsNumber (integer below) s → SpellsNumber (integer below) ds n → begins is_lowercase (s ++ ds) ≡ false
 integer-no-small true s ds n e num = ap (λ (w : List ℕ). begins is_lowercase (w ++ ds)) e ∙ minus-no-small
@@ -82,7 +82,7 @@ integer-no-small false s ds n e num = ap (λ (w : List ℕ). begins is_lowercase
 pub number-holds : (at : ℕ) (kind : Number) (n : ℕ) (os : List OpenBracket) (pre s ds : List ℕ) (b : ℕ) → at ≡ length pre → LeadsNumber kind s → At os pre (s ++ ds) → SpellsNumber kind ds n → is_digit b ≡ false
     → Holds (pre ++ b ∷ []) (next_after_number at kind n os b)
 number-holds at (integer below) n os pre s ds b len bef a num d =
-    unless-found-holds at os pre (s ++ ds) (Int (signed below n)) b a len (integer-spelled below a.k s ds n bef num) (λ rest. integer-ends (s ++ ds) b rest (integer-no-small below s ds n bef num) d)
+    unless-found-holds at os pre (s ++ ds) (Int (with_sign below n)) b a len (integer-spelled below a.k s ds n bef num) (λ rest. integer-ends (s ++ ds) b rest (integer-no-small below s ds n bef num) d)
 number-holds at pid n os pre s ds b len bef a num d =
     let Q : List ℕ → Type 0 = λ w. Closed (w ++ ds) in
     sign-holds at (46 ∷ 48 ∷ 62 ∷ []) (whole (Pid n)) os pre (s ++ ds) b len a

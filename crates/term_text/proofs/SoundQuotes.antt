@@ -6,7 +6,7 @@ use Rattle.ets_term.specs.declared.term.Term.TheVariants.{Atom, List as ListOf}
 use Rattle.term_text.specs.declared.fault.TextFault.TheVariants.{Unexpected, TooDeep, AtomTooLong}
 use Rattle.term_text.specs.declared.quote_form.QuoteForm.{QuoteForm}
 use Rattle.term_text.specs.declared.quote_form.QuoteForm.TheVariants as form
-use Rattle.term_text.specs.inside.Reader.{OpenBracket, quoted, escaped, Reading, reads_on, code, quote, unquoted, admits, next_quoted, next}
+use Rattle.term_text.specs.inside.Reader.{OpenBracket, quoted, escaped, Reading, reads_on, code, quote, after_quote, admits, next_in_quotes, next}
 use Rattle.term_text.specs.Faults.{AwaitsTerm, PastAtom, quoted_form, PastDepth, a_character}
 use Rattle.term_text.specs.Grammar.{SpellsQuoted, Spells, none, plain, escaped as escaped_form, quoted_atom, empty_string, string}
 use Rattle.term_text.proofs.Meaning.{Admitted, At, Holds, Lead, QuoteStarts, at_more, here-len, holds-if, more-len, noticed}
@@ -24,17 +24,17 @@ string-spelled k m body [] sp e ok = let P : List ℕ → Type 0 = λ w. Spells 
 string-spelled zero m body (c ∷ cs) sp e ok = let few = ok (omega arith) in absurd (omega (arith, few, e))
 string-spelled (suc j) m body (c ∷ cs) sp e ok = string j body (c ∷ cs) sp (omega arith)
 
-pub unquoted-holds : (n : ℕ) (q : QuoteForm) (cs : List ℕ) (os : List OpenBracket) (pre s body : List ℕ) → n ≡ length pre → Lead q s → At os pre (s ++ (quote q ∷ (body ++ quote q ∷ []))) → SpellsQuoted (quote q) body cs → Admitted q (length cs) os
-    → Holds pre (unquoted n q cs os)
-unquoted-holds n (form.Atom start) cs os pre s body len lead a sp ok =
+pub after_quote-holds : (n : ℕ) (q : QuoteForm) (cs : List ℕ) (os : List OpenBracket) (pre s body : List ℕ) → n ≡ length pre → Lead q s → At os pre (s ++ (quote q ∷ (body ++ quote q ∷ []))) → SpellsQuoted (quote q) body cs → Admitted q (length cs) os
+    → Holds pre (after_quote n q cs os)
+after_quote-holds n (form.Atom start) cs os pre s body len lead a sp ok =
     let P : List ℕ → Type 0 = λ w. At os pre (w ++ (39 ∷ (body ++ 39 ∷ []))) in
     let b = subst P lead a in
     put-holds os pre (39 ∷ (body ++ 39 ∷ [])) (Atom cs) n b (quoted_atom b.k body cs sp ok) len (λ rest. quote-closed (body ++ 39 ∷ []) rest)
-unquoted-holds n form.String cs os pre s body len lead a sp ok =
+after_quote-holds n form.String cs os pre s body len lead a sp ok =
     let P : List ℕ → Type 0 = λ w. At os pre (w ++ (34 ∷ (body ++ 34 ∷ []))) in
     let b = subst P lead a in
     put-holds os pre (34 ∷ (body ++ 34 ∷ [])) (ListOf (map code cs)) n b (string-spelled b.k (length os) body cs sp (here-len (suc b.k) os b.p b.here) ok) len (λ rest. string-closed (body ++ 34 ∷ []) rest)
-unquoted-holds n form.Binary cs os pre s body len (blanks, e, bl) a sp ok =
+after_quote-holds n form.Binary cs os pre s body len (blanks, e, bl) a sp ok =
     record { meaning = (blanks, body, [], (let P : List ℕ → Type 0 = λ w. At os pre w in subst P (ap (λ (w : List ℕ). w ++ (34 ∷ (body ++ 34 ∷ []))) e) a), bl, sp, refl) }
 
 -- a further character in quotes
@@ -87,9 +87,9 @@ admitted-as : (q : QuoteForm) (m n : ℕ) (os : List OpenBracket) → m ≡ n �
 admitted-as q m n os e h = let P : ℕ → Type 0 = λ k. Admitted q k os in subst P e h
 
 pub quoted-holds : (at : ℕ) (q : QuoteForm) (cs : List ℕ) (os : List OpenBracket) (pre s body : List ℕ) (b : ℕ) → at ≡ length pre → Lead q s → (a : At os pre (s ++ (quote q ∷ body))) → SpellsQuoted (quote q) body cs → Admitted q (length cs) os → QuoteStarts q a.p
-    → Holds (pre ++ b ∷ []) (next_quoted at q cs os b)
+    → Holds (pre ++ b ∷ []) (next_in_quotes at q cs os b)
 quoted-holds at q cs os pre s body b len lead a sp ok starts = holds-if (b == quote q) _ _
-    (λ e. unquoted-holds (at + 1) q cs os (pre ++ b ∷ []) s body (more-len at pre b len) lead (quoted_at os pre s body (body ++ quote q ∷ []) q b a (ap (λ (x : ℕ). body ++ x ∷ []) (is-byte b (quote q) e))) sp ok)
+    (λ e. after_quote-holds (at + 1) q cs os (pre ++ b ∷ []) s body (more-len at pre b len) lead (quoted_at os pre s body (body ++ quote q ∷ []) q b a (ap (λ (x : ℕ). body ++ x ∷ []) (is-byte b (quote q) e))) sp ok)
     (λ e. holds-if (b == 92) _ _
     (λ f. let P : ℕ → Type 0 = λ c. is_character c ≡ true in
     admits-holds at q (length cs) os pre b (reads_on (escaped q cs) os) ok (refused q at pre b cs os s body a len lead sp ok starts (subst P (sym (is-byte b 92 f)) sign-is-character) e)

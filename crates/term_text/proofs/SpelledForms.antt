@@ -5,7 +5,7 @@ use Rattle.std.proofs.Math.Seq.{drop-append_seam, take-append_seam}
 use Rattle.std.specs.List.{list_all, prefix_len}
 use Rattle.ets_term.specs.declared.term.Term.{Term}
 use Rattle.ets_term.specs.declared.term.Term.TheVariants.{Atom}
-use Rattle.term_text.specs.inside.Parts.{counted}
+use Rattle.term_text.specs.inside.Parts.{after_digits}
 use Rattle.term_text.specs.Text.{is_digit, is_lowercase, is_name, begins_term, begins}
 use Rattle.term_text.specs.inside.Reader.{OpenBracket, Number, integer, whole, wants, digit, number, name, Reading, reads_on, put, expect, begin, read_from}
 use Rattle.term_text.specs.Grammar.{SpellsNumber, Ends}
@@ -60,7 +60,7 @@ no-name-ends s (b ∷ rest) h = (λ e. no-name-no-digit b h, λ e. h)
 
 -- a pid and an identifier
 pub framed-text : (at : ℕ) (kind : Number) (t : Term) (back s rest : List ℕ) (n : ℕ) (os : List OpenBracket) (fin : ℕ) → SpellsNumber kind s n → begins is_digit (back ++ rest) ≡ false
-    → ((m : ℕ) → counted m kind n os ≡ expect m back (whole t) os) → fin ≡ at + length (s ++ back)
+    → ((m : ℕ) → after_digits m kind n os ≡ expect m back (whole t) os) → fin ≡ at + length (s ++ back)
     → read_from at (reads_on (digit kind at) os) ((s ++ back) ++ rest) ≡ read_from fin (put os t fin) rest
 framed-text at kind t back s rest n os fin num stop is e =
     ap (λ (w : List ℕ). read_from at (reads_on (digit kind at) os) w) (append_assoc s back rest)

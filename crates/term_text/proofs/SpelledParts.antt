@@ -3,8 +3,8 @@ use Rattle.std.proofs.Common.{ℕ, ◌≡◌, refl, ap, sym, ◌∙◌, ◌+◌,
 use Rattle.std.proofs.lemmas.Bool.{false≢true, and_parts}
 use Rattle.std.proofs.Math.Seq.{drop-append_seam}
 use Rattle.std.specs.List.{list_all, prefix_len}
-use Rattle.term_text.specs.inside.Parts.{IgnoresBlanks, counted}
-use Rattle.term_text.specs.Text.{is_blank, is_digit, begins, spelled}
+use Rattle.term_text.specs.inside.Parts.{IgnoresBlanks, after_digits}
+use Rattle.term_text.specs.Text.{is_blank, is_digit, begins, value_of_digits}
 use Rattle.term_text.specs.inside.Reader.{OpenBracket, Number, Expect, digit, signs, Reading, reads_on, expect, take_byte, read_from}
 use Rattle.term_text.specs.Grammar.{AreBlanks, SpellsNumber}
 use Rattle.term_text.proofs.Offsets.{if-true, if-false, number-here, prefix-more}
@@ -16,24 +16,24 @@ prefix-all p [] [] h k = refl
 prefix-all p [] (b ∷ rest) h k = if-false _ _ _ k
 prefix-all p (c ∷ s) rest h k = let q = and_parts (p c) (list_all p s) h in prefix-more p c (s ++ rest) q.0 ∙ (let r = prefix-all p s rest q.1 k in omega (arith, r))
 
-spelled-all : (m : ℕ) (s rest : List ℕ) → list_all is_digit s ≡ true → begins is_digit rest ≡ false → spelled m (s ++ rest) ≡ spelled m s
-spelled-all m [] [] h k = refl
-spelled-all m [] (b ∷ rest) h k = if-false _ _ _ k
-spelled-all m (c ∷ s) rest h k = let q = and_parts (is_digit c) (list_all is_digit s) h in if-true _ _ _ q.0 ∙ spelled-all (m * 10 + (c - 48)) s rest q.1 k ∙ sym (if-true _ _ _ q.0)
+value_of_digits-all : (m : ℕ) (s rest : List ℕ) → list_all is_digit s ≡ true → begins is_digit rest ≡ false → value_of_digits m (s ++ rest) ≡ value_of_digits m s
+value_of_digits-all m [] [] h k = refl
+value_of_digits-all m [] (b ∷ rest) h k = if-false _ _ _ k
+value_of_digits-all m (c ∷ s) rest h k = let q = and_parts (is_digit c) (list_all is_digit s) h in if-true _ _ _ q.0 ∙ value_of_digits-all (m * 10 + (c - 48)) s rest q.1 k ∙ sym (if-true _ _ _ q.0)
 
 pub byte-taken : (at : ℕ) (s z : Reading) (b : ℕ) (bs : List ℕ) → take_byte at s b ≡ z → read_from at s (b ∷ bs) ≡ read_from (at + 1) z bs
 byte-taken at s z b bs h = ap (λ (x : Reading). read_from (at + 1) x bs) h
 
-counted-same : (kind : Number) (os : List OpenBracket) (m n v w : ℕ) (xs ys : List ℕ) → m ≡ n → v ≡ w → xs ≡ ys → read_from m (counted m kind v os) xs ≡ read_from n (counted n kind w os) ys
-counted-same kind os m n v w xs ys e f g = cc
+after_digits-same : (kind : Number) (os : List OpenBracket) (m n v w : ℕ) (xs ys : List ℕ) → m ≡ n → v ≡ w → xs ≡ ys → read_from m (after_digits m kind v os) xs ≡ read_from n (after_digits n kind w os) ys
+after_digits-same kind os m n v w xs ys e f g = cc
 
 pub number-text : (at start : ℕ) (kind : Number) (os : List OpenBracket) (s rest : List ℕ) (n fin : ℕ) → SpellsNumber kind s n → begins is_digit rest ≡ false → fin ≡ at + length s
-    → read_from at (reads_on (digit kind start) os) (s ++ rest) ≡ read_from fin (counted fin kind n os) rest
+    → read_from at (reads_on (digit kind start) os) (s ++ rest) ≡ read_from fin (after_digits fin kind n os) rest
 number-text at start kind os s rest n fin h k e =
     let c = prefix-all is_digit s rest h.each k in
-    let v : spelled 0 (s ++ rest) ≡ n = spelled-all 0 s rest h.each k ∙ h.value in
+    let v : value_of_digits 0 (s ++ rest) ≡ n = value_of_digits-all 0 s rest h.each k ∙ h.value in
     number-here at start kind os (s ++ rest) (begins-more is_digit s rest h.some) (omega (arith, v, h.fits))
-    ∙ counted-same kind os _ fin _ n _ rest (omega (arith, c, e)) v (ap (λ (m : ℕ). drop m (s ++ rest)) c ∙ drop-append_seam s rest)
+    ∙ after_digits-same kind os _ fin _ n _ rest (omega (arith, c, e)) v (ap (λ (m : ℕ). drop m (s ++ rest)) c ∙ drop-append_seam s rest)
 
 pub blanks-stay : (at : ℕ) (s : Reading) (bs rest : List ℕ) → IgnoresBlanks s → AreBlanks bs → read_from at s (bs ++ rest) ≡ read_from (at + length bs) s rest
 blanks-stay at s [] rest i h = ap (λ (m : ℕ). read_from m s rest) (omega arith)

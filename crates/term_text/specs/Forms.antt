@@ -17,20 +17,20 @@ pub record OpenBracket : Type 0 where
   pub terms : List Term
 
 -- the integer with this magnitude, negative if the first argument is true
-abbrev pub signed : Bool → ℕ → ℤ
-signed true zero = pos 0
-signed true (suc n) = negsuc n
-signed false n = pos n
+abbrev pub with_sign : Bool → ℕ → ℤ
+with_sign true zero = pos 0
+with_sign true (suc n) = negsuc n
+with_sign false n = pos n
 
 -- the magnitude of an integer
-abbrev pub size : ℤ → ℕ
-size (pos n) = n
-size (negsuc n) = n + 1
+abbrev pub magnitude : ℤ → ℕ
+magnitude (pos n) = n
+magnitude (negsuc n) = n + 1
 
 -- the greatest magnitude of a number of this kind
 abbrev pub max_magnitude : Number → ℕ
-max_magnitude (integer true) = size least
-max_magnitude (integer false) = size greatest
+max_magnitude (integer true) = magnitude least
+max_magnitude (integer false) = magnitude greatest
 max_magnitude pid = 2 ^ 32 - 1
 max_magnitude identifier = 2 ^ 32 - 1
 max_magnitude (byte bs) = 2 ^ 8 - 1

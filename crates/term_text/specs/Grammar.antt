@@ -5,8 +5,8 @@ use Rattle.ets_term.specs.Character.{is_character, max_characters}
 use Rattle.ets_term.specs.declared.term.Term.{Term}
 use Rattle.ets_term.specs.declared.term.Term.TheVariants.{Int, Atom, Pid, Tid, Binary, List as ListOf}
 use Rattle.ets_term.specs.Depth.{max_depth}
-use Rattle.term_text.specs.Forms.{Number, integer, pid, identifier, byte, signed, max_magnitude, code, bracket}
-use Rattle.term_text.specs.Text.{apostrophe, quotation_mark, is_blank, is_digit, is_lowercase, is_name, begins, spelled}
+use Rattle.term_text.specs.Forms.{Number, integer, pid, identifier, byte, with_sign, max_magnitude, code, bracket}
+use Rattle.term_text.specs.Text.{apostrophe, quotation_mark, is_blank, is_digit, is_lowercase, is_name, begins, value_of_digits}
 
 -- all bytes are blank
 abbrev pub AreBlanks : List ℕ → Type 0
@@ -17,7 +17,7 @@ AreBlanks s = IsTrue (list_all is_blank s)
 pub record SpellsNumber (kind : Number) (s : List ℕ) (n : ℕ) : Type 0 where
   pub some : IsTrue (begins is_digit s)
   pub each : IsTrue (list_all is_digit s)
-  pub value : spelled 0 s ≡ n
+  pub value : value_of_digits 0 s ≡ n
   pub fits : n ≤ max_magnitude kind
 
 -- the text between two quotes, and the characters that it writes: a `\` comes before each quote and each `\`
@@ -48,9 +48,10 @@ closing_sign square = if square then 93 else 125
 mutual
   -- a text is a spelling of a term, which has at most k levels
   pub data Spells : ℕ → List ℕ → Term → Type 0 where
-    positive : (k : ℕ) (s : List ℕ) (n : ℕ) → SpellsNumber (integer false) s n → Spells (suc k) s (Int (signed false n))
+    positive : (k : ℕ) (s : List ℕ) (n : ℕ) → SpellsNumber (integer false) s n
+        → Spells (suc k) s (Int (with_sign false n))
     negative : (k : ℕ) (s : List ℕ) (n : ℕ) → SpellsNumber (integer true) s n
-        → Spells (suc k) (codes "-" ++ s) (Int (signed true n))
+        → Spells (suc k) (codes "-" ++ s) (Int (with_sign true n))
     plain_atom : (k : ℕ) (s : List ℕ) → IsTrue (begins is_lowercase s) → IsTrue (list_all is_name s)
         → length s ≤ max_characters → Spells (suc k) s (Atom s)
     quoted_atom : (k : ℕ) (s cs : List ℕ) → SpellsQuoted apostrophe s cs → length cs ≤ max_characters

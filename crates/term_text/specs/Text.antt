@@ -36,9 +36,9 @@ begins_term b =
     || is_digit b || is_lowercase b
 
 -- the decimal number of the digits at the start of a text, if n is the number of the digits before them
-abbrev pub spelled : ℕ → List ℕ → ℕ
-spelled n [] = n
-spelled n (b ∷ bs) = if is_digit b then spelled (n * 10 + (b - 48)) bs else n
+abbrev pub value_of_digits : ℕ → List ℕ → ℕ
+value_of_digits n [] = n
+value_of_digits n (b ∷ bs) = if is_digit b then value_of_digits (n * 10 + (b - 48)) bs else n
 
 -- whether there is a first byte and it passes the test
 abbrev pub begins : (ℕ → Bool) → List ℕ → Bool

@@ -1,6 +1,6 @@
 //! Reads integers.
 ghost use Rattle.std.specs.Prelude.{◌≡◌, ◌≤◌, List, length, IfOk};
-ghost use Rattle.term_text.specs.inside.Reader.{OpenBracket, integer, digit, reads_on, signed, max_magnitude};
+ghost use Rattle.term_text.specs.inside.Reader.{OpenBracket, integer, digit, reads_on, with_sign, max_magnitude};
 ghost use Rattle.term_text.specs.inside.Parts.{EndsWithin, ReadsTerm};
 
 use crate::fault::TextFault;
@@ -16,10 +16,10 @@ fn max_magnitude(negative: bool) -> Magnitude
 }
 
 /// Returns the integer of this magnitude and sign.
-#[tactic(auto, unfolding(crate::specs::Forms::signed))]
+#[tactic(auto, unfolding(crate::specs::Forms::with_sign))]
 fn signed_value(negative: bool, n: Magnitude) -> Integer
     requires { n ≤ max_magnitude (integer negative) }
-    ensures { result ≡ signed negative n }
+    ensures { result ≡ with_sign negative n }
 {
     if !negative {
         n as Integer

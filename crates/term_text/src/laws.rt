@@ -19,7 +19,7 @@ pub fn faults_are_noticed_first()
 
 /// The reader finds a term if and only if the text begins with blanks and a spelling of it. The term has at most 128
 /// levels.
-pub fn found_exactly_where_spelled()
+pub fn reader_finds_spelled_terms()
     ensures spelled { (text : List ℕ) (t : Term) (n : ℕ) → reading text ≡ found t n → Front text t n }
     ensures found { (text : List ℕ) (t : Term) (n : ℕ) → Front text t n → reading text ≡ found t n }
 {}

@@ -1,7 +1,7 @@
 //! Reads decimal numbers and fixed characters.
 ghost use Rattle.std.specs.Prelude.{◌≡◌, ◌+◌, ◌-◌, ◌*◌, ◌≤◌, ◌<◌, ℕ, List, true, false, get_or, length, drop, IfOk, OnErr, MatchOption};
 ghost use Rattle.term_text.specs.inside.Parts.{digits_end, ReadsNumber, ReadsSigns};
-ghost use Rattle.term_text.specs.Text.{is_digit, spelled};
+ghost use Rattle.term_text.specs.Text.{is_digit, value_of_digits};
 
 use crate::bytes::is_digit_byte;
 use crate::fault::TextFault;
@@ -38,7 +38,7 @@ fn with_digit(n: Magnitude, digit: Magnitude, limit: Magnitude) -> Option<Magnit
 /// Returns the number and the offset after the digits that were read.
 fn short_digits_at(text: &[u8], at: usize) -> (u64, usize)
     requires { at ≤ length text.now }
-    ensures value { spelled result.0 (drop result.1 text.now) ≡ spelled 0 (drop at text.now) }
+    ensures value { value_of_digits result.0 (drop result.1 text.now) ≡ value_of_digits 0 (drop at text.now) }
     ensures end { digits_end text.now result.1 ≡ digits_end text.now at }
     ensures within { result.1 ≤ length text.now }
 {
@@ -57,8 +57,8 @@ fn short_digits_at(text: &[u8], at: usize) -> (u64, usize)
 pub fn digits_at(text: &[u8], at: usize, limit: Magnitude) -> Option<(Magnitude, usize)>
     requires within { at ≤ length text.now }
     requires limit_in { 9 ≤ limit }
-    ensures { MatchOption result (limit < spelled 0 (drop at text.now)) (λ x.
-        (x.0 ≡ spelled 0 (drop at text.now)) × (x.0 ≤ limit)
+    ensures { MatchOption result (limit < value_of_digits 0 (drop at text.now)) (λ x.
+        (x.0 ≡ value_of_digits 0 (drop at text.now)) × (x.0 ≤ limit)
         × (x.1 ≡ digits_end text.now at) × (x.1 ≤ length text.now)) }
 {
     let (short, end) = short_digits_at(text, at);

@@ -1,8 +1,8 @@
 //! The public functions that print a term: into a string, into bytes in memory, or into a writer. `printer` makes the
 //! text; here a print into memory that fails is undone.
 ghost use Rattle.std.specs.Prelude.{◌≡◌, ◌++◌, OnOk, OnErr, string_bytes};
-ghost use Rattle.term_text.specs.Printed.{printed};
-ghost use Rattle.term_text.specs.Sent.{AppendsOrFront};
+ghost use Rattle.term_text.specs.Printed.{text_of_term};
+ghost use Rattle.term_text.specs.Sent.{AppendsOrPrefix};
 
 use crate::printer::append;
 use crate::sink::{BytesSink, StringSink, WriteFault};
@@ -13,7 +13,7 @@ use std::mem;
 
 /// Appends the text of a term to the string. If memory runs out, the string is unchanged.
 pub fn print_term(alloc: Global, term: &Term, out: &mut String) -> Result<(), AllocError>
-    ensures ok { OnOk result (string_bytes out.new ≡ string_bytes out.old ++ printed term.now) }
+    ensures ok { OnOk result (string_bytes out.new ≡ string_bytes out.old ++ text_of_term term.now) }
     ensures err { OnErr result (string_bytes out.new ≡ string_bytes out.old) }
 {
     let len = out.len();
@@ -31,7 +31,7 @@ pub fn print_term(alloc: Global, term: &Term, out: &mut String) -> Result<(), Al
 
 /// Appends the text of a term to the bytes. If memory runs out, the bytes are unchanged.
 pub fn append_term(term: &Term, out: &mut Vec<u8>) -> Result<(), AllocError>
-    ensures ok { OnOk result (out.new.items ≡ out.old.items ++ printed term.now) }
+    ensures ok { OnOk result (out.new.items ≡ out.old.items ++ text_of_term term.now) }
     ensures err { OnErr result (out.new.items ≡ out.old.items) }
 {
     let len = out.len();
@@ -52,7 +52,7 @@ pub fn append_term(term: &Term, out: &mut Vec<u8>) -> Result<(), AllocError>
 
 /// Writes the text of a term into a writer. Allocates nothing. If the writer fails, it has taken a prefix of the text.
 pub fn write_term<W: Write>(term: &Term, out: &mut W) -> Result<(), WriteFault>
-    ensures { AppendsOrFront (W.contents out.old) (W.contents out.new) (printed term.now) result }
+    ensures { AppendsOrPrefix (W.contents out.old) (W.contents out.new) (text_of_term term.now) result }
 {
     append(term, out)
 }

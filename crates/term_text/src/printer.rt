@@ -4,8 +4,8 @@ ghost use Rattle.std.specs.Prelude.{◌≡◌, ◌++◌, ◌-◌, ◌≤◌, ◌
 ghost use Rattle.std.specs.Fmt.{signed_decimal};
 ghost use Rattle.std.specs.List.{list_all, flat_map};
 ghost use Rattle.ets_term.specs.Character.{is_character};
-ghost use Rattle.term_text.specs.Printed.{printed, comma_separated, is_plain, escaped, atom_text, comma_if};
-ghost use Rattle.term_text.specs.Sent.{AppendsOrFront};
+ghost use Rattle.term_text.specs.Printed.{text_of_term, join_with_commas, is_plain, escape, atom_text, comma_if};
+ghost use Rattle.term_text.specs.Sent.{AppendsOrPrefix};
 ghost use Rattle.term_text.specs.Text.{is_name};
 
 use crate::bytes::{is_lowercase_byte, is_name_byte};
@@ -16,7 +16,7 @@ use itoa::Buffer;
 /// Appends the text of a term to a sink.
 #[cycle(append)]
 pub(crate) fn append<S: Sink>(term: &Term, out: &mut S) -> Result<(), S::Fault>
-    ensures { AppendsOrFront (S.contents out.old) (S.contents out.new) (printed term.now) result }
+    ensures { AppendsOrPrefix (S.contents out.old) (S.contents out.new) (text_of_term term.now) result }
 {
     match term {
         Term::Int(n) => append_integer(*n, out),
@@ -37,8 +37,8 @@ fn append_items<S: Sink>(
     back: &str,
     out: &mut S,
 ) -> Result<(), S::Fault>
-    ensures { AppendsOrFront (S.contents out.old) (S.contents out.new)
-        (front.now ++ (comma_separated false (map printed items.now) ++ back.now)) result }
+    ensures { AppendsOrPrefix (S.contents out.old) (S.contents out.new)
+        (front.now ++ (join_with_commas false (map text_of_term items.now) ++ back.now)) result }
 {
     out.write_str(front)?;
     let mut later = false;
@@ -52,8 +52,8 @@ fn append_items<S: Sink>(
 
 /// Appends bytes in decimal, separated by commas, between the texts `front` and `back`.
 fn append_bytes<S: Sink>(front: &str, bytes: &[u8], back: &str, out: &mut S) -> Result<(), S::Fault>
-    ensures { AppendsOrFront (S.contents out.old) (S.contents out.new)
-        (front.now ++ (comma_separated false (map decimal bytes.now) ++ back.now)) result }
+    ensures { AppendsOrPrefix (S.contents out.old) (S.contents out.new)
+        (front.now ++ (join_with_commas false (map decimal bytes.now) ++ back.now)) result }
 {
     out.write_str(front)?;
     let mut later = false;
@@ -67,14 +67,14 @@ fn append_bytes<S: Sink>(front: &str, bytes: &[u8], back: &str, out: &mut S) -> 
 
 /// Appends a comma before an item that has an earlier one: if `later` is true.
 fn append_comma<S: Sink>(later: bool, out: &mut S) -> Result<(), S::Fault>
-    ensures { AppendsOrFront (S.contents out.old) (S.contents out.new) (comma_if later) result }
+    ensures { AppendsOrPrefix (S.contents out.old) (S.contents out.new) (comma_if later) result }
 {
     if later { out.write_str(",") } else { Ok(()) }
 }
 
 /// Appends a number in decimal, between the texts `front` and `back`.
 fn append_number<S: Sink>(front: &str, n: u32, back: &str, out: &mut S) -> Result<(), S::Fault>
-    ensures { AppendsOrFront (S.contents out.old) (S.contents out.new) (front.now ++ (decimal n ++ back.now)) result }
+    ensures { AppendsOrPrefix (S.contents out.old) (S.contents out.new) (front.now ++ (decimal n ++ back.now)) result }
 {
     out.write_str(front)?;
     append_decimal(n, out)?;
@@ -83,7 +83,7 @@ fn append_number<S: Sink>(front: &str, n: u32, back: &str, out: &mut S) -> Resul
 
 /// Appends a number in decimal.
 fn append_decimal<S: Sink>(n: u32, out: &mut S) -> Result<(), S::Fault>
-    ensures { AppendsOrFront (S.contents out.old) (S.contents out.new) (decimal n) result }
+    ensures { AppendsOrPrefix (S.contents out.old) (S.contents out.new) (decimal n) result }
 {
     let mut buffer = Buffer::new();
     out.write_str(buffer.format(n))
@@ -91,7 +91,7 @@ fn append_decimal<S: Sink>(n: u32, out: &mut S) -> Result<(), S::Fault>
 
 /// Appends an integer in decimal.
 fn append_integer<S: Sink>(n: Integer, out: &mut S) -> Result<(), S::Fault>
-    ensures { AppendsOrFront (S.contents out.old) (S.contents out.new) (signed_decimal n) result }
+    ensures { AppendsOrPrefix (S.contents out.old) (S.contents out.new) (signed_decimal n) result }
 {
     let mut buffer = Buffer::new();
     out.write_str(buffer.format(n))
@@ -99,7 +99,7 @@ fn append_integer<S: Sink>(n: Integer, out: &mut S) -> Result<(), S::Fault>
 
 /// Appends the text of an atom.
 fn append_atom<S: Sink>(name: &Atom, out: &mut S) -> Result<(), S::Fault>
-    ensures { AppendsOrFront (S.contents out.old) (S.contents out.new) (atom_text name.now) result }
+    ensures { AppendsOrPrefix (S.contents out.old) (S.contents out.new) (atom_text name.now) result }
 {
     let text = name.text();
     if is_plain_text(text.as_bytes()) {
@@ -128,8 +128,8 @@ fn are_name_bytes(bytes: &[u8]) -> bool
 /// Appends characters between single quotes, as the text of an atom.
 fn append_quoted<S: Sink>(text: &str, out: &mut S) -> Result<(), S::Fault>
     requires { list_all is_character text.now ≡ true }
-    ensures { AppendsOrFront (S.contents out.old) (S.contents out.new)
-        (codes "'" ++ (flat_map escaped text.now ++ codes "'")) result }
+    ensures { AppendsOrPrefix (S.contents out.old) (S.contents out.new)
+        (codes "'" ++ (flat_map escape text.now ++ codes "'")) result }
 {
     out.write_str("'")?;
     append_escaped(text, out)?;
@@ -139,7 +139,7 @@ fn append_quoted<S: Sink>(text: &str, out: &mut S) -> Result<(), S::Fault>
 /// Appends characters, with a `\` before each single quote and each `\`.
 fn append_escaped<S: Sink>(text: &str, out: &mut S) -> Result<(), S::Fault>
     requires { list_all is_character text.now ≡ true }
-    ensures { AppendsOrFront (S.contents out.old) (S.contents out.new) (flat_map escaped text.now) result }
+    ensures { AppendsOrPrefix (S.contents out.old) (S.contents out.new) (flat_map escape text.now) result }
 {
     let mut start = 0;
     for (i, b) in text.as_bytes().iter().enumerate() {
@@ -162,7 +162,7 @@ fn needs_escape(b: u8) -> bool
 fn append_piece<S: Sink>(text: &str, start: usize, end: usize, out: &mut S) -> Result<(), S::Fault>
     requires ascii { list_all is_character text.now ≡ true }
     requires within { (start ≤ end) × (end ≤ length text.now) }
-    ensures { AppendsOrFront (S.contents out.old) (S.contents out.new)
+    ensures { AppendsOrPrefix (S.contents out.old) (S.contents out.new)
         (take (end - start) (drop start text.now) ++ 92 ∷ []) result }
 {
     append_slice(text, start, end, out)?;
@@ -174,7 +174,7 @@ fn append_piece<S: Sink>(text: &str, start: usize, end: usize, out: &mut S) -> R
 fn append_slice<S: Sink>(text: &str, start: usize, end: usize, out: &mut S) -> Result<(), S::Fault>
     requires ascii { list_all is_character text.now ≡ true }
     requires within { (start ≤ end) × (end ≤ length text.now) }
-    ensures { AppendsOrFront (S.contents out.old) (S.contents out.new)
+    ensures { AppendsOrPrefix (S.contents out.old) (S.contents out.new)
         (take (end - start) (drop start text.now)) result }
 {
     out.write_str(&text[start..end])

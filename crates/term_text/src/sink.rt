@@ -1,6 +1,6 @@
 //! Sinks take a text piece by piece: a string, bytes in memory, or a writer.
 ghost use Rattle.std.specs.Prelude.{◌≡◌, Option, List, ℕ};
-ghost use Rattle.term_text.specs.Sent.{AppendsOrFront};
+ghost use Rattle.term_text.specs.Sent.{AppendsOrPrefix};
 
 use std::alloc::AllocError;
 use std::io::{Error, Write};
@@ -13,7 +13,7 @@ pub(crate) trait Sink {
 
     /// Appends a piece. If this fails, a prefix of the piece is appended.
     fn write_str(&mut self, piece: &str) -> Result<(), Self::Fault>
-        ensures { AppendsOrFront (contents self.old) (contents self.new) piece.now result };
+        ensures { AppendsOrPrefix (contents self.old) (contents self.new) piece.now result };
 }
 
 /// A sink that appends to a string.
@@ -74,7 +74,7 @@ impl<W: Write> Sink for W {
 
 /// Writes all bytes into a writer. If it fails, a prefix of them is written.
 pub fn write_bytes<W: Write>(bytes: &[u8], out: &mut W) -> Result<(), WriteFault>
-    ensures { AppendsOrFront (W.contents out.old) (W.contents out.new) bytes.now result }
+    ensures { AppendsOrPrefix (W.contents out.old) (W.contents out.new) bytes.now result }
 {
     let mut done = 0;
     while done < bytes.len() {

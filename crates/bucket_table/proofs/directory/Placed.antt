@@ -18,11 +18,11 @@ use Rattle.bucket_table.proofs.list.Content.{fresh-apart, with-here, with-on}
 -- ---- each node
 
 module _ (hash_of : Term → ℕ) (directory : List (Option ℕ)) where
-  pub placed-put : (x : Cell) (cs : List Cell) → HasSplitKey hash_of directory x.at x.key x.item → HaveSplitKeys hash_of directory cs → HaveSplitKeys hash_of directory (put_cell x cs)
+  pub placed-put : (x : Cell) (cs : List Cell) → HasSplitKey hash_of directory x.at x.split_key x.item → HaveSplitKeys hash_of directory cs → HaveSplitKeys hash_of directory (put_cell x cs)
   placed-put x [] h p = (h, tt)
   placed-put x (c ∷ cs) h p =
       let P : List Cell → Type 0 = λ zs. HaveSplitKeys hash_of directory zs in
-      elim (cases_lt x.key c.key) [
+      elim (cases_lt x.split_key c.split_key) [
         | inl past ↦ subst P (sym (put-past x c cs past)) (h, p)
         | inr on ↦ subst P (sym (put-on x c cs on)) (p.0, placed-put x cs h p.1)
       ]
@@ -45,7 +45,7 @@ module _ (hash_of : Term → ℕ) (directory : List (Option ℕ)) where
   placed-with at w (c ∷ cs) p =
       let P : List Cell → Type 0 = λ zs. HaveSplitKeys hash_of directory zs in
       elim (cases_eq c.at at) [
-        | inl here ↦ subst P (sym (with-here at w c cs here)) (placed-item c.at c.key c.item w p.0, placed-with at w cs p.1)
+        | inl here ↦ subst P (sym (with-here at w c cs here)) (placed-item c.at c.split_key c.item w p.0, placed-with at w cs p.1)
         | inr other ↦ subst P (sym (with-on at w c cs other)) (p.0, placed-with at w cs p.1)
       ]
 
@@ -60,7 +60,7 @@ module _ (hash_of : Term → ℕ) (ds es : List (Option ℕ)) (part : IsPartOf d
 
   pub placed-more : (cs : List Cell) → HaveSplitKeys hash_of ds cs → HaveSplitKeys hash_of es cs
   placed-more [] p = p
-  placed-more (c ∷ cs) p = (known-more c.at c.key c.item p.0, placed-more cs p.1)
+  placed-more (c ∷ cs) p = (known-more c.at c.split_key c.item p.0, placed-more cs p.1)
 
 -- ---- each dummy
 
@@ -137,7 +137,7 @@ parity-of hash_of directory at key (Some item) k = (λ _. refl, λ n. absurd (n 
 
 pub placed-parity : (hash_of : Term → ℕ) (directory : List (Option ℕ)) (cs : List Cell) → HaveSplitKeys hash_of directory cs → HaveParity cs
 placed-parity hash_of directory [] p = tt
-placed-parity hash_of directory (c ∷ cs) p = let q = parity-of hash_of directory c.at c.key c.item p.0 in (q.0, q.1, placed-parity hash_of directory cs p.1)
+placed-parity hash_of directory (c ∷ cs) p = let q = parity-of hash_of directory c.at c.split_key c.item p.0 in (q.0, q.1, placed-parity hash_of directory cs p.1)
 
 pub parity-from : (at : ℕ) (cs : List Cell) → HaveParity cs → HaveParity (from at cs)
 parity-from at [] h = h

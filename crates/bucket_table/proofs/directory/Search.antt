@@ -9,20 +9,20 @@ use Rattle.ets_term.specs.Order.{same}
 use Rattle.split_key.specs.Keys.{key_of_item, key_of_dummy}
 use Rattle.node_list.specs.declared.node.Item.{Item}
 use Rattle.node_list.specs.Cells.{Cell, Sorted, StartsFrom, new_cell}
-use Rattle.node_list.specs.Places.{from, IsFresh, HasDistinctPlaces, IsPlaceOf, HasKeyAtMost}
-use Rattle.node_list.specs.Search.{place_of, passed}
+use Rattle.node_list.specs.Places.{from, IsFresh, HasDistinctPlaces, IsPlaceOf, HasSplitKeyAtMost}
+use Rattle.node_list.specs.Search.{place_of, visited_cells}
 use Rattle.node_list.specs.Ticks.{ticks}
 use Rattle.node_list.proofs.CellLaws.{sorted-from, search-on}
 use Rattle.node_list.proofs.CallerLaws.{is_item_below, HasOnlyItemsBelow, length-passed, place_of-from}
 use Rattle.bucket_table.specs.inside.Nodes.{slots_of}
 use Rattle.bucket_table.specs.inside.Directory.{HasSplitKey, HaveSplitKeys, IsInDirectory, DummiesAreListed, DirectoryInvariant, IsStartOf}
-use Rattle.bucket_table.specs.Buckets.{hash_keys, bucket_keys, HasLooked}
+use Rattle.bucket_table.specs.Visits.{hash_keys, bucket_keys, HasLooked}
 use Rattle.bucket_table.proofs.directory.SplitKeys.{bucket_width, IsItemOf, item-of, bucket-of-key, dummy-alone}
 use Rattle.bucket_table.proofs.list.Content.{item-cases, is_it-no, found, absent}
 use Rattle.bucket_table.specs.inside.Search.{IsFound}
 use Rattle.bucket_table.proofs.list.Passed.{count-dummy, count-from, placed-from, apart-from, hash-passed, hash-from, below-bucket}
 
-pub start-is_place : (directory : List (Option ℕ)) (bucket at key : ℕ) (cs : List Cell) → DummiesAreListed directory cs → IsStartOf directory bucket at → key_of_dummy bucket ≤ key → HasKeyAtMost key at cs
+pub start-is_place : (directory : List (Option ℕ)) (bucket at key : ℕ) (cs : List Cell) → DummiesAreListed directory cs → IsStartOf directory bucket at → key_of_dummy bucket ≤ key → HasSplitKeyAtMost key at cs
 start-is_place directory bucket at key cs h s low =
     let d = h s.nearest at s.entry in
     let before : key_of_dummy s.nearest ≤ key_of_dummy bucket = s.before in
@@ -33,7 +33,7 @@ start-is directory bucket at cs h s =
     let d = h s.nearest at s.entry in
     record { cell = new_cell at (key_of_dummy s.nearest) None; later = d.later; is = d.is }
 
-starts-later : (low : ℕ) (c : Cell) (cs : List Cell) → low ≤ c.key → StartsFrom c.key cs → StartsFrom low cs
+starts-later : (low : ℕ) (c : Cell) (cs : List Cell) → low ≤ c.split_key → StartsFrom c.split_key cs → StartsFrom low cs
 starts-later low c [] h s = tt
 starts-later low c (d ∷ ds) h s = omega (arith, h, s)
 
@@ -53,8 +53,8 @@ items-below hash_of directory bucket at low high e only (c ∷ cs) f s o p =
       λ less.
           elim (item-cases c.item) [
             | inl none ↦
-                let P : Option Item → Type 0 = λ z. HasSplitKey hash_of directory c.at c.key z in
-                let k : IsInDirectory directory c.at c.key = subst P none p.0 in
+                let P : Option Item → Type 0 = λ z. HasSplitKey hash_of directory c.at c.split_key z in
+                let k : IsInDirectory directory c.at c.split_key = subst P none p.0 in
                 let L : ℕ → Type 0 = λ z. low ≤ z in
                 let H : ℕ → Type 0 = λ z. z < high in
                 let b : k.bucket ≡ bucket = only k.bucket k.below (subst L k.is s) (subst H k.is less) in
@@ -107,20 +107,20 @@ module _ (hash_of : Term → ℕ) (directory : List (Option ℕ)) (cs : List Cel
           | inr some ↦ let f = search-found some.0 some.1 in absurd (cc (f.objects, h))
         ]
 
-    first-passed : length (passed key term (from start cs)) ≡ length (passed key term (i.listed s.nearest start s.entry).later) + 1
+    first-passed : length (visited_cells key term (from start cs)) ≡ length (visited_cells key term (i.listed s.nearest start s.entry).later) + 1
     first-passed =
         let d = i.listed s.nearest start s.entry in
-        let low : first.key ≤ key = (let st : key_of_dummy s.nearest < key = strict in omega arith) in
-        ap (λ (zs : List Cell). length (passed key term zs)) d.is ∙ (search-on key term first d.later low (is_it-no key term first refl)).passed
+        let low : first.split_key ≤ key = (let st : key_of_dummy s.nearest < key = strict in omega arith) in
+        ap (λ (zs : List Cell). length (visited_cells key term zs)) d.is ∙ (search-on key term first d.later low (is_it-no key term first refl)).passed
 
-    all-passed : lookup (same term) (slots_of cs) ≡ None → hash_keys hash_of (hash_of term) (slots_of cs) ≤ length (passed key term (from start cs))
+    all-passed : lookup (same term) (slots_of cs) ≡ None → hash_keys hash_of (hash_of term) (slots_of cs) ≤ length (visited_cells key term (from start cs))
     all-passed h =
         let d = i.listed s.nearest start s.entry in
         let n = hash-from hash_of directory key (hash_of term) refl start cs first d.later o i.placed d.is strict in
         let m = hash-passed hash_of directory key (hash_of term) refl term (from start cs) (sorted-from start cs o) (placed-from hash_of directory start cs i.placed) (none-found h) in
         omega (arith, n, m)
 
-    few-passed : s.nearest ≡ bucket → length (passed key term (from start cs)) ≤ bucket_keys hash_of (length directory) bucket (slots_of cs) + 2
+    few-passed : s.nearest ≡ bucket → length (visited_cells key term (from start cs)) ≤ bucket_keys hash_of (length directory) bucket (slots_of cs) + 2
     few-passed near =
         let d = i.listed s.nearest start s.entry in
         let n = length directory in
@@ -144,7 +144,7 @@ module _ (hash_of : Term → ℕ) (directory : List (Option ℕ)) (cs : List Cel
         λ b below l h. (let Q : ℕ → Type 0 = λ z. b < z in dummy-alone i.doublings (32 - i.doublings) bucket b full within (subst Q i.size below) l h) in
         let items : HasOnlyItemsBelow (key_of_dummy bucket + bucket_width (2 ^ i.doublings)) d.later =
         items-below hash_of directory bucket start (key_of_dummy bucket) (key_of_dummy bucket + bucket_width (2 ^ i.doublings)) (subst E near s.entry) alone d.later ap'.0 starts so.1 pl.1 in
-        let most : length (passed key term d.later) ≤ count_by (is_item_below (key_of_dummy bucket + bucket_width (2 ^ i.doublings))) d.later + 1 =
+        let most : length (visited_cells key term d.later) ≤ count_by (is_item_below (key_of_dummy bucket + bucket_width (2 ^ i.doublings))) d.later + 1 =
         length-passed key term (key_of_dummy bucket + bucket_width (2 ^ i.doublings)) d.later so.1 in-bucket.high items in
         let only : (h : ℕ) → key_of_dummy bucket ≤ key_of_item h → key_of_item h < key_of_dummy bucket + bucket_width (2 ^ i.doublings) → h % length directory ≡ bucket =
         λ h l u. ap (λ (z : ℕ). h % z) i.size ∙ bucket-of-key i.doublings (32 - i.doublings) h bucket full within l u in
@@ -155,15 +155,15 @@ module _ (hash_of : Term → ℕ) (directory : List (Option ℕ)) (cs : List Cel
         let dummy = count-dummy (λ t. nat_eq (hash_of t.0 % length directory) bucket) first d.later refl in
         omega (arith, first-passed, most, mine, part, same', dummy)
 
-    pub looked : (old new : ℕ) → new ≡ ticks (length (passed key term (from start cs))) old → HasLooked hash_of (slots_of cs) (map is_some directory) term old new
+    pub looked : (old new : ℕ) → new ≡ ticks (length (visited_cells key term (from start cs))) old → HasLooked hash_of (slots_of cs) (map is_some directory) term old new
     looked old new t =
         let len : length (map is_some directory) ≡ length directory = length-map directory is_some in
         let ready : get_or (map is_some directory) bucket false ≡ is_some (get_or directory bucket None) = get_or-map is_some directory bucket None in
-        let P : ℕ → Type 0 = λ n. get_or (map is_some directory) (hash_of term % n) false ≡ true → length (passed key term (from start cs)) ≤ bucket_keys hash_of n (hash_of term % n) (slots_of cs) + 2 in
-        let Q : ℕ → Type 0 = λ b. get_or (map is_some directory) b false ≡ true → length (passed key term (from start cs)) ≤ bucket_keys hash_of (length directory) b (slots_of cs) + 2 in
+        let P : ℕ → Type 0 = λ n. get_or (map is_some directory) (hash_of term % n) false ≡ true → length (visited_cells key term (from start cs)) ≤ bucket_keys hash_of n (hash_of term % n) (slots_of cs) + 2 in
+        let Q : ℕ → Type 0 = λ b. get_or (map is_some directory) b false ≡ true → length (visited_cells key term (from start cs)) ≤ bucket_keys hash_of (length directory) b (slots_of cs) + 2 in
         let bound = λ (h : get_or (map is_some directory) bucket false ≡ true). few-passed (s.own (sym ready ∙ h)) in
         record {
-          nodes = length (passed key term (from start cs));
+          nodes = length (visited_cells key term (from start cs));
           ticked = t;
           present = λ h. omega (arith, first-passed);
           absent = all-passed;

@@ -92,9 +92,9 @@ hints-without width current after hint gone interval old new i h a is next succe
     ap (first_in width f) is
     ∙ elim (succeeded f first e) [
       | inl stays ↦
-          elim (cases_eq (i.cell.key / width) f) [
+          elim (cases_eq (i.cell.split_key / width) f) [
             | inl same' ↦ behind-gone width f gone old i.cell i.later first i.is (is_in-yes width f i.cell i.item same' i.has) (stays.1 (sym same' ∙ i.inside)) (h f first stays.0)
-            | inr out ↦ first-without-other width f gone old i.cell i.later i.is (out-in (i.cell.key / width) f i.cell.item out) ∙ h f first stays.0
+            | inr out ↦ first-without-other width f gone old i.cell i.later i.is (out-in (i.cell.split_key / width) f i.cell.item out) ∙ h f first stays.0
           ]
       | inr gone_first ↦
           let was : first_in width interval old ≡ Some gone = h interval (Some gone) gone_first.1 in

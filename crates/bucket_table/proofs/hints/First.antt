@@ -30,7 +30,7 @@ module _ (width f : ℕ) where
   pub first-put-other : (x : Cell) (cs : List Cell) → is_in width f x ≡ false → first_in width f (put_cell x cs) ≡ first_in width f cs
   first-put-other x [] h = first-on x [] h
   first-put-other x (c ∷ cs) h =
-      elim (cases_lt x.key c.key) [
+      elim (cases_lt x.split_key c.split_key) [
         | inl past ↦ ap (first_in width f) (put-past x c cs past) ∙ first-on x (c ∷ cs) h
         | inr on ↦ ap (first_in width f) (put-on x c cs on) ∙ first-both c (put_cell x cs) cs (first-put-other x cs h)
       ]
@@ -38,7 +38,7 @@ module _ (width f : ℕ) where
   pub first-put-empty : (x : Cell) (cs : List Cell) → is_in width f x ≡ true → first_in width f cs ≡ None → first_in width f (put_cell x cs) ≡ Some x.at
   first-put-empty x [] h e = first-here x [] h
   first-put-empty x (c ∷ cs) h e =
-      elim (cases_lt x.key c.key) [
+      elim (cases_lt x.split_key c.split_key) [
         | inl past ↦ ap (first_in width f) (put-past x c cs past) ∙ first-here x (c ∷ cs) h
         | inr on ↦
             elim (cases_Bool (is_in width f c)) [
@@ -70,36 +70,36 @@ module _ (width f : ℕ) where
       ]
 
   -- An item inserted after the first item leaves it the first. One inserted before it becomes the first.
-  pub first-put-behind : (x : Cell) (p : ℕ) (cs : List Cell) (d : Cell) (ds : List Cell) → Sorted cs → HasDistinctPlaces cs → from p cs ≡ d ∷ ds → d.key ≤ x.key → first_in width f cs ≡ Some p → first_in width f (put_cell x cs) ≡ Some p
+  pub first-put-behind : (x : Cell) (p : ℕ) (cs : List Cell) (d : Cell) (ds : List Cell) → Sorted cs → HasDistinctPlaces cs → from p cs ≡ d ∷ ds → d.split_key ≤ x.split_key → first_in width f cs ≡ Some p → first_in width f (put_cell x cs) ≡ Some p
   first-put-behind x p [] d ds o a s k e = absurd (cc)
   first-put-behind x p (c ∷ cs) d ds o a s k e =
       elim (cases_Bool (is_in width f c)) [
         | inl hit ↦
             let here : c.at ≡ p = some-is c.at p (first_in width f (c ∷ cs)) (first-here c cs hit) e in
             let same : c ≡ d = cc (sym (from-here p c cs here) ∙ s) in
-            let q : c.key ≡ d.key = ap (λ (z : Cell). z.key) same in
-            let on : c.key ≤ x.key = omega arith in
+            let q : c.split_key ≡ d.split_key = ap (λ (z : Cell). z.split_key) same in
+            let on : c.split_key ≤ x.split_key = omega arith in
             ap (first_in width f) (put-on x c cs on) ∙ (first-here c (put_cell x cs) hit ∙ ap Some here)
         | inr miss ↦
             let later : first_in width f cs ≡ Some p = sym (first-on c cs miss) ∙ e in
             let n = first-node p cs a.1 later in
             let s' : from p cs ≡ d ∷ ds = sym (from-on p c cs (fresh-apart c.at p cs n.cell n.later a.0 n.is)) ∙ s in
-            let low : c.key ≤ d.key = at-most-from p c.key cs d ds o.0 o.1 s' in
-            let on : c.key ≤ x.key = omega arith in
+            let low : c.split_key ≤ d.split_key = at-most-from p c.split_key cs d ds o.0 o.1 s' in
+            let on : c.split_key ≤ x.split_key = omega arith in
             ap (first_in width f) (put-on x c cs on) ∙ (first-on c (put_cell x cs) miss ∙ first-put-behind x p cs d ds o.1 a.1 s' k later)
       ]
 
-  pub first-put-before : (x : Cell) (p : ℕ) (cs : List Cell) (d : Cell) (ds : List Cell) → HasDistinctPlaces cs → is_in width f x ≡ true → from p cs ≡ d ∷ ds → x.key < d.key → first_in width f cs ≡ Some p → first_in width f (put_cell x cs) ≡ Some x.at
+  pub first-put-before : (x : Cell) (p : ℕ) (cs : List Cell) (d : Cell) (ds : List Cell) → HasDistinctPlaces cs → is_in width f x ≡ true → from p cs ≡ d ∷ ds → x.split_key < d.split_key → first_in width f cs ≡ Some p → first_in width f (put_cell x cs) ≡ Some x.at
   first-put-before x p [] d ds a h s k e = absurd (cc)
   first-put-before x p (c ∷ cs) d ds a h s k e =
-      elim (cases_lt x.key c.key) [
+      elim (cases_lt x.split_key c.split_key) [
         | inl past ↦ ap (first_in width f) (put-past x c cs past) ∙ first-here x (c ∷ cs) h
         | inr on ↦
             elim (cases_Bool (is_in width f c)) [
               | inl hit ↦
                   let here : c.at ≡ p = some-is c.at p (first_in width f (c ∷ cs)) (first-here c cs hit) e in
                   let same : c ≡ d = cc (sym (from-here p c cs here) ∙ s) in
-                  let q : c.key ≡ d.key = ap (λ (z : Cell). z.key) same in
+                  let q : c.split_key ≡ d.split_key = ap (λ (z : Cell). z.split_key) same in
                   absurd (omega arith)
               | inr miss ↦
                   let later : first_in width f cs ≡ Some p = sym (first-on c cs miss) ∙ e in
@@ -139,7 +139,7 @@ module _ (width f : ℕ) where
       ]
 
   -- ---- another chain
-  item-in : (c : Cell) (o : Option Item) (w : List Term) → (nat_eq (c.key / width) f && is_some (item_with o w)) ≡ (nat_eq (c.key / width) f && is_some o)
+  item-in : (c : Cell) (o : Option Item) (w : List Term) → (nat_eq (c.split_key / width) f && is_some (item_with o w)) ≡ (nat_eq (c.split_key / width) f && is_some o)
   item-in c None w = refl
   item-in c (Some item) w = refl
 

@@ -56,20 +56,20 @@ new-rows hash_of head directory current n cells d e f h = record {
 }
 
 -- A node with a greater split key comes later.
-pub is-after : (start at : ℕ) (cs : List Cell) (d : Cell) (ds : List Cell) (e : Cell) (es : List Cell) → Sorted cs → from start cs ≡ d ∷ ds → from at cs ≡ e ∷ es → d.key < e.key → from at ds ≡ e ∷ es
+pub is-after : (start at : ℕ) (cs : List Cell) (d : Cell) (ds : List Cell) (e : Cell) (es : List Cell) → Sorted cs → from start cs ≡ d ∷ ds → from at cs ≡ e ∷ es → d.split_key < e.split_key → from at ds ≡ e ∷ es
 is-after start at [] d ds e es o s t h = absurd (cc)
 is-after start at (c ∷ cs) d ds e es o s t h =
     elim (cases_eq c.at at) [
       | inl here ↦
           let same' : c ≡ e = cc (sym (from-here at c cs here) ∙ t) in
-          let k : c.key ≡ e.key = ap (λ (z : Cell). z.key) same' in
+          let k : c.split_key ≡ e.split_key = ap (λ (z : Cell). z.split_key) same' in
           elim (cases_eq c.at start) [
             | inl first ↦
                 let also : c ≡ d = cc (sym (from-here start c cs first) ∙ s) in
-                let l : c.key ≡ d.key = ap (λ (z : Cell). z.key) also in
+                let l : c.split_key ≡ d.split_key = ap (λ (z : Cell). z.split_key) also in
                 absurd (omega arith)
             | inr other ↦
-                let l : c.key ≤ d.key = at-most-from start c.key cs d ds o.0 o.1 (sym (from-on start c cs other) ∙ s) in
+                let l : c.split_key ≤ d.split_key = at-most-from start c.split_key cs d ds o.0 o.1 (sym (from-on start c cs other) ∙ s) in
                 absurd (omega arith)
           ]
       | inr miss ↦

@@ -10,7 +10,7 @@ use Rattle.split_key.specs.Keys.{rev, key_of_item, key_of_dummy}
 use Rattle.split_key.proofs.Revs.{rev-lt}
 use Rattle.node_list.specs.declared.node.Item.{Item}
 use Rattle.node_list.specs.Cells.{Cell, Sorted, StartsFrom, new_cell}
-use Rattle.node_list.specs.Places.{from, cells_after, all_but_first, first_place, place_after, IsFresh, HasDistinctPlaces, IsPlaceOf, key_at, first_key}
+use Rattle.node_list.specs.Places.{from, cells_after, all_but_first, first_place, place_after, IsFresh, HasDistinctPlaces, IsPlaceOf, split_key_at, first_split_key}
 use Rattle.node_list.proofs.CellLaws.{from-here, from-on, at-most-from, sorted-from}
 use Rattle.node_list.proofs.PlaceLaws.{from-cells_after}
 use Rattle.bucket_table.specs.inside.Directory.{HasSplitKey, HaveSplitKeys, IsInDirectory, DirectoryInvariant}
@@ -85,16 +85,16 @@ out-none : (a f : ℕ) (o : Option Item) → o ≡ None → (nat_eq a f && is_so
 out-none a f None h = elim (nat_eq a f) as (λ z. (z && false) ≡ false) [ true ↦ refl | false ↦ refl ]
 out-none a f (Some item) h = absurd (cc)
 
-starts-later : (low : ℕ) (c : Cell) (cs : List Cell) → low ≤ c.key → StartsFrom c.key cs → StartsFrom low cs
+starts-later : (low : ℕ) (c : Cell) (cs : List Cell) → low ≤ c.split_key → StartsFrom c.split_key cs → StartsFrom low cs
 starts-later low c [] h s = tt
 starts-later low c (d ∷ ds) h s = omega (arith, h, s)
 
 pub none-from : (width g bound : ℕ) (cs : List Cell) → 0 < width → StartsFrom bound cs → Sorted cs → g < bound / width → first_in width g cs ≡ None
 none-from width g bound [] some s o h = refl
 none-from width g bound (c ∷ cs) some s o h =
-    let r : bound / width ≤ c.key / width = part-rises width bound c.key some s in
-    let n : c.key / width ≢ g = λ e. (let e' : c.key / width ≡ g = e in absurd (omega arith)) in
-    first-on width g c cs (out-in (c.key / width) g c.item n) ∙ none-from width g bound cs some (starts-later bound c cs s o.0) o.1 h
+    let r : bound / width ≤ c.split_key / width = part-rises width bound c.split_key some s in
+    let n : c.split_key / width ≢ g = λ e. (let e' : c.split_key / width ≡ g = e in absurd (omega arith)) in
+    first-on width g c cs (out-in (c.split_key / width) g c.item n) ∙ none-from width g bound cs some (starts-later bound c cs s o.0) o.1 h
 
 -- ---- the rest of a list
 
@@ -108,7 +108,7 @@ pub after-is : (start : ℕ) (cs : List Cell) (d : Cell) (ds : List Cell) → fr
 after-is start cs d ds e = ap (λ (zs : List Cell). first_place (all_but_first zs)) e
 
 -- The nodes before a bucket's dummy are of earlier intervals.
-before-start : (hash_of : Term → ℕ) (directory : List (Option ℕ)) (width m g start b : ℕ) (cs : List Cell) (d : Cell) (ds : List Cell) → 0 < width → key_of_dummy b ≡ m * width → m ≤ g → d.key ≡ key_of_dummy b
+before-start : (hash_of : Term → ℕ) (directory : List (Option ℕ)) (width m g start b : ℕ) (cs : List Cell) (d : Cell) (ds : List Cell) → 0 < width → key_of_dummy b ≡ m * width → m ≤ g → d.split_key ≡ key_of_dummy b
     → Sorted cs → HaveSplitKeys hash_of directory cs → from start cs ≡ d ∷ ds → first_in width g cs ≡ first_in width g (from start cs)
 before-start hash_of directory width m g start b [] d ds some edge late k o p e = refl
 before-start hash_of directory width m g start b (c ∷ cs) d ds some edge late k o p e =
@@ -116,15 +116,15 @@ before-start hash_of directory width m g start b (c ∷ cs) d ds some edge late 
       | inl here ↦ ap (first_in width g) (sym (from-here start c cs here))
       | inr other ↦
           let later : from start cs ≡ d ∷ ds = sym (from-on start c cs other) ∙ e in
-          let low : c.key ≤ d.key = at-most-from start c.key cs d ds o.0 o.1 later in
+          let low : c.split_key ≤ d.split_key = at-most-from start c.split_key cs d ds o.0 o.1 later in
           let out : is_in width g c ≡ false =
           elim (item-cases c.item) [
-            | inl none ↦ out-none (c.key / width) g c.item none
+            | inl none ↦ out-none (c.split_key / width) g c.item none
             | inr some' ↦
-                (let odd : c.key ≡ key_of_item (hash_of some'.0.term) = placed-key hash_of directory c.at c.key c.item some'.0 some'.1 p.0 in
-                let less : c.key < m * width = omega (arith, low, k, odd, edge) in
-                let q : c.key / width < m = below-part m width c.key some less in
-                out-in (c.key / width) g c.item (λ e. (let e' : c.key / width ≡ g = e in absurd (omega arith))))
+                (let odd : c.split_key ≡ key_of_item (hash_of some'.0.term) = placed-key hash_of directory c.at c.split_key c.item some'.0 some'.1 p.0 in
+                let less : c.split_key < m * width = omega (arith, low, k, odd, edge) in
+                let q : c.split_key / width < m = below-part m width c.split_key some less in
+                out-in (c.split_key / width) g c.item (λ e. (let e' : c.split_key / width ≡ g = e in absurd (omega arith))))
           ] in
           first-on width g c cs out ∙ (before-start hash_of directory width m g start b cs d ds some edge late k o.1 p.1 later ∙ ap (first_in width g) (sym (from-on start c cs other)))
     ]
@@ -185,18 +185,18 @@ module _ (hash_of : Term → ℕ) (directory : List (Option ℕ)) (interval_bits
     can-read = record { cell = here.cell; later = here.later; is = is-here }
 
     -- The interval of the node is of the bucket, or later.
-    late-here : key_of_dummy bucket / 2 ^ interval_bits ≤ here.cell.key / 2 ^ interval_bits
+    late-here : key_of_dummy bucket / 2 ^ interval_bits ≤ here.cell.split_key / 2 ^ interval_bits
     late-here =
         let U : List Cell → Type 0 = λ zs. StartsFrom (key_of_dummy bucket) zs in
-        part-rises (2 ^ interval_bits) (key_of_dummy bucket) here.cell.key (pow_pos interval_bits) (subst U here.is s.above)
+        part-rises (2 ^ interval_bits) (key_of_dummy bucket) here.cell.split_key (pow_pos interval_bits) (subst U here.is s.above)
 
     -- After the node set its hint, an interval hinted as empty is another one.
-    other-one : (g f at : ℕ) (before after : Option (Option ℕ)) (first : Option ℕ) → f ≡ here.cell.key / 2 ^ interval_bits → first ≡ None → ((g ≡ f) × (before ≡ Some None) × (first ≡ Some at)) ⊎ ((after ≡ Some first) × (g ≡ f → first ≢ None)) → here.cell.key / 2 ^ interval_bits ≢ g
+    other-one : (g f at : ℕ) (before after : Option (Option ℕ)) (first : Option ℕ) → f ≡ here.cell.split_key / 2 ^ interval_bits → first ≡ None → ((g ≡ f) × (before ≡ Some None) × (first ≡ Some at)) ⊎ ((after ≡ Some first) × (g ≡ f → first ≢ None)) → here.cell.split_key / 2 ^ interval_bits ≢ g
     other-one g f at before after first fe none (inl mine) = let e : first ≡ Some at = mine.2 in absurd (cc)
     other-one g f at before after first fe none (inr old) = λ e. old.1 (sym e ∙ sym fe) none
 
     -- One node further.
-    pub rebuild-step : (after : List (Option (Option ℕ))) (f : ℕ) → f ≡ here.cell.key / 2 ^ interval_bits → SetsIfEmpty f place current after → IsRebuiltUpTo hash_of directory (2 ^ interval_bits) start (key_of_dummy bucket) after (place_after place cs) cs
+    pub rebuild-step : (after : List (Option (Option ℕ))) (f : ℕ) → f ≡ here.cell.split_key / 2 ^ interval_bits → SetsIfEmpty f place current after → IsRebuiltUpTo hash_of directory (2 ^ interval_bits) start (key_of_dummy bucket) after (place_after place cs) cs
     rebuild-step after f fe marked =
         let h = here in
         let F : List Cell → Type 0 = λ zs. IsFresh start zs in
@@ -211,8 +211,8 @@ module _ (hash_of : Term → ℕ) (directory : List (Option ℕ)) (interval_bits
           link = next;
           seen = λ g late known.
               (let was_marked = marked g None known in
-              let n : h.cell.key / 2 ^ interval_bits ≢ g = other-one g f place (get_or current f None) (get_or current g None) None fe refl was_marked in
-              s.seen g late (old-one g f place (get_or current f None) (get_or current g None) None refl was_marked) ∙ (ap (first_in (2 ^ interval_bits) g) h.is ∙ first-on (2 ^ interval_bits) g h.cell h.later (out-in (h.cell.key / 2 ^ interval_bits) g h.cell.item n)));
+              let n : h.cell.split_key / 2 ^ interval_bits ≢ g = other-one g f place (get_or current f None) (get_or current g None) None fe refl was_marked in
+              s.seen g late (old-one g f place (get_or current f None) (get_or current g None) None refl was_marked) ∙ (ap (first_in (2 ^ interval_bits) g) h.is ∙ first-on (2 ^ interval_bits) g h.cell h.later (out-in (h.cell.split_key / 2 ^ interval_bits) g h.cell.item n)));
           fresh = (subst F h.is s.fresh).1;
           above = starts-later (key_of_dummy bucket) h.cell h.later (subst U h.is s.above) so.0;
           sorted = so.1;
@@ -228,20 +228,20 @@ module _ (hash_of : Term → ℕ) (directory : List (Option ℕ)) (interval_bits
         omega (arith, ap length l, ap length m)
 
     -- From here on there is no node of an earlier interval.
-    pub none-before : (g : ℕ) → key_of_dummy bucket / 2 ^ interval_bits ≤ g → get_or current g None ≡ Some None → g < here.cell.key / 2 ^ interval_bits → first_in (2 ^ interval_bits) g cs ≡ None
+    pub none-before : (g : ℕ) → key_of_dummy bucket / 2 ^ interval_bits ≤ g → get_or current g None ≡ Some None → g < here.cell.split_key / 2 ^ interval_bits → first_in (2 ^ interval_bits) g cs ≡ None
     none-before g late known early =
         let h = here in
         let S : List Cell → Type 0 = λ zs. Sorted zs in
         let so = subst S h.is s.sorted in
-        s.seen g late known ∙ (ap (first_in (2 ^ interval_bits) g) h.is ∙ none-from (2 ^ interval_bits) g h.cell.key (h.cell ∷ h.later) (pow_pos interval_bits) (omega arith) so early)
+        s.seen g late known ∙ (ap (first_in (2 ^ interval_bits) g) h.is ∙ none-from (2 ^ interval_bits) g h.cell.split_key (h.cell ∷ h.later) (pow_pos interval_bits) (omega arith) so early)
 
-    pub hints-step : (high : ℕ) (after : List (Option (Option ℕ))) (f : ℕ) (item : Item) → here.cell.item ≡ Some item → f ≡ here.cell.key / 2 ^ interval_bits
+    pub hints-step : (high : ℕ) (after : List (Option (Option ℕ))) (f : ℕ) (item : Item) → here.cell.item ≡ Some item → f ≡ here.cell.split_key / 2 ^ interval_bits
         → AreSoundOutside (2 ^ interval_bits) (key_of_dummy bucket / 2 ^ interval_bits) high current cs → SetsIfEmpty f place current after → AreSoundOutside (2 ^ interval_bits) (key_of_dummy bucket / 2 ^ interval_bits) high after cs
     hints-step high after f item has fe h marked g first e =
         let n = here in
         elim (marked g first e) [
           | inl mine ↦
-              let k : n.cell.key / 2 ^ interval_bits ≡ f = sym fe in
+              let k : n.cell.split_key / 2 ^ interval_bits ≡ f = sym fe in
               let P : ℕ → Type 0 = λ z. key_of_dummy bucket / 2 ^ interval_bits ≤ z in
               let late : key_of_dummy bucket / 2 ^ interval_bits ≤ f = subst P k late-here in
               let found : first_in (2 ^ interval_bits) f cs ≡ Some n.cell.at = s.seen f late mine.1 ∙ (ap (first_in (2 ^ interval_bits) f) n.is ∙ first-here (2 ^ interval_bits) f n.cell n.later (is_in-yes (2 ^ interval_bits) f n.cell item k has)) in
@@ -250,20 +250,20 @@ module _ (hash_of : Term → ℕ) (directory : List (Option ℕ)) (interval_bits
         ]
 
     -- The node that was read at the place.
-    pub read-key : (k : ℕ) → key_at place cs ≡ Some k → k ≡ here.cell.key
-    read-key k e = some-is k here.cell.key (key_at place cs) e (ap first_key is-here)
+    pub read-key : (k : ℕ) → split_key_at place cs ≡ Some k → k ≡ here.cell.split_key
+    read-key k e = some-is k here.cell.split_key (split_key_at place cs) e (ap first_split_key is-here)
 
-    parity-here : IsParity here.cell.key here.cell.item
+    parity-here : IsParity here.cell.split_key here.cell.item
     parity-here =
         let h = here in
         let R : List Cell → Type 0 = λ zs. HaveSplitKeys hash_of directory zs in
         let pl = subst R h.is s.placed in
-        parity-of hash_of directory h.cell.at h.cell.key h.cell.item pl.0
+        parity-of hash_of directory h.cell.at h.cell.split_key h.cell.item pl.0
 
-    pub item-here : (k : ℕ) → key_at place cs ≡ Some k → k % 2 ≡ 1 → (item : Item) × (here.cell.item ≡ Some item)
+    pub item-here : (k : ℕ) → split_key_at place cs ≡ Some k → k % 2 ≡ 1 → (item : Item) × (here.cell.item ≡ Some item)
     item-here k e odd' = some-of here.cell.item (parity-here.0 (ap (λ (z : ℕ). z % 2) (sym (read-key k e)) ∙ odd'))
 
-    pub no-item-here : (k : ℕ) → key_at place cs ≡ Some k → k % 2 ≢ 1 → here.cell.item ≡ None
+    pub no-item-here : (k : ℕ) → split_key_at place cs ≡ Some k → k % 2 ≢ 1 → here.cell.item ≡ None
     no-item-here k e even' = parity-here.1 (λ o. even' (ap (λ (z : ℕ). z % 2) (read-key k e) ∙ o))
 
     -- A dummy ends the bucket.
@@ -277,15 +277,15 @@ module _ (hash_of : Term → ℕ) (directory : List (Option ℕ)) (interval_bits
         let U : List Cell → Type 0 = λ zs. StartsFrom (key_of_dummy bucket) zs in
         let R : List Cell → Type 0 = λ zs. HaveSplitKeys hash_of directory zs in
         let f' = subst F h.is s.fresh in
-        let above : key_of_dummy bucket ≤ h.cell.key = subst U h.is s.above in
-        let P : Option Item → Type 0 = λ z. HasSplitKey hash_of directory h.cell.at h.cell.key z in
+        let above : key_of_dummy bucket ≤ h.cell.split_key = subst U h.is s.above in
+        let P : Option Item → Type 0 = λ z. HasSplitKey hash_of directory h.cell.at h.cell.split_key z in
         let pl = subst R h.is s.placed in
-        let k : IsInDirectory directory h.cell.at h.cell.key = subst P none pl.0 in
+        let k : IsInDirectory directory h.cell.at h.cell.split_key = subst P none pl.0 in
         let q : 2 * 2 ^ (32 - j) ≡ 8 * 2 ^ interval_bits = eight j interval_bits narrow in
         let full : j + (32 - j) ≡ 32 = omega arith in
         let w : bucket_width (2 ^ j) ≡ 2 * 2 ^ (32 - j) = bucket_width-even j (32 - j) full in
-        let up : key_of_dummy bucket + bucket_width (2 ^ j) ≤ h.cell.key =
-        elim (cases_lt h.cell.key (key_of_dummy bucket + bucket_width (2 ^ j))) [
+        let up : key_of_dummy bucket + bucket_width (2 ^ j) ≤ h.cell.split_key =
+        elim (cases_lt h.cell.split_key (key_of_dummy bucket + bucket_width (2 ^ j))) [
           | inl less ↦
               (let Q : ℕ → Type 0 = λ z. z < key_of_dummy bucket + bucket_width (2 ^ j) in
               let L : ℕ → Type 0 = λ z. key_of_dummy bucket ≤ z in
@@ -294,11 +294,11 @@ module _ (hash_of : Term → ℕ) (directory : List (Option ℕ)) (interval_bits
               absurd (f'.0 (some-one h.cell.at start (get_or directory k.bucket None) (get_or directory bucket None) (ap (λ (z : ℕ). get_or directory z None) same) k.entry entry)))
           | inr most ↦ most
         ] in
-        let far : (rev j bucket * 8 + 8) * 2 ^ interval_bits ≤ h.cell.key = omega (arith, up, edge, w, q) in
-        let part : rev j bucket * 8 + 8 ≤ h.cell.key / 2 ^ interval_bits = from-part (rev j bucket * 8 + 8) (2 ^ interval_bits) h.cell.key (pow_pos interval_bits) far in
+        let far : (rev j bucket * 8 + 8) * 2 ^ interval_bits ≤ h.cell.split_key = omega (arith, up, edge, w, q) in
+        let part : rev j bucket * 8 + 8 ≤ h.cell.split_key / 2 ^ interval_bits = from-part (rev j bucket * 8 + 8) (2 ^ interval_bits) h.cell.split_key (pow_pos interval_bits) far in
         none-before g late known (omega (arith, part, part-is, early))
 
-    pub ends-past : (f : ℕ) → f ≡ here.cell.key / 2 ^ interval_bits → key_of_dummy bucket / 2 ^ interval_bits + 8 ≤ f → EmptyHintsAreSound (2 ^ interval_bits) (key_of_dummy bucket / 2 ^ interval_bits) (key_of_dummy bucket / 2 ^ interval_bits + 8) current cs
+    pub ends-past : (f : ℕ) → f ≡ here.cell.split_key / 2 ^ interval_bits → key_of_dummy bucket / 2 ^ interval_bits + 8 ≤ f → EmptyHintsAreSound (2 ^ interval_bits) (key_of_dummy bucket / 2 ^ interval_bits) (key_of_dummy bucket / 2 ^ interval_bits + 8) current cs
     ends-past f fe past g late early known = none-before g late known (omega (arith, fe, past, early))
 
   -- The end of the list ends it too.

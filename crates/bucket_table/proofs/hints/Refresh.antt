@@ -3,7 +3,7 @@ use Rattle.std.proofs.Common.{◌≡◌, ◌≢◌, ℕ, suc, ◌%◌, ◌/◌, 
 use Rattle.std.proofs.lemmas.Bool.{cases_lt, cases_eq}
 use Rattle.node_list.specs.declared.node.Item.{Item}
 use Rattle.node_list.specs.Cells.{Cell, Sorted}
-use Rattle.node_list.specs.Places.{from, cells_after, all_but_first, place_after, HasDistinctPlaces, IsPlaceOf, key_at, first_key}
+use Rattle.node_list.specs.Places.{from, cells_after, all_but_first, place_after, HasDistinctPlaces, IsPlaceOf, split_key_at, first_split_key}
 use Rattle.node_list.proofs.CellLaws.{from-here, from-on, at-most-from, sorted-from}
 use Rattle.bucket_table.specs.inside.Directory.{HaveParity, HasKeyBelow}
 use Rattle.bucket_table.specs.inside.Intervals.{first_in, AreSound, IsBeforeInterval, IsSoundHint, SetsHint}
@@ -22,22 +22,22 @@ some-of None h = absurd (cc)
 some-of (Some item) h = (item, refl)
 
 -- All items of an interval come after each node of a lower one.
-pub skip-front : (width f at : ℕ) (cs : List Cell) (d : Cell) (ds : List Cell) → 0 < width → Sorted cs → from at cs ≡ d ∷ ds → d.key / width < f → first_in width f cs ≡ first_in width f ds
+pub skip-front : (width f at : ℕ) (cs : List Cell) (d : Cell) (ds : List Cell) → 0 < width → Sorted cs → from at cs ≡ d ∷ ds → d.split_key / width < f → first_in width f cs ≡ first_in width f ds
 skip-front width f at [] d ds some o e h = absurd (cc)
 skip-front width f at (c ∷ cs) d ds some o e h =
     elim (cases_eq c.at at) [
       | inl here ↦
           let same : c ≡ d = cc (sym (from-here at c cs here) ∙ e) in
           let rest : cs ≡ ds = cc (sym (from-here at c cs here) ∙ e) in
-          let k : c.key / width ≡ d.key / width = ap (λ (z : Cell). z.key / width) same in
-          let differs : c.key / width ≢ f = λ q. (let q' : c.key / width ≡ f = q in absurd (omega (arith, k, h, q'))) in
-          first-on width f c cs (out-in (c.key / width) f c.item differs) ∙ ap (first_in width f) rest
+          let k : c.split_key / width ≡ d.split_key / width = ap (λ (z : Cell). z.split_key / width) same in
+          let differs : c.split_key / width ≢ f = λ q. (let q' : c.split_key / width ≡ f = q in absurd (omega (arith, k, h, q'))) in
+          first-on width f c cs (out-in (c.split_key / width) f c.item differs) ∙ ap (first_in width f) rest
       | inr other ↦
           let later : from at cs ≡ d ∷ ds = sym (from-on at c cs other) ∙ e in
-          let low : c.key ≤ d.key = at-most-from at c.key cs d ds o.0 o.1 later in
-          let rise : c.key / width ≤ d.key / width = part-rises width c.key d.key some low in
-          let differs : c.key / width ≢ f = λ q. (let q' : c.key / width ≡ f = q in absurd (omega (arith, rise, h, q'))) in
-          first-on width f c cs (out-in (c.key / width) f c.item differs) ∙ skip-front width f at cs d ds some o.1 later h
+          let low : c.split_key ≤ d.split_key = at-most-from at c.split_key cs d ds o.0 o.1 later in
+          let rise : c.split_key / width ≤ d.split_key / width = part-rises width c.split_key d.split_key some low in
+          let differs : c.split_key / width ≢ f = λ q. (let q' : c.split_key / width ≡ f = q in absurd (omega (arith, rise, h, q'))) in
+          first-on width f c cs (out-in (c.split_key / width) f c.item differs) ∙ skip-front width f at cs d ds some o.1 later h
     ]
 
 pub before-is_place : (width f at : ℕ) (cs : List Cell) → IsBeforeInterval width f at cs → IsPlaceOf at cs
@@ -49,15 +49,15 @@ front-below width key at cs some s = record {
   cell = s.cell;
   later = s.later;
   is = s.is;
-  below = elim (cases_lt s.cell.key key) [
+  below = elim (cases_lt s.cell.split_key key) [
     | inl less ↦ less
-    | inr most ↦ (let r = part-rises width key s.cell.key some most in absurd (omega (arith, r, s.front)))
+    | inr most ↦ (let r = part-rises width key s.cell.split_key some most in absurd (omega (arith, r, s.front)))
   ];
 }
 
-pub below-front : (width key at k : ℕ) (cs : List Cell) → HasKeyBelow key at cs → key_at at cs ≡ Some k → k / width < key / width → IsBeforeInterval width (key / width) at cs
+pub below-front : (width key at k : ℕ) (cs : List Cell) → HasKeyBelow key at cs → split_key_at at cs ≡ Some k → k / width < key / width → IsBeforeInterval width (key / width) at cs
 below-front width key at k cs s read less =
-    let is : s.cell.key ≡ k = some-key s.cell.key k (key_at at cs) (ap first_key s.is) read in
+    let is : s.cell.split_key ≡ k = some-key s.cell.split_key k (split_key_at at cs) (ap first_split_key s.is) read in
     let P : ℕ → Type 0 = λ z. z / width < key / width in
     record { cell = s.cell; later = s.later; is = s.is; front = subst P (sym is) less }
 
@@ -84,9 +84,9 @@ module _ (width f at : ℕ) (cs : List Cell) (some : 0 < width) (o : Sorted cs) 
         let n : length (cells_after next cs) ≡ length node.later = ap (λ (zs : List Cell). length (all_but_first zs)) node.from_next in
         omega (arith, m, n)
 
-    module _ (read : key_at next cs ≡ Some k) where
-      next-key : node.cell.key ≡ k
-      next-key = some-key node.cell.key k (key_at next cs) (ap first_key node.from_next) read
+    module _ (read : split_key_at next cs ≡ Some k) where
+      next-key : node.cell.split_key ≡ k
+      next-key = some-key node.cell.split_key k (split_key_at next cs) (ap first_split_key node.from_next) read
 
       pub goes-on : k / width < f → IsBeforeInterval width f next cs
       goes-on less = let P : ℕ → Type 0 = λ z. z / width < f in record { cell = node.cell; later = node.later; is = node.from_next; front = subst P (sym next-key) less }
@@ -97,7 +97,7 @@ module _ (width f at : ℕ) (cs : List Cell) (some : 0 < width) (o : Sorted cs) 
           let S : List Cell → Type 0 = λ zs. Sorted zs in
           let so : Sorted (node.cell ∷ node.later) = subst S node.from_next (sorted-from next cs o) in
           let P : ℕ → Type 0 = λ z. f < z / width in
-          skipped ∙ (ap (first_in width f) node.is ∙ (none-from width f node.cell.key (node.cell ∷ node.later) some (omega arith) so (subst P (sym next-key) past) ∙ q))
+          skipped ∙ (ap (first_in width f) node.is ∙ (none-from width f node.cell.split_key (node.cell ∷ node.later) some (omega arith) so (subst P (sym next-key) past) ∙ q))
 
       pub ends-item : HaveParity cs → (hint : Option (Option ℕ)) → (hint ≡ None) ⊎ (hint ≡ Some (Some next)) → k / width ≡ f → k % 2 ≡ 1 → IsSoundHint width f cs hint
       ends-item h hint choice same odd first known =

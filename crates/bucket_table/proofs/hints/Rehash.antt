@@ -6,7 +6,7 @@ use Rattle.std.proofs.lemmas.Nat.{pow-add}
 use Rattle.node_list.specs.declared.node.Item.{Item}
 use Rattle.node_list.specs.Changes.{put_cell, without}
 use Rattle.node_list.specs.Cells.{Cell, Sorted, new_cell}
-use Rattle.node_list.specs.Places.{from, HasDistinctPlaces, IsPlaceOf, HasItem, key_at, first_key}
+use Rattle.node_list.specs.Places.{from, HasDistinctPlaces, IsPlaceOf, HasItem, split_key_at, first_split_key}
 use Rattle.node_list.proofs.CellLaws.{from-here, from-on}
 use Rattle.bucket_table.specs.inside.Intervals.{is_in, first_in, AreSound, IsSoundHint, SetsIfUnknown, SetsHint}
 use Rattle.bucket_table.proofs.list.Content.{fresh-apart}
@@ -32,7 +32,7 @@ module _ (width half f : ℕ) (some : 0 < half) (parts : (k : ℕ) → k / width
         elim (cases_Bool (is_in half g c)) [
           | inl hit ↦
               let i = inside half g c hit in
-              let yes : is_in width f c ≡ true = is_in-yes width f c i.item (parts c.key ∙ (ap (λ (z : ℕ). z / 2) i.key ∙ own)) i.has in
+              let yes : is_in width f c ≡ true = is_in-yes width f c i.item (parts c.split_key ∙ (ap (λ (z : ℕ). z / 2) i.key ∙ own)) i.has in
               absurd (cc)
           | inr out ↦ out
         ]
@@ -46,7 +46,7 @@ module _ (width half f : ℕ) (some : 0 < half) (parts : (k : ℕ) → k / width
         ]
 
     -- The first item is the first of its own half.
-    pub half-first : (p : ℕ) (cs : List Cell) (d : Cell) (ds : List Cell) → HasDistinctPlaces cs → from p cs ≡ d ∷ ds → d.key / half ≡ g → first_in width f cs ≡ Some p → first_in half g cs ≡ Some p
+    pub half-first : (p : ℕ) (cs : List Cell) (d : Cell) (ds : List Cell) → HasDistinctPlaces cs → from p cs ≡ d ∷ ds → d.split_key / half ≡ g → first_in width f cs ≡ Some p → first_in half g cs ≡ Some p
     half-first p [] d ds a s k e = absurd (cc)
     half-first p (c ∷ cs) d ds a s k e =
         elim (cases_Bool (is_in width f c)) [
@@ -54,7 +54,7 @@ module _ (width half f : ℕ) (some : 0 < half) (parts : (k : ℕ) → k / width
               let here : c.at ≡ p = some-is c.at p (first_in width f (c ∷ cs)) (first-here width f c cs hit) e in
               let same : c ≡ d = cc (sym (from-here p c cs here) ∙ s) in
               let i = inside width f c hit in
-              let in_half : is_in half g c ≡ true = is_in-yes half g c i.item (ap (λ (z : Cell). z.key / half) same ∙ k) i.has in
+              let in_half : is_in half g c ≡ true = is_in-yes half g c i.item (ap (λ (z : Cell). z.split_key / half) same ∙ k) i.has in
               first-here half g c cs in_half ∙ ap Some here
           | inr miss ↦
               let later : first_in width f cs ≡ Some p = sym (first-on width f c cs miss) ∙ e in
@@ -64,16 +64,16 @@ module _ (width half f : ℕ) (some : 0 < half) (parts : (k : ℕ) → k / width
         ]
 
     -- If it is in the upper half, the lower half is empty.
-    pub half-below : (p : ℕ) (cs : List Cell) (d : Cell) (ds : List Cell) → Sorted cs → HasDistinctPlaces cs → from p cs ≡ d ∷ ds → g < d.key / half → first_in width f cs ≡ Some p → first_in half g cs ≡ None
+    pub half-below : (p : ℕ) (cs : List Cell) (d : Cell) (ds : List Cell) → Sorted cs → HasDistinctPlaces cs → from p cs ≡ d ∷ ds → g < d.split_key / half → first_in width f cs ≡ Some p → first_in half g cs ≡ None
     half-below p [] d ds o a s k e = absurd (cc)
     half-below p (c ∷ cs) d ds o a s k e =
         elim (cases_Bool (is_in width f c)) [
           | inl hit ↦
               let here : c.at ≡ p = some-is c.at p (first_in width f (c ∷ cs)) (first-here width f c cs hit) e in
               let same : c ≡ d = cc (sym (from-here p c cs here) ∙ s) in
-              let q : c.key / half ≡ d.key / half = ap (λ (z : Cell). z.key / half) same in
+              let q : c.split_key / half ≡ d.split_key / half = ap (λ (z : Cell). z.split_key / half) same in
               let P : ℕ → Type 0 = λ z. g < z in
-              none-from half g c.key (c ∷ cs) some (omega arith) o (subst P (sym q) k)
+              none-from half g c.split_key (c ∷ cs) some (omega arith) o (subst P (sym q) k)
           | inr miss ↦
               let later : first_in width f cs ≡ Some p = sym (first-on width f c cs miss) ∙ e in
               let n = first-node width f p cs a.1 later in
@@ -88,9 +88,9 @@ module _ (width half f : ℕ) (some : 0 < half) (parts : (k : ℕ) → k / width
       node : First width f p cs
       node = first-node width f p cs a (h (Some p) e)
 
-      module _ (k : ℕ) (read : key_at p cs ≡ Some k) where
-        key-is : node.cell.key ≡ k
-        key-is = some-is node.cell.key k (key_at p cs) (ap first_key node.is) read
+      module _ (k : ℕ) (read : split_key_at p cs ≡ Some k) where
+        key-is : node.cell.split_key ≡ k
+        key-is = some-is node.cell.split_key k (split_key_at p cs) (ap first_split_key node.is) read
 
         pub right-first : (made : Option (Option ℕ)) → (made ≡ None) ⊎ (made ≡ Some (Some p)) → k / half ≡ g → IsSoundHint half g cs made
         right-first made choice at_g first known = go made first choice known (half-first p cs node.cell node.later a node.is (ap (λ (z : ℕ). z / half) key-is ∙ at_g) (h (Some p) e))
@@ -110,11 +110,11 @@ module _ (width half f : ℕ) (some : 0 < half) (parts : (k : ℕ) → k / width
   hint-is_place p cs a hint h e = let n = first-node width f p cs a (h (Some p) e) in record { cell = n.cell; later = n.later; is = n.is }
 
   -- The split key of the first item shows its half.
-  pub key-part : (p k : ℕ) (cs : List Cell) → HasDistinctPlaces cs → (hint : Option (Option ℕ)) → IsSoundHint width f cs hint → hint ≡ Some (Some p) → key_at p cs ≡ Some k → k / half / 2 ≡ f
+  pub key-part : (p k : ℕ) (cs : List Cell) → HasDistinctPlaces cs → (hint : Option (Option ℕ)) → IsSoundHint width f cs hint → hint ≡ Some (Some p) → split_key_at p cs ≡ Some k → k / half / 2 ≡ f
   key-part p k cs a hint h e read =
       let n = first-node width f p cs a (h (Some p) e) in
       let i = inside width f n.cell n.inside in
-      let q : n.cell.key ≡ k = some-is n.cell.key k (key_at p cs) (ap first_key n.is) read in
+      let q : n.cell.split_key ≡ k = some-is n.cell.split_key k (split_key_at p cs) (ap first_split_key n.is) read in
       sym (parts k) ∙ (ap (λ (z : ℕ). z / width) (sym q) ∙ i.key)
 
 pub upper-part : (q f : ℕ) → q / 2 ≡ f → q % 2 ≡ 1 → q ≡ 2 * f + 1
@@ -136,11 +136,11 @@ previous-put interval_bits at key item previous old new h gone is f first e =
     let differs : f ≢ key / 2 ^ (interval_bits + 1) = λ q. (let none : get_or previous f None ≡ None = ap (λ (z : ℕ). get_or previous z None) (q ∙ part-half interval_bits key) ∙ gone in absurd (cc)) in
     ap (first_in (2 ^ (interval_bits + 1)) f) is ∙ (others-put (2 ^ (interval_bits + 1)) at key f item old differs ∙ h f first e)
 
-pub previous-out : (interval_bits at k : ℕ) (previous : List (Option (Option ℕ))) (old new : List Cell) (i : HasItem at old) → key_at at old ≡ Some k → AreSound (2 ^ (interval_bits + 1)) previous old → get_or previous (k / 2 ^ interval_bits / 2) None ≡ None → new ≡ without at old → AreSound (2 ^ (interval_bits + 1)) previous new
+pub previous-out : (interval_bits at k : ℕ) (previous : List (Option (Option ℕ))) (old new : List Cell) (i : HasItem at old) → split_key_at at old ≡ Some k → AreSound (2 ^ (interval_bits + 1)) previous old → get_or previous (k / 2 ^ interval_bits / 2) None ≡ None → new ≡ without at old → AreSound (2 ^ (interval_bits + 1)) previous new
 previous-out interval_bits at k previous old new i read h gone is f first e =
-    let key : i.cell.key ≡ k = some-is i.cell.key k (key_at at old) (ap first_key i.is) read in
-    let differs : i.cell.key / 2 ^ (interval_bits + 1) ≢ f = λ q. (let none : get_or previous f None ≡ None = ap (λ (z : ℕ). get_or previous z None) (sym q ∙ (ap (λ (z : ℕ). z / 2 ^ (interval_bits + 1)) key ∙ part-half interval_bits k)) ∙ gone in absurd (cc)) in
-    ap (first_in (2 ^ (interval_bits + 1)) f) is ∙ (first-without-other (2 ^ (interval_bits + 1)) f at old i.cell i.later i.is (out-in (i.cell.key / 2 ^ (interval_bits + 1)) f i.cell.item differs) ∙ h f first e)
+    let key : i.cell.split_key ≡ k = some-is i.cell.split_key k (split_key_at at old) (ap first_split_key i.is) read in
+    let differs : i.cell.split_key / 2 ^ (interval_bits + 1) ≢ f = λ q. (let none : get_or previous f None ≡ None = ap (λ (z : ℕ). get_or previous z None) (sym q ∙ (ap (λ (z : ℕ). z / 2 ^ (interval_bits + 1)) key ∙ part-half interval_bits k)) ∙ gone in absurd (cc)) in
+    ap (first_in (2 ^ (interval_bits + 1)) f) is ∙ (first-without-other (2 ^ (interval_bits + 1)) f at old i.cell i.later i.is (out-in (i.cell.split_key / 2 ^ (interval_bits + 1)) f i.cell.item differs) ∙ h f first e)
 
 -- A hint that is set to unknown is unknown.
 pub set-gone : (interval : ℕ) (hint : Option (Option ℕ)) (old new : List (Option (Option ℕ))) → hint ≡ None → SetsHint interval hint old new → get_or new interval None ≡ None

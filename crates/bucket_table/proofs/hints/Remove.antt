@@ -2,7 +2,7 @@
 use Rattle.std.proofs.Common.{◌≡◌, ◌≢◌, ℕ, ◌%◌, IsSome, ◌/◌, ◌<◌, ◌≤◌, ◌⊎◌, inl, inr, List, [], ◌∷◌, Option, Some, None, refl, sym, ◌∙◌, ap, subst, arith}
 use Rattle.node_list.specs.declared.node.Item.{Item}
 use Rattle.node_list.specs.Cells.{Cell, Sorted, StartsFrom}
-use Rattle.node_list.specs.Places.{from, cells_after, all_but_first, first_place, place_after, HasDistinctPlaces, IsPlaceOf, HasItem, key_at, first_key}
+use Rattle.node_list.specs.Places.{from, cells_after, all_but_first, first_place, place_after, HasDistinctPlaces, IsPlaceOf, HasItem, split_key_at, first_split_key}
 use Rattle.node_list.proofs.CellLaws.{from-here, sorted-from}
 use Rattle.node_list.proofs.PlaceLaws.{from-cells_after}
 use Rattle.bucket_table.specs.inside.Directory.{HaveParity}
@@ -56,9 +56,9 @@ module _ (width f at next : ℕ) (cs : List Cell) (some : 0 < width) (o : Sorted
   pub next-is_place : IsPlaceOf next cs
   next-is_place = record { cell = node.cell; later = node.later; is = node.from_next }
 
-  module _ (k : ℕ) (read : key_at next cs ≡ Some k) where
-    next-key : node.cell.key ≡ k
-    next-key = some-key node.cell.key k (key_at next cs) (ap first_key node.from_next) read
+  module _ (k : ℕ) (read : split_key_at next cs ≡ Some k) where
+    next-key : node.cell.split_key ≡ k
+    next-key = some-key node.cell.split_key k (split_key_at next cs) (ap first_split_key node.from_next) read
 
     -- It is of the interval.
     pub next-inside : HaveParity cs → (hint : Option (Option ℕ)) → (hint ≡ None) ⊎ (hint ≡ Some (Some next)) → k / width ≡ f → k % 2 ≡ 1 → IsHintAfterRemoval width f at cs hint
@@ -81,18 +81,18 @@ module _ (width f at next : ℕ) (cs : List Cell) (some : 0 < width) (o : Sorted
         let S : List Cell → Type 0 = λ zs. Sorted zs in
         let so : Sorted (item.cell ∷ item.later) = subst S item.is (sorted-from at cs o) in
         let later : item.later ≡ n.cell ∷ n.later = sym (ap all_but_first item.is) ∙ n.is in
-        let T : List Cell → Type 0 = λ zs. StartsFrom item.cell.key zs in
-        let up : item.cell.key ≤ n.cell.key = subst T later so.0 in
+        let T : List Cell → Type 0 = λ zs. StartsFrom item.cell.split_key zs in
+        let up : item.cell.split_key ≤ n.cell.split_key = subst T later so.0 in
         let sn : Sorted (n.cell ∷ n.later) = subst S later so.1 in
-        let rise : item.cell.key / width ≤ n.cell.key / width = part-rises width item.cell.key n.cell.key some up in
-        let kn : n.cell.key / width ≡ k / width = ap (λ (z : ℕ). z / width) next-key in
-        let far : f < n.cell.key / width = omega (arith, rise, kn, item.inside, differs) in
-        ap (first_in width f) n.is ∙ none-from width f n.cell.key (n.cell ∷ n.later) some (omega arith) sn far
+        let rise : item.cell.split_key / width ≤ n.cell.split_key / width = part-rises width item.cell.split_key n.cell.split_key some up in
+        let kn : n.cell.split_key / width ≡ k / width = ap (λ (z : ℕ). z / width) next-key in
+        let far : f < n.cell.split_key / width = omega (arith, rise, kn, item.inside, differs) in
+        ap (first_in width f) n.is ∙ none-from width f n.cell.split_key (n.cell ∷ n.later) some (omega arith) sn far
 
 -- The interval of an item is that of its split key.
-pub item-in : (width at k : ℕ) (cs : List Cell) (i : HasItem at cs) → key_at at cs ≡ Some k → IsItemIn width (k / width) at cs
+pub item-in : (width at k : ℕ) (cs : List Cell) (i : HasItem at cs) → split_key_at at cs ≡ Some k → IsItemIn width (k / width) at cs
 item-in width at k cs i e =
-    let same = some-key i.cell.key k (key_at at cs) (ap first_key i.is) e in
+    let same = some-key i.cell.split_key k (split_key_at at cs) (ap first_split_key i.is) e in
     record { cell = i.cell; later = i.later; item = i.item; is = i.is; has = i.has; inside = ap (λ (z : ℕ). z / width) same }
 
 -- The nodes after a node of the list are in the list.

@@ -13,13 +13,13 @@ use Rattle.split_key.proofs.Intervals.{rev-bucket}
 use Rattle.node_list.specs.declared.node.Item.{Item}
 use Rattle.node_list.specs.Cells.{Cell, Sorted, StartsFrom}
 use Rattle.node_list.specs.Places.{from, HasDistinctPlaces, IsPlaceOf}
-use Rattle.node_list.specs.Search.{holds, is_it, place_of, passed}
+use Rattle.node_list.specs.Search.{holds, is_it, place_of, visited_cells}
 use Rattle.node_list.specs.Ticks.{ticks}
 use Rattle.node_list.proofs.CellLaws.{from-here, from-on, sorted-from}
 use Rattle.node_list.proofs.CallerLaws.{is_item_below, HasOnlyItemsBelow, length-passed}
 use Rattle.bucket_table.specs.inside.Nodes.{slots_of}
 use Rattle.bucket_table.specs.inside.Directory.{HasSplitKey, HaveSplitKeys, IsInDirectory, DirectoryInvariant}
-use Rattle.bucket_table.specs.Buckets.{hash_keys, bucket_keys, HasLooked}
+use Rattle.bucket_table.specs.Visits.{hash_keys, bucket_keys, HasLooked}
 use Rattle.bucket_table.specs.inside.Intervals.{is_in, first_in, AreSound, HintsInvariant}
 use Rattle.bucket_table.specs.inside.Search.{IsFound, CanStartSearch}
 use Rattle.bucket_table.proofs.directory.SplitKeys.{bucket_width, IsItemOf, item-of, bucket-of-key, dummy-alone}
@@ -27,8 +27,8 @@ use Rattle.bucket_table.proofs.list.Content.{item-cases, is_it-no, Holds, holds-
 use Rattle.bucket_table.proofs.list.Passed.{count-dummy, count-from, placed-from, hash-passed, other-hasher, below-bucket}
 use Rattle.bucket_table.proofs.hints.First.{first-here, first-on, First, first-node}
 
-pub is_in-yes : (width f : ℕ) (c : Cell) (item : Item) → c.key / width ≡ f → c.item ≡ Some item → is_in width f c ≡ true
-is_in-yes width f c item k e = ap (λ (o : Option Item). nat_eq (c.key / width) f && is_some o) e ∙ go (c.key / width) f k
+pub is_in-yes : (width f : ℕ) (c : Cell) (item : Item) → c.split_key / width ≡ f → c.item ≡ Some item → is_in width f c ≡ true
+is_in-yes width f c item k e = ap (λ (o : Option Item). nat_eq (c.split_key / width) f && is_some o) e ∙ go (c.split_key / width) f k
   where
     go : (a b : ℕ) → a ≡ b → (nat_eq a b && true) ≡ true
     go a b h = grind (arith, nat_tests)
@@ -37,7 +37,7 @@ is_in-yes width f c item k e = ap (λ (o : Option Item). nat_eq (c.key / width) 
 pub record Inside (width f : ℕ) (c : Cell) : Type 0 where
   pub item : Item
   pub has : c.item ≡ Some item
-  pub key : c.key / width ≡ f
+  pub key : c.split_key / width ≡ f
 
 in-key : (a b : ℕ) (o : Option Item) → (nat_eq a b && is_some o) ≡ true → a ≡ b
 in-key a b None h = grind (arith, nat_tests)
@@ -47,13 +47,13 @@ and-none : (a b : ℕ) → (nat_eq a b && false) ≡ false
 and-none a b = elim (nat_eq a b) as (λ z. (z && false) ≡ false) [ true ↦ refl | false ↦ refl ]
 
 in-not-none : (width f : ℕ) (c : Cell) → is_in width f c ≡ true → c.item ≡ None → ⊥
-in-not-none width f c h e = let out : is_in width f c ≡ false = ap (λ (o : Option Item). nat_eq (c.key / width) f && is_some o) e ∙ and-none (c.key / width) f in absurd (cc)
+in-not-none width f c h e = let out : is_in width f c ≡ false = ap (λ (o : Option Item). nat_eq (c.split_key / width) f && is_some o) e ∙ and-none (c.split_key / width) f in absurd (cc)
 
 pub inside : (width f : ℕ) (c : Cell) → is_in width f c ≡ true → Inside width f c
 inside width f c h =
     elim (item-cases c.item) [
       | inl none ↦ absurd (in-not-none width f c h none)
-      | inr some ↦ record { item = some.0; has = some.1; key = in-key (c.key / width) f c.item h }
+      | inr some ↦ record { item = some.0; has = some.1; key = in-key (c.split_key / width) f c.item h }
     ]
 
 module _ (hash_of : Term → ℕ) (directory : List (Option ℕ)) (term : Term) (width f : ℕ) where
@@ -62,23 +62,23 @@ module _ (hash_of : Term → ℕ) (directory : List (Option ℕ)) (term : Term) 
 
   module _ (in_f : key / width ≡ f) where
     -- A node of another interval does not match the key.
-    miss-it : (c : Cell) → HasSplitKey hash_of directory c.at c.key c.item → is_in width f c ≡ false → is_it key term c ≡ false
+    miss-it : (c : Cell) → HasSplitKey hash_of directory c.at c.split_key c.item → is_in width f c ≡ false → is_it key term c ≡ false
     miss-it c p out =
         elim (cases_Bool (holds term c.item)) [
           | inl hit ↦
               let h : Holds term c.item = holds-item term c.item hit in
-              let k : c.key ≡ key = placed-key hash_of directory c.at c.key c.item h.item h.is p ∙ ap (λ (t : Term). key_of_item (hash_of t)) h.same_term in
+              let k : c.split_key ≡ key = placed-key hash_of directory c.at c.split_key c.item h.item h.is p ∙ ap (λ (t : Term). key_of_item (hash_of t)) h.same_term in
               let here : is_in width f c ≡ true = is_in-yes width f c h.item (ap (λ (z : ℕ). z / width) k ∙ in_f) h.is in
               absurd (cc)
           | inr miss ↦ is_it-no key term c miss
         ]
 
-    miss-hasher : (c : Cell) (cs : List Cell) → HasSplitKey hash_of directory c.at c.key c.item → is_in width f c ≡ false → hash_keys hash_of (hash_of term) (slots_of (c ∷ cs)) ≡ hash_keys hash_of (hash_of term) (slots_of cs)
+    miss-hasher : (c : Cell) (cs : List Cell) → HasSplitKey hash_of directory c.at c.split_key c.item → is_in width f c ≡ false → hash_keys hash_of (hash_of term) (slots_of (c ∷ cs)) ≡ hash_keys hash_of (hash_of term) (slots_of cs)
     miss-hasher c cs p out =
         elim (item-cases c.item) [
           | inl none ↦ count-dummy (λ s. nat_eq (hash_of s.0) (hash_of term)) c cs none
           | inr some ↦
-              let differs : c.key ≢ key = λ k. (let here : is_in width f c ≡ true = is_in-yes width f c some.0 (ap (λ (z : ℕ). z / width) k ∙ in_f) some.1 in absurd (cc)) in
+              let differs : c.split_key ≢ key = λ k. (let here : is_in width f c ≡ true = is_in-yes width f c some.0 (ap (λ (z : ℕ). z / width) k ∙ in_f) some.1 in absurd (cc)) in
               other-hasher hash_of directory key (hash_of term) refl c cs p differs
         ]
 
@@ -126,7 +126,7 @@ module _ (hash_of : Term → ℕ) (directory : List (Option ℕ)) (term : Term) 
 
 -- ---- the bound
 
-starts-later : (low : ℕ) (c : Cell) (cs : List Cell) → low ≤ c.key → StartsFrom c.key cs → StartsFrom low cs
+starts-later : (low : ℕ) (c : Cell) (cs : List Cell) → low ≤ c.split_key → StartsFrom c.split_key cs → StartsFrom low cs
 starts-later low c [] h s = tt
 starts-later low c (d ∷ ds) h s = omega (arith, h, s)
 
@@ -139,11 +139,11 @@ items-above hash_of directory bucket high only (c ∷ cs) s o p = (
   λ less.
       elim (item-cases c.item) [
         | inl none ↦
-            let P : Option Item → Type 0 = λ z. HasSplitKey hash_of directory c.at c.key z in
-            let k : IsInDirectory directory c.at c.key = subst P none p.0 in
+            let P : Option Item → Type 0 = λ z. HasSplitKey hash_of directory c.at c.split_key z in
+            let k : IsInDirectory directory c.at c.split_key = subst P none p.0 in
             let H : ℕ → Type 0 = λ z. z < high in
-            let low : key_of_dummy bucket + 1 ≤ c.key = s in
-            let is : c.key ≡ key_of_dummy k.bucket = k.is in
+            let low : key_of_dummy bucket + 1 ≤ c.split_key = s in
+            let is : c.split_key ≡ key_of_dummy k.bucket = k.is in
             let b : k.bucket ≡ bucket = only k.bucket k.below (omega (arith, low, is)) (subst H k.is less) in
             let same' : key_of_dummy k.bucket ≡ key_of_dummy bucket = ap key_of_dummy b in
             absurd (omega (arith, low, is, same'))
@@ -209,12 +209,12 @@ module _ (hash_of : Term → ℕ) (directory : List (Option ℕ)) (cs : List Cel
       let within : hash_of term % length directory < 2 ^ h.doublings = subst W (sym same-mod) (mod_below (hash_of term) (2 ^ h.doublings) (pow_pos h.doublings)) in
       (rev h.doublings (hash_of term % length directory) * 4, border h.doublings interval_bits (hash_of term % length directory) narrow within ∙ previous (rev h.doublings (hash_of term % length directory)) (2 ^ interval_bits) (2 ^ (interval_bits + 1)) (double interval_bits))
 
-pub passed-one : (key : ℕ) (term : Term) (c : Cell) (cs : List Cell) (b : Bool) → (nat_lt key c.key || is_it key term c) ≡ b → 1 ≤ length (passed key term (c ∷ cs))
-passed-one key term c cs true e = let P : Bool → Type 0 = λ b. 1 ≤ length (cond b (c ∷ []) (c ∷ passed key term cs)) in subst P (sym e) (omega arith)
-passed-one key term c cs false e = let P : Bool → Type 0 = λ b. 1 ≤ length (cond b (c ∷ []) (c ∷ passed key term cs)) in subst P (sym e) (omega arith)
+pub visited_cells-one : (key : ℕ) (term : Term) (c : Cell) (cs : List Cell) (b : Bool) → (nat_lt key c.split_key || is_it key term c) ≡ b → 1 ≤ length (visited_cells key term (c ∷ cs))
+visited_cells-one key term c cs true e = let P : Bool → Type 0 = λ b. 1 ≤ length (cond b (c ∷ []) (c ∷ visited_cells key term cs)) in subst P (sym e) (omega arith)
+visited_cells-one key term c cs false e = let P : Bool → Type 0 = λ b. 1 ≤ length (cond b (c ∷ []) (c ∷ visited_cells key term cs)) in subst P (sym e) (omega arith)
 
 -- A search from a node after a bucket's dummy passes at most the items of the bucket and one more node.
-pub few-above : (hash_of : Term → ℕ) (directory : List (Option ℕ)) (cs : List Cell) (term : Term) (start : ℕ) (cell : Cell) (later : List Cell) → DirectoryInvariant hash_of directory cs → Sorted cs → from start cs ≡ cell ∷ later → key_of_dummy (hash_of term % length directory) + 1 ≤ cell.key → length (passed (key_of_item (hash_of term)) term (from start cs)) ≤ bucket_keys hash_of (length directory) (hash_of term % length directory) (slots_of cs) + 1
+pub few-above : (hash_of : Term → ℕ) (directory : List (Option ℕ)) (cs : List Cell) (term : Term) (start : ℕ) (cell : Cell) (later : List Cell) → DirectoryInvariant hash_of directory cs → Sorted cs → from start cs ≡ cell ∷ later → key_of_dummy (hash_of term % length directory) + 1 ≤ cell.split_key → length (visited_cells (key_of_item (hash_of term)) term (from start cs)) ≤ bucket_keys hash_of (length directory) (hash_of term % length directory) (slots_of cs) + 1
 few-above hash_of directory cs term start cell later i o is above =
     let few : i.doublings ≤ 20 = i.few in
     let full : i.doublings + (32 - i.doublings) ≡ 32 = omega arith in
@@ -222,7 +222,7 @@ few-above hash_of directory cs term start cell later i o is above =
     let m : IsItemOf (hash_of term) (hash_of term % length directory) (2 ^ i.doublings) = item-of i.doublings (32 - i.doublings) (hash_of term) (hash_of term % length directory) full same-mod in
     let W : ℕ → Type 0 = λ z. z < 2 ^ i.doublings in
     let within : hash_of term % length directory < 2 ^ i.doublings = subst W (sym same-mod) (mod_below (hash_of term) (2 ^ i.doublings) (pow_pos i.doublings)) in
-    let at-least : key_of_dummy (hash_of term % length directory) ≤ cell.key = omega (arith, above) in
+    let at-least : key_of_dummy (hash_of term % length directory) ≤ cell.split_key = omega (arith, above) in
     let pl = placed-from hash_of directory start cs i.placed in
     let so = sorted-from start cs o in
     let T : List Cell → Type 0 = λ zs. StartsFrom (key_of_dummy (hash_of term % length directory) + 1) zs in
@@ -233,7 +233,7 @@ few-above hash_of directory cs term start cell later i o is above =
     λ c below l u. (let Q : ℕ → Type 0 = λ z. c < z in dummy-alone i.doublings (32 - i.doublings) (hash_of term % length directory) c full within (subst Q i.size below) l u) in
     let items : HasOnlyItemsBelow (key_of_dummy (hash_of term % length directory) + bucket_width (2 ^ i.doublings)) (from start cs) =
     items-above hash_of directory (hash_of term % length directory) (key_of_dummy (hash_of term % length directory) + bucket_width (2 ^ i.doublings)) alone (from start cs) starts so pl in
-    let most : length (passed (key_of_item (hash_of term)) term (from start cs)) ≤ count_by (is_item_below (key_of_dummy (hash_of term % length directory) + bucket_width (2 ^ i.doublings))) (from start cs) + 1 =
+    let most : length (visited_cells (key_of_item (hash_of term)) term (from start cs)) ≤ count_by (is_item_below (key_of_dummy (hash_of term % length directory) + bucket_width (2 ^ i.doublings))) (from start cs) + 1 =
     length-passed (key_of_item (hash_of term)) term (key_of_dummy (hash_of term % length directory) + bucket_width (2 ^ i.doublings)) (from start cs) so m.high items in
     let only : (g : ℕ) → key_of_dummy (hash_of term % length directory) ≤ key_of_item g → key_of_item g < key_of_dummy (hash_of term % length directory) + bucket_width (2 ^ i.doublings) → g % length directory ≡ hash_of term % length directory =
     λ g l u. ap (λ (z : ℕ). g % z) i.size ∙ bucket-of-key i.doublings (32 - i.doublings) g (hash_of term % length directory) full within l u in
@@ -257,7 +257,7 @@ module _ (hash_of : Term → ℕ) (directory : List (Option ℕ)) (cs : List Cel
   first-answer None r = absent hash_of directory (key_of_item (hash_of term)) term refl cs i.placed (searched.found ∙ sym r)
   first-answer (Some at) r = found hash_of directory (key_of_item (hash_of term)) term refl at cs i.placed a (searched.found ∙ sym r)
 
-  few-first : length (passed (key_of_item (hash_of term)) term (from first cs)) ≤ bucket_keys hash_of (length directory) (hash_of term % length directory) (slots_of cs) + 1
+  few-first : length (visited_cells (key_of_item (hash_of term)) term (from first cs)) ≤ bucket_keys hash_of (length directory) (hash_of term % length directory) (slots_of cs) + 1
   few-first =
       let few : i.doublings ≤ 20 = i.few in
       let full : i.doublings + (32 - i.doublings) ≡ 32 = omega arith in
@@ -267,26 +267,26 @@ module _ (hash_of : Term → ℕ) (directory : List (Option ℕ)) (cs : List Cel
       let ins = inside (2 ^ interval_bits) (key_of_item (hash_of term) / 2 ^ interval_bits) n.cell n.inside in
       let low : key_of_dummy (hash_of term % length directory) < key_of_item (hash_of term) = it.low in
       let L : ℕ → Type 0 = λ z. z ≤ key_of_item (hash_of term) in
-      let M : ℕ → Type 0 = λ z. z ≤ n.cell.key in
+      let M : ℕ → Type 0 = λ z. z ≤ n.cell.split_key in
       let low' : key_of_dummy (hash_of term % length directory) ≤ key_of_item (hash_of term) = omega arith in
-      let at-least : key_of_dummy (hash_of term % length directory) ≤ n.cell.key =
-      subst M (sym edge) (same-side m (2 ^ interval_bits) (key_of_item (hash_of term)) n.cell.key (pow_pos interval_bits) (subst L edge low') (sym ins.key)) in
+      let at-least : key_of_dummy (hash_of term % length directory) ≤ n.cell.split_key =
+      subst M (sym edge) (same-side m (2 ^ interval_bits) (key_of_item (hash_of term)) n.cell.split_key (pow_pos interval_bits) (subst L edge low') (sym ins.key)) in
       let R : List Cell → Type 0 = λ zs. HaveSplitKeys hash_of directory zs in
       let pl = placed-from hash_of directory first cs i.placed in
       let pl' : HaveSplitKeys hash_of directory (n.cell ∷ n.later) = subst R n.is pl in
-      let k : n.cell.key ≡ key_of_item (hash_of ins.item.term) = placed-key hash_of directory n.cell.at n.cell.key n.cell.item ins.item ins.has pl'.0 in
+      let k : n.cell.split_key ≡ key_of_item (hash_of ins.item.term) = placed-key hash_of directory n.cell.at n.cell.split_key n.cell.item ins.item ins.has pl'.0 in
       few-above hash_of directory cs term first n.cell n.later i o n.is (omega (arith, at-least, k))
 
-  pub first-looked : (old new : ℕ) → new ≡ ticks (length (passed (key_of_item (hash_of term)) term (from first cs))) old → HasLooked hash_of (slots_of cs) (map is_some directory) term old new
+  pub first-looked : (old new : ℕ) → new ≡ ticks (length (visited_cells (key_of_item (hash_of term)) term (from first cs))) old → HasLooked hash_of (slots_of cs) (map is_some directory) term old new
   first-looked old new t =
       let len : length (map is_some directory) ≡ length directory = length-map directory is_some in
       let n = node in
-      let P : ℕ → Type 0 = λ n. length (passed (key_of_item (hash_of term)) term (from first cs)) ≤ bucket_keys hash_of n (hash_of term % n) (slots_of cs) + 1 in
+      let P : ℕ → Type 0 = λ n. length (visited_cells (key_of_item (hash_of term)) term (from first cs)) ≤ bucket_keys hash_of n (hash_of term % n) (slots_of cs) + 1 in
       let few = subst P (sym len) few-first in
-      let one : 1 ≤ length (passed (key_of_item (hash_of term)) term (from first cs)) =
-      (let Q : List Cell → Type 0 = λ zs. 1 ≤ length (passed (key_of_item (hash_of term)) term zs) in subst Q (sym n.is) (passed-one (key_of_item (hash_of term)) term n.cell n.later (nat_lt (key_of_item (hash_of term)) n.cell.key || is_it (key_of_item (hash_of term)) term n.cell) refl)) in
+      let one : 1 ≤ length (visited_cells (key_of_item (hash_of term)) term (from first cs)) =
+      (let Q : List Cell → Type 0 = λ zs. 1 ≤ length (visited_cells (key_of_item (hash_of term)) term zs) in subst Q (sym n.is) (visited_cells-one (key_of_item (hash_of term)) term n.cell n.later (nat_lt (key_of_item (hash_of term)) n.cell.split_key || is_it (key_of_item (hash_of term)) term n.cell) refl)) in
       record {
-        nodes = length (passed (key_of_item (hash_of term)) term (from first cs));
+        nodes = length (visited_cells (key_of_item (hash_of term)) term (from first cs));
         ticked = t;
         present = λ _. one;
         absent = λ gone.

@@ -12,19 +12,19 @@ use Rattle.ets_term.specs.Order.{same}
 use Rattle.split_key.specs.Keys.{key_of_item, key_of_dummy}
 use Rattle.node_list.specs.Cells.{Cell, Sorted}
 use Rattle.node_list.specs.Places.{from, HasDistinctPlaces, IsPlaceOf}
-use Rattle.node_list.specs.Search.{is_it, place_of, passed}
+use Rattle.node_list.specs.Search.{is_it, place_of, visited_cells}
 use Rattle.node_list.specs.Ticks.{ticks}
 use Rattle.node_list.proofs.CellLaws.{sorted-from}
 use Rattle.node_list.proofs.CallerLaws.{place_of-from}
 use Rattle.bucket_table.specs.inside.Nodes.{slots_of}
 use Rattle.bucket_table.specs.inside.Directory.{HaveSplitKeys, DirectoryInvariant, IsNearestReady, IsStartOf, HasKeyBelow}
-use Rattle.bucket_table.specs.Buckets.{bucket_keys, HasLooked}
+use Rattle.bucket_table.specs.Visits.{bucket_keys, HasLooked}
 use Rattle.bucket_table.specs.inside.Intervals.{first_in, AreSound, HintsInvariant, IsNearestBelow}
 use Rattle.bucket_table.specs.inside.Search.{IsFound, CanStartSearch}
 use Rattle.bucket_table.proofs.list.Content.{found, absent, placed-key}
 use Rattle.bucket_table.proofs.list.Passed.{placed-from, hash-passed, hash-from}
 use Rattle.bucket_table.proofs.hints.First.{First, first-node}
-use Rattle.bucket_table.proofs.hints.Search.{inside, own-edge, old-edge, few-above, passed-one, own-start}
+use Rattle.bucket_table.proofs.hints.Search.{inside, own-edge, old-edge, few-above, visited_cells-one, own-start}
 use Rattle.bucket_table.proofs.hints.Rehash.{part-half}
 use Rattle.bucket_table.proofs.hints.Start.{first-lesser}
 use Rattle.bucket_table.proofs.directory.Search.{start-is, answer, looked}
@@ -71,19 +71,19 @@ module _ (hash_of : Term → ℕ) (directory : List (Option ℕ)) (cs : List Cel
   below-answer (Some at) r = found hash_of directory key term refl at cs i.placed a (whole ∙ sym r)
 
   -- In a ready bucket it comes after the dummy.
-  above : IsSome (get_or directory (hash_of term % length directory) None) → key_of_dummy (hash_of term % length directory) + 1 ≤ node.cell.key
+  above : IsSome (get_or directory (hash_of term % length directory) None) → key_of_dummy (hash_of term % length directory) + 1 ≤ node.cell.split_key
   above ready =
       let ins = inside (2 ^ interval_bits) f.lower node.cell node.inside in
       let D : ℕ → Type 0 = λ z. key_of_dummy z / 2 ^ interval_bits ≤ f.lower in
       let E : ℕ → Type 0 = λ z. z / 2 ^ interval_bits ≤ f.lower in
       let F : ℕ → Type 0 = λ z. (m * 2 ^ interval_bits) / 2 ^ interval_bits ≤ z in
       let floor = subst E edge (subst D (n.own ready) f.above_floor) in
-      let up = from-border m (2 ^ interval_bits) node.cell.key (pow_pos interval_bits) (subst F (sym ins.key) floor) in
-      let G : ℕ → Type 0 = λ z. z ≤ node.cell.key in
-      let at-least : key_of_dummy (hash_of term % length directory) ≤ node.cell.key = subst G (sym edge) up in
+      let up = from-border m (2 ^ interval_bits) node.cell.split_key (pow_pos interval_bits) (subst F (sym ins.key) floor) in
+      let G : ℕ → Type 0 = λ z. z ≤ node.cell.split_key in
+      let at-least : key_of_dummy (hash_of term % length directory) ≤ node.cell.split_key = subst G (sym edge) up in
       let R : List Cell → Type 0 = λ zs. HaveSplitKeys hash_of directory zs in
       let pl : HaveSplitKeys hash_of directory (node.cell ∷ node.later) = subst R node.is (placed-from hash_of directory first cs i.placed) in
-      let k : node.cell.key ≡ key_of_item (hash_of ins.item.term) = placed-key hash_of directory node.cell.at node.cell.key node.cell.item ins.item ins.has pl.0 in
+      let k : node.cell.split_key ≡ key_of_item (hash_of ins.item.term) = placed-key hash_of directory node.cell.at node.cell.split_key node.cell.item ins.item ins.has pl.0 in
       omega (arith, at-least, k)
 
   none-found : lookup (same term) (slots_of cs) ≡ None → place_of key term (from first cs) ≡ None
@@ -93,18 +93,18 @@ module _ (hash_of : Term → ℕ) (directory : List (Option ℕ)) (cs : List Cel
         | inr some ↦ let g = below-answer (Some some.0) (sym some.1) in absurd (cc (g.objects, gone))
       ]
 
-  below-looked : (old new : ℕ) → new ≡ ticks (length (passed key term (from first cs))) old → HasLooked hash_of (slots_of cs) (map is_some directory) term old new
+  below-looked : (old new : ℕ) → new ≡ ticks (length (visited_cells key term (from first cs))) old → HasLooked hash_of (slots_of cs) (map is_some directory) term old new
   below-looked old new t =
       let len : length (map is_some directory) ≡ length directory = length-map directory is_some in
       let ready : get_or (map is_some directory) (hash_of term % length directory) false ≡ is_some (get_or directory (hash_of term % length directory) None) = get_or-map is_some directory (hash_of term % length directory) None in
-      let P : ℕ → Type 0 = λ n. get_or (map is_some directory) (hash_of term % n) false ≡ true → length (passed key term (from first cs)) ≤ bucket_keys hash_of n (hash_of term % n) (slots_of cs) + 2 in
-      let bound : get_or (map is_some directory) (hash_of term % length directory) false ≡ true → length (passed key term (from first cs)) ≤ bucket_keys hash_of (length directory) (hash_of term % length directory) (slots_of cs) + 2 =
+      let P : ℕ → Type 0 = λ n. get_or (map is_some directory) (hash_of term % n) false ≡ true → length (visited_cells key term (from first cs)) ≤ bucket_keys hash_of n (hash_of term % n) (slots_of cs) + 2 in
+      let bound : get_or (map is_some directory) (hash_of term % length directory) false ≡ true → length (visited_cells key term (from first cs)) ≤ bucket_keys hash_of (length directory) (hash_of term % length directory) (slots_of cs) + 2 =
       λ g. (let w = few-above hash_of directory cs term first node.cell node.later i o node.is (above (sym ready ∙ g)) in omega (arith, w)) in
-      let Q : List Cell → Type 0 = λ zs. 1 ≤ length (passed (key_of_item (hash_of term)) term zs) in
-      let one : 1 ≤ length (passed (key_of_item (hash_of term)) term (from first cs)) =
-      subst Q (sym node.is) (passed-one (key_of_item (hash_of term)) term node.cell node.later (nat_lt (key_of_item (hash_of term)) node.cell.key || is_it (key_of_item (hash_of term)) term node.cell) refl) in
+      let Q : List Cell → Type 0 = λ zs. 1 ≤ length (visited_cells (key_of_item (hash_of term)) term zs) in
+      let one : 1 ≤ length (visited_cells (key_of_item (hash_of term)) term (from first cs)) =
+      subst Q (sym node.is) (visited_cells-one (key_of_item (hash_of term)) term node.cell node.later (nat_lt (key_of_item (hash_of term)) node.cell.split_key || is_it (key_of_item (hash_of term)) term node.cell) refl) in
       record {
-        nodes = length (passed key term (from first cs));
+        nodes = length (visited_cells key term (from first cs));
         ticked = t;
         present = λ _. one;
         absent = λ gone.

@@ -5,7 +5,7 @@ use Rattle.std.proofs.Math.Nat.{div-lt_iff_lt-mul}
 use Rattle.ets_term.specs.declared.term.Term.{Term}
 use Rattle.split_key.specs.Keys.{key_of_item, key_of_dummy}
 use Rattle.node_list.specs.Cells.{Cell, Sorted, new_cell}
-use Rattle.node_list.specs.Places.{cells_after, all_but_first, key_at, HasDistinctPlaces, HasItem, HasKeyAtMost}
+use Rattle.node_list.specs.Places.{cells_after, all_but_first, split_key_at, HasDistinctPlaces, HasItem, HasSplitKeyAtMost}
 use Rattle.bucket_table.specs.inside.Directory.{HaveSplitKeys, DirectoryInvariant, IsStartOf, HasKeyBelow}
 use Rattle.bucket_table.specs.inside.Intervals.{first_in, AreSound, IsNearestBelow}
 use Rattle.bucket_table.specs.inside.Search.{IsFound}
@@ -33,11 +33,11 @@ module _ (width key at : ℕ) (cs : List Cell) (o : Sorted cs) (a : HasDistinctP
       let n = first-node width f.lower at cs a (h f.lower (Some at) f.known) in
       let i = inside width f.lower n.cell n.inside in
       let P : ℕ → Type 0 = λ z. z < key / width in
-      let l : n.cell.key / width < key / width = subst P (sym i.key) f.less in
-      record { cell = n.cell; later = n.later; is = n.is; below = less-part n.cell.key key (key / width) width some l refl }
+      let l : n.cell.split_key / width < key / width = subst P (sym i.key) f.less in
+      record { cell = n.cell; later = n.later; is = n.is; below = less-part n.cell.split_key key (key / width) width some l refl }
 
   -- The first item of the interval, if its split key is less.
-  pub own-lesser : (k : ℕ) → first_in width (key / width) cs ≡ Some at → key_at at cs ≡ Some k → k < key → HasKeyBelow key at cs
+  pub own-lesser : (k : ℕ) → first_in width (key / width) cs ≡ Some at → split_key_at at cs ≡ Some k → k < key → HasKeyBelow key at cs
   own-lesser k is e less =
       let n = node width key at cs o a is in
       let q = key-is width key at cs o a is k e in
@@ -55,7 +55,7 @@ start-lesser hash_of directory hash start cs i s =
     record { cell = new_cell start (key_of_dummy s.nearest) None; later = d.later; is = d.is; below = start-below directory i.doublings hash start i.size i.few s }
 
 -- An item can be inserted from there.
-pub lesser-up-to : (key start : ℕ) (cs : List Cell) → HasKeyBelow key start cs → HasKeyAtMost key start cs
+pub lesser-up-to : (key start : ℕ) (cs : List Cell) → HasKeyBelow key start cs → HasSplitKeyAtMost key start cs
 lesser-up-to key start cs s = record { cell = s.cell; later = s.later; is = s.is; up_to = omega (arith, s.below) }
 
 -- An item can be removed from there.
@@ -63,9 +63,9 @@ pub found-behind : (hash_of : Term → ℕ) (directory : List (Option ℕ)) (ter
 found-behind hash_of directory term hash at start cs placed o h e s =
     let P : List Cell → Type 0 = λ zs. HaveSplitKeys hash_of directory zs in
     let p : HaveSplitKeys hash_of directory (h.cell ∷ h.later) = subst P h.is (placed-from hash_of directory at cs placed) in
-    let is : h.cell.key ≡ key_of_item (hash_of term) = placed-key hash_of directory h.cell.at h.cell.key h.cell.item h.item h.has p.0 ∙ ap (λ (t : Term). key_of_item (hash_of t)) h.same_term in
+    let is : h.cell.split_key ≡ key_of_item (hash_of term) = placed-key hash_of directory h.cell.at h.cell.split_key h.cell.item h.item h.has p.0 ∙ ap (λ (t : Term). key_of_item (hash_of t)) h.same_term in
     let H : List Cell → Type 0 = λ zs. HasItem at (all_but_first zs) in
-    let B : ℕ → Type 0 = λ z. s.cell.key < z in
-    let below : s.cell.key < h.cell.key = subst B (e ∙ sym is) s.below in
+    let B : ℕ → Type 0 = λ z. s.cell.split_key < z in
+    let below : s.cell.split_key < h.cell.split_key = subst B (e ∙ sym is) s.below in
     let later = is-after start at cs s.cell s.later h.cell h.later o s.is h.is below in
     subst H (sym s.is) (record { cell = h.cell; later = h.later; item = h.item; is = later; has = h.has })

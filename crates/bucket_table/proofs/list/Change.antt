@@ -60,7 +60,7 @@ content-more old new own item none has others =
 put-apart : (x : Cell) (cs : List Cell) (at : ℕ) → x.at ≢ at → item_at at (put_cell x cs) ≡ item_at at cs
 put-apart x [] at n = item-on at x [] n
 put-apart x (c ∷ cs) at n =
-    elim (cases_lt x.key c.key) [
+    elim (cases_lt x.split_key c.split_key) [
       | inl past ↦ ap (item_at at) (put-past x c cs past) ∙ item-on at x (c ∷ cs) n
       | inr on ↦
           ap (item_at at) (put-on x c cs on)

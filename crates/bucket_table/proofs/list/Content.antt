@@ -74,7 +74,7 @@ and-no true b h = h
 and-no false b h = refl
 
 pub is_it-no : (key : ℕ) (term : Term) (c : Cell) → holds term c.item ≡ false → is_it key term c ≡ false
-is_it-no key term c h = and-no (nat_eq c.key key) (holds term c.item) h
+is_it-no key term c h = and-no (nat_eq c.split_key key) (holds term c.item) h
 
 pub place_of-on : (key : ℕ) (term : Term) (c : Cell) (cs : List Cell) → is_it key term c ≡ false → place_of key term (c ∷ cs) ≡ place_of key term cs
 place_of-on key term c cs h = ap (λ (b : Bool). if b then Some c.at else place_of key term cs) h
@@ -145,8 +145,8 @@ some-is : (a b : ℕ) (o : Option ℕ) → o ≡ Some a → o ≡ Some b → a �
 some-is a b o e f = cc
 
 module _ (hash_of : Term → ℕ) (directory : List (Option ℕ)) (key : ℕ) (term : Term) (is : key ≡ key_of_item (hash_of term)) where
-  its-key : (c : Cell) → HasSplitKey hash_of directory c.at c.key c.item → Holds term c.item → c.key ≡ key
-  its-key c p h = placed-key hash_of directory c.at c.key c.item h.item h.is p ∙ (ap (λ (t : Term). key_of_item (hash_of t)) h.same_term ∙ sym is)
+  its-key : (c : Cell) → HasSplitKey hash_of directory c.at c.split_key c.item → Holds term c.item → c.split_key ≡ key
+  its-key c p h = placed-key hash_of directory c.at c.split_key c.item h.item h.is p ∙ (ap (λ (t : Term). key_of_item (hash_of t)) h.same_term ∙ sym is)
 
   -- A search that finds a place.
   pub found : (at : ℕ) (cs : List Cell) → HaveSplitKeys hash_of directory cs → HasDistinctPlaces cs → place_of key term cs ≡ Some at → IsFound term at cs

@@ -8,13 +8,13 @@ use Rattle.split_key.specs.Keys.{key_of_item}
 use Rattle.node_list.specs.declared.node.Item.{Item}
 use Rattle.node_list.specs.Cells.{Cell, Sorted, StartsFrom}
 use Rattle.node_list.specs.Places.{from, HasDistinctPlaces}
-use Rattle.node_list.specs.Search.{is_it, place_of, passed}
+use Rattle.node_list.specs.Search.{is_it, place_of, visited_cells}
 use Rattle.node_list.proofs.CellLaws.{from-here, from-on, at-most-from, search-on}
 use Rattle.node_list.proofs.CallerLaws.{is_item_below}
 use Rattle.bucket_table.specs.Slots.{Slot}
 use Rattle.bucket_table.specs.inside.Nodes.{slots_of, with_slot}
 use Rattle.bucket_table.specs.inside.Directory.{HasSplitKey, HaveSplitKeys}
-use Rattle.bucket_table.specs.Buckets.{hash_keys, bucket_keys}
+use Rattle.bucket_table.specs.Visits.{hash_keys, bucket_keys}
 use Rattle.bucket_table.proofs.list.Content.{item-cases, placed-key}
 
 -- ---- counts of slots, a node at a time
@@ -94,30 +94,30 @@ equal a b h = grind (arith, nat_tests)
 
 module _ (hash_of : Term → ℕ) (directory : List (Option ℕ)) (key hash : ℕ) (is : key ≡ key_of_item hash) where
   -- An item of another split key has another hash.
-  pub other-hasher : (c : Cell) (cs : List Cell) → HasSplitKey hash_of directory c.at c.key c.item → c.key ≢ key → hash_keys hash_of hash (slots_of (c ∷ cs)) ≡ hash_keys hash_of hash (slots_of cs)
+  pub other-hasher : (c : Cell) (cs : List Cell) → HasSplitKey hash_of directory c.at c.split_key c.item → c.split_key ≢ key → hash_keys hash_of hash (slots_of (c ∷ cs)) ≡ hash_keys hash_of hash (slots_of cs)
   other-hasher c cs p n =
       elim (item-cases c.item) [
         | inl none ↦ count-dummy (λ s. nat_eq (hash_of s.0) hash) c cs none
         | inr some ↦
-            let differs : hash_of some.0.term ≢ hash = λ e. n (placed-key hash_of directory c.at c.key c.item some.0 some.1 p ∙ (ap key_of_item e ∙ sym is)) in
+            let differs : hash_of some.0.term ≢ hash = λ e. n (placed-key hash_of directory c.at c.split_key c.item some.0 some.1 p ∙ (ap key_of_item e ∙ sym is)) in
             count-out (λ s. nat_eq (hash_of s.0) hash) c cs some.0 some.1 (not-equal (hash_of some.0.term) hash differs)
       ]
 
   hash-beyond : (bound : ℕ) (cs : List Cell) → key < bound → StartsFrom bound cs → Sorted cs → HaveSplitKeys hash_of directory cs → hash_keys hash_of hash (slots_of cs) ≡ 0
   hash-beyond bound [] h s o p = refl
   hash-beyond bound (c ∷ cs) h s o p =
-      let past : key < c.key = omega (arith, h, s) in
-      let differs : c.key ≢ key = λ e. (let f : c.key ≡ key = e in absurd (omega arith)) in
-      other-hasher c cs p.0 differs ∙ hash-beyond c.key cs past o.0 o.1 p.1
+      let past : key < c.split_key = omega (arith, h, s) in
+      let differs : c.split_key ≢ key = λ e. (let f : c.split_key ≡ key = e in absurd (omega arith)) in
+      other-hasher c cs p.0 differs ∙ hash-beyond c.split_key cs past o.0 o.1 p.1
 
   -- A search that finds nothing passes all of them.
-  pub hash-passed : (term : Term) (cs : List Cell) → Sorted cs → HaveSplitKeys hash_of directory cs → place_of key term cs ≡ None → hash_keys hash_of hash (slots_of cs) ≤ length (passed key term cs)
+  pub hash-passed : (term : Term) (cs : List Cell) → Sorted cs → HaveSplitKeys hash_of directory cs → place_of key term cs ≡ None → hash_keys hash_of hash (slots_of cs) ≤ length (visited_cells key term cs)
   hash-passed term [] o p e = omega arith
   hash-passed term (c ∷ cs) o p e =
-      elim (cases_lt key c.key) [
+      elim (cases_lt key c.split_key) [
         | inl past ↦
-            let differs : c.key ≢ key = λ e. (let f : c.key ≡ key = e in absurd (omega arith)) in
-            omega (arith, other-hasher c cs p.0 differs, hash-beyond c.key cs past o.0 o.1 p.1)
+            let differs : c.split_key ≢ key = λ e. (let f : c.split_key ≡ key = e in absurd (omega arith)) in
+            omega (arith, other-hasher c cs p.0 differs, hash-beyond c.split_key cs past o.0 o.1 p.1)
         | inr on ↦
             elim (cases_Bool (is_it key term c)) [
               | inl hit ↦
@@ -130,15 +130,15 @@ module _ (hash_of : Term → ℕ) (directory : List (Option ℕ)) (key hash : �
       ]
 
   -- All of them come after a node with a lesser split key.
-  pub hash-from : (start : ℕ) (cs : List Cell) (d : Cell) (ds : List Cell) → Sorted cs → HaveSplitKeys hash_of directory cs → from start cs ≡ d ∷ ds → d.key < key → hash_keys hash_of hash (slots_of cs) ≡ hash_keys hash_of hash (slots_of (from start cs))
+  pub hash-from : (start : ℕ) (cs : List Cell) (d : Cell) (ds : List Cell) → Sorted cs → HaveSplitKeys hash_of directory cs → from start cs ≡ d ∷ ds → d.split_key < key → hash_keys hash_of hash (slots_of cs) ≡ hash_keys hash_of hash (slots_of (from start cs))
   hash-from start [] d ds o p e h = absurd (cc)
   hash-from start (c ∷ cs) d ds o p e h =
       elim (cases_eq c.at start) [
         | inl here ↦ ap (λ (zs : List Cell). hash_keys hash_of hash (slots_of zs)) (sym (from-here start c cs here))
         | inr other ↦
             let later : from start cs ≡ d ∷ ds = sym (from-on start c cs other) ∙ e in
-            let low : c.key ≤ d.key = at-most-from start c.key cs d ds o.0 o.1 later in
-            let differs : c.key ≢ key = λ e. (let f : c.key ≡ key = e in absurd (omega arith)) in
+            let low : c.split_key ≤ d.split_key = at-most-from start c.split_key cs d ds o.0 o.1 later in
+            let differs : c.split_key ≢ key = λ e. (let f : c.split_key ≡ key = e in absurd (omega arith)) in
             other-hasher c cs p.0 differs
             ∙ (hash-from start cs d ds o.1 p.1 later h ∙ ap (λ (zs : List Cell). hash_keys hash_of hash (slots_of zs)) (sym (from-on start c cs other)))
       ]
@@ -148,7 +148,7 @@ module _ (hash_of : Term → ℕ) (directory : List (Option ℕ)) (key hash : �
 not-below : (high : ℕ) (c : Cell) → c.item ≡ None → is_item_below high c ≡ false
 not-below high c e = grind (arith, nat_tests)
 
-not-low : (high : ℕ) (c : Cell) → high ≤ c.key → is_item_below high c ≡ false
+not-low : (high : ℕ) (c : Cell) → high ≤ c.split_key → is_item_below high c ≡ false
 not-low high c e = grind (arith, nat_tests)
 
 count-skip : (p : Cell → Bool) (c : Cell) (cs : List Cell) → p c ≡ false → count_by p (c ∷ cs) ≡ count_by p cs
@@ -172,9 +172,9 @@ module _ (hash_of : Term → ℕ) (directory : List (Option ℕ)) (n b low high 
       elim (item-cases c.item) [
         | inl none ↦ omega (arith, ih, count-skip (is_item_below high) c cs (not-below high c none), count-dummy (λ t. nat_eq (hash_of t.0 % n) b) c cs none)
         | inr some ↦
-            elim (cases_lt c.key high) [
+            elim (cases_lt c.split_key high) [
               | inl less ↦
-                  let k : c.key ≡ key_of_item (hash_of some.0.term) = placed-key hash_of directory c.at c.key c.item some.0 some.1 p.0 in
+                  let k : c.split_key ≡ key_of_item (hash_of some.0.term) = placed-key hash_of directory c.at c.split_key c.item some.0 some.1 p.0 in
                   let P : ℕ → Type 0 = λ z. low ≤ z in
                   let Q : ℕ → Type 0 = λ z. z < high in
                   let is : hash_of some.0.term % n ≡ b = only (hash_of some.0.term) (subst P k s) (subst Q k less) in
@@ -184,6 +184,6 @@ module _ (hash_of : Term → ℕ) (directory : List (Option ℕ)) (n b low high 
             ]
       ]
     where
-      starts-later : (low : ℕ) (c : Cell) (cs : List Cell) → low ≤ c.key → StartsFrom c.key cs → StartsFrom low cs
+      starts-later : (low : ℕ) (c : Cell) (cs : List Cell) → low ≤ c.split_key → StartsFrom c.split_key cs → StartsFrom low cs
       starts-later low c [] h s = tt
       starts-later low c (d ∷ ds) h s = omega (arith, h, s)

@@ -8,7 +8,7 @@ use Rattle.ets_term.specs.declared.term.Term.{Term}
 use Rattle.ets_term.specs.Order.{same}
 use Rattle.node_list.specs.declared.node.Item.{Item}
 use Rattle.node_list.specs.Cells.{Cell}
-use Rattle.node_list.specs.Places.{from, item_at, key_at, first_key, IsFresh, HasDistinctPlaces, IsPlaceOf}
+use Rattle.node_list.specs.Places.{from, item_at, split_key_at, first_split_key, IsFresh, HasDistinctPlaces, IsPlaceOf}
 use Rattle.node_list.specs.Search.{holds}
 use Rattle.node_list.specs.Changes.{item_with}
 use Rattle.node_list.specs.Changes.{cells_with}
@@ -190,11 +190,11 @@ few-slots [] = lit≤ tt
 few-slots (c ∷ cs) = let l = few-more c.item (slots_of cs) (length cs) (few-slots cs) in omega (arith, l)
 
 -- An item has the split key of its hash.
-pub hash-key : (hash_of : Term → ℕ) (directory : List (Option ℕ)) (term : Term) (at : ℕ) (cells : List Cell) → HaveSplitKeys hash_of directory cells → (f : IsFound term at cells) (k : ℕ) → key_at at cells ≡ Some k → k ≡ key_of_item (hash_of term)
+pub hash-key : (hash_of : Term → ℕ) (directory : List (Option ℕ)) (term : Term) (at : ℕ) (cells : List Cell) → HaveSplitKeys hash_of directory cells → (f : IsFound term at cells) (k : ℕ) → split_key_at at cells ≡ Some k → k ≡ key_of_item (hash_of term)
 hash-key hash_of directory term at cells placed f k e =
     let P : List Cell → Type 0 = λ zs. HaveSplitKeys hash_of directory zs in
     let q : HaveSplitKeys hash_of directory (f.cell ∷ f.later) = subst P f.is (placed-from hash_of directory at cells placed) in
-    some-key k f.cell.key (key_at at cells) e (ap first_key f.is) ∙ (placed-key hash_of directory f.cell.at f.cell.key f.cell.item f.item f.has q.0 ∙ ap (λ (t : Term). key_of_item (hash_of t)) f.same_term)
+    some-key k f.cell.split_key (split_key_at at cells) e (ap first_split_key f.is) ∙ (placed-key hash_of directory f.cell.at f.cell.split_key f.cell.item f.item f.has q.0 ∙ ap (λ (t : Term). key_of_item (hash_of t)) f.same_term)
   where
     some-key : (a b : ℕ) (o : Option ℕ) → o ≡ Some a → o ≡ Some b → a ≡ b
     some-key a b o x y = cc

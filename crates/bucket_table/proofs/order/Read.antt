@@ -10,7 +10,7 @@ use Rattle.node_list.specs.Places.{from, item_at, first_item, IsFresh, HasDistin
 use Rattle.node_list.specs.Changes.{put_cell, cells_with}
 use Rattle.bucket_table.specs.Slots.{Enters, HasDistinctKeys, objects_of}
 use Rattle.bucket_table.specs.Entries.{objects_in, with_objects_in}
-use Rattle.bucket_table.specs.Buckets.{HasLooked, hash_keys, bucket_keys}
+use Rattle.bucket_table.specs.Visits.{HasLooked, hash_keys, bucket_keys}
 use Rattle.bucket_table.specs.Walks.{IsFirstPlace, IsNextPlace, behind_in}
 use Rattle.bucket_table.specs.SplitRowsState.{key_of_place}
 use Rattle.bucket_table.specs.inside.Nodes.{slots_of, with_slot, places_of}

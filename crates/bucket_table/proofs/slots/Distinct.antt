@@ -19,7 +19,7 @@ use Rattle.bucket_table.proofs.list.Content.{same-sym}
 pub slots-put-dummy : (at key : ℕ) (cs : List Cell) → slots_of (put_cell (new_cell at key None) cs) ≡ slots_of cs
 slots-put-dummy at key [] = refl
 slots-put-dummy at key (c ∷ cs) =
-    elim (cases_lt key c.key) [
+    elim (cases_lt key c.split_key) [
       | inl past ↦ ap slots_of (put-past (new_cell at key None) c cs past)
       | inr on ↦ ap slots_of (put-on (new_cell at key None) c cs on) ∙ ap (with_slot c.item) (slots-put-dummy at key cs)
     ]
@@ -37,7 +37,7 @@ pub slots-put-item : (at key : ℕ) (term : Term) (chain : List Term) (cs : List
 slots-put-item at key term chain [] = record { front = []; back = []; before = refl; after = refl }
 slots-put-item at key term chain (c ∷ cs) =
     let P : List Cell → Type 0 = λ zs. Enters (slots_of (c ∷ cs)) term chain (slots_of zs) in
-    elim (cases_lt key c.key) [
+    elim (cases_lt key c.split_key) [
       | inl past ↦ subst P (sym (put-past (new_cell at key (Some (new_item term chain))) c cs past)) (record { front = []; back = slots_of (c ∷ cs); before = refl; after = refl })
       | inr on ↦
           subst P (sym (put-on (new_cell at key (Some (new_item term chain))) c cs on))

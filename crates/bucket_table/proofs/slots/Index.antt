@@ -11,7 +11,8 @@ use Rattle.indexmap.proofs.MapLemmas.{Found-position}
 use Rattle.ets_term.specs.declared.term.Term.{Term}
 use Rattle.ets_term.specs.Order.{same}
 use Rattle.ets_term.specs.laws.Same.{same-exact, same-refl}
-use Rattle.bucket_table.specs.Slots.{Slot, objects_of, with_objects, without, slots_behind, Enters, EnterAll, AreNew}
+use Rattle.bucket_table.specs.Slots.{Slot, objects_of, with_objects, slots_behind, Enters}
+use Rattle.bucket_table.specs.Rows.{without, EnterAll, AreNew}
 
 apart-turned : (x k : Term) → same x k ≡ false → same k x ≡ false
 apart-turned x k h = by (same k x) refl

@@ -4,10 +4,11 @@ use Rattle.std.proofs.lemmas.List.Elements.{filter-append}
 use Rattle.ets_term.specs.declared.term.Term.{Term}
 use Rattle.ets_term.specs.Order.{same}
 use Rattle.ets_term.specs.laws.Same.{same-exact}
-use Rattle.bucket_table.specs.Slots.{Slot, Enters, has_objects, with_objects, without, purged}
+use Rattle.bucket_table.specs.Slots.{Slot, Enters, has_objects, with_objects, without_tombstones}
+use Rattle.bucket_table.specs.Rows.{without}
 use Rattle.bucket_table.specs.declared.split.sweep.SweepMode.{SweepMode}
 use Rattle.bucket_table.specs.declared.split.sweep.SweepMode.TheVariants.{RemoveTombstones}
-use Rattle.bucket_table.specs.inside.Sweeps.{swept}
+use Rattle.bucket_table.specs.inside.Sweeps.{after_sweep}
 use Rattle.bucket_table.specs.inside.TombstoneLog.{IsAmong, TombstonesAreAmong, LogsHash}
 
 -- ---- among hashes
@@ -70,23 +71,23 @@ module _ (hash_of : Term → ℕ) where
   among-with hs key w [] own a = tt
   among-with hs key w (s ∷ ss) own a = with-on hs key w s ss (same key s.0) refl own a (among-with hs key w ss own a.1)
 
-  purged-on : (hs : List ℕ) (s : Slot) (ss : List Slot) (b : Bool) → has_objects s.1 ≡ b → TombstonesAreAmong hash_of hs (purged ss) → TombstonesAreAmong hash_of hs (cond b (s ∷ purged ss) (purged ss))
-  purged-on hs s ss true e ih = ((λ f. let no : true ≡ false = sym e ∙ f in absurd (cc)), ih)
-  purged-on hs s ss false e ih = ih
+  without_tombstones-on : (hs : List ℕ) (s : Slot) (ss : List Slot) (b : Bool) → has_objects s.1 ≡ b → TombstonesAreAmong hash_of hs (without_tombstones ss) → TombstonesAreAmong hash_of hs (cond b (s ∷ without_tombstones ss) (without_tombstones ss))
+  without_tombstones-on hs s ss true e ih = ((λ f. let no : true ≡ false = sym e ∙ f in absurd (cc)), ih)
+  without_tombstones-on hs s ss false e ih = ih
 
   -- After a purge there are no tombstones.
-  pub among-purged : (hs : List ℕ) (ss : List Slot) → TombstonesAreAmong hash_of hs (purged ss)
+  pub among-purged : (hs : List ℕ) (ss : List Slot) → TombstonesAreAmong hash_of hs (without_tombstones ss)
   among-purged hs [] = tt
-  among-purged hs (s ∷ ss) = purged-on hs s ss (has_objects s.1) refl (among-purged hs ss)
+  among-purged hs (s ∷ ss) = without_tombstones-on hs s ss (has_objects s.1) refl (among-purged hs ss)
 
-  all-stay : (s : Slot) (ss : List Slot) (b : Bool) → has_objects s.1 ≡ b → (has_objects s.1 ≡ false → ⊥) → purged ss ≡ ss → cond b (s ∷ purged ss) (purged ss) ≡ s ∷ ss
+  all-stay : (s : Slot) (ss : List Slot) (b : Bool) → has_objects s.1 ≡ b → (has_objects s.1 ≡ false → ⊥) → without_tombstones ss ≡ ss → cond b (s ∷ without_tombstones ss) (without_tombstones ss) ≡ s ∷ ss
   all-stay s ss true e n ih = ap (λ (zs : List Slot). s ∷ zs) ih
   all-stay s ss false e n ih = absurd (n e)
 
   -- Without tombstones a purge does nothing.
-  pub purged-none : (ss : List Slot) → TombstonesAreAmong hash_of [] ss → purged ss ≡ ss
-  purged-none [] a = refl
-  purged-none (s ∷ ss) a = all-stay s ss (has_objects s.1) refl a.0 (purged-none ss a.1)
+  pub without_tombstones-none : (ss : List Slot) → TombstonesAreAmong hash_of [] ss → without_tombstones ss ≡ ss
+  without_tombstones-none [] a = refl
+  without_tombstones-none (s ∷ ss) a = all-stay s ss (has_objects s.1) refl a.0 (without_tombstones-none ss a.1)
 
   -- ---- one hash
 
@@ -103,11 +104,11 @@ module _ (hash_of : Term → ℕ) where
   none-first hash [] ys a = tt
   none-first hash (x ∷ xs) ys a = (a.0, none-first hash xs ys a.1)
 
-  none-on : (hash : ℕ) (s : Slot) (ss : List Slot) (b : Bool) → has_objects s.1 ≡ b → AreNone hash (purged ss) → AreNone hash (cond b (s ∷ purged ss) (purged ss))
+  none-on : (hash : ℕ) (s : Slot) (ss : List Slot) (b : Bool) → has_objects s.1 ≡ b → AreNone hash (without_tombstones ss) → AreNone hash (cond b (s ∷ without_tombstones ss) (without_tombstones ss))
   none-on hash s ss true e ih = ((λ f. let no : true ≡ false = sym e ∙ f in absurd (cc)), ih)
   none-on hash s ss false e ih = ih
 
-  pub none-purged : (hash : ℕ) (ss : List Slot) → AreNone hash (purged ss)
+  pub none-purged : (hash : ℕ) (ss : List Slot) → AreNone hash (without_tombstones ss)
   none-purged hash [] = tt
   none-purged hash (s ∷ ss) = none-on hash s ss (has_objects s.1) refl (none-purged hash ss)
 
@@ -119,19 +120,19 @@ module _ (hash_of : Term → ℕ) where
   among-others hash hs [] n a = tt
   among-others hash hs (s ∷ ss) n a = ((λ e. other hash (hash_of s.0) hs (n.0 e) (a.0 e)), among-others hash hs ss n.1 a.1)
 
-again-on : (s : Slot) (ss : List Slot) (b : Bool) → has_objects s.1 ≡ b → purged (purged ss) ≡ purged ss → purged (cond b (s ∷ purged ss) (purged ss)) ≡ cond b (s ∷ purged ss) (purged ss)
-again-on s ss true e ih = ap (λ (b : Bool). cond b (s ∷ purged (purged ss)) (purged (purged ss))) e ∙ ap (λ (zs : List Slot). s ∷ zs) ih
+again-on : (s : Slot) (ss : List Slot) (b : Bool) → has_objects s.1 ≡ b → without_tombstones (without_tombstones ss) ≡ without_tombstones ss → without_tombstones (cond b (s ∷ without_tombstones ss) (without_tombstones ss)) ≡ cond b (s ∷ without_tombstones ss) (without_tombstones ss)
+again-on s ss true e ih = ap (λ (b : Bool). cond b (s ∷ without_tombstones (without_tombstones ss)) (without_tombstones (without_tombstones ss))) e ∙ ap (λ (zs : List Slot). s ∷ zs) ih
 again-on s ss false e ih = ih
 
-pub purged-again : (ss : List Slot) → purged (purged ss) ≡ purged ss
-purged-again [] = refl
-purged-again (s ∷ ss) = again-on s ss (has_objects s.1) refl (purged-again ss)
+pub without_tombstones-again : (ss : List Slot) → without_tombstones (without_tombstones ss) ≡ without_tombstones ss
+without_tombstones-again [] = refl
+without_tombstones-again (s ∷ ss) = again-on s ss (has_objects s.1) refl (without_tombstones-again ss)
 
-pub purged-parts : (xs ys : List Slot) → purged (xs ++ purged ys) ≡ purged (xs ++ ys)
-purged-parts xs ys = filter-append (λ slot. has_objects slot.1) xs (purged ys) ∙ (ap (λ (zs : List Slot). purged xs ++ zs) (purged-again ys) ∙ sym (filter-append (λ slot. has_objects slot.1) xs ys))
+pub without_tombstones-parts : (xs ys : List Slot) → without_tombstones (xs ++ without_tombstones ys) ≡ without_tombstones (xs ++ ys)
+without_tombstones-parts xs ys = filter-append (λ slot. has_objects slot.1) xs (without_tombstones ys) ∙ (ap (λ (zs : List Slot). without_tombstones xs ++ zs) (without_tombstones-again ys) ∙ sym (filter-append (λ slot. has_objects slot.1) xs ys))
 
-pub among-swept : (hash_of : Term → ℕ) (hs : List ℕ) (mode : SweepMode) (ss : List Slot) → mode ≡ RemoveTombstones → TombstonesAreAmong hash_of hs (swept mode ss)
-among-swept hash_of hs mode ss e = subst (λ mode. TombstonesAreAmong hash_of hs (swept mode ss)) (sym e) (among-purged hash_of hs ss)
+pub among-swept : (hash_of : Term → ℕ) (hs : List ℕ) (mode : SweepMode) (ss : List Slot) → mode ≡ RemoveTombstones → TombstonesAreAmong hash_of hs (after_sweep mode ss)
+among-swept hash_of hs mode ss e = subst (λ mode. TombstonesAreAmong hash_of hs (after_sweep mode ss)) (sym e) (among-purged hash_of hs ss)
 
 -- The length of a chain shows whether it has objects.
 pub tombstone-counted : (chain : List Term) (n : ℕ) → n ≡ length chain → has_objects chain ≡ false → nat_eq n 0 ≡ true

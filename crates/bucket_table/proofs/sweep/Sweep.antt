@@ -13,7 +13,7 @@ use Rattle.bucket_table.specs.declared.split.sweep.SweepMode.{SweepMode}
 use Rattle.bucket_table.specs.declared.split.sweep.SweepMode.TheVariants.{RemoveTombstones, RemoveSlotsWithObjects, MakeAllTombstones}
 use Rattle.bucket_table.specs.Slots.{Slot}
 use Rattle.bucket_table.specs.inside.Nodes.{slots_of, with_slot}
-use Rattle.bucket_table.specs.inside.Sweeps.{swept, up_to, slots_after_sweep, SweepsNext}
+use Rattle.bucket_table.specs.inside.Sweeps.{after_sweep, up_to, slots_after_sweep, SweepsNext}
 use Rattle.ets_term.specs.Order.{same}
 use Rattle.bucket_table.specs.inside.Directory.{DirectoryInvariant}
 use Rattle.bucket_table.specs.inside.Intervals.{AreSound, ListInvariant}
@@ -96,9 +96,9 @@ neighbour at next cs a s e = go s.later s.is (ap (λ (zs : List Cell). first_pla
 
 -- ---- slots that a sweep keeps
 
-pub swept-append : (mode : SweepMode) (o : Option Item) (front : List Slot) (ss : List Slot) → ((ts : List Slot) → swept mode (with_slot o ts) ≡ with_slot o (swept mode ts)) → front ++ swept mode (with_slot o ss) ≡ (front ++ with_slot o []) ++ swept mode ss
-swept-append mode None front ss h = ap (λ (zs : List Slot). front ++ zs) (h ss) ∙ sym (append_assoc front [] (swept mode ss))
-swept-append mode (Some item) front ss h = ap (λ (zs : List Slot). front ++ zs) (h ss) ∙ sym (append_assoc front ((item.term, item.chain) ∷ []) (swept mode ss))
+pub after_sweep-append : (mode : SweepMode) (o : Option Item) (front : List Slot) (ss : List Slot) → ((ts : List Slot) → after_sweep mode (with_slot o ts) ≡ with_slot o (after_sweep mode ts)) → front ++ after_sweep mode (with_slot o ss) ≡ (front ++ with_slot o []) ++ after_sweep mode ss
+after_sweep-append mode None front ss h = ap (λ (zs : List Slot). front ++ zs) (h ss) ∙ sym (append_assoc front [] (after_sweep mode ss))
+after_sweep-append mode (Some item) front ss h = ap (λ (zs : List Slot). front ++ zs) (h ss) ∙ sym (append_assoc front ((item.term, item.chain) ∷ []) (after_sweep mode ss))
 
 some-place : (a b : ℕ) (P : ℕ → Type 0) → a ≡ b → P a → P b
 some-place a b P e p = subst P e p
@@ -124,9 +124,9 @@ module _ (mode : SweepMode) (at next : ℕ) (cs : List Cell) (n : Neighbour at n
       subst P (sym behind-at) (record { cell = n.other; later = n.later; item = i.item; is = from-here next n.other n.later n.place; has = ap (λ (z : Cell). z.item) (sym same) ∙ i.has })
 
   -- It is kept.
-  pub stays : ((ss : List Slot) → swept mode (with_slot (item_at next cs) ss) ≡ with_slot (item_at next cs) (swept mode ss)) → SweepsNext mode at cs next cs
+  pub stays : ((ss : List Slot) → after_sweep mode (with_slot (item_at next cs) ss) ≡ with_slot (item_at next cs) (after_sweep mode ss)) → SweepsNext mode at cs next cs
   stays h =
-      let G : Option Item → Type 0 = λ o. (ss : List Slot) → swept mode (with_slot o ss) ≡ with_slot o (swept mode ss) in
+      let G : Option Item → Type 0 = λ o. (ss : List Slot) → after_sweep mode (with_slot o ss) ≡ with_slot o (after_sweep mode ss) in
       let h' : G n.other.item = subst G item-is h in
       let P : ℕ → Type 0 = λ z. SweepsNext mode at cs z cs in
       let l : length (cells_after at cs) ≡ length (n.other ∷ n.later) = ap length behind-at in
@@ -134,19 +134,19 @@ module _ (mode : SweepMode) (at next : ℕ) (cs : List Cell) (n : Neighbour at n
       subst P n.place (record {
         is_place = record { cell = n.other; later = n.later; is = n.pair.next };
         same_end =
-            ap (λ (zs : List Cell). slots_of zs ++ swept mode (slots_of (cells_after n.other.at cs))) n.pair.front
-            ∙ (ap (λ (zs : List Slot). zs ++ swept mode (slots_of (cells_after n.other.at cs))) (slots-append (up_to at cs) (n.other ∷ []))
-            ∙ (ap (λ (zs : List Cell). (slots_of (up_to at cs) ++ with_slot n.other.item []) ++ swept mode (slots_of zs)) behind-next
-            ∙ (sym (swept-append mode n.other.item (slots_of (up_to at cs)) (slots_of n.later) h')
-            ∙ ap (λ (zs : List Cell). slots_of (up_to at cs) ++ swept mode (slots_of zs)) (sym behind-at))));
+            ap (λ (zs : List Cell). slots_of zs ++ after_sweep mode (slots_of (cells_after n.other.at cs))) n.pair.front
+            ∙ (ap (λ (zs : List Slot). zs ++ after_sweep mode (slots_of (cells_after n.other.at cs))) (slots-append (up_to at cs) (n.other ∷ []))
+            ∙ (ap (λ (zs : List Cell). (slots_of (up_to at cs) ++ with_slot n.other.item []) ++ after_sweep mode (slots_of zs)) behind-next
+            ∙ (sym (after_sweep-append mode n.other.item (slots_of (up_to at cs)) (slots_of n.later) h')
+            ∙ ap (λ (zs : List Cell). slots_of (up_to at cs) ++ after_sweep mode (slots_of zs)) (sym behind-at))));
         rest = behind-next ∙ ap all_but_first (sym behind-at);
         shorter = omega (arith, l, m);
       })
 
   -- It is removed.
-  pub goes : (new : List Cell) → new ≡ without next cs → ((ss : List Slot) → swept mode (with_slot (item_at next cs) ss) ≡ swept mode ss) → SweepsNext mode at cs at new
+  pub goes : (new : List Cell) → new ≡ without next cs → ((ss : List Slot) → after_sweep mode (with_slot (item_at next cs) ss) ≡ after_sweep mode ss) → SweepsNext mode at cs at new
   goes new e h =
-      let G : Option Item → Type 0 = λ o. (ss : List Slot) → swept mode (with_slot o ss) ≡ swept mode ss in
+      let G : Option Item → Type 0 = λ o. (ss : List Slot) → after_sweep mode (with_slot o ss) ≡ after_sweep mode ss in
       let h' : G n.other.item = subst G item-is h in
       let e' : new ≡ without n.other.at cs = e ∙ ap (λ (z : ℕ). without z cs) (sym n.place) in
       let from' : from at new ≡ n.cell ∷ n.later = ap (from at) e' ∙ n.pair.without_from in
@@ -155,22 +155,22 @@ module _ (mode : SweepMode) (at next : ℕ) (cs : List Cell) (n : Neighbour at n
       record {
         is_place = record { cell = n.cell; later = n.later; is = from' };
         same_end =
-            ap (λ (zs : List Cell). slots_of zs ++ swept mode (slots_of (cells_after at new))) (ap (up_to at) e' ∙ n.pair.front_without)
-            ∙ (ap (λ (zs : List Cell). slots_of (up_to at cs) ++ swept mode (slots_of zs)) b
+            ap (λ (zs : List Cell). slots_of zs ++ after_sweep mode (slots_of (cells_after at new))) (ap (up_to at) e' ∙ n.pair.front_without)
+            ∙ (ap (λ (zs : List Cell). slots_of (up_to at cs) ++ after_sweep mode (slots_of zs)) b
             ∙ (ap (λ (zs : List Slot). slots_of (up_to at cs) ++ zs) (sym (h' (slots_of n.later)))
-            ∙ ap (λ (zs : List Cell). slots_of (up_to at cs) ++ swept mode (slots_of zs)) (sym behind-at)));
+            ∙ ap (λ (zs : List Cell). slots_of (up_to at cs) ++ after_sweep mode (slots_of zs)) (sym behind-at)));
         rest = b ∙ ap all_but_first (sym behind-at);
         shorter = omega (arith, l, ap length b);
       }
 
-pub start-end : (mode : SweepMode) (head : ℕ) (cs : List Cell) → StartsWithDummy cs → first_place cs ≡ Some head → slots_after_sweep mode head cs ≡ swept mode (slots_of cs)
+pub start-end : (mode : SweepMode) (head : ℕ) (cs : List Cell) → StartsWithDummy cs → first_place cs ≡ Some head → slots_after_sweep mode head cs ≡ after_sweep mode (slots_of cs)
 start-end mode head [] d e = absurd d
 start-end mode head (c ∷ cs) d e =
     let here : c.at ≡ head = cc in
-    ap (λ (zs : List Cell). slots_of zs ++ swept mode (slots_of (cells_after head (c ∷ cs)))) (to-here head c cs here)
-    ∙ (ap (λ (zs : List Cell). slots_of (c ∷ []) ++ swept mode (slots_of (all_but_first zs))) (from-here head c cs here)
-    ∙ (ap (λ (o : Option Item). with_slot o [] ++ swept mode (slots_of cs)) d.1
-    ∙ ap (λ (o : Option Item). swept mode (with_slot o (slots_of cs))) (sym d.1)))
+    ap (λ (zs : List Cell). slots_of zs ++ after_sweep mode (slots_of (cells_after head (c ∷ cs)))) (to-here head c cs here)
+    ∙ (ap (λ (zs : List Cell). slots_of (c ∷ []) ++ after_sweep mode (slots_of (all_but_first zs))) (from-here head c cs here)
+    ∙ (ap (λ (o : Option Item). with_slot o [] ++ after_sweep mode (slots_of cs)) d.1
+    ∙ ap (λ (o : Option Item). after_sweep mode (with_slot o (slots_of cs))) (sym d.1)))
 
 all-up-to : (at : ℕ) (cs : List Cell) (d : Cell) → from at cs ≡ d ∷ [] → up_to at cs ≡ cs
 all-up-to at [] d h = refl
@@ -184,10 +184,10 @@ append-none : (ss : List Slot) → ss ++ [] ≡ ss
 append-none [] = refl
 append-none (s ∷ ss) = ap (λ (zs : List Slot). s ∷ zs) (append-none ss)
 
-pub swept-none : (mode : SweepMode) → swept mode [] ≡ []
-swept-none RemoveTombstones = refl
-swept-none RemoveSlotsWithObjects = refl
-swept-none MakeAllTombstones = refl
+pub after_sweep-none : (mode : SweepMode) → after_sweep mode [] ≡ []
+after_sweep-none RemoveTombstones = refl
+after_sweep-none RemoveSlotsWithObjects = refl
+after_sweep-none MakeAllTombstones = refl
 
 -- At the end of the list all slots are swept.
 pub end-end : (mode : SweepMode) (at : ℕ) (cs : List Cell) → IsPlaceOf at cs → place_after at cs ≡ None → slots_of cs ≡ slots_after_sweep mode at cs
@@ -195,9 +195,9 @@ end-end mode at cs s e = go s.later s.is (ap (λ (zs : List Cell). first_place (
   where
     go : (ds : List Cell) → from at cs ≡ s.cell ∷ ds → first_place ds ≡ None → slots_of cs ≡ slots_after_sweep mode at cs
     go [] is q =
-        sym (ap (λ (zs : List Cell). slots_of zs ++ swept mode (slots_of (cells_after at cs))) (all-up-to at cs s.cell is)
-        ∙ (ap (λ (zs : List Cell). slots_of cs ++ swept mode (slots_of (all_but_first zs))) is
-        ∙ (ap (λ (zs : List Slot). slots_of cs ++ zs) (swept-none mode) ∙ append-none (slots_of cs))))
+        sym (ap (λ (zs : List Cell). slots_of zs ++ after_sweep mode (slots_of (cells_after at cs))) (all-up-to at cs s.cell is)
+        ∙ (ap (λ (zs : List Cell). slots_of cs ++ after_sweep mode (slots_of (all_but_first zs))) is
+        ∙ (ap (λ (zs : List Slot). slots_of cs ++ zs) (after_sweep-none mode) ∙ append-none (slots_of cs))))
     go (x ∷ xs) is q = absurd (cc)
 
 -- ---- the action for a node
@@ -209,18 +209,18 @@ none-left : (chain : List Term) → length chain ≡ 0 → chain ≡ []
 none-left [] e = refl
 none-left (x ∷ xs) e = absurd (omega arith)
 
-gone-tombstone : (o : Option Item) (t : Term) (chain : List Term) → o ≡ Some (new_item t chain) → chain ≡ [] → (ss : List Slot) → swept RemoveTombstones (with_slot o ss) ≡ swept RemoveTombstones ss
-gone-tombstone o t chain e f ss = ap (λ (z : Option Item). swept RemoveTombstones (with_slot z ss)) e ∙ ap (λ (z : List Term). swept RemoveTombstones ((t, z) ∷ ss)) f
+gone-tombstone : (o : Option Item) (t : Term) (chain : List Term) → o ≡ Some (new_item t chain) → chain ≡ [] → (ss : List Slot) → after_sweep RemoveTombstones (with_slot o ss) ≡ after_sweep RemoveTombstones ss
+gone-tombstone o t chain e f ss = ap (λ (z : Option Item). after_sweep RemoveTombstones (with_slot z ss)) e ∙ ap (λ (z : List Term). after_sweep RemoveTombstones ((t, z) ∷ ss)) f
 
-pub purge-goes : (mode : SweepMode) (at : ℕ) (cs : List Cell) (t : Term) (chain : List Term) → mode ≡ RemoveTombstones → item_at at cs ≡ Some (new_item t chain) → length chain ≡ 0 → (ss : List Slot) → swept mode (with_slot (item_at at cs) ss) ≡ swept mode ss
-purge-goes mode at cs t chain h e l ss = let P : SweepMode → Type 0 = λ z. swept z (with_slot (item_at at cs) ss) ≡ swept z ss in subst P (sym h) (gone-tombstone (item_at at cs) t chain e (none-left chain l) ss)
+pub purge-goes : (mode : SweepMode) (at : ℕ) (cs : List Cell) (t : Term) (chain : List Term) → mode ≡ RemoveTombstones → item_at at cs ≡ Some (new_item t chain) → length chain ≡ 0 → (ss : List Slot) → after_sweep mode (with_slot (item_at at cs) ss) ≡ after_sweep mode ss
+purge-goes mode at cs t chain h e l ss = let P : SweepMode → Type 0 = λ z. after_sweep z (with_slot (item_at at cs) ss) ≡ after_sweep z ss in subst P (sym h) (gone-tombstone (item_at at cs) t chain e (none-left chain l) ss)
 
-gone-full : (o : Option Item) (t : Term) (chain : List Term) → o ≡ Some (new_item t chain) → length chain ≢ 0 → (ss : List Slot) → swept RemoveSlotsWithObjects (with_slot o ss) ≡ swept RemoveSlotsWithObjects ss
+gone-full : (o : Option Item) (t : Term) (chain : List Term) → o ≡ Some (new_item t chain) → length chain ≢ 0 → (ss : List Slot) → after_sweep RemoveSlotsWithObjects (with_slot o ss) ≡ after_sweep RemoveSlotsWithObjects ss
 gone-full o t [] e f ss = absurd (f refl)
-gone-full o t (x ∷ xs) e f ss = ap (λ (z : Option Item). swept RemoveSlotsWithObjects (with_slot z ss)) e
+gone-full o t (x ∷ xs) e f ss = ap (λ (z : Option Item). after_sweep RemoveSlotsWithObjects (with_slot z ss)) e
 
-pub drop-goes : (mode : SweepMode) (at : ℕ) (cs : List Cell) (t : Term) (chain : List Term) → mode ≡ RemoveSlotsWithObjects → item_at at cs ≡ Some (new_item t chain) → length chain ≢ 0 → (ss : List Slot) → swept mode (with_slot (item_at at cs) ss) ≡ swept mode ss
-drop-goes mode at cs t chain h e l ss = let P : SweepMode → Type 0 = λ z. swept z (with_slot (item_at at cs) ss) ≡ swept z ss in subst P (sym h) (gone-full (item_at at cs) t chain e l ss)
+pub drop-goes : (mode : SweepMode) (at : ℕ) (cs : List Cell) (t : Term) (chain : List Term) → mode ≡ RemoveSlotsWithObjects → item_at at cs ≡ Some (new_item t chain) → length chain ≢ 0 → (ss : List Slot) → after_sweep mode (with_slot (item_at at cs) ss) ≡ after_sweep mode ss
+drop-goes mode at cs t chain h e l ss = let P : SweepMode → Type 0 = λ z. after_sweep z (with_slot (item_at at cs) ss) ≡ after_sweep z ss in subst P (sym h) (gone-full (item_at at cs) t chain e l ss)
 
 -- ---- a node that is emptied
 
@@ -256,9 +256,9 @@ front-emptied at (c ∷ cs) d e ds a h =
           ∙ ap (λ (zs : List Cell). zs ++ emptied e ∷ []) (sym (to-on at c cs miss))))
     ]
 
-emptied-slot : (o : Option Item) (front ss : List Slot) → front ++ swept MakeAllTombstones (with_slot o ss) ≡ (front ++ with_slot (item_with o []) []) ++ swept MakeAllTombstones ss
-emptied-slot None front ss = sym (append_assoc front [] (swept MakeAllTombstones ss))
-emptied-slot (Some item) front ss = sym (append_assoc front ((item.term, []) ∷ []) (swept MakeAllTombstones ss))
+emptied-slot : (o : Option Item) (front ss : List Slot) → front ++ after_sweep MakeAllTombstones (with_slot o ss) ≡ (front ++ with_slot (item_with o []) []) ++ after_sweep MakeAllTombstones ss
+emptied-slot None front ss = sym (append_assoc front [] (after_sweep MakeAllTombstones ss))
+emptied-slot (Some item) front ss = sym (append_assoc front ((item.term, []) ∷ []) (after_sweep MakeAllTombstones ss))
 
 pub empties : (at next : ℕ) (cs : List Cell) (n : Neighbour at next cs) → HasDistinctPlaces cs → SweepsNext MakeAllTombstones at cs next (cells_with next [] cs)
 empties at next cs n a =
@@ -270,11 +270,11 @@ empties at next cs n a =
     subst P n.place (record {
       is_place = record { cell = emptied n.other; later = n.later; is = f };
       same_end =
-          ap (λ (zs : List Cell). slots_of zs ++ swept MakeAllTombstones (slots_of (cells_after n.other.at new))) (front-emptied at cs n.cell n.other n.later a n.pair.is)
-          ∙ (ap (λ (zs : List Slot). zs ++ swept MakeAllTombstones (slots_of (cells_after n.other.at new))) (slots-append (up_to at cs) (emptied n.other ∷ []))
-          ∙ (ap (λ (zs : List Cell). (slots_of (up_to at cs) ++ with_slot (item_with n.other.item []) []) ++ swept MakeAllTombstones (slots_of zs)) b
+          ap (λ (zs : List Cell). slots_of zs ++ after_sweep MakeAllTombstones (slots_of (cells_after n.other.at new))) (front-emptied at cs n.cell n.other n.later a n.pair.is)
+          ∙ (ap (λ (zs : List Slot). zs ++ after_sweep MakeAllTombstones (slots_of (cells_after n.other.at new))) (slots-append (up_to at cs) (emptied n.other ∷ []))
+          ∙ (ap (λ (zs : List Cell). (slots_of (up_to at cs) ++ with_slot (item_with n.other.item []) []) ++ after_sweep MakeAllTombstones (slots_of zs)) b
           ∙ (sym (emptied-slot n.other.item (slots_of (up_to at cs)) (slots_of n.later))
-          ∙ ap (λ (zs : List Cell). slots_of (up_to at cs) ++ swept MakeAllTombstones (slots_of zs)) (sym was))));
+          ∙ ap (λ (zs : List Cell). slots_of (up_to at cs) ++ after_sweep MakeAllTombstones (slots_of zs)) (sym was))));
       rest = b ∙ ap all_but_first (sym was);
       shorter = omega (arith, ap length b, ap length was);
     })

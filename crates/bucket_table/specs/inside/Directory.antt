@@ -28,7 +28,7 @@ HasSplitKey hash_of directory at key (Some item) = key ≡ key_of_item (hash_of 
 abbrev pub HaveSplitKeys : (Term → ℕ) → List (Option ℕ) → List Cell → Type 0
 HaveSplitKeys hash_of directory [] = Unit {0}
 HaveSplitKeys hash_of directory (c ∷ cs) =
-    HasSplitKey hash_of directory c.at c.key c.item × HaveSplitKeys hash_of directory cs
+    HasSplitKey hash_of directory c.at c.split_key c.item × HaveSplitKeys hash_of directory cs
 
 -- Each place in the directory is that of its bucket's dummy.
 abbrev pub DummiesAreListed : List (Option ℕ) → List Cell → Type 0
@@ -63,12 +63,12 @@ pub record HasKeyBelow (key at : ℕ) (cells : List Cell) : Type 0 where
   pub cell : Cell
   pub later : List Cell
   pub is : from at cells ≡ cell ∷ later
-  pub below : cell.key < key
+  pub below : cell.split_key < key
 
 -- The split key of an item is odd, and that of a dummy is even.
 abbrev pub HaveParity : List Cell → Type 0
 HaveParity [] = Unit {0}
-HaveParity (c ∷ cs) = (c.key % 2 ≡ 1 → IsSome c.item) × (c.key % 2 ≢ 1 → c.item ≡ None) × HaveParity cs
+HaveParity (c ∷ cs) = (c.split_key % 2 ≡ 1 → IsSome c.item) × (c.split_key % 2 ≢ 1 → c.item ≡ None) × HaveParity cs
 
 -- All buckets below this one are ready.
 abbrev pub AllReadyBelow : List (Option ℕ) → ℕ → Type 0

@@ -10,7 +10,7 @@ use Rattle.bucket_table.specs.declared.split.hints.Hints.{Hints}
 
 -- Whether a node is an item in interval `interval`, for intervals of this width.
 abbrev pub is_in : ℕ → ℕ → Cell → Bool
-is_in width interval c = nat_eq (c.key / width) interval && is_some c.item
+is_in width interval c = nat_eq (c.split_key / width) interval && is_some c.item
 
 -- The place of the first item of an interval.
 abbrev pub first_in : ℕ → ℕ → List Cell → Option ℕ
@@ -67,7 +67,7 @@ pub record IsBeforeInterval (width interval at : ℕ) (cells : List Cell) : Type
   pub cell : Cell
   pub later : List Cell
   pub is : from at cells ≡ cell ∷ later
-  pub front : cell.key / width < interval
+  pub front : cell.split_key / width < interval
 
 -- The hint of one interval is right, if it is known.
 abbrev pub IsSoundHint : ℕ → ℕ → List Cell → Option (Option ℕ) → Type 0
@@ -110,7 +110,7 @@ pub record IsItemIn (width interval at : ℕ) (cells : List Cell) : Type 0 where
   pub item : Item
   pub is : from at cells ≡ cell ∷ later
   pub has : cell.item ≡ Some item
-  pub inside : cell.key / width ≡ interval
+  pub inside : cell.split_key / width ≡ interval
 
 -- The hint of an interval after the removal of its first item, the one at this place.
 abbrev pub IsHintAfterRemoval : ℕ → ℕ → ℕ → List Cell → Option (Option ℕ) → Type 0

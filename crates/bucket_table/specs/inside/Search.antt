@@ -6,12 +6,12 @@ use Rattle.ets_term.specs.Order.{same}
 use Rattle.node_list.specs.declared.node.Item.{Item}
 use Rattle.node_list.specs.Cells.{Cell}
 use Rattle.node_list.specs.Places.{from, IsPlaceOf}
-use Rattle.node_list.specs.Search.{place_of, passed}
+use Rattle.node_list.specs.Search.{place_of, visited_cells}
 use Rattle.node_list.specs.Ticks.{ticks}
 use Rattle.node_list.specs.Changes.{without}
 use Rattle.node_list.specs.Changes.{cells_with}
 use Rattle.split_key.specs.Keys.{key_of_item}
-use Rattle.bucket_table.specs.Buckets.{HasLooked}
+use Rattle.bucket_table.specs.Visits.{HasLooked}
 use Rattle.bucket_table.specs.inside.Nodes.{slots_of}
 
 -- The item of a key at a place, and the slots after its removal or after a replacement of its objects.
@@ -32,5 +32,5 @@ pub record CanStartSearch (hash_of : Term → ℕ) (directory : List (Option ℕ
   pub is_place : IsPlaceOf start cs
   pub finds : (r : Option ℕ) → r ≡ place_of (key_of_item (hash_of term)) term (from start cs)
       → MatchOption r (lookup (same term) (slots_of cs) ≡ None) (λ at. IsFound term at cs)
-  pub looks : (old new : ℕ) → new ≡ ticks (length (passed (key_of_item (hash_of term)) term (from start cs))) old
+  pub looks : (old new : ℕ) → new ≡ ticks (length (visited_cells (key_of_item (hash_of term)) term (from start cs))) old
       → HasLooked hash_of (slots_of cs) (map is_some directory) term old new

@@ -8,7 +8,7 @@ use Rattle.node_list.specs.Changes.{put_cell}
 use Rattle.node_list.specs.Places.{IsFresh}
 use Rattle.bucket_table.specs.declared.split.tombstone_log.TombstoneLog.{TombstoneLog}
 use Rattle.bucket_table.specs.declared.split.index.SplitIndex.{SplitIndex}
-use Rattle.bucket_table.specs.Buckets.{HasLooked}
+use Rattle.bucket_table.specs.Visits.{HasLooked}
 use Rattle.bucket_table.specs.SplitRowsState.{SplitRowsState}
 use Rattle.bucket_table.specs.inside.Nodes.{slots_of, places_of}
 use Rattle.bucket_table.specs.inside.Order.{content_of}

@@ -2,7 +2,7 @@
 //! sweep is a scan that removes or empties slots. A tombstone is a slot without objects.
 ghost use Rattle.std.specs.Prelude.{◌≡◌, ◌+◌, ◌<◌, ◌≤◌, None, IsOk, OnOk};
 ghost use Rattle.bucket_table.specs.Slots.{Enters, objects_of};
-ghost use Rattle.bucket_table.specs.inside.Sweeps.{swept};
+ghost use Rattle.bucket_table.specs.inside.Sweeps.{after_sweep};
 
 use super::SplitRows;
 use super::sweep::SweepMode;
@@ -46,7 +46,7 @@ impl<H: KeyHash + Copy + Drop> SplitRows<H> {
 
     /// Sweeps all slots once and resets the tombstone log.
     pub(super) fn sweep_slots(&mut self, mode: SweepMode)
-        ensures slots { self.new.slots ≡ swept mode self.old.slots }
+        ensures slots { self.new.slots ≡ after_sweep mode self.old.slots }
         ensures hasher { self.new.hasher ≡ self.old.hasher }
         ensures buckets { self.new.ready ≡ self.old.ready }
     {

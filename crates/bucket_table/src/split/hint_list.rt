@@ -136,7 +136,7 @@ impl HintList {
         }
     }
 
-    /// Sets the hints of the intervals from `low` up to `high` to empty.
+    /// Sets the hints of the intervals from `low` up to `high` to empty, as far as the list has them.
     pub fn set_empty(&mut self, low: usize, high: usize)
         ensures { SetsEmpty low high self.old self.new }
     {
@@ -147,7 +147,7 @@ impl HintList {
         }
     }
 
-    /// Sets the hint of an interval to a place if it is empty.
+    /// Sets the hint of an interval to a place if the list has the hint and it is empty.
     pub fn set_if_empty(&mut self, interval: usize, at: At)
         ensures { SetsIfEmpty interval at self.old self.new }
     {

@@ -18,7 +18,7 @@ use std::mem;
 // The trait `Rows` documents these methods. The place of a slot is that of its item in the list of nodes. For a
 // tombstone, `get` returns an empty slice.
 impl<H: KeyHash + Copy + Drop> Rows for SplitRows<H> {
-    ghost content = { λ s. s.slots };
+    ghost slots = { λ s. s.slots };
 
     ghost key_at = { λ s place. key_of_place s.places place };
 
@@ -30,6 +30,7 @@ impl<H: KeyHash + Copy + Drop> Rows for SplitRows<H> {
 
     ghost most_buckets = { 1048576 };
 
+    #[inline(always)]
     fn get(&self, key: &Term) -> Option<&[Term]> {
         let mut steps = Steps::new();
         self.get_counted(key, &mut steps)

@@ -1,7 +1,7 @@
 -- What private contracts say of packets that are answered.
 use Rattle.std.specs.Prelude.{◌≡◌, ◌<◌, ◌^◌, Bool, true, false, List, [], ◌++◌, length, ℕ, Result, Ok, Err}
 use Rattle.node_text.specs.StoreState.{StoreState}
-use Rattle.ets_packets.specs.Packets.{IsPart, IsTooLong, packet}
+use Rattle.ets_packets.specs.Packets.{IsUnfinished, IsTooLong, packet}
 use Rattle.ets_packets.specs.Replies.{PacketReply, reply_body, Answers}
 use Rattle.ets_packets.specs.Exchanges.{Exchange, Run, requests, replies}
 use Rattle.ets_packets.specs.Traffic.{Flow}
@@ -25,7 +25,7 @@ pub record BreaksPacket (writer : Flow) (before body : List ℕ) (old new : Stor
 
 -- what follows the last whole packet
 abbrev pub IsRest : Bool → List ℕ → Type 0
-IsRest false rest = IsPart rest
+IsRest false rest = IsUnfinished rest
 IsRest true rest = IsTooLong rest
 
 -- of the buffered bytes, whole packets are answered

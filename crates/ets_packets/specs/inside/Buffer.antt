@@ -1,7 +1,7 @@
 -- What private contracts say of the bytes that were read and not yet answered.
 use Rattle.std.specs.Prelude.{◌≡◌, ℕ, ◌+◌, ◌≤◌, List, ◌++◌, length, take, slice_range}
 use Rattle.std.specs.Io.KnownBytes.{Consumes, IsAtEnd, Keeps}
-use Rattle.ets_packets.specs.Packets.{IsPart, IsTooLong, max_packet, packet}
+use Rattle.ets_packets.specs.Packets.{IsUnfinished, IsTooLong, max_packet, packet}
 use Rattle.ets_packets.specs.Traffic.{Flow}
 use Rattle.ets_packets.specs.declared.buffer.RefillFault.{RefillFault}
 use Rattle.ets_packets.specs.declared.buffer.RefillFault.TheVariants.{Read, Memory}
@@ -31,7 +31,7 @@ pub record BeginsWith (bytes : List ℕ) (len : ℕ) : Type 0 where
 
 -- what bytes begin with
 abbrev pub IsFront : List ℕ → Front → Type 0
-IsFront bytes Incomplete = IsPart bytes
+IsFront bytes Incomplete = IsUnfinished bytes
 IsFront bytes TooLong = IsTooLong bytes
 IsFront bytes (Packet len) = BeginsWith bytes len
 

@@ -4,7 +4,7 @@ use Rattle.std.specs.Io.KnownBytes.{Appends}
 use Rattle.ets_packets.specs.Traffic.{Flow}
 use Rattle.ets_packets.specs.Output.{Breaks}
 use Rattle.ets_script.specs.Lines.{Line, text, too_long, IsOneLine}
-use Rattle.ets_script.specs.Replies.{printed}
+use Rattle.ets_script.specs.Replies.{answer_text}
 use Rattle.ets_script.specs.Script.{ScriptState, AnswersLine}
 use Rattle.ets_script.specs.inside.LineBuffers.{LineBufferState, EndsLine}
 use Rattle.ets_script.specs.declared.answer.Answer.{Answer}
@@ -31,10 +31,10 @@ AnswersPart false old bytes answer new = AnswersLine old (text bytes) answer new
 pub record EndsAll (h : LineBufferState) (start now : ScriptState) (waiting : List ℕ) (writer : Flow) : Type 0 where
   pub answer : Answer
   pub answers : AnswersPart h.is_skipping start h.bytes answer now
-  pub written : Appends writer.before writer.after (waiting ++ printed answer)
+  pub written : Appends writer.before writer.after (waiting ++ answer_text answer)
 
 -- the last answer was known, and the writer failed
 pub record BreaksAtEnd (h : LineBufferState) (start now : ScriptState) (waiting : List ℕ) (writer : Flow) : Type 0 where
   pub answer : Answer
   pub answers : AnswersPart h.is_skipping start h.bytes answer now
-  pub broken : Breaks writer (waiting ++ printed answer)
+  pub broken : Breaks writer (waiting ++ answer_text answer)

@@ -30,7 +30,7 @@ pub record Refills (old new : LineBufferState) (reader : Flow) (count : ℕ) : T
   pub reads : new.reads + 1 ≡ old.reads
   pub fits : length new.bytes ≤ CAPACITY
 
--- the place is that of the first LF
+-- the index is that of the first LF
 abbrev pub IsLineEnd : List ℕ → ℕ → Type 0
 IsLineEnd bytes n = (n < length bytes) × IsOneLine (take n bytes) × (slice_index bytes n ≡ 10)
 

@@ -53,12 +53,12 @@ HaveRun p (jobs ∷ others) [] left = ⊥
 HaveRun p (jobs ∷ others) (client ∷ clients) [] = ⊥
 
 -- the reasons for which a script stops before anything is printed
-abbrev pub Stops : Limits → ScriptFault → Type 0
-Stops limits Read = ⊤
-Stops limits Write = ⊥
-Stops limits Memory = ⊤
-Stops limits (Differs p) = IsUnclosed limits (close.Differs p)
-Stops limits (Missing p) = IsUnclosed limits (close.Missing p)
+abbrev pub StopsBeforeOutput : Limits → ScriptFault → Type 0
+StopsBeforeOutput limits Read = ⊤
+StopsBeforeOutput limits Write = ⊥
+StopsBeforeOutput limits Memory = ⊤
+StopsBeforeOutput limits (Differs p) = IsUnclosed limits (close.Differs p)
+StopsBeforeOutput limits (Missing p) = IsUnclosed limits (close.Missing p)
 
 -- a whole script was read, and the jobs of its processes were run
 pub record RunsInput (limits : Limits) (reader : Flow) (planned : PlannedAnswers) (run : RunResult) : Type 0 where

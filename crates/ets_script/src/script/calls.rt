@@ -3,7 +3,7 @@
 ghost use Rattle.std.specs.Prelude.{◌≡◌, ◌⊎◌, [], Some, IfSome};
 ghost use Rattle.ets_script.specs.Commands as spec;
 ghost use Rattle.ets_script.specs.declared.answer.Answer.TheVariants.{NoMemory};
-ghost use Rattle.ets_script.specs.Script.{pid_of, Unchanged, Steps, Executes};
+ghost use Rattle.ets_script.specs.Script.{pid_of, KeepsState, Steps, Executes};
 
 use super::Script;
 use crate::answer::Answer;
@@ -16,7 +16,7 @@ impl<H: KeyHash + Copy + Drop> Script<H> {
     #[inline(always)]
     pub(super) fn ask(&mut self, name: &[u8], call: Call, answer: &mut Answer)
         ensures { Executes (spec.ask name.now call.name call.args) self.old answer.new self.new
-            ⊎ Unchanged self.old NoMemory answer.new self.new }
+            ⊎ KeepsState self.old NoMemory answer.new self.new }
     {
         match self.caller(name) {
             Some(pid) => {
@@ -65,7 +65,8 @@ impl<H: KeyHash + Copy + Drop> Script<H> {
         self.arguments = Some(terms);
     }
 
-    /// Returns the process with this name, which makes a call. Most calls have the same process as the previous call.
+    /// Returns the process with this name, which makes a call. Most calls have the same process as the previous call,
+    /// which is kept in `last_caller`. Contracts do not see that field.
     #[inline(always)]
     fn caller(&mut self, name: &[u8]) -> Option<u32>
         ensures pid { result ≡ pid_of self.old name.now }
@@ -99,7 +100,7 @@ impl<H: KeyHash + Copy + Drop> Script<H> {
     #[inline(always)]
     pub(super) fn step(&mut self, step: &mut Step, answer: &mut Answer)
         ensures { Steps self.old step.old answer.new self.new
-            ⊎ Unchanged self.old NoMemory answer.new self.new }
+            ⊎ KeepsState self.old NoMemory answer.new self.new }
     {
         let done = match answer {
             Answer::Replied(reply) => self.node.drain_step(step, reply),
@@ -117,7 +118,7 @@ impl<H: KeyHash + Copy + Drop> Script<H> {
     #[inline(never)]
     fn step_anew(&mut self, step: &Step) -> Answer
         ensures { Steps self.old step.now result self.new
-            ⊎ Unchanged self.old NoMemory result self.new }
+            ⊎ KeepsState self.old NoMemory result self.new }
     {
         match self.node.step(step) {
             Ok(reply) => Answer::Replied(reply),

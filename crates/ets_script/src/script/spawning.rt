@@ -5,7 +5,7 @@ ghost use Rattle.std.specs.Str.{bytes_eq};
 ghost use Rattle.indexmap.specs.IndexSet.{spare, contains_by, index_set_len};
 ghost use Rattle.node_core.specs.Observable.{observable};
 ghost use Rattle.ets_script.specs.declared.answer.Answer.TheVariants.{NoMemory};
-ghost use Rattle.ets_script.specs.Script.{pid_of, Unchanged, Spawns};
+ghost use Rattle.ets_script.specs.Script.{pid_of, KeepsState, Spawns};
 ghost use Rattle.ets_script.specs.inside.Enrolments.{Enrols};
 
 use super::Script;
@@ -21,7 +21,7 @@ impl<H: KeyHash + Copy + Drop> Script<H> {
     #[inline(never)]
     pub(super) fn spawn(&mut self, alloc: Global, name: &[u8]) -> Answer
         ensures { Spawns (pid_of self.old name.now) self.old name.now result self.new
-            ⊎ Unchanged self.old NoMemory result self.new }
+            ⊎ KeepsState self.old NoMemory result self.new }
     {
         match self.names.get_index_of(name) {
             Some(_) => return Answer::Replied(Reply::Badarg),

@@ -6,22 +6,8 @@ use Rattle.ets_term.specs.declared.term.Term.TheViews.{roll-Term}
 use Rattle.ets_term.specs.declared.term.Term.TheFolds.{map-Term}
 use Rattle.ets_term.specs.declared.term.Term.TheOpen.{Term-F}
 use Rattle.ets_term.specs.declared.term.Term.TheVariants.{Int, Atom, Pid, Tid, Tuple, List as Lst, Binary, rolls-Int, rolls-Atom, rolls-Pid, rolls-Tid, rolls-Tuple, rolls-List, rolls-Binary}
-use Rattle.ets_term.specs.Data.{Data, int, atom, pid, tid, tuple, list, binary, DataList, no_terms, term, data_list, data_form, data_of}
-
--- the term of a tree
-abbrev mutual
-  pub term_of : Data → Term
-  term_of (int n) = Int n
-  term_of (atom a) = Atom a
-  term_of (pid n) = Pid n
-  term_of (tid n) = Tid n
-  term_of (tuple ds) = Tuple (terms_of ds)
-  term_of (list ds) = Lst (terms_of ds)
-  term_of (binary s) = Binary s
-
-  pub terms_of : DataList → List Term
-  terms_of no_terms = []
-  terms_of (term d ds) = term_of d ∷ terms_of ds
+use Rattle.ets_term.specs.Data.{Data, tuple, list, data_list, data_form, data_of}
+use Rattle.ets_term.specs.Trees.{terms_of, term_of}
 
 pub data_of-Tuple : (ts : List Term) → data_of (Tuple ts) ≡ tuple (data_list (map data_of ts))
 data_of-Tuple ts = search (rules, the_lemmas)
@@ -39,10 +25,10 @@ all_back : (ks : List Known) → terms_of (data_list (map data_of (map plain ks)
 all_back [] = refl
 all_back (k ∷ ks) = λ i. k.1 i ∷ all_back ks i
 
-abbrev opened : Term-F Known → Term
-opened y = roll-Term (map-Term Known Term plain y)
+abbrev term_of_known : Term-F Known → Term
+term_of_known y = roll-Term (map-Term Known Term plain y)
 
-one_back : (y : Term-F Known) → term_of (data_of (opened y)) ≡ opened y
+one_back : (y : Term-F Known) → term_of (data_of (term_of_known y)) ≡ term_of_known y
 one_back (Term-F.Int n) = ap term_of (fold-roll-Term Data data_form (Term-F.Int n)) ∙ sym (rolls-Int n)
 one_back (Term-F.Atom s) = ap term_of (fold-roll-Term Data data_form (Term-F.Atom s)) ∙ sym (rolls-Atom s)
 one_back (Term-F.Pid n) = ap term_of (fold-roll-Term Data data_form (Term-F.Pid n)) ∙ sym (rolls-Pid n)

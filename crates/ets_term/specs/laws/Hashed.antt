@@ -3,7 +3,7 @@ use Rattle.std.specs.Prelude.{◌≡◌, ℕ, ◌<◌, ◌^◌, List, [], ◌∷
 use Rattle.std.proofs.Common.{ap, arith}
 use Rattle.ets_term.specs.declared.term.Term.{Term}
 use Rattle.ets_term.specs.Encoding.{fnv_step, fnv}
-use Rattle.ets_term.specs.Keyed.{keyed}
+use Rattle.ets_term.specs.Keyed.{keyed_hash}
 use Rattle.ets_term.specs.Order.{same}
 use Rattle.ets_term.specs.Writes.{writes}
 use Rattle.ets_term.specs.laws.Same.{same-exact}
@@ -18,8 +18,8 @@ stays_below (x ∷ xs) h b = stays_below xs (fnv_step h x) (omega arith)
 pub fnv-below : (bytes : List ℕ) → fnv bytes < 2 ^ 32
 fnv-below bytes = stays_below bytes 2166136261 (omega arith)
 
-pub keyed-below : (by : ℕ) (ws : List ℕ) → keyed by ws < 2 ^ 32
-keyed-below by ws = omega arith
+pub keyed_hash-below : (by : ℕ) (ws : List ℕ) → keyed_hash by ws < 2 ^ 32
+keyed_hash-below by ws = omega arith
 
 -- the published hashes of no bytes, `a` and `foobar`
 pub fnv-of-none : fnv [] ≡ 2166136261

@@ -5,7 +5,8 @@ use Rattle.ets_term.specs.declared.term.Term.{Term}
 use Rattle.bucket_table.specs.Slots.{HasDistinctKeys}
 use Rattle.table_ops.specs.declared.refusal.Refusal.{Refusal}
 use Rattle.table_ops.specs.Content.{Content}
-use Rattle.table_ops.specs.Refusals.{Change, RefinesChange}
+use Rattle.table_ops.specs.Refusals.{RefinesChange}
+use Rattle.table_ops.specs.Outcomes.{Change}
 use Rattle.fixed_walk.specs.Fixes.{is_fixed}
 use Rattle.fixed_walk.specs.TableState.{TableState, on_content}
 

@@ -2,7 +2,8 @@
 //! without objects, if the table is fixed.
 ghost use Rattle.std.specs.Prelude.{◌≡◌, ◌<◌, ◌^◌, IfOk, OnOk, OnErr};
 ghost use Rattle.table_ops.specs.Outcomes.{Returns};
-ghost use Rattle.table_ops.specs.Queries.{bound_in, matches, spec_result, is_chosen, answers_in, matching_in, chosen_in, ReturnsAllData};
+ghost use Rattle.table_ops.specs.Queries.{bound_in, matches, spec_result, is_chosen, answers_in, chosen_in};
+ghost use Rattle.table_ops.specs.Results.{matching_in, ReturnsAllData};
 ghost use Rattle.fixed_walk.specs.TableState.{after_delete};
 
 use super::Walked;

@@ -72,7 +72,7 @@ fn key_of<'a>(slot: Option<(&'a Term, &'a [Term])>) -> Option<&'a Term>
 fn first_nonempty<R: Rows>(rows: &R, start: Option<Place>) -> Option<(&Term, &[Term])>
     requires { HasSlotAt (R.key_at rows.now) start }
     ensures { option_map deref_pair result
-        ≡ first_slot (slots_from (R.key_at rows.now) (R.content rows.now) start) }
+        ≡ first_slot (slots_from (R.key_at rows.now) (R.slots rows.now) start) }
 {
     rows.reveal_invariant();
     let mut at = start;

@@ -40,7 +40,7 @@ raw_clause_of c = record {
   body = data_list (map data_of c.body.now);
 }
 
--- compiles a clause by the head's first paths
+-- compiles a clause by the first paths of its pattern's variables
 abbrev pub clause_with : FirstPaths → RawClause → Clause
 clause_with first c = record {
   pattern = part_of first [] c.pattern;

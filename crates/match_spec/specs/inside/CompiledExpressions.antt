@@ -12,7 +12,7 @@ use Rattle.match_spec.specs.declared.expression.evaluate.ExprValue.{ExprValue}
 use Rattle.match_spec.specs.declared.expression.evaluate.ExprValue.TheVariants.{Borrowed, Owned}
 use Rattle.ets_term.specs.declared.term.Term.TheVariants.{Atom}
 use Rattle.ets_term.specs.Order.{data_list_len}
-use Rattle.ets_term.specs.laws.Exact.{term_of}
+use Rattle.ets_term.specs.Trees.{term_of}
 use Rattle.match_spec.specs.Functions.{boolean, truth}
 use Rattle.match_spec.specs.Paths.{Path, subterm_at}
 use Rattle.match_spec.specs.Variables.{variable}
@@ -99,7 +99,8 @@ abbrev pub call_expression : List ℕ → ℕ → List Expression → Expression
 call_expression f n es = short_circuit_else (short_circuit_connective f) (strict_connective f) (function_of f n) es
 
 abbrev mutual
-  -- compiles an expression by the head's first paths; the compiled form of a refused expression does not matter
+  -- compiles an expression by the first paths of the pattern's variables; the compiled form of a refused
+  -- expression does not matter
   pub expression_of : FirstPaths → Data → Expression
   expression_of first (atom a) = name_expression first a (variable a)
   expression_of first (list es) = Terms (expressions_of first es)

@@ -3,7 +3,7 @@ use Rattle.std.specs.Prelude.{◌≡◌, ℕ, suc, ◌&&◌, Bool, true, false, 
 use Rattle.std.specs.Str.{bytes_eq}
 use Rattle.ets_term.specs.declared.term.Term.TheVariants.{Atom}
 use Rattle.ets_term.specs.Data.{Data, atom, tuple, list, DataList, no_terms, term, data_of}
-use Rattle.ets_term.specs.laws.Exact.{term_of}
+use Rattle.ets_term.specs.Trees.{term_of}
 use Rattle.match_spec.specs.declared.pattern.part.Part.{Part, fold-Part}
 use Rattle.match_spec.specs.declared.pattern.part.Part.TheOpen.{Part-F}
 use Rattle.match_spec.specs.declared.pattern.part.Part.TheVariants.{Wildcard, Repeated, Tuple, List as Terms, Literal}

@@ -13,19 +13,19 @@ use Rattle.node_core.specs.rules.Growth.{in_table}
 
 module _ (old : State) (t : ℕ) (was f : TableState) where
   abbrev Found : CallRule → Option Table → Outcome Reply State
-  Found rule o reply new = MatchOption o (gives Badarg old reply new) (λ table. (fixed : TableState) × rule table.fixed reply fixed × (new ≡ with_table old t fixed))
+  Found rule o reply new = MatchOption o (gives Badarg old reply new) (λ table. (fixed : TableState) × rule table.state reply fixed × (new ≡ with_table old t fixed))
 
-  found_at : (rule : CallRule) (reply : Reply) (o : Option Table) → Some was ≡ option_map (λ table. table.fixed) o → rule was reply f → Found rule o reply (with_table old t f)
+  found_at : (rule : CallRule) (reply : Reply) (o : Option Table) → Some was ≡ option_map (λ table. table.state) o → rule was reply f → Found rule o reply (with_table old t f)
   found_at rule reply None e h = cc
-  found_at rule reply (Some table) e h = let same : was ≡ table.fixed = cc in (f, subst (λ x. rule x reply f) same h, refl)
+  found_at rule reply (Some table) e h = let same : was ≡ table.state = cc in (f, subst (λ x. rule x reply f) same h, refl)
 
-  same_at : (o : Option Table) → table_at old.world.tables t ≡ o → Some was ≡ option_map (λ table. table.fixed) o → f ≡ was → with_table old t f ≡ old
+  same_at : (o : Option Table) → table_at old.world.tables t ≡ o → Some was ≡ option_map (λ table. table.state) o → f ≡ was → with_table old t f ≡ old
   same_at None at e same = cc
   same_at (Some table) at e same =
-      let is : f ≡ table.fixed = same ∙ (cc) in
+      let is : f ≡ table.state = same ∙ (cc) in
       ap (λ g. with_table old t g) is ∙ ap (λ ts. record old { world = record old.world { tables = ts } }) (fixed-same old.world.tables t table at)
 
-  module _ (there : Some was ≡ option_map (λ table. table.fixed) (table_at old.world.tables t)) where
+  module _ (there : Some was ≡ option_map (λ table. table.state) (table_at old.world.tables t)) where
     pub done : (rule : CallRule) (reply : Reply) → rule was reply f → in_table old t rule reply (with_table old t f)
     done rule reply h = found_at rule reply (table_at old.world.tables t) there h
 

@@ -4,13 +4,13 @@ use Rattle.std.specs.Prelude.{slice_set}
 use Rattle.ets_term.specs.declared.term.Term.{Term, out-Term}
 use Rattle.ets_term.specs.declared.term.Term.TheOpen.{Term-F}
 use Rattle.fixed_walk.specs.TableState.{TableState}
-use Rattle.ownership.specs.World.{Table, Tables, World, table_at, all_metadata, is_named, whereis, resolve, resolve_form, fixed_in, with_fixed}
-use Rattle.ownership.specs.Tables.{with_changed}
+use Rattle.ownership.specs.World.{Table, Tables, World, table_at, all_metadata, is_named, whereis, resolve, resolve_form, with_state, with_changed}
+use Rattle.ownership.specs.inside.States.{table_with_state}
 use Rattle.ownership.proofs.MetadataLaws.{fixed-same}
 use Rattle.node_core.specs.declared.node.access.Access.{Access}
 use Rattle.node_core.specs.State.{State}
-use Rattle.node_core.specs.Observable.{observable_fixed, observable_table, observable_tables, observable}
-use Rattle.node_core.specs.Access.{may_access, allowed, usable, with_table}
+use Rattle.node_core.specs.Observable.{observable_table_state, observable_table, observable_tables, observable}
+use Rattle.node_core.specs.Access.{may_access, table_if_allowed, usable, with_table}
 
 -- the world without the buckets of its tables
 abbrev pub observable_world : World → World
@@ -54,17 +54,17 @@ either-observable : (b : Bool) (t : ℕ) (table : Table) → cond b (Some (t, ob
 either-observable true t table = refl
 either-observable false t table = refl
 
-allowed-observable : (access : Access) (p t : ℕ) (o : Option Table) → option_and_then (allowed access p t) (option_map observable_table o) ≡ option_map observable_found (option_and_then (allowed access p t) o)
-allowed-observable access p t None = refl
-allowed-observable access p t (Some table) = either-observable (may_access access table.metadata p) t table
+table_if_allowed-observable : (access : Access) (p t : ℕ) (o : Option Table) → option_and_then (table_if_allowed access p t) (option_map observable_table o) ≡ option_map observable_found (option_and_then (table_if_allowed access p t) o)
+table_if_allowed-observable access p t None = refl
+table_if_allowed-observable access p t (Some table) = either-observable (may_access access table.metadata p) t table
 
 found-observable : (access : Access) (ts : Tables) (p : ℕ) (o : Option ℕ)
-    → option_and_then (λ t. option_and_then (allowed access p t) (table_at (observable_tables ts) t)) o ≡ option_map observable_found (option_and_then (λ t. option_and_then (allowed access p t) (table_at ts t)) o)
+    → option_and_then (λ t. option_and_then (table_if_allowed access p t) (table_at (observable_tables ts) t)) o ≡ option_map observable_found (option_and_then (λ t. option_and_then (table_if_allowed access p t) (table_at ts t)) o)
 found-observable access ts p None = refl
-found-observable access ts p (Some t) = ap (option_and_then (allowed access p t)) (at-observable ts t) ∙ allowed-observable access p t (table_at ts t)
+found-observable access ts p (Some t) = ap (option_and_then (table_if_allowed access p t)) (at-observable ts t) ∙ table_if_allowed-observable access p t (table_at ts t)
 
 pub usable-observable : (access : Access) (ts : Tables) (p : ℕ) (term : Term) → usable access (observable_tables ts) p term ≡ option_map observable_found (usable access ts p term)
-usable-observable access ts p term = ap (option_and_then (λ t. option_and_then (allowed access p t) (table_at (observable_tables ts) t))) (resolve-observable ts term) ∙ found-observable access ts p (resolve ts term)
+usable-observable access ts p term = ap (option_and_then (λ t. option_and_then (table_if_allowed access p t) (table_at (observable_tables ts) t))) (resolve-observable ts term) ∙ found-observable access ts p (resolve ts term)
 
 -- ---- writing
 pub set-observable : (ts : Tables) (t : ℕ) (o : Option Table) → slice_set (observable_tables ts) t (option_map observable_table o) ≡ observable_tables (slice_set ts t o)
@@ -76,17 +76,17 @@ pub push-observable : (ts : Tables) (table : Table) → observable_tables ts ++ 
 push-observable [] table = refl
 push-observable (x ∷ xs) table = ap (λ ts. option_map observable_table x ∷ ts) (push-observable xs table)
 
-fixed_in-observable : (o : Option Table) (f : TableState) → fixed_in (option_map observable_table o) (observable_fixed f) ≡ option_map observable_table (fixed_in o f)
-fixed_in-observable None f = refl
-fixed_in-observable (Some table) f = refl
+table_with_state-observable : (o : Option Table) (f : TableState) → table_with_state (option_map observable_table o) (observable_table_state f) ≡ option_map observable_table (table_with_state o f)
+table_with_state-observable None f = refl
+table_with_state-observable (Some table) f = refl
 
-pub with_fixed-observable : (ts : Tables) (t : ℕ) (f : TableState) → with_fixed (observable_tables ts) t (observable_fixed f) ≡ observable_tables (with_fixed ts t f)
-with_fixed-observable ts t f =
-    ap (λ o. slice_set (observable_tables ts) t (fixed_in o (observable_fixed f))) (at-observable ts t)
-    ∙ (ap (slice_set (observable_tables ts) t) (fixed_in-observable (table_at ts t) f) ∙ set-observable ts t (fixed_in (table_at ts t) f))
+pub with_state-observable : (ts : Tables) (t : ℕ) (f : TableState) → with_state (observable_tables ts) t (observable_table_state f) ≡ observable_tables (with_state ts t f)
+with_state-observable ts t f =
+    ap (λ o. slice_set (observable_tables ts) t (table_with_state o (observable_table_state f))) (at-observable ts t)
+    ∙ (ap (slice_set (observable_tables ts) t) (table_with_state-observable (table_at ts t) f) ∙ set-observable ts t (table_with_state (table_at ts t) f))
 
-pub with_table-observable : (s : State) (t : ℕ) (f : TableState) → with_table (observable s) t (observable_fixed f) ≡ observable (with_table s t f)
-with_table-observable s t f = ap (λ ts. record s { world = record s.world { tables = ts } }) (with_fixed-observable s.world.tables t f)
+pub with_table-observable : (s : State) (t : ℕ) (f : TableState) → with_table (observable s) t (observable_table_state f) ≡ observable (with_table s t f)
+with_table-observable s t f = ap (λ ts. record s { world = record s.world { tables = ts } }) (with_state-observable s.world.tables t f)
 
 change-observable : (change : Table → Table) → ((table : Table) → change (observable_table table) ≡ observable_table (change table)) → (o : Option Table) → option_map change (option_map observable_table o) ≡ option_map observable_table (option_map change o)
 change-observable change same None = refl
@@ -98,7 +98,7 @@ changed-observable change same ts t =
     ∙ (ap (slice_set (observable_tables ts) t) (change-observable change same (table_at ts t)) ∙ set-observable ts t (option_map change (table_at ts t)))
 
 -- a table whose buckets alone have changed
-pub same-observable : (s : State) (t : ℕ) (table : Table) (f : TableState) → table_at s.world.tables t ≡ Some table → observable_fixed f ≡ observable_fixed table.fixed → observable (with_table s t f) ≡ observable s
+pub same-observable : (s : State) (t : ℕ) (table : Table) (f : TableState) → table_at s.world.tables t ≡ Some table → observable_table_state f ≡ observable_table_state table.state → observable (with_table s t f) ≡ observable s
 same-observable s t table f at same =
     let there : table_at (observable_tables s.world.tables) t ≡ Some (observable_table table) = at-observable s.world.tables t ∙ ap (option_map observable_table) at in
     sym (with_table-observable s t f)

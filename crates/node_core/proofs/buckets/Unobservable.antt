@@ -4,19 +4,19 @@ use Rattle.std.specs.Prelude.{option_map}
 use Rattle.ownership.specs.World.{Table, Tables, table_at}
 use Rattle.fixed_walk.specs.TableState.{TableState}
 use Rattle.node_core.specs.State.{State}
-use Rattle.node_core.specs.Observable.{observable, observable_table, observable_tables, observable_fixed, KeepsBuckets}
+use Rattle.node_core.specs.Observable.{observable, observable_table, observable_tables, observable_table_state, KeepsBuckets}
 
-same-fixed : (f g : TableState) → observable_fixed g ≡ observable_fixed f → g.buckets ≡ f.buckets → g ≡ f
+same-fixed : (f g : TableState) → observable_table_state g ≡ observable_table_state f → g.buckets ≡ f.buckets → g ≡ f
 same-fixed f g e b = λ i. record { content = (ap (λ (x : TableState). x.content) e) i; buckets = b i; fixes = (ap (λ (x : TableState). x.fixes) e) i }
 
-same-table : (t u : Table) → observable_table u ≡ observable_table t → u.fixed.buckets ≡ t.fixed.buckets → u ≡ t
-same-table t u e b = λ i. record { metadata = (ap (λ (x : Table). x.metadata) e) i; fixed = (same-fixed t.fixed u.fixed (ap (λ (x : Table). x.fixed) e) b) i }
+same-table : (t u : Table) → observable_table u ≡ observable_table t → u.state.buckets ≡ t.state.buckets → u ≡ t
+same-table t u e b = λ i. record { metadata = (ap (λ (x : Table). x.metadata) e) i; state = (same-fixed t.state u.state (ap (λ (x : Table). x.state) e) b) i }
 
 abbrev some-of : Table → Option Table → Table
 some-of d None = d
 some-of d (Some t) = t
 
-same-place : (t u : Option Table) → option_map observable_table u ≡ option_map observable_table t → ((was table : Table) → t ≡ Some was → u ≡ Some table → table.fixed.buckets ≡ was.fixed.buckets) → u ≡ t
+same-place : (t u : Option Table) → option_map observable_table u ≡ option_map observable_table t → ((was table : Table) → t ≡ Some was → u ≡ Some table → table.state.buckets ≡ was.state.buckets) → u ≡ t
 same-place None None e k = refl
 same-place None (Some u) e k = absurd (cc)
 same-place (Some t) None e k = absurd (cc)
@@ -30,7 +30,7 @@ abbrev tail-of : Tables → Tables
 tail-of [] = []
 tail-of (x ∷ xs) = xs
 
-same-tables : (xs ys : Tables) → observable_tables ys ≡ observable_tables xs → ((t : ℕ) (was table : Table) → table_at xs t ≡ Some was → table_at ys t ≡ Some table → table.fixed.buckets ≡ was.fixed.buckets) → ys ≡ xs
+same-tables : (xs ys : Tables) → observable_tables ys ≡ observable_tables xs → ((t : ℕ) (was table : Table) → table_at xs t ≡ Some was → table_at ys t ≡ Some table → table.state.buckets ≡ was.state.buckets) → ys ≡ xs
 same-tables [] [] e k = refl
 same-tables [] (y ∷ ys) e k = absurd (cc)
 same-tables (x ∷ xs) [] e k = absurd (cc)

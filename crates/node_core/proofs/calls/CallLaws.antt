@@ -5,7 +5,8 @@ use Rattle.std.specs.Bool.{MatchBool}
 use Rattle.std.specs.Option.{option_map_or}
 use Rattle.ets_term.specs.declared.term.Term.{Term, out-Term}
 use Rattle.ets_term.specs.declared.term.Term.TheVariants.{Tid}
-use Rattle.ets_term.specs.Atoms.{text_of, is_atom}
+use Rattle.ets_term.specs.Atoms.{is_atom}
+use Rattle.ets_term.specs.Views.{as_atom, pid_form}
 use Rattle.table_ops.specs.Outcomes.{Outcome, gives, refuse_none}
 use Rattle.fixed_walk.specs.TableState.{TableState}
 use Rattle.ownership.specs.declared.fault.WorldFault.{WorldFault}
@@ -15,15 +16,15 @@ use Rattle.ownership.specs.declared.info.InfoItem.TheVariants as item
 use Rattle.ownership.specs.declared.options.NewOptions.{NewOptions}
 use Rattle.ownership.specs.World.{Table, World, table_at, resolve, whereis}
 use Rattle.ownership.specs.Info.{item_of, info_of}
-use Rattle.ownership.specs.Options.{options_of, pid_form}
+use Rattle.ownership.specs.Options.{options_of}
 use Rattle.ownership.specs.Tables.{without_table}
 use Rattle.node_core.specs.declared.node.access.Access.{Access}
 use Rattle.node_core.specs.declared.node.access.Access.TheVariants.{Read, Write}
 use Rattle.node_core.specs.declared.step.Reply.{Reply}
 use Rattle.node_core.specs.declared.step.Reply.TheVariants.{Value, Badarg}
 use Rattle.node_core.specs.State.{State}
-use Rattle.node_core.specs.Observable.{observable_fixed, observable_table, observable_tables, observable}
-use Rattle.node_core.specs.Access.{usable, with_table, CallRule, WorldResultToReply, asks, reads, changes}
+use Rattle.node_core.specs.Observable.{observable_table_state, observable_table, observable_tables, observable}
+use Rattle.node_core.specs.Access.{usable, with_table, CallRule, WorldResultToReply, changes_world, reads, changes}
 use Rattle.node_core.specs.rules.Owning.{GiveAway, SetOptions, Receive, value_or_undefined, Whereis, names_form, info_at, Info}
 use Rattle.node_core.specs.rules.Replies.{true_reply}
 use Rattle.node_core.specs.rules.Tables.{new_table_of, makes, New, DeleteTable}
@@ -61,7 +62,7 @@ world-flat answer flat (Err fault.Memory) reply e = absurd e
 
 -- ---- the replies of `info` and `whereis`
 abbrev wheres : State → List ℕ → Reply
-wheres s text = value_or_undefined (option_map_or (λ t. Some (Tid t)) (whereis s.world.tables text) None)
+wheres s text = value_or_undefined (option_map Tid (whereis s.world.tables text))
 
 item-observable : (i : InfoItem) (t : ℕ) (table : Table) → info_of i t (observable_table table) ≡ info_of i t table
 item-observable item.Name t table = refl
@@ -76,7 +77,7 @@ item-observable item.Keypos t table = refl
 item-observable item.Fixed t table = refl
 
 info-value : (i : InfoItem) (t : ℕ) (o : Option Table)
-    → option_map_or (λ table. Some (info_of i t table)) (option_map observable_table o) None ≡ option_map_or (λ table. Some (info_of i t table)) o None
+    → option_map (info_of i t) (option_map observable_table o) ≡ option_map (info_of i t) o
 info-value i t None = refl
 info-value i t (Some table) = ap Some (item-observable i t table)
 
@@ -84,7 +85,7 @@ info-observable : (w : World) (i : InfoItem) (o : Option ℕ)
     → option_and_then (info_at i (observable_world w)) o ≡ option_and_then (info_at i w) o
 info-observable w i None = refl
 info-observable w i (Some t) =
-    ap (λ o. option_map_or (λ table. Some (info_of i t table)) o None) (at-observable w.tables t)
+    ap (option_map (info_of i t)) (at-observable w.tables t)
     ∙ info-value i t (table_at w.tables t)
 
 abbrev informs : State → Term → InfoItem → Reply
@@ -156,38 +157,38 @@ module _ (own : ℕ → Bool) (needs : Bool) (old : State) where
       (where-lawful (resolve old.world.tables term) lawful)
 
   -- a call that reads a table changes nothing
-  pub reads-lawful : (p : ℕ) (term : Term) (answer : TableState → Reply) → ((f : TableState) → answer (observable_fixed f) ≡ answer f)
+  pub reads-lawful : (p : ℕ) (term : Term) (answer : TableState → Reply) → ((f : TableState) → answer (observable_table_state f) ≡ answer f)
       → Lawful (reads old p term answer) (reads (observable old) p term answer)
   reads-lawful p term answer same =
-      usable-lawful Read p term (λ found. gives (answer found.1.fixed) old) (λ found. gives (answer found.1.fixed) (observable old)) (λ found there.
-      tells-as (answer found.1.fixed) (answer (observable_fixed found.1.fixed)) (same found.1.fixed))
+      usable-lawful Read p term (λ found. gives (answer found.1.state) old) (λ found. gives (answer found.1.state) (observable old)) (λ found there.
+      tells-as (answer found.1.state) (answer (observable_table_state found.1.state)) (same found.1.state))
 
   abbrev AfterRelease : State → CallRule → ℕ × Table → Outcome Reply State
-  AfterRelease s rule found reply new = (fixed : TableState) × rule found.1.fixed reply fixed × (new ≡ with_table s found.0 fixed)
+  AfterRelease s rule found reply new = (fixed : TableState) × rule found.1.state reply fixed × (new ≡ with_table s found.0 fixed)
 
   leaves-lawful : (rule : CallRule) (found : ℕ × Table) → IsLawful own needs rule
       → table_at old.world.tables found.0 ≡ Some found.1
       → Lawful (AfterRelease old rule found) (AfterRelease (observable old) rule (observable_found found))
   leaves-lawful rule found lawful at = record {
     observable =
-        λ reply new h. (observable_fixed h.0, lawful.unobservable found.1.fixed h.0 reply h.1, ap observable h.2 ∙ sym (with_table-observable old found.0 h.0));
+        λ reply new h. (observable_table_state h.0, lawful.unobservable found.1.state h.0 reply h.1, ap observable h.2 ∙ sym (with_table-observable old found.0 h.0));
     lawful = λ reply new h. subst (λ (s : State). IsLawfulReply own needs old reply s) (sym h.2) (record {
       limits = refl;
       moves =
           record { most = refl; known = same.known; tables = follows-fixed own old.world.tables found.0 h.0 (λ was here. preserves_at reply h.0 h.1 was here) };
-      quiet = λ n. inl (lawful.flat n found.1.fixed h.0 reply h.1);
+      quiet = λ n. inl (lawful.flat n found.1.state h.0 reply h.1);
     });
   }
     where
       same : Moves own old.world old.world
       same = moves-same own old.world
 
-      preserves_at : (reply : Reply) (f : TableState) → rule found.1.fixed reply f → (was : Table)
-          → table_at old.world.tables found.0 ≡ Some was → Preserves own was.fixed f
+      preserves_at : (reply : Reply) (f : TableState) → rule found.1.state reply f → (was : Table)
+          → table_at old.world.tables found.0 ≡ Some was → Preserves own was.state f
       preserves_at reply f h was here =
           let e : Some found.1 ≡ Some was = sym at ∙ here in
           let is : found.1 ≡ was = cc in
-          subst (λ (table : Table). Preserves own table.fixed f) is (lawful.preserves found.1.fixed f reply h)
+          subst (λ (table : Table). Preserves own table.state f) is (lawful.preserves found.1.state f reply h)
 
   -- one that changes it by a rule
   pub changes-lawful : (p : ℕ) (access : Access) (term : Term) {rule : CallRule} → IsLawful own needs rule
@@ -197,10 +198,10 @@ module _ (own : ℕ → Bool) (needs : Bool) (old : State) where
       leaves-lawful rule found lawful (usable-there old.world.tables access p term found there).at)
 
   -- one on processes, heads and names
-  pub asks-lawful : {X : Type 0} (answer : X → Reply) {outcome unobservable : Outcome (Result X WorldFault) World}
+  pub changes_world-lawful : {X : Type 0} (answer : X → Reply) {outcome unobservable : Outcome (Result X WorldFault) World}
       → (needs ≡ false → (x : X) → is_flat (answer x) ≡ true) → IsLawfulOutcome (Moves own old.world) X outcome unobservable
-      → Lawful (asks old answer outcome) (asks (observable old) answer unobservable)
-  asks-lawful answer flat lawful = record {
+      → Lawful (changes_world old answer outcome) (changes_world (observable old) answer unobservable)
+  changes_world-lawful answer flat lawful = record {
     observable = λ reply new h. (h.0, lawful.observable h.0 new.world h.1, h.2, ap observable h.3);
     lawful = λ reply new h. record {
       limits = ap (λ (s : State). s.limits) h.3;
@@ -218,14 +219,14 @@ module _ (own : ℕ → Bool) (needs : Bool) (old : State) where
         → Lawful (makes old p text options) (makes (observable old) p text options)
     makes-lawful needed text options =
         let fixed = new_table_of old.limits.objects options in
-        asks-lawful Value (λ n. contrary needed n)
+        changes_world-lawful Value (λ n. contrary needed n)
         (new-lawful (Moves own old.world) old.world still p text options fixed
         (new-moves own old.world p text options fixed refl refl))
 
     pub new_call-lawful : needs ≡ true → (name options : Term)
         → Lawful (New old p name options) (New (observable old) p name options)
     new_call-lawful needed name options =
-        where-lawful (text_of name) (λ text.
+        where-lawful (as_atom name) (λ text.
         where-lawful (options_of options) (λ options.
         makes-lawful needed text options))
 
@@ -245,14 +246,14 @@ module _ (own : ℕ → Bool) (needs : Bool) (old : State) where
     give_away-lawful term pid gift =
         resolved-lawful term (λ t.
         where-lawful (pid_form (out-Term pid)) (λ q.
-        asks-lawful (λ _. true_reply) (λ n x. true-flat)
+        changes_world-lawful (λ _. true_reply) (λ n x. true-flat)
         (give-lawful (Moves own old.world) old.world still p t q gift (give-moves own old.world p t q gift))))
 
     pub set_options_call-lawful : (term options : Term)
         → Lawful (SetOptions old p term options) (SetOptions (observable old) p term options)
     set_options_call-lawful term options =
         resolved-lawful term (λ t.
-        asks-lawful (λ _. true_reply) (λ n x. true-flat)
+        changes_world-lawful (λ _. true_reply) (λ n x. true-flat)
         (set_options-lawful (Moves own old.world) old.world still p t options (heir-moves own old.world t)))
 
     pub receive-lawful : needs ≡ true → Lawful (Receive old p) (Receive (observable old) p)
@@ -261,9 +262,9 @@ module _ (own : ℕ → Bool) (needs : Bool) (old : State) where
 
   pub whereis-lawful : (name : Term) → Lawful (Whereis old name) (Whereis (observable old) name)
   whereis-lawful name =
-      where-lawful (text_of name) (λ text.
+      where-lawful (as_atom name) (λ text.
       tells-as (wheres old text) (wheres (observable old) text)
-      (ap (λ o. value_or_undefined (option_map_or (λ t. Some (Tid t)) o None)) (whereis-observable old.world.tables text)))
+      (ap (λ o. value_or_undefined (option_map Tid o)) (whereis-observable old.world.tables text)))
 
   pub info-lawful : (term item : Term) → Lawful (Info old term item) (Info (observable old) term item)
   info-lawful term item =

@@ -17,7 +17,7 @@ use Rattle.node_core.specs.declared.step.Reply.TheVariants.{Value, Badarg, Syste
 use Rattle.node_core.specs.declared.step.Step.{Step}
 use Rattle.node_core.specs.declared.step.Step.TheVariants.{Enrol, End, Ask, Grow, Ready}
 use Rattle.node_core.specs.State.{State}
-use Rattle.node_core.specs.Observable.{observable_fixed, observable_table, observable}
+use Rattle.node_core.specs.Observable.{observable_table_state, observable_table, observable}
 use Rattle.node_core.specs.Access.{CallRule, reads, writes}
 use Rattle.node_core.specs.CallName.{call_name}
 use Rattle.node_core.specs.Calls.{call, call_by_text}
@@ -28,7 +28,7 @@ use Rattle.node_core.specs.rules.Replies.{true_reply}
 use Rattle.node_core.specs.rules.Searching.{match_reply, match_object_reply, select_reply, select_count_reply}
 use Rattle.node_core.specs.rules.Walking.{first_reply, next_reply, first_lookup_reply, next_lookup_reply}
 use Rattle.node_core.specs.Woven.{is_step_of}
-use Rattle.node_core.proofs.calls.CallLaws.{IsLawfulReply, IsLawfulCall, tells-lawful, tells-as, either-lawful, reads-lawful, changes-lawful, asks-lawful, new_call-lawful, delete_table-lawful, give_away-lawful, set_options_call-lawful, receive-lawful, whereis-lawful, info-lawful, fixtable-lawful}
+use Rattle.node_core.proofs.calls.CallLaws.{IsLawfulReply, IsLawfulCall, tells-lawful, tells-as, either-lawful, reads-lawful, changes-lawful, changes_world-lawful, new_call-lawful, delete_table-lawful, give_away-lawful, set_options_call-lawful, receive-lawful, whereis-lawful, info-lawful, fixtable-lawful}
 use Rattle.node_core.proofs.moves.Moves.{Follows, Moves, moves-same}
 use Rattle.node_core.proofs.calls.Rules.{IsLawful, insert-lawful, insert_new-lawful, take-lawful, delete-lawful, delete_all-lawful, delete_object-lawful, match_delete-lawful, select_delete-lawful, update_counter-lawful, update_element-lawful}
 use Rattle.node_core.proofs.buckets.ObservableTables.{at-observable}
@@ -53,7 +53,7 @@ module _ (p : ℕ) (needs : Bool) (old : State) where
   none : Laws (gives Badarg old) (gives Badarg (observable old))
   none = tells-lawful own needs old Badarg
 
-  reading : (x : Term) (answer : TableState → Reply) → ((f : TableState) → answer (observable_fixed f) ≡ answer f)
+  reading : (x : Term) (answer : TableState → Reply) → ((f : TableState) → answer (observable_table_state f) ≡ answer f)
       → Laws (reads old p x answer) (reads (observable old) p x answer)
   reading x answer same = reads-lawful own needs old p x answer same
 
@@ -123,10 +123,10 @@ IsLawfulStep old s = IsLawfulCall (λ w. is_step_of w s) true old (step old s) (
 
 pub step-lawful : (old : State) (s : Step) → IsLawfulStep old s
 step-lawful old (Enrol p) =
-    asks-lawful (λ w. p == w) true old (λ _. Value (Pid p)) (λ n. absurd (true≢false n))
+    changes_world-lawful (λ w. p == w) true old (λ _. Value (Pid p)) (λ n. absurd (true≢false n))
     (enrol-lawful (Moves (λ w. p == w) old.world) old.world (moves-same (λ w. p == w) old.world) p (enrol-moves (λ w. p == w) old.world p))
 step-lawful old (End p) =
-    asks-lawful (λ w. p == w) true old (λ _. true_reply) (λ n. absurd (true≢false n))
+    changes_world-lawful (λ w. p == w) true old (λ _. true_reply) (λ n. absurd (true≢false n))
     (end-lawful (Moves (λ w. p == w) old.world) old.world (moves-same (λ w. p == w) old.world) p (end-moves old.world p))
 step-lawful old (Ask p asked) =
     either-lawful (λ w. p == w) true old (not (lives old.world.processes p)) (λ _. tells-lawful (λ w. p == w) true old NoProcess) (

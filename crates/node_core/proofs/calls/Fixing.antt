@@ -16,7 +16,7 @@ use Rattle.node_core.specs.inside.Lending.{with_usable}
 use Rattle.node_core.specs.inside.Refusals.{RefinesReply}
 use Rattle.node_core.proofs.calls.Changes.{changed, unchanged}
 
-module _ (old : State) (p : ℕ) (term : Term) (was f : TableState) (there : Some was ≡ option_map (λ found. found.1.fixed) (usable Read old.world.tables p term)) where
+module _ (old : State) (p : ℕ) (term : Term) (was f : TableState) (there : Some was ≡ option_map (λ found. found.1.state) (usable Read old.world.tables p term)) where
   abbrev after : State
   after = with_usable old Read p term f
 

@@ -6,17 +6,17 @@ use Rattle.ets_term.specs.declared.term.Term.{Term, out-Term}
 use Rattle.ets_term.specs.Data.{data_of}
 use Rattle.match_spec.specs.Specifications.{is_pattern, is_spec}
 use Rattle.counters.specs.Ops.{ops_of}
-use Rattle.counters.specs.Elements.{specs_of}
+use Rattle.counters.specs.Elements.{element_specs_of}
 use Rattle.table_ops.specs.declared.refusal.Refusal.{Refusal}
 use Rattle.table_ops.specs.declared.refusal.Refusal.TheVariants.{Badarg, SystemLimit, Memory}
 use Rattle.table_ops.specs.Content.{Content, key_of}
-use Rattle.table_ops.specs.Refusals.{Change, RefinesChange}
+use Rattle.table_ops.specs.Refusals.{RefinesChange}
+use Rattle.table_ops.specs.Outcomes.{Change, gives}
 use Rattle.table_ops.specs.Drop.{Which, has_key, every_object, equal_to, without_those, DeletesObject}
 use Rattle.table_ops.specs.Put.{Inserts, InsertsNew}
 use Rattle.table_ops.specs.Queries.{chosen_count, matches, is_chosen}
 use Rattle.table_ops.specs.Read.{all_objects}
 use Rattle.table_ops.specs.Update.{UpdatesCounter, UpdatesElement}
-use Rattle.table_ops.specs.Outcomes.{gives}
 use Rattle.fixed_walk.specs.declared.fault.FixFault.{FixFault}
 use Rattle.fixed_walk.specs.declared.fault.FixFault.TheVariants as fault
 use Rattle.fixed_walk.specs.Fixes.{is_fixed}
@@ -24,7 +24,7 @@ use Rattle.fixed_walk.specs.TableState.{TableState, on_content, after_delete}
 use Rattle.fixed_walk.specs.laws.Kept.{AlwaysKeepsKeys}
 use Rattle.fixed_walk.proofs.KeptLaws.{insert-keeps, insert_new-keeps, update_counter-keeps, update_element-keeps, delete_object-keeps}
 use Rattle.node_core.specs.declared.step.Reply.{Reply}
-use Rattle.node_core.specs.Observable.{observable_fixed}
+use Rattle.node_core.specs.Observable.{observable_table_state}
 use Rattle.node_core.specs.Access.{CallRule, ChangeResultToReply, replies}
 use Rattle.node_core.specs.rules.Insertion.{objects_in, Insert, InsertNew}
 use Rattle.node_core.specs.rules.Removal.{Take, Delete, DeleteObject, DeleteAllObjects}
@@ -38,13 +38,13 @@ use Rattle.node_core.proofs.moves.Preserves.{Preserves, preserves-content, prese
 
 -- what is shown of each rule, where `needs` says that its reply may take memory
 pub record IsLawful (own : ℕ → Bool) (needs : Bool) (rule : CallRule) : Type 0 where
-  pub unobservable : (old new : TableState) (reply : Reply) → rule old reply new → rule (observable_fixed old) reply (observable_fixed new)
+  pub unobservable : (old new : TableState) (reply : Reply) → rule old reply new → rule (observable_table_state old) reply (observable_table_state new)
   pub preserves : (old new : TableState) (reply : Reply) → rule old reply new → Preserves own old new
   pub flat : needs ≡ false → (old new : TableState) (reply : Reply) → rule old reply new → is_flat reply ≡ true
 
 -- and of each change
 record IsLawfulChange (own : ℕ → Bool) (X : Type 0) (change : TableState → Change X TableState) : Type 0 where
-  unobservable : (old new : TableState) (r : Result X Refusal) → change old r new → change (observable_fixed old) r (observable_fixed new)
+  unobservable : (old new : TableState) (r : Result X Refusal) → change old r new → change (observable_table_state old) r (observable_table_state new)
   preserves : (old new : TableState) (r : Result X Refusal) → RefinesChange (change old) old r new → Preserves own old new
 
 -- a reply that needs memory is not one that takes none
@@ -80,8 +80,8 @@ fix-flat (Err fault.Memory) reply e = absurd e
 -- ---- a change of the content
 module _ {X : Type 0} (change : Content → Change X Content) where
   content-unobservable : (old new : TableState) (r : Result X Refusal) → on_content change old r new
-      → on_content change (observable_fixed old) r (observable_fixed new)
-  content-unobservable old new r h = (h.0, ap observable_fixed h.1)
+      → on_content change (observable_table_state old) r (observable_table_state new)
+  content-unobservable old new r h = (h.0, ap observable_table_state h.1)
 
   -- no slot gets the key '$end_of_table' by the change
   abbrev NeverEnds : Type 0
@@ -115,8 +115,8 @@ module _ (own : ℕ → Bool) where
     By o old r new = MatchOption o (gives (Err Badarg) old r new) (λ y. change y old r new)
 
     by-unobservable : (o : Option Y) (old new : TableState) (r : Result X Refusal) → By o old r new
-        → By o (observable_fixed old) r (observable_fixed new)
-    by-unobservable None old new r h = (h.0, ap observable_fixed h.1)
+        → By o (observable_table_state old) r (observable_table_state new)
+    by-unobservable None old new r h = (h.0, ap observable_table_state h.1)
     by-unobservable (Some y) old new r h = (lawful y).unobservable old new r h
 
     by-preserves : (o : Option Y) (old new : TableState) (r : Result X Refusal) → RefinesChange (By o old) old r new → Preserves own old new
@@ -153,11 +153,11 @@ module _ (own : ℕ → Bool) where
 
     -- ---- removal
     -- these objects are removed, with this answer
-    drops : (answer : TableState → Reply) (which : Which) → ((old : TableState) → answer (observable_fixed old) ≡ answer old)
+    drops : (answer : TableState → Reply) (which : Which) → ((old : TableState) → answer (observable_table_state old) ≡ answer old)
         → (needs ≡ false → (old : TableState) → is_flat (answer old) ≡ true)
         → IsLawful own needs (λ old reply new. (reply ≡ answer old) × (new ≡ after_delete which old))
     drops answer which same flat = record {
-      unobservable = λ old new reply h. (h.0 ∙ sym (same old), ap observable_fixed h.1);
+      unobservable = λ old new reply h. (h.0 ∙ sym (same old), ap observable_table_state h.1);
       preserves = λ old new reply h. subst (Preserves own old) (sym h.1) (preserves-without own which old);
       flat = λ n old new reply h. ap is_flat h.0 ∙ flat n old;
     }
@@ -197,13 +197,13 @@ module _ (own : ℕ → Bool) where
 
     pub delete_object-lawful : (object : Term) → IsLawful own needs (DeleteObject object)
     delete_object-lawful object =
-        replied _ (deletes object) (λ n x. true-flat) (record { unobservable = λ old new r h. (h.0, ap observable_fixed h.1); preserves = object-preserves object })
+        replied _ (deletes object) (λ n x. true-flat) (record { unobservable = λ old new r h. (h.0, ap observable_table_state h.1); preserves = object-preserves object })
 
     -- ---- searching
     deletes-unobservable : {X : Type 0} (good : Bool) (answer : X) (which : Which) (old new : TableState) (r : Result X Refusal)
-        → Deletes good answer which old r new → Deletes good answer which (observable_fixed old) r (observable_fixed new)
-    deletes-unobservable true answer which old new r h = (h.0, ap observable_fixed h.1)
-    deletes-unobservable false answer which old new r h = (h.0, ap observable_fixed h.1)
+        → Deletes good answer which old r new → Deletes good answer which (observable_table_state old) r (observable_table_state new)
+    deletes-unobservable true answer which old new r h = (h.0, ap observable_table_state h.1)
+    deletes-unobservable false answer which old new r h = (h.0, ap observable_table_state h.1)
 
     deletes-preserves : {X : Type 0} (good : Bool) (answer : X) (which : Which) (old new : TableState) (r : Result X Refusal)
         → RefinesChange (Deletes good answer which old) old r new → Preserves own old new
@@ -244,9 +244,9 @@ module _ (own : ℕ → Bool) where
         → IsLawful own needs (UpdateElement key updates default)
     update_element-lawful key updates default = replied _ (WritesElements key updates default) (λ n. truth-flat) (record {
       unobservable =
-          λ old. by-unobservable (λ specs. on_content (UpdatesElement key specs default)) lawful (specs_of old.content.keypos updates) old;
+          λ old. by-unobservable (λ specs. on_content (UpdatesElement key specs default)) lawful (element_specs_of old.content.keypos updates) old;
       preserves =
-          λ old. by-preserves (λ specs. on_content (UpdatesElement key specs default)) lawful (specs_of old.content.keypos updates) old;
+          λ old. by-preserves (λ specs. on_content (UpdatesElement key specs default)) lawful (element_specs_of old.content.keypos updates) old;
     })
       where
         lawful : (specs : _) → IsLawfulChange own Bool (on_content (UpdatesElement key specs default))
@@ -264,7 +264,7 @@ module _ (p : ℕ) (needs : Bool) where
 
   pub releases-lawful : IsLawful (λ w. p == w) needs (Releases p)
   releases-lawful = record {
-    unobservable = λ old new reply h. (h.0, ap observable_fixed h.1 ∙ sym (released-observable p old));
+    unobservable = λ old new reply h. (h.0, ap observable_table_state h.1 ∙ sym (released-observable p old));
     preserves = λ old new reply h. subst (Preserves (λ w. p == w) old) (sym h.1) (released-preserves p old);
     flat = λ n old new reply h. ap is_flat h.0 ∙ true-flat;
   }

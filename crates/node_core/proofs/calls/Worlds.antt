@@ -11,18 +11,18 @@ use Rattle.ownership.specs.declared.fault.WorldFault.{WorldFault}
 use Rattle.ownership.specs.declared.fault.WorldFault.TheVariants.{Badarg, SystemLimit, NoProcess, Memory}
 use Rattle.node_core.specs.declared.step.Reply.{Reply}
 use Rattle.node_core.specs.State.{State}
-use Rattle.node_core.specs.Access.{asks}
+use Rattle.node_core.specs.Access.{changes_world}
 use Rattle.node_core.specs.inside.Refusals as called
 
 module _ {X : Type 0} (old : State) (answer : X → Reply) (outcome : Outcome (Result X WorldFault) World) (w : World) where
-  pub asks-world-ok : (x : X) → world.RefinesWorld outcome old.world (Ok x) w → asks old answer outcome (answer x) (record old { world = w })
-  asks-world-ok x h = (Ok x, h, refl, refl)
+  pub changes_world-world-ok : (x : X) → world.RefinesWorld outcome old.world (Ok x) w → changes_world old answer outcome (answer x) (record old { world = w })
+  changes_world-world-ok x h = (Ok x, h, refl, refl)
 
-  pub asks-world-err : (fault : WorldFault) → world.RefinesWorld outcome old.world (Err fault) w → called.RefinesReply (asks old answer outcome) old (called.refusal_of fault) (record old { world = w })
-  asks-world-err Badarg h = (Err Badarg, h, refl, refl)
-  asks-world-err SystemLimit h = (Err SystemLimit, h, refl, refl)
-  asks-world-err NoProcess h = (Err NoProcess, h, refl, refl)
-  asks-world-err Memory h = ap (λ v. record old { world = v }) h
+  pub changes_world-world-err : (fault : WorldFault) → world.RefinesWorld outcome old.world (Err fault) w → called.RefinesReply (changes_world old answer outcome) old (called.refusal_of fault) (record old { world = w })
+  changes_world-world-err Badarg h = (Err Badarg, h, refl, refl)
+  changes_world-world-err SystemLimit h = (Err SystemLimit, h, refl, refl)
+  changes_world-world-err NoProcess h = (Err NoProcess, h, refl, refl)
+  changes_world-world-err Memory h = ap (λ v. record old { world = v }) h
 
 -- the reply for the result of a calling method
 pub reply-ok : (outcome : Outcome Reply State) (old new : State) (r : Result Reply Refusal) (replied : Result Reply AllocError) → called.RefinesReply outcome old r new → called.RefusalToReply r replied → IfOk replied (λ reply. outcome reply new)

@@ -4,12 +4,12 @@ use Rattle.std.specs.List.{AllByRecursion}
 use Rattle.std.proofs.lemmas.Map.{keys-set_value}
 use Rattle.ets_term.specs.declared.term.Term.{Term}
 use Rattle.ets_term.specs.Order.{same}
-use Rattle.bucket_table.specs.Slots.{Slot, has_objects, purged}
+use Rattle.bucket_table.specs.Slots.{Slot, has_objects, without_tombstones}
 use Rattle.counters.specs.declared.elements.ElementSpecs.{ElementSpecs}
 use Rattle.counters.specs.declared.ops.Ops.{Ops}
 use Rattle.table_ops.specs.declared.refusal.Refusal.{Refusal}
 use Rattle.table_ops.specs.Content.{Content}
-use Rattle.table_ops.specs.Drop.{Which, remaining, after_drop}
+use Rattle.table_ops.specs.Drop.{Which, objects_left, after_drop}
 use Rattle.table_ops.specs.Put.{Inserts, InsertsNew}
 use Rattle.table_ops.specs.Update.{UpdatesCounter, UpdatesElement}
 use Rattle.fixed_walk.proofs.ChangeLaws.{Keeping, is_end, unchanged, inserts-keep, news-keep, counter-keeps, element-keeps}
@@ -26,11 +26,11 @@ one_fewer false s new rest e own free = free
 
 pub dropped-free : (hold : Bool) (which : Which) (slots : List Slot) → StaysFree slots (after_drop hold which slots)
 dropped-free hold which [] free = tt
-dropped-free hold which (s ∷ ss) free = one_fewer (hold || has_objects (remaining which s) || not (has_objects s.1)) s (s.0, remaining which s) (after_drop hold which ss) refl free.0 (dropped-free hold which ss free.1)
+dropped-free hold which (s ∷ ss) free = one_fewer (hold || has_objects (objects_left which s) || not (has_objects s.1)) s (s.0, objects_left which s) (after_drop hold which ss) refl free.0 (dropped-free hold which ss free.1)
 
-pub purged-free : (slots : List Slot) → StaysFree slots (purged slots)
-purged-free [] free = tt
-purged-free (s ∷ ss) free = one_fewer (has_objects s.1) s s (purged ss) refl free.0 (purged-free ss free.1)
+pub without_tombstones-free : (slots : List Slot) → StaysFree slots (without_tombstones slots)
+without_tombstones-free [] free = tt
+without_tombstones-free (s ∷ ss) free = one_fewer (has_objects s.1) s s (without_tombstones ss) refl free.0 (without_tombstones-free ss free.1)
 
 -- ---- one slot more
 between : (front back : List Slot) (s : Slot) → is_end s.0 ≡ false → HasNoEnd (front ++ back) → HasNoEnd (front ++ s ∷ back)

@@ -5,16 +5,16 @@ use Rattle.std.specs.Prelude.{MatchOption, slice_set}
 use Rattle.std.proofs.Math.ListN.{length-set}
 use Rattle.std.proofs.lemmas.List.{length-map}
 use Rattle.fixed_walk.specs.TableState.{TableState}
-use Rattle.ownership.specs.World.{Table, Tables, World, table_at, whereis, with_fixed, fixed_in}
-use Rattle.ownership.specs.Tables.{with_changed}
+use Rattle.ownership.specs.World.{Table, Tables, World, table_at, whereis, with_state, with_changed}
+use Rattle.ownership.specs.inside.States.{table_with_state}
 use Rattle.node_core.specs.rules.Tables.{first_buckets}
 use Rattle.node_core.proofs.moves.Preserves.{Preserves, preserves-same}
 
 -- a table that is new is last, has no slot and a new table's buckets, and has no name that another has
 pub record Enters (old : Tables) (t : ℕ) (table : Table) : Type 0 where
   pub place : t ≡ length old
-  pub bare : table.fixed.content.slots ≡ []
-  pub fresh : table.fixed.buckets ≡ first_buckets
+  pub bare : table.state.content.slots ≡ []
+  pub fresh : table.state.buckets ≡ first_buckets
   pub free : table.metadata.named ≡ true → whereis old table.metadata.name ≡ None
 
 -- ---- where tables are found after one place is written, one is added, or all are mapped
@@ -56,7 +56,7 @@ module _ (own : ℕ → Bool) where
   pub record Stays (was table : Table) : Type 0 where
     pub name : table.metadata.name ≡ was.metadata.name
     pub named : table.metadata.named ≡ was.metadata.named
-    pub fixed : Preserves own was.fixed table.fixed
+    pub fixed : Preserves own was.state table.state
 
   abbrev pub Came : Tables → ℕ → Option Table → Table → Type 0
   Came old t before table = MatchOption before (Enters old t table) (λ was. Stays was table)
@@ -73,7 +73,7 @@ module _ (own : ℕ → Bool) where
     pub tables : Follows old.tables new.tables
 
   pub stays-same : (table : Table) → Stays table table
-  stays-same table = record { name = refl; named = refl; fixed = preserves-same own table.fixed table.fixed refl }
+  stays-same table = record { name = refl; named = refl; fixed = preserves-same own table.state table.state refl }
 
   stayed : (old : Tables) (t : ℕ) (was table : Table) → table_at old t ≡ Some was → Stays was table
       → Came old t (table_at old t) table
@@ -100,17 +100,17 @@ module _ (own : ℕ → Bool) where
     pub follows-gone : (place : ℕ) → Follows ts (slice_set ts place None)
     follows-gone place = follows-set place None (λ table e. cc)
 
-    fixed-written : (before : Option Table) (f : TableState) → ((was : Table) → before ≡ Some was → Preserves own was.fixed f)
-        → Written before (fixed_in before f)
+    fixed-written : (before : Option Table) (f : TableState) → ((was : Table) → before ≡ Some was → Preserves own was.state f)
+        → Written before (table_with_state before f)
     fixed-written None f preserves table e = cc
     fixed-written (Some was) f preserves table e =
-        let is : record was { fixed = f } ≡ table = cc in
+        let is : record was { state = f } ≡ table = cc in
         (was, refl, subst (Stays was) is (record { name = refl; named = refl; fixed = preserves was refl }))
 
     pub follows-fixed : (place : ℕ) (f : TableState)
-        → ((was : Table) → table_at ts place ≡ Some was → Preserves own was.fixed f) → Follows ts (with_fixed ts place f)
+        → ((was : Table) → table_at ts place ≡ Some was → Preserves own was.state f) → Follows ts (with_state ts place f)
     follows-fixed place f preserves =
-        follows-set place (fixed_in (table_at ts place) f) (fixed-written (table_at ts place) f preserves)
+        follows-set place (table_with_state (table_at ts place) f) (fixed-written (table_at ts place) f preserves)
 
     change-written : (change : Table → Table) → ((table : Table) → Stays table (change table)) → (before : Option Table)
         → Written before (option_map change before)
@@ -123,7 +123,7 @@ module _ (own : ℕ → Bool) where
     follows-changed change stays place =
         follows-set place (option_map change (table_at ts place)) (change-written change stays (table_at ts place))
 
-    pub follows-push : (new : Table) → new.fixed.content.slots ≡ [] → new.fixed.buckets ≡ first_buckets
+    pub follows-push : (new : Table) → new.state.content.slots ≡ [] → new.state.buckets ≡ first_buckets
         → (new.metadata.named ≡ true → whereis ts new.metadata.name ≡ None) → Follows ts (ts ++ Some new ∷ [])
     follows-push new bare fresh free =
         record { long = let e = length-append ts (Some new ∷ []) in omega (arith, e); came = λ t table at. by t table (push-at ts t new table at) }

@@ -4,7 +4,7 @@ use Rattle.std.specs.Ordering.{nat_cmp, eq_by_cmp}
 use Rattle.std.specs.Cmp.{nat_cmp_total}
 use Rattle.std.specs.FinMap.{get, get-insert, get-remove}
 use Rattle.std.proofs.lemmas.Bool.Decides.{nat_tests}
-use Rattle.bucket_table.specs.Slots.{purged}
+use Rattle.bucket_table.specs.Slots.{without_tombstones}
 use Rattle.table_ops.specs.Drop.{Which}
 use Rattle.fixed_walk.specs.declared.fault.FixFault.{FixFault}
 use Rattle.fixed_walk.specs.declared.fault.FixFault.TheVariants as fault
@@ -12,8 +12,8 @@ use Rattle.fixed_walk.specs.Fixes.{FixCounts, fix_count, is_fixed, with_count}
 use Rattle.fixed_walk.specs.TableState.{TableState, IncrementsFix, without_tombstones_if_unfixed, after_release, after_release_all, after_delete}
 use Rattle.fixed_walk.specs.laws.Kept.{KeepsKeys}
 use Rattle.fixed_walk.proofs.KeptLaws.{delete-keeps, fix-keeps, release-keeps, release_all-keeps, rows-keep}
-use Rattle.node_core.specs.Observable.{observable_fixed}
-use Rattle.node_core.proofs.moves.EndKeys.{StaysFree, unchanged-free, dropped-free, purged-free}
+use Rattle.node_core.specs.Observable.{observable_table_state}
+use Rattle.node_core.proofs.moves.EndKeys.{StaysFree, unchanged-free, dropped-free, without_tombstones-free}
 
 -- ---- how often each process fixes a table
 apart : (q w : ℕ) → (q == w) ≡ false → eq_by_cmp nat_cmp w q ≡ false
@@ -61,10 +61,10 @@ preserves-without own which old =
     preserves-content own old (after_delete which old) refl (delete-keeps which old) (dropped-free (is_fixed old.fixes) which old.content.slots)
 
 -- ---- a purge removes the tombstones once no process fixes the table
-abbrev without_tombstones : TableState → TableState
-without_tombstones table = record table { content = record table.content { slots = purged table.content.slots } }
+abbrev state_without_tombstones : TableState → TableState
+state_without_tombstones table = record table { content = record table.content { slots = without_tombstones table.content.slots } }
 
-either-observable : (b : Bool) (f g : TableState) → cond b (observable_fixed f) (observable_fixed g) ≡ observable_fixed (cond b f g)
+either-observable : (b : Bool) (f g : TableState) → cond b (observable_table_state f) (observable_table_state g) ≡ observable_table_state (cond b f g)
 either-observable true f g = refl
 either-observable false f g = refl
 
@@ -73,27 +73,27 @@ either-has Q true f g a b = a
 either-has Q false f g a b = b
 
 module _ (table : TableState) where
-  purged-observable : without_tombstones_if_unfixed (observable_fixed table) ≡ observable_fixed (without_tombstones_if_unfixed table)
-  purged-observable = either-observable (is_fixed table.fixes) table (without_tombstones table)
+  without_tombstones-observable : without_tombstones_if_unfixed (observable_table_state table) ≡ observable_table_state (without_tombstones_if_unfixed table)
+  without_tombstones-observable = either-observable (is_fixed table.fixes) table (state_without_tombstones table)
 
-  purged-buckets : (without_tombstones_if_unfixed table).buckets ≡ table.buckets
-  purged-buckets =
-      either-has (λ f. f.buckets ≡ table.buckets) (is_fixed table.fixes) table (without_tombstones table) refl refl
+  without_tombstones-buckets : (without_tombstones_if_unfixed table).buckets ≡ table.buckets
+  without_tombstones-buckets =
+      either-has (λ f. f.buckets ≡ table.buckets) (is_fixed table.fixes) table (state_without_tombstones table) refl refl
 
-  pub purged-fixes : (without_tombstones_if_unfixed table).fixes ≡ table.fixes
-  purged-fixes = either-has (λ f. f.fixes ≡ table.fixes) (is_fixed table.fixes) table (without_tombstones table) refl refl
+  pub without_tombstones-fixes : (without_tombstones_if_unfixed table).fixes ≡ table.fixes
+  without_tombstones-fixes = either-has (λ f. f.fixes ≡ table.fixes) (is_fixed table.fixes) table (state_without_tombstones table) refl refl
 
-  purged-or-fixed-free : StaysFree table.content.slots (without_tombstones_if_unfixed table).content.slots
-  purged-or-fixed-free =
-      either-has (λ f. StaysFree table.content.slots f.content.slots) (is_fixed table.fixes) table (without_tombstones table) (λ free. free) (purged-free table.content.slots)
+  without_tombstones-or-fixed-free : StaysFree table.content.slots (without_tombstones_if_unfixed table).content.slots
+  without_tombstones-or-fixed-free =
+      either-has (λ f. StaysFree table.content.slots f.content.slots) (is_fixed table.fixes) table (state_without_tombstones table) (λ free. free) (without_tombstones-free table.content.slots)
 
 -- ---- a process fixes and releases the table
 module _ (p : ℕ) where
   pub fixes-observable : (old new : TableState) (r : Result (Unit {0}) FixFault) → IncrementsFix p old r new
-      → IncrementsFix p (observable_fixed old) r (observable_fixed new)
-  fixes-observable old new (Ok x) h = (h.0, ap observable_fixed h.1)
-  fixes-observable old new (Err fault.SystemLimit) h = (h.0, ap observable_fixed h.1)
-  fixes-observable old new (Err fault.Memory) h = (h.0, ap observable_fixed h.1)
+      → IncrementsFix p (observable_table_state old) r (observable_table_state new)
+  fixes-observable old new (Ok x) h = (h.0, ap observable_table_state h.1)
+  fixes-observable old new (Err fault.SystemLimit) h = (h.0, ap observable_table_state h.1)
+  fixes-observable old new (Err fault.Memory) h = (h.0, ap observable_table_state h.1)
 
   pub fixes-preserves : (old new : TableState) (r : Result (Unit {0}) FixFault) → IncrementsFix p old r new
       → Preserves (λ w. p == w) old new
@@ -113,24 +113,24 @@ module _ (p : ℕ) where
     abbrev with_fixes : ℕ → TableState
     with_fixes n = record old { fixes = with_count old.fixes p n }
 
-    purged-preserves : (n : ℕ) → KeepsKeys old (without_tombstones_if_unfixed (with_fixes n)) → Preserves (λ w. p == w) old (without_tombstones_if_unfixed (with_fixes n))
-    purged-preserves n keys = record {
-      buckets = purged-buckets (with_fixes n);
+    without_tombstones-preserves : (n : ℕ) → KeepsKeys old (without_tombstones_if_unfixed (with_fixes n)) → Preserves (λ w. p == w) old (without_tombstones_if_unfixed (with_fixes n))
+    without_tombstones-preserves n keys = record {
+      buckets = without_tombstones-buckets (with_fixes n);
       keys = keys;
-      ends = purged-or-fixed-free (with_fixes n);
+      ends = without_tombstones-or-fixed-free (with_fixes n);
       fixes =
-          λ w other. ap (λ (m : FixCounts). fix_count m w) (purged-fixes (with_fixes n))
+          λ w other. ap (λ (m : FixCounts). fix_count m w) (without_tombstones-fixes (with_fixes n))
           ∙ other-count old.fixes p w n other;
     }
 
-    pub released-observable : after_release p (observable_fixed old) ≡ observable_fixed (after_release p old)
-    released-observable = purged-observable (with_fixes (fix_count old.fixes p - 1))
+    pub released-observable : after_release p (observable_table_state old) ≡ observable_table_state (after_release p old)
+    released-observable = without_tombstones-observable (with_fixes (fix_count old.fixes p - 1))
 
     pub released-preserves : Preserves (λ w. p == w) old (after_release p old)
-    released-preserves = purged-preserves (fix_count old.fixes p - 1) (release-keeps p old)
+    released-preserves = without_tombstones-preserves (fix_count old.fixes p - 1) (release-keeps p old)
 
-    pub all_released-observable : after_release_all p (observable_fixed old) ≡ observable_fixed (after_release_all p old)
-    all_released-observable = purged-observable (with_fixes 0)
+    pub all_released-observable : after_release_all p (observable_table_state old) ≡ observable_table_state (after_release_all p old)
+    all_released-observable = without_tombstones-observable (with_fixes 0)
 
     pub all_released-preserves : Preserves (λ w. p == w) old (after_release_all p old)
-    all_released-preserves = purged-preserves 0 (release_all-keeps p old)
+    all_released-preserves = without_tombstones-preserves 0 (release_all-keeps p old)

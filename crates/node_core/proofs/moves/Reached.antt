@@ -29,13 +29,13 @@ run-keeps P keeps old (s ∷ steps) [] new r h = absurd r
 
 -- ---- keys
 abbrev HasDistinctSlots : State → Type 0
-HasDistinctSlots s = (t : ℕ) (table : Table) → table_at s.world.tables t ≡ Some table → HasDistinctKeys table.fixed.content.slots
+HasDistinctSlots s = (t : ℕ) (table : Table) → table_at s.world.tables t ≡ Some table → HasDistinctKeys table.state.content.slots
 
 pub distinct-none : HasDistinctKeys []
 unfolding IsDistinct
 distinct-none = tt
 
-distinct-came : (own : ℕ → Bool) (old : Tables) (t : ℕ) (o : Option Table) (table : Table) → Came own old t o table → ((was : Table) → o ≡ Some was → HasDistinctKeys was.fixed.content.slots) → HasDistinctKeys table.fixed.content.slots
+distinct-came : (own : ℕ → Bool) (old : Tables) (t : ℕ) (o : Option Table) (table : Table) → Came own old t o table → ((was : Table) → o ≡ Some was → HasDistinctKeys was.state.content.slots) → HasDistinctKeys table.state.content.slots
 distinct-came own old t None table came d = subst HasDistinctKeys (sym came.bare) distinct-none
 distinct-came own old t (Some was) table came d = came.fixed.keys.distinct (d was refl)
 
@@ -43,9 +43,9 @@ keys-step : (old new : State) (s : Step) (reply : Reply) → step old s reply ne
 keys-step old new s reply h d t table at = distinct-came (λ w. is_step_of w s) old.world.tables t (table_at old.world.tables t) table ((step-follows old new s reply h).came t table at) (λ was before. d t was before)
 
 abbrev HasNoEnds : State → Type 0
-HasNoEnds s = (t : ℕ) (table : Table) → table_at s.world.tables t ≡ Some table → HasNoEnd table.fixed.content.slots
+HasNoEnds s = (t : ℕ) (table : Table) → table_at s.world.tables t ≡ Some table → HasNoEnd table.state.content.slots
 
-end-came : (own : ℕ → Bool) (old : Tables) (t : ℕ) (o : Option Table) (table : Table) → Came own old t o table → ((was : Table) → o ≡ Some was → HasNoEnd was.fixed.content.slots) → HasNoEnd table.fixed.content.slots
+end-came : (own : ℕ → Bool) (old : Tables) (t : ℕ) (o : Option Table) (table : Table) → Came own old t o table → ((was : Table) → o ≡ Some was → HasNoEnd was.state.content.slots) → HasNoEnd table.state.content.slots
 end-came own old t None table came d = subst HasNoEnd (sym came.bare) tt
 end-came own old t (Some was) table came d = came.fixed.ends (d was refl)
 

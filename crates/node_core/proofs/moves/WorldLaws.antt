@@ -11,16 +11,16 @@ use Rattle.ownership.specs.declared.fault.WorldFault.TheVariants.{Badarg, System
 use Rattle.ownership.specs.declared.metadata.Metadata.{Metadata}
 use Rattle.ownership.specs.declared.metadata.Heir.{Heir}
 use Rattle.ownership.specs.declared.options.NewOptions.{NewOptions}
-use Rattle.ownership.specs.World.{Table, Tables, Processes, World, process_at, lives, table_at, whereis}
+use Rattle.ownership.specs.World.{Table, Tables, Processes, World, process_at, lives, table_at, whereis, with_changed}
 use Rattle.ownership.specs.Access.{is_owner}
 use Rattle.ownership.specs.Messages.{name_or_identifier, transfer_message, push_message, push_messages}
 use Rattle.ownership.specs.Options.{heir_after}
 use Rattle.ownership.specs.Tables as tables
-use Rattle.ownership.specs.Tables.{after_enrol, new_metadata, with_table, with_owner, with_heir, with_changed, after_set_heir}
+use Rattle.ownership.specs.Tables.{after_enrol, new_metadata, with_table, with_owner, with_heir, after_set_heir}
 use Rattle.ownership.specs.End as ends
 use Rattle.ownership.specs.End.{with_ended, living_heir, without_fixes, table_after_exit, message_of, messages_from, after_exit}
 use Rattle.ownership.specs.Outcomes.{RefinesWorld}
-use Rattle.node_core.specs.Observable.{observable_fixed, observable_table, observable_tables}
+use Rattle.node_core.specs.Observable.{observable_table_state, observable_table, observable_tables}
 use Rattle.node_core.proofs.buckets.ObservableTables.{observable_world, at-observable, length-observable, whereis-observable, push-observable, changed-observable}
 use Rattle.node_core.proofs.moves.Preserves.{all_released-observable}
 
@@ -91,18 +91,18 @@ module _ (P : World → Type 0) (old : World) (same : P old) where
 
     made : (fixed : TableState)
         → ((options.named && is_some (whereis old.tables name)) ≡ false → P (with_table old (new_metadata p name options) fixed))
-        → Lawful Term (Makes old (whereis old.tables name) (length old.tables) fixed) (Makes (observable_world old) (whereis old.tables name) (length old.tables) (observable_fixed fixed))
+        → Lawful Term (Makes old (whereis old.tables name) (length old.tables) fixed) (Makes (observable_world old) (whereis old.tables name) (length old.tables) (observable_table_state fixed))
     made fixed after =
         refuse-lawful (options.named && is_some (whereis old.tables name)) Badarg (λ fresh.
         refuse-lawful (nat_le old.max_tables (length old.tables)) SystemLimit (λ room.
-        gives-lawful (name_or_identifier options.named name (length old.tables)) (with_table old (new_metadata p name options) fixed) (with_table (observable_world old) (new_metadata p name options) (observable_fixed fixed))
-        (ap (λ ts. record old { tables = ts }) (sym (push-observable old.tables (record { metadata = new_metadata p name options; fixed = fixed })))) (after fresh)))
+        gives-lawful (name_or_identifier options.named name (length old.tables)) (with_table old (new_metadata p name options) fixed) (with_table (observable_world old) (new_metadata p name options) (observable_table_state fixed))
+        (ap (λ ts. record old { tables = ts }) (sym (push-observable old.tables (record { metadata = new_metadata p name options; state = fixed })))) (after fresh)))
 
     pub new-lawful : (fixed : TableState)
         → ((options.named && is_some (whereis old.tables name)) ≡ false → P (with_table old (new_metadata p name options) fixed))
-        → Lawful Term (tables.New old p name options fixed) (tables.New (observable_world old) p name options (observable_fixed fixed))
+        → Lawful Term (tables.New old p name options fixed) (tables.New (observable_world old) p name options (observable_table_state fixed))
     new-lawful fixed after =
-        subst₂ (λ (found : Option ℕ) (count : ℕ). Lawful Term (tables.New old p name options fixed) (Makes (observable_world old) found count (observable_fixed fixed)))
+        subst₂ (λ (found : Option ℕ) (count : ℕ). Lawful Term (tables.New old p name options fixed) (Makes (observable_world old) found count (observable_table_state fixed)))
         (sym (whereis-observable old.tables name)) (sym (length-observable old.tables)) (made fixed after)
 
   -- ---- tables pass to another owner
@@ -158,7 +158,7 @@ module _ (P : World → Type 0) (old : World) (same : P old) where
 -- ---- a process ends
 module _ (processes : Processes) (p : ℕ) where
   without_fixes-observable : (table : Table) → without_fixes p (observable_table table) ≡ observable_table (without_fixes p table)
-  without_fixes-observable table = ap (λ f. record table { fixed = f }) (all_released-observable p table.fixed)
+  without_fixes-observable table = ap (λ f. record table { state = f }) (all_released-observable p table.state)
 
   heir-observable : (heir : Option Heir) (table : Table)
       → option_map (λ h. with_owner h.pid (without_fixes p (observable_table table))) heir ≡ option_map observable_table (option_map (λ h. with_owner h.pid (without_fixes p table)) heir)

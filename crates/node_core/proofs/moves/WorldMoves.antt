@@ -64,7 +64,7 @@ module _ (own : ℕ → Bool) (old : World) where
     most = refl;
     known = omega arith;
     tables =
-        follows-push own old.tables (record { metadata = new_metadata p name options; fixed = fixed }) bare fresh (free-of options.named (whereis old.tables name) free);
+        follows-push own old.tables (record { metadata = new_metadata p name options; state = fixed }) bare fresh (free-of options.named (whereis old.tables name) free);
   }
 
   pub gone-moves : (t : ℕ) → Moves own old (without_table old t)
@@ -92,14 +92,14 @@ module _ (processes : Processes) (p : ℕ) where
   StaysGiven was table = Stays (λ w. p == w) was table
 
   without_fixes-stays : (table : Table) → StaysGiven table (without_fixes p table)
-  without_fixes-stays table = record { name = refl; named = refl; fixed = all_released-preserves p table.fixed }
+  without_fixes-stays table = record { name = refl; named = refl; fixed = all_released-preserves p table.state }
 
   heir-after : (was : Table) (heir : Option Heir) (table : Table)
       → option_map (λ h. with_owner h.pid (without_fixes p was)) heir ≡ Some table → StaysGiven was table
   heir-after was None table e = cc
   heir-after was (Some heir) table e =
       let is : with_owner heir.pid (without_fixes p was) ≡ table = cc in
-      subst (StaysGiven was) is (record { name = refl; named = refl; fixed = all_released-preserves p was.fixed })
+      subst (StaysGiven was) is (record { name = refl; named = refl; fixed = all_released-preserves p was.state })
 
   either-after : (its : Bool) (heir : Option Heir) (was table : Table)
       → cond its (option_map (λ h. with_owner h.pid (without_fixes p was)) heir) (Some (without_fixes p was)) ≡ Some table

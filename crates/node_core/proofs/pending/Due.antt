@@ -7,7 +7,7 @@ use Rattle.std.proofs.lemmas.List.{drop_all}
 use Rattle.std.proofs.lemmas.Bool.{cases_lt, ltb-true, ltb-false}
 use Rattle.ownership.specs.World.{Tables}
 use Rattle.node_core.specs.declared.step.Step.{Step}
-use Rattle.node_core.specs.rules.Growth.{pending_of, pending_from}
+use Rattle.node_core.specs.Pending.{pending_of, pending_from}
 use Rattle.node_core.specs.inside.PendingTables.{PendingTablesState, Ascends, IsAmong, IsIn}
 use Rattle.node_core.specs.inside.Due.{pending_at, dirty_pending_before}
 
@@ -18,7 +18,7 @@ pub record IsFrom (ids : List ℕ) (from id : ℕ) : Type 0 where
 
 -- it does, or it is the dirty one
 abbrev pub IsLeft : PendingTablesState → ℕ → ℕ → Type 0
-IsLeft s from t = IsFrom s.ordered from t ⊎ (s.dirty ≡ Some t)
+IsLeft s from t = IsFrom s.queue from t ⊎ (s.dirty ≡ Some t)
 
 due-step : (tables : Tables) (t : ℕ) → t < length tables → pending_from t (drop t tables) ≡ option_map_or (λ step. Some step) (pending_at tables t) (pending_from (suc t) (drop (suc t) tables))
 due-step tables t h = ap (pending_from t) (drop-cons tables t None h)
@@ -36,7 +36,7 @@ due-none None h = refl
 due-none (Some x) h = absurd (h refl)
 
 -- a table with a pending step exists
-pub there : (n : ℕ) (tables : Tables) (t : ℕ) → IsSome (option_and_then (λ table. pending_of n table.fixed) (get_or tables t None)) → t < length tables
+pub there : (n : ℕ) (tables : Tables) (t : ℕ) → IsSome (option_and_then (λ table. pending_of n table.state) (get_or tables t None)) → t < length tables
 there n [] t some = cc
 there n (x ∷ xs) zero some = omega arith
 there n (x ∷ xs) (suc t) some = let h = there n xs t some in omega (arith, h)
@@ -50,7 +50,7 @@ none-due : (tables : Tables) → ((t : ℕ) → IsSome (pending_at tables t) →
 none-due tables none = due-up-to tables (length tables) (omega arith) (λ t less. due-none (pending_at tables t) (none t)) ∙ ap (pending_from (length tables)) (drop_all (length tables) tables (omega arith))
 
 -- where no table is queued and none is dirty, no step is pending
-pub due-empty : (tables : Tables) (s : PendingTablesState) → ((t : ℕ) → IsSome (pending_at tables t) → IsIn s t) → s.ordered ≡ [] → s.dirty ≡ None → pending_from 0 tables ≡ None
+pub due-empty : (tables : Tables) (s : PendingTablesState) → ((t : ℕ) → IsSome (pending_at tables t) → IsIn s t) → s.queue ≡ [] → s.dirty ≡ None → pending_from 0 tables ≡ None
 due-empty tables s due none clean = none-due tables (λ t some. elim (due t some) [
   | inl among ↦ absurd (omega (arith, among.inside, ap (λ (ids : List ℕ). length ids) none))
   | inr here ↦ let both : None ≡ Some t = sym clean ∙ here in absurd (cc)
@@ -69,7 +69,7 @@ same-some a b o e f = let both : Some a ≡ Some b = sym e ∙ f in cc
 
 module _ (tables : Tables) (s : PendingTablesState) (place : ℕ) (due : (t : ℕ) → IsSome (pending_at tables t) → IsLeft s place t) where
   -- where no place is left, it is the pending step of the dirty one
-  pub due-dirty : length s.ordered ≤ place → pending_from 0 tables ≡ option_and_then (pending_at tables) s.dirty
+  pub due-dirty : length s.queue ≤ place → pending_from 0 tables ≡ option_and_then (pending_at tables) s.dirty
   due-dirty end = by s.dirty refl
     where
       dirty : (t : ℕ) → IsSome (pending_at tables t) → s.dirty ≡ Some t
@@ -86,13 +86,13 @@ module _ (tables : Tables) (s : PendingTablesState) (place : ℕ) (due : (t : �
           on None none = none-due tables (λ t some. not-due tables t (ap (pending_at tables) (is t some) ∙ none) some)
           on (Some step) own = first-due tables u step (λ t some. omega (arith, is t some)) own
 
-  module _ (ascends : Ascends s.ordered) (id : ℕ) (here : get_or s.ordered place 0 ≡ id) where
-    at-place : (t : ℕ) (from : IsFrom s.ordered place t) → from.among.place ≤ place → t ≡ id
+  module _ (ascends : Ascends s.queue) (id : ℕ) (here : get_or s.queue place 0 ≡ id) where
+    at-place : (t : ℕ) (from : IsFrom s.queue place t) → from.among.place ≤ place → t ≡ id
     at-place t from past =
         let same : from.among.place ≡ place = omega (arith, past, from.behind) in
-        sym from.among.here ∙ ap (λ q. get_or s.ordered q 0) same ∙ here
+        sym from.among.here ∙ ap (λ q. get_or s.queue q 0) same ∙ here
 
-    at-least : (t : ℕ) → IsFrom s.ordered place t → id ≤ t
+    at-least : (t : ℕ) → IsFrom s.queue place t → id ≤ t
     at-least t from = elim (cases_lt place from.among.place) [
       | inl above ↦ omega (arith, here, from.among.here, ascends place from.among.place above from.among.inside)
       | inr past ↦ omega (arith, at-place t from past)

@@ -7,7 +7,7 @@ use Rattle.std.proofs.lemmas.Bool.{cases_lt, cases_eq}
 use Rattle.std.proofs.lemmas.Bool.Decides.{nat_tests}
 use Rattle.std.proofs.lemmas.List.{length-map, get_or-set_other, get_or_append_left}
 use Rattle.std.proofs.lemmas.List.Sums.{length-filter, count_by-le-length}
-use Rattle.bucket_table.specs.Slots.{Slot, has_objects, purged}
+use Rattle.bucket_table.specs.Slots.{Slot, has_objects, without_tombstones}
 use Rattle.fixed_walk.specs.Fixes.{is_fixed, with_count}
 use Rattle.fixed_walk.specs.TableState.{TableState, without_tombstones_if_unfixed}
 use Rattle.ownership.specs.declared.metadata.Heir.{Heir}
@@ -16,7 +16,8 @@ use Rattle.ownership.specs.Access.{is_owner}
 use Rattle.ownership.specs.Tables.{with_owner}
 use Rattle.ownership.specs.End.{table_after_exit, living_heir, without_fixes}
 use Rattle.node_core.specs.declared.step.Step.TheVariants.{Grow, Ready}
-use Rattle.node_core.specs.rules.Growth.{max_slots_per_bucket, max_buckets, is_crowded, pending_of}
+use Rattle.node_core.specs.rules.Growth.{max_buckets}
+use Rattle.node_core.specs.Pending.{max_slots_per_bucket, is_crowded, pending_of}
 use Rattle.node_core.specs.inside.PendingTables.{PendingTablesState, IsAmong, IsIn, AreBelow}
 use Rattle.node_core.specs.inside.Due.{pending_at, TracksPending}
 use Rattle.node_core.proofs.pending.Due.{same-some}
@@ -25,7 +26,7 @@ module _ (index : PendingTablesState) where
   -- tables without a new pending step, except for those in the queue
   pub kept : (old new : Tables) → TracksPending old index → length new ≡ length old → ((t : ℕ) → IsSome (pending_at new t) → IsSome (pending_at old t) ⊎ IsIn index t) → TracksPending new index
   kept old new is same moved = record {
-    below = subst (AreBelow index.ordered) (sym same) is.below;
+    below = subst (AreBelow index.queue) (sym same) is.below;
     room = omega (arith, is.room, same);
     due = λ t some. by t (moved t some);
   }
@@ -35,7 +36,7 @@ module _ (index : PendingTablesState) where
       by t (inr own) = own
 
 -- there are no tables
-pub none : (tables : Tables) (index : PendingTablesState) → tables ≡ [] → index.ordered ≡ [] → TracksPending tables index
+pub none : (tables : Tables) (index : PendingTablesState) → tables ≡ [] → index.queue ≡ [] → TracksPending tables index
 none tables index e f = record {
   below = subst (λ ids. AreBelow ids (length tables)) (sym f) (λ i h. absurd (omega (arith, h)));
   room = omega (arith, ap (λ ts. length ts) e);
@@ -44,11 +45,11 @@ none tables index e f = record {
 
 -- the pending step of a table that may not be there
 abbrev pub due_in : ℕ → Option Table → Bool
-due_in t own = is_some (option_and_then (λ table. pending_of t table.fixed) own)
+due_in t own = is_some (option_and_then (λ table. pending_of t table.state) own)
 
 -- the pending step when another place is written
 other-due : (tables : Tables) (t : ℕ) (own : Option Table) (other : ℕ) → (other ≡ t → ⊥) → pending_at (set tables t own) other ≡ pending_at tables other
-other-due tables t own other ne = ap (option_and_then (λ table. pending_of other table.fixed)) (get_or-set_other tables t other own None ne)
+other-due tables t own other ne = ap (option_and_then (λ table. pending_of other table.state)) (get_or-set_other tables t other own None ne)
 
 -- the pending step of the place that is written
 due-set : (n : ℕ) (tables : Tables) (t : ℕ) (own : Option Table) → due_in n (get_or (set tables t own) t None) ≡ true → due_in n own ≡ true
@@ -78,7 +79,7 @@ pub dropped : (tables : Tables) (index : PendingTablesState) (t : ℕ) → Track
 dropped tables index t is = replaced tables index t None is (λ h. cc)
 
 -- the metadata of a table changes
-pub rehead : (tables : Tables) (index : PendingTablesState) (t : ℕ) (change : Table → Table) → ((table : Table) → (change table).fixed ≡ table.fixed) → TracksPending tables index → TracksPending (set tables t (option_map change (table_at tables t))) index
+pub rehead : (tables : Tables) (index : PendingTablesState) (t : ℕ) (change : Table → Table) → ((table : Table) → (change table).state ≡ table.state) → TracksPending tables index → TracksPending (set tables t (option_map change (table_at tables t))) index
 rehead tables index t change same is = replaced tables index t (option_map change (table_at tables t)) is (by (table_at tables t))
   where
     by : (o : Option Table) → due_in t (option_map change o) ≡ true → due_in t o ≡ true
@@ -86,7 +87,7 @@ rehead tables index t change same is = replaced tables index t (option_map chang
     by (Some table) h = subst (λ f. is_some (pending_of t f) ≡ true) (same table) h
 
 -- the same identifiers, in more room
-pub roomier : (tables : Tables) (old new : PendingTablesState) → TracksPending tables old → new.ordered ≡ old.ordered → new.dirty ≡ old.dirty → old.capacity ≤ new.capacity → TracksPending tables new
+pub roomier : (tables : Tables) (old new : PendingTablesState) → TracksPending tables old → new.queue ≡ old.queue → new.dirty ≡ old.dirty → old.capacity ≤ new.capacity → TracksPending tables new
 roomier tables old new is same stays more = record {
   below = subst (λ ids. AreBelow ids (length tables)) (sym same) is.below;
   room = omega (arith, is.room, more);
@@ -94,16 +95,16 @@ roomier tables old new is same stays more = record {
 }
 
 -- another table is dirty, and the previously dirty table is queued
-pub dirty-queued : (tables : Tables) (old new : PendingTablesState) (last : ℕ) → TracksPending tables old → old.dirty ≡ Some last → AreBelow new.ordered (length tables) → old.capacity ≤ new.capacity → ((t : ℕ) → IsAmong old.ordered t → IsAmong new.ordered t) → IsAmong new.ordered last → TracksPending tables new
+pub dirty-queued : (tables : Tables) (old new : PendingTablesState) (last : ℕ) → TracksPending tables old → old.dirty ≡ Some last → AreBelow new.queue (length tables) → old.capacity ≤ new.capacity → ((t : ℕ) → IsAmong old.queue t → IsAmong new.queue t) → IsAmong new.queue last → TracksPending tables new
 dirty-queued tables old new last is dirty-last below more among here = record {
   below = below;
   room = omega (arith, is.room, more);
-  due = λ t some. elim (is.due t some) [ inl own ↦ inl (among t own) | inr own ↦ inl (subst (IsAmong new.ordered) (same-some last t old.dirty dirty-last own) here) ];
+  due = λ t some. elim (is.due t some) [ inl own ↦ inl (among t own) | inr own ↦ inl (subst (IsAmong new.queue) (same-some last t old.dirty dirty-last own) here) ];
 }
 
 -- the pending step of one more table
 due-push : (tables : Tables) (x : Option Table) (t : ℕ) → t < length tables → pending_at (tables ++ x ∷ []) t ≡ pending_at tables t
-due-push tables x t h = ap (option_and_then (λ table. pending_of t table.fixed)) (get_or_append_left tables (x ∷ []) None t h)
+due-push tables x t h = ap (option_and_then (λ table. pending_of t table.state)) (get_or_append_left tables (x ∷ []) None t h)
 
 past-push : (n : ℕ) (tables : Tables) (x : Option Table) (t : ℕ) → length tables < t → due_in n (get_or (tables ++ x ∷ []) t None) ≡ true → ⊥
 past-push n [] x zero h e = omega (arith, h)
@@ -112,14 +113,14 @@ past-push n (y ∷ ys) x zero h e = omega (arith, h)
 past-push n (y ∷ ys) x (suc t) h e = past-push n ys x t (omega (arith, h)) e
 
 -- one more table, which is in the index
-pub added : (tables : Tables) (old new : PendingTablesState) (x : Option Table) → TracksPending tables old → AreBelow new.ordered (length tables + 1) → length tables + 1 ≤ new.capacity → IsAmong new.ordered (length tables) → ((t : ℕ) → IsAmong old.ordered t → IsAmong new.ordered t) → new.dirty ≡ old.dirty → TracksPending (tables ++ x ∷ []) new
+pub added : (tables : Tables) (old new : PendingTablesState) (x : Option Table) → TracksPending tables old → AreBelow new.queue (length tables + 1) → length tables + 1 ≤ new.capacity → IsAmong new.queue (length tables) → ((t : ℕ) → IsAmong old.queue t → IsAmong new.queue t) → new.dirty ≡ old.dirty → TracksPending (tables ++ x ∷ []) new
 added tables old new x is below room here among stays = record {
-  below = subst (AreBelow new.ordered) (sym (length-append tables (x ∷ []))) below;
+  below = subst (AreBelow new.queue) (sym (length-append tables (x ∷ []))) below;
   room = omega (arith, room, length-append tables (x ∷ []));
   due = λ t some. elim (cases_lt t (length tables)) [
     | inl within ↦ elim (is.due t (subst (λ o. IsSome o) (due-push tables x t within) some)) [ inl own ↦ inl (among t own) | inr last ↦ inr (stays ∙ last) ]
     | inr past ↦ elim (cases_eq t (length tables)) [
-      | inl e ↦ inl (subst (IsAmong new.ordered) (sym e) here)
+      | inl e ↦ inl (subst (IsAmong new.queue) (sym e) here)
       | inr ne ↦ absurd (past-push t tables x t (above t past ne) some)
     ]
   ];
@@ -144,24 +145,24 @@ fewer-due t table slots h =
     due-less t (is_crowded (record table { content = record table.content { slots = slots } })) (is_crowded table)
     (position not table.buckets) (grows-less (max_slots_per_bucket * length table.buckets) (length slots) (length table.content.slots) (nat_lt (length table.buckets) max_buckets) h)
 
-purged-short : (slots : List Slot) → length (purged slots) ≤ length slots
-purged-short slots = omega (arith, length-filter (λ (slot : Slot). has_objects slot.1) slots, count_by-le-length (λ (slot : Slot). has_objects slot.1) slots)
+without_tombstones-short : (slots : List Slot) → length (without_tombstones slots) ≤ length slots
+without_tombstones-short slots = omega (arith, length-filter (λ (slot : Slot). has_objects slot.1) slots, count_by-le-length (λ (slot : Slot). has_objects slot.1) slots)
 
-purged-due : (t : ℕ) (table : TableState) → is_some (pending_of t (without_tombstones_if_unfixed table)) ≡ true → is_some (pending_of t table) ≡ true
-purged-due t table = by (is_fixed table.fixes)
+without_tombstones-due : (t : ℕ) (table : TableState) → is_some (pending_of t (without_tombstones_if_unfixed table)) ≡ true → is_some (pending_of t table) ≡ true
+without_tombstones-due t table = by (is_fixed table.fixes)
   where
-    by : (fixed : Bool) → is_some (pending_of t (if fixed then table else record table { content = record table.content { slots = purged table.content.slots } })) ≡ true → is_some (pending_of t table) ≡ true
+    by : (fixed : Bool) → is_some (pending_of t (if fixed then table else record table { content = record table.content { slots = without_tombstones table.content.slots } })) ≡ true → is_some (pending_of t table) ≡ true
     by true h = h
-    by false h = fewer-due t table (purged table.content.slots) (purged-short table.content.slots) h
+    by false h = fewer-due t table (without_tombstones table.content.slots) (without_tombstones-short table.content.slots) h
 
 after-due : (processes : Processes) (p t : ℕ) (o : Option Table) → due_in t (table_after_exit processes p o) ≡ true → due_in t o ≡ true
 after-due processes p t None h = h
 after-due processes p t (Some table) h = by (is_owner table.metadata p) (living_heir processes table.metadata) h
   where
-    by : (own : Bool) (heir : Option Heir) → due_in t (if own then option_map (λ heir. with_owner heir.pid (without_fixes p table)) heir else Some (without_fixes p table)) ≡ true → is_some (pending_of t table.fixed) ≡ true
+    by : (own : Bool) (heir : Option Heir) → due_in t (if own then option_map (λ heir. with_owner heir.pid (without_fixes p table)) heir else Some (without_fixes p table)) ≡ true → is_some (pending_of t table.state) ≡ true
     by true None e = cc
-    by true (Some heir) e = purged-due t (record table.fixed { fixes = with_count table.fixed.fixes p 0 }) e
-    by false heir e = purged-due t (record table.fixed { fixes = with_count table.fixed.fixes p 0 }) e
+    by true (Some heir) e = without_tombstones-due t (record table.state { fixes = with_count table.state.fixes p 0 }) e
+    by false heir e = without_tombstones-due t (record table.state { fixes = with_count table.state.fixes p 0 }) e
 
 -- a process ends
 pub ended : (tables : Tables) (index : PendingTablesState) (processes : Processes) (p : ℕ) → TracksPending tables index → TracksPending (map (table_after_exit processes p) tables) index

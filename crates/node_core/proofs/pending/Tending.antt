@@ -10,7 +10,7 @@ use Rattle.node_core.specs.declared.step.Reply.{Reply}
 use Rattle.node_core.specs.State.{State}
 use Rattle.node_core.specs.Observable.{observable}
 use Rattle.node_core.specs.Machine.{step}
-use Rattle.node_core.specs.rules.Growth.{is_crowded, pending_of, pending_from, due}
+use Rattle.node_core.specs.Pending.{is_crowded, pending_of, pending_from, due}
 
 module _ (Q : Step → Type 0) (grows : (t : ℕ) → Q (Grow t)) (readies : (t bucket : ℕ) → Q (Ready t bucket)) where
   abbrev Where : Option Step → Type 0
@@ -32,7 +32,7 @@ module _ (Q : Step → Type 0) (grows : (t : ℕ) → Q (Grow t)) (readies : (t 
   of-tables : (t : ℕ) (tables : Tables) → Where (pending_from t tables)
   of-tables t [] = tt
   of-tables t (None ∷ tables) = of-tables (suc t) tables
-  of-tables t (Some own ∷ tables) = first (pending_of t own.fixed) (pending_from (suc t) tables) (of-table t own.fixed) (of-tables (suc t) tables)
+  of-tables t (Some own ∷ tables) = first (pending_of t own.state) (pending_from (suc t) tables) (of-table t own.state) (of-tables (suc t) tables)
 
   -- so what holds of these steps holds of the pending step
   pub due-tends : (s : State) (event : Step) → due s ≡ Some event → Q event

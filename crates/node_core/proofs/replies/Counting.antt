@@ -2,11 +2,13 @@
 use Rattle.std.proofs.Common.{◌≡◌, ℕ, suc, ℤ, ◌≤◌, ◌⊎◌, inl, inr, Bool, true, false, cond, List, [], ◌∷◌, Option, None, Some, option_map, option_and_then, Result, Ok, Err, refl, sym, subst, ap, ◌∙◌, length, arith}
 use Rattle.std.specs.Prelude.{MatchOption, nat_lt, slice_set, ◌-◌}
 use Rattle.std.specs.Bool.{MatchBool}
+use Rattle.std.specs.Option.{option_map_or}
 use Rattle.std.specs.List.{list_all}
 use Rattle.ets_term.specs.declared.term.Term.{Term, out-Term}
 use Rattle.ets_term.specs.declared.term.Term.TheOpen.{Term-F}
 use Rattle.ets_term.specs.declared.term.Term.TheVariants as term
 use Rattle.ets_term.specs.Depth.{is_too_deep}
+use Rattle.ets_term.specs.Views.{tuple_form}
 use Rattle.ets_term.specs.Integers.{in_range}
 use Rattle.bucket_table.specs.Slots.{object_count}
 use Rattle.counters.specs.declared.ops.Op.{Op}
@@ -14,8 +16,8 @@ use Rattle.counters.specs.declared.ops.Ops.{Ops}
 use Rattle.counters.specs.declared.ops.Ops.TheVariants.{One, Many}
 use Rattle.counters.specs.declared.fault.CounterFault.{CounterFault}
 use Rattle.counters.specs.declared.fault.CounterFault.TheVariants as fault
-use Rattle.counters.specs.Counters.{integer_at, apply_one, apply_all, apply, are_counters, or_limit, apply_ops_form, apply_ops}
-use Rattle.counters.specs.Defaults.{with_key, refuse_deep_pair, start_counter}
+use Rattle.counters.specs.Counters.{integer_at, apply_one, apply_all, apply, are_counters, or_limit, apply_to_elements, apply_ops}
+use Rattle.counters.specs.Defaults.{with_key, refuse_deep, start_counter}
 use Rattle.counters.specs.Ops.{op_of, op_of_parts, all_ops, ops_form, ops_of}
 use Rattle.counters.specs.Sums.{new_value}
 use Rattle.table_ops.specs.declared.refusal.Refusal.{Refusal}
@@ -99,7 +101,7 @@ elements-as ops elements r true (Some x) at e =
 pub updated-as : (ops : Ops) (object : Term) (r : Term × Term) → apply_ops ops object ≡ Ok r → CountsAs ops r.1
 updated-as ops object r e = by (out-Term object) e
   where
-    by : (form : Term-F Term) → apply_ops_form ops form ≡ Ok r → CountsAs ops r.1
+    by : (form : Term-F Term) → option_map_or (apply_to_elements ops) (tuple_form form) (Err fault.Badarg) ≡ Ok r → CountsAs ops r.1
     by (Term-F.Tuple elements) e = elements-as ops elements r (are_counters ops elements) (apply ops elements) refl e
     by (Term-F.Int n) e = cc
     by (Term-F.Atom text) e = cc
@@ -116,7 +118,7 @@ from-as ops (Some object) r e = by (apply_ops ops object) refl e
     deep true x at e = cc
     deep false x at e = let is : x ≡ r = cc in subst (λ (y : Term × Term). CountsAs ops y.1) is (updated-as ops object x at)
 
-    by : (c : Result (Term × Term) CounterFault) → apply_ops ops object ≡ c → refuse_deep_pair c ≡ Ok r → CountsAs ops r.1
+    by : (c : Result (Term × Term) CounterFault) → apply_ops ops object ≡ c → refuse_deep {X = Term × Term} (λ p. p.0) c ≡ Ok r → CountsAs ops r.1
     by (Err why) at e = cc
     by (Ok x) at e = deep (is_too_deep x.0) x at e
 

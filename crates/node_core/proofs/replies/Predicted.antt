@@ -42,9 +42,9 @@ counter-room old p x key updates default capacity room reply new h = by (usable 
     answered f g (Err refusal.SystemLimit) c e = inl (ap is_flat e)
     answered f g (Err refusal.Memory) c e = absurd e
 
-    by : (o : Option (ℕ × Table)) → MatchOption o (gives Badarg old reply new) (λ found. (fixed : TableState) × UpdateCounter key updates default found.1.fixed reply fixed × (new ≡ with_table old found.0 fixed)) → (is_flat reply ≡ true) ⊎ FitsCapacity capacity reply
+    by : (o : Option (ℕ × Table)) → MatchOption o (gives Badarg old reply new) (λ found. (fixed : TableState) × UpdateCounter key updates default found.1.state reply fixed × (new ≡ with_table old found.0 fixed)) → (is_flat reply ≡ true) ⊎ FitsCapacity capacity reply
     by None h = inl (ap is_flat h.0)
-    by (Some found) h = answered found.1.fixed h.0 h.1.0 h.1.1 h.1.2
+    by (Some found) h = answered found.1.state h.0 h.1.0 h.1.1 h.1.2
 
 -- ---- what suffices for a call suffices after its refusals
 refused : (Q : Reply → State → Type 0) (old : State) (test : Bool) (why : Reply) (outcome : Outcome Reply State) → Q why old → ((reply : Reply) (new : State) → outcome reply new → Q reply new)

@@ -2,7 +2,8 @@
 use Rattle.std.proofs.Common.{◌≡◌, List, [], ◌∷◌, refl, map}
 use Rattle.ets_term.specs.declared.term.Term.{Term}
 use Rattle.ets_term.specs.Data.{data_of}
-use Rattle.ets_term.specs.laws.Exact.{term_of, back}
+use Rattle.ets_term.specs.laws.Exact.{back}
+use Rattle.ets_term.specs.Trees.{term_of}
 
 -- terms are what their trees are of
 pub terms-back : (terms : List Term) → map term_of (map data_of terms) ≡ terms

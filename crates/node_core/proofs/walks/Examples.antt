@@ -31,7 +31,7 @@ old = record {
     processes = (7, record { lives = true; mailbox = [] }) ∷ [];
     tables = Some (record {
       metadata = record { name = codes "t"; named = false; owner = 7; heir = None; protection = Public };
-      fixed = record { content = record { kind = Set; keypos = 1; limit = 1; slots = (one, Tuple (one ∷ []) ∷ []) ∷ [] }; buckets = []; fixes = map.empty };
+      state = record { content = record { kind = Set; keypos = 1; limit = 1; slots = (one, Tuple (one ∷ []) ∷ []) ∷ [] }; buckets = []; fixes = map.empty };
     }) ∷ [];
   };
 }

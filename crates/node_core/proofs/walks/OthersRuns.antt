@@ -37,14 +37,14 @@ fixed-of m p n h = by (len m) refl
         absurd (omega (arith, h, none))
     by (suc l) e = ap (nat_lt 0) e ∙ positive l
 
-fixed-at : (p n : ℕ) (o : Option Table) → option_map_or (λ table. fix_count table.fixed.fixes p) o 0 ≡ suc n → option_map_or (λ table. is_fixed table.fixed.fixes) o false ≡ true
+fixed-at : (p n : ℕ) (o : Option Table) → option_map_or (λ table. fix_count table.state.fixes p) o 0 ≡ suc n → option_map_or (λ table. is_fixed table.state.fixes) o false ≡ true
 fixed-at p n None h = absurd (omega (arith, h))
-fixed-at p n (Some table) h = fixed-of table.fixed.fixes p n h
+fixed-at p n (Some table) h = fixed-of table.state.fixes p n h
 
 pub fixed-in : (p t n : ℕ) (s : State) → fixes_in p t s ≡ suc n → is_fixed_in t s ≡ true
 fixed-in p t n s h = fixed-at p n (table_at s.world.tables t) h
 
-there-at : (o : Option Table) → option_map_or (λ table. is_fixed table.fixed.fixes) o false ≡ true → is_some o ≡ true
+there-at : (o : Option Table) → option_map_or (λ table. is_fixed table.state.fixes) o false ≡ true → is_some o ≡ true
 there-at None h = absurd (true≢false (sym h))
 there-at (Some table) h = refl
 
@@ -82,7 +82,7 @@ module _ (p t : ℕ) where
 
   -- what is there was there, with as many fixes
   there-kept : (s : Step) → is_step_of p s ≡ false → (o o' : Option Table) (ts : Tables) → t < length ts → ((table : Table) → o' ≡ Some table → Came (λ w. is_step_of w s) ts t o table) → is_some o' ≡ true
-      → (is_some o ≡ true) × (option_map_or (λ table. fix_count table.fixed.fixes p) o' 0 ≡ option_map_or (λ table. fix_count table.fixed.fixes p) o 0)
+      → (is_some o ≡ true) × (option_map_or (λ table. fix_count table.state.fixes p) o' 0 ≡ option_map_or (λ table. fix_count table.state.fixes p) o 0)
   there-kept s other o None ts within came here = absurd (true≢false (sym here))
   there-kept s other None (Some table) ts within came here = let new = came table refl in let place = new.place in absurd (omega (arith, within, place))
   there-kept s other (Some was) (Some table) ts within came here = let stays = came table refl in (refl, stays.fixed.fixes p other)

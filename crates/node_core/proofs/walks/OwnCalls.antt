@@ -1,6 +1,6 @@
 -- The walker's own calls are steps of the machine, and what they find can be walked on from.
 use Rattle.std.proofs.Common.{◌≡◌, ℕ, zero, suc, ◌+◌, ◌-◌, ◌<◌, ◌==◌, ◌&&◌, ◌||◌, not, Bool, true, false, cond, List, [], ◌∷◌, Option, None, Some, option_map, option_and_then, Ok, Err, refl, sym, subst, ap, ◌∙◌, codes, arith, rules, true≢false}
-use Rattle.std.specs.Prelude.{MatchOption, is_some, slice_get, slice_set, nat_lt, nat_le}
+use Rattle.std.specs.Prelude.{MatchOption, is_some, slice_get, slice_set, nat_lt, nat_le, unwrap_or}
 use Rattle.std.specs.Bool.{MatchBool}
 use Rattle.std.specs.List.{list_any}
 use Rattle.std.specs.Map.{keys_of}
@@ -11,7 +11,8 @@ use Rattle.ets_term.specs.declared.term.Term.TheOpen.{Term-F}
 use Rattle.ets_term.specs.declared.term.Term.TheVariants.{Atom, Tid}
 use Rattle.ets_term.specs.declared.term.TheConstants.{MAX_DEPTH}
 use Rattle.ets_term.specs.Atoms.{is_atom}
-use Rattle.ets_term.specs.Depth.{depth, is_too_deep, element_at, elements_form}
+use Rattle.ets_term.specs.Depth.{depth, is_too_deep, element_at}
+use Rattle.ets_term.specs.Views.{tuple_form}
 use Rattle.ets_term.specs.Order.{same}
 use Rattle.ets_term.specs.laws.Same.{same-refl}
 use Rattle.bucket_table.specs.Slots.{Slot, HasDistinctKeys, has_objects, slots_behind}
@@ -26,7 +27,8 @@ use Rattle.fixed_walk.specs.declared.fault.FixFault.TheVariants as fixing
 use Rattle.fixed_walk.specs.Walk.{first_key, next_key}
 use Rattle.fixed_walk.specs.laws.Walks.{walk_answer}
 use Rattle.ownership.specs.Access.{has_access, may_read}
-use Rattle.ownership.specs.World.{Table, Tables, table_at, lives, fixed_in}
+use Rattle.ownership.specs.World.{Table, Tables, table_at, lives}
+use Rattle.ownership.specs.inside.States.{table_with_state}
 use Rattle.ownership.proofs.MetadataLaws.{fixed-same}
 use Rattle.node_core.specs.declared.node.access.Access.TheVariants.{Read}
 use Rattle.node_core.specs.declared.step.Reply.{Reply}
@@ -35,7 +37,7 @@ use Rattle.node_core.specs.declared.step.Step.TheVariants.{Ask}
 use Rattle.node_core.specs.declared.walk.WalkFault.TheVariants as fault
 use Rattle.node_core.specs.State.{State}
 use Rattle.node_core.specs.Observable.{observable_table, observable}
-use Rattle.node_core.specs.Access.{allowed, usable, with_table, CallRule, changes}
+use Rattle.node_core.specs.Access.{table_if_allowed, usable, with_table, CallRule, changes}
 use Rattle.node_core.specs.Calls.{call_by_text}
 use Rattle.node_core.specs.Machine.{step}
 use Rattle.node_core.specs.rules.Growth.{step_on_buckets}
@@ -48,7 +50,7 @@ use Rattle.node_core.specs.inside.Refusals.{walk_fault_of}
 use Rattle.node_core.specs.inside.Walker.{exists_in, CanContinue, call_of, FindsKey, FixesTable, UnfixesTable}
 use Rattle.node_core.proofs.buckets.ObservableTables.{at-observable}
 use Rattle.node_core.proofs.buckets.Steps.{done-observable, done-buckets}
-use Rattle.node_core.proofs.moves.Preserves.{own-count, purged-fixes}
+use Rattle.node_core.proofs.moves.Preserves.{own-count, without_tombstones-fixes}
 
 -- ---- what a walk finds in the slots
 or-left : (a b : Bool) → a ≡ true → (a || b) ≡ true
@@ -70,7 +72,7 @@ IsGood key = (is_too_deep key ≡ false) × (is_atom (codes "$end_of_table") key
 abbrev HasSlot : List Slot → Term → Type 0
 HasSlot slots key = list_any (same key) (keys_of slots) ≡ true
 
-element-in : (y : Term-F Term) (object : Term) (i : ℕ) (key : Term) → out-Term object ≡ y → is_too_deep object ≡ false → slice_get (elements_form y) i ≡ Some key → is_too_deep key ≡ false
+element-in : (y : Term-F Term) (object : Term) (i : ℕ) (key : Term) → out-Term object ≡ y → is_too_deep object ≡ false → slice_get (unwrap_or (tuple_form y) []) i ≡ Some key → is_too_deep key ≡ false
 element-in (Term-F.Tuple es) object i key e shallow at = fits (depth key) (fit-of object es e shallow i key at)
   where
     fits : (n : ℕ) → nat_le MAX_DEPTH n ≡ false → nat_lt MAX_DEPTH n ≡ false
@@ -82,7 +84,7 @@ element-in (Term-F.Tid n) object i key e shallow at = cc
 element-in (Term-F.List n) object i key e shallow at = cc
 element-in (Term-F.Binary n) object i key e shallow at = cc
 
-element-by : (b : Bool) (object : Term) (i : ℕ) (key : Term) → is_too_deep object ≡ false → cond b None (slice_get (elements_form (out-Term object)) i) ≡ Some key → is_too_deep key ≡ false
+element-by : (b : Bool) (object : Term) (i : ℕ) (key : Term) → is_too_deep object ≡ false → cond b None (slice_get (unwrap_or (tuple_form (out-Term object)) []) i) ≡ Some key → is_too_deep key ≡ false
 element-by true object i key shallow e = cc
 element-by false object i key shallow e = element-in (out-Term object) object i key refl shallow e
 
@@ -153,19 +155,19 @@ module _ (p t : ℕ) where
   pub can_read-observable : (s : State) → can_read p t (observable s) ≡ can_read p t s
   can_read-observable s = ap (λ b. lives s.world.processes p && b) (ap (λ o. option_map_or (λ table. may_read table.metadata p) o false) (at-observable s.world.tables t) ∙ has_access-observable (table_at s.world.tables t))
 
-  count-observable : (o : Option Table) → option_map_or (λ table. fix_count table.fixed.fixes p) (option_map observable_table o) 0 ≡ option_map_or (λ table. fix_count table.fixed.fixes p) o 0
+  count-observable : (o : Option Table) → option_map_or (λ table. fix_count table.state.fixes p) (option_map observable_table o) 0 ≡ option_map_or (λ table. fix_count table.state.fixes p) o 0
   count-observable None = refl
   count-observable (Some table) = refl
 
   fixes-observable : (s : State) → fixes_in p t (observable s) ≡ fixes_in p t s
-  fixes-observable s = ap (λ o. option_map_or (λ table. fix_count table.fixed.fixes p) o 0) (at-observable s.world.tables t) ∙ count-observable (table_at s.world.tables t)
+  fixes-observable s = ap (λ o. option_map_or (λ table. fix_count table.state.fixes p) o 0) (at-observable s.world.tables t) ∙ count-observable (table_at s.world.tables t)
 
-  slots-at : (o : Option Table) → option_map_or (λ table. table.fixed.content.slots) (option_map observable_table o) [] ≡ option_map_or (λ table. table.fixed.content.slots) o []
+  slots-at : (o : Option Table) → option_map_or (λ table. table.state.content.slots) (option_map observable_table o) [] ≡ option_map_or (λ table. table.state.content.slots) o []
   slots-at None = refl
   slots-at (Some table) = refl
 
   slots-observable : (s : State) → slots_in t (observable s) ≡ slots_in t s
-  slots-observable s = ap (λ o. option_map_or (λ table. table.fixed.content.slots) o []) (at-observable s.world.tables t) ∙ slots-at (table_at s.world.tables t)
+  slots-observable s = ap (λ o. option_map_or (λ table. table.state.content.slots) o []) (at-observable s.world.tables t) ∙ slots-at (table_at s.world.tables t)
 
   -- ---- steps
   shallow-tid : is_too_deep (Tid t) ≡ false
@@ -190,8 +192,8 @@ module _ (p t : ℕ) where
     usable-own : usable Read s.world.tables p (Tid t) ≡ Some (t, table)
     unfolding out-Term denote.Hole.Carrier.out
     usable-own =
-        ap (λ o. option_and_then (λ u. option_and_then (allowed Read p u) (table_at s.world.tables u)) (option_map (λ _. t) o)) at
-        ∙ (ap (λ o. option_and_then (allowed Read p t) o) at ∙ ap (λ (b : Bool). cond b (Some (t, table)) None) readable)
+        ap (λ o. option_and_then (λ u. option_and_then (table_if_allowed Read p u) (table_at s.world.tables u)) (option_map (λ _. t) o)) at
+        ∙ (ap (λ o. option_and_then (table_if_allowed Read p t) o) at ∙ ap (λ (b : Bool). cond b (Some (t, table)) None) readable)
 
     ask-done : (name : List ℕ) (args : List Term) (r : Reply) (new : State) → list_any is_too_deep args ≡ false → call_by_text s p name args r new → step s (Ask p (record { name = name; args = args })) r new
     ask-done name args r new shallow h =
@@ -199,18 +201,18 @@ module _ (p t : ℕ) where
         (subst (λ (b : Bool). MatchBool b (gives SystemLimit s r new) (call_by_text s p name args r new)) (sym shallow) h)
 
     abbrev slots : List Slot
-    slots = table.fixed.content.slots
+    slots = table.state.content.slots
 
     first-done : (found : Option Term) → walk_answer None slots ≡ Some found → step s (first p t) (key_reply found) s
     first-done found e =
         let is : first_key slots ≡ found = cc in
         ask-done (codes "first") (Tid t ∷ []) (key_reply found) s shallow-one
-        (subst (λ o. MatchOption o (gives Badarg s (key_reply found) s) (λ found2. gives (first_reply found2.1.fixed) s (key_reply found) s)) (sym usable-own) (ap key_reply (sym is), refl))
+        (subst (λ o. MatchOption o (gives Badarg s (key_reply found) s) (λ found2. gives (first_reply found2.1.state) s (key_reply found) s)) (sym usable-own) (ap key_reply (sym is), refl))
 
     next-done : (key : Term) (found : Option Term) → is_too_deep key ≡ false → walk_answer (Some key) slots ≡ Some found → step s (next p t key) (key_reply found) s
     next-done key found shallow e =
         ask-done (codes "next") (Tid t ∷ key ∷ []) (key_reply found) s (shallow-two key shallow)
-        (subst (λ o. MatchOption o (gives Badarg s (key_reply found) s) (λ found2. gives (next_reply key found2.1.fixed) s (key_reply found) s)) (sym usable-own) (sym (ap (λ o. option_map_or key_reply o Badarg) e), refl))
+        (subst (λ o. MatchOption o (gives Badarg s (key_reply found) s) (λ found2. gives (next_reply key found2.1.state) s (key_reply found) s)) (sym usable-own) (sym (ap (λ o. option_map_or key_reply o Badarg) e), refl))
 
     call-done : (asked found : Option Term) → MatchOption asked (Unit {0}) (λ key. is_too_deep key ≡ false) → walk_answer asked slots ≡ Some found → step s (call_of p t asked) (key_reply found) s
     call-done None found shallow e = first-done found e
@@ -228,17 +230,17 @@ module _ (p t : ℕ) where
     unfolding out-Term denote.Hole.Carrier.out
     false-atom = refl
 
-    changed : (rule : CallRule) (f : TableState) → rule table.fixed true_reply f → changes s p Read (Tid t) rule true_reply (with_table s t f)
-    changed rule f h = subst (λ o. MatchOption o (gives Badarg s true_reply (with_table s t f)) (λ found. (fixed : TableState) × rule found.1.fixed true_reply fixed × (with_table s t f ≡ with_table s found.0 fixed))) (sym usable-own) (f, h, refl)
+    changed : (rule : CallRule) (f : TableState) → rule table.state true_reply f → changes s p Read (Tid t) rule true_reply (with_table s t f)
+    changed rule f h = subst (λ o. MatchOption o (gives Badarg s true_reply (with_table s t f)) (λ found. (fixed : TableState) × rule found.1.state true_reply fixed × (with_table s t f ≡ with_table s found.0 fixed))) (sym usable-own) (f, h, refl)
 
-    fix-done : (f : TableState) → IncrementsFix p table.fixed (Ok tt) f → step s (fix p t) true_reply (with_table s t f)
+    fix-done : (f : TableState) → IncrementsFix p table.state (Ok tt) f → step s (fix p t) true_reply (with_table s t f)
     fix-done f h =
         ask-done (codes "safe_fixtable") (Tid t ∷ Atom (codes "true") ∷ []) true_reply (with_table s t f) (shallow-two (Atom (codes "true")) (shallow-atom (codes "true")))
         (subst (λ (b : Bool). MatchBool b (changes s p Read (Tid t) (Fixes p) true_reply (with_table s t f)) (
         MatchBool (is_atom (codes "false") (Atom (codes "true"))) (changes s p Read (Tid t) (Releases p) true_reply (with_table s t f)) (gives Badarg s true_reply (with_table s t f)))) (sym true-atom)
         (changed (Fixes p) f (Ok tt, h, refl)))
 
-    release-done : (f : TableState) → f ≡ after_release p table.fixed → step s (release p t) true_reply (with_table s t f)
+    release-done : (f : TableState) → f ≡ after_release p table.state → step s (release p t) true_reply (with_table s t f)
     release-done f h =
         ask-done (codes "safe_fixtable") (Tid t ∷ Atom (codes "false") ∷ []) true_reply (with_table s t f) (shallow-two (Atom (codes "false")) (shallow-atom (codes "false")))
         (subst (λ (b : Bool). MatchBool b (changes s p Read (Tid t) (Fixes p) true_reply (with_table s t f)) (
@@ -255,17 +257,17 @@ module _ (p t : ℕ) where
   count-after : (s : State) (f : TableState) (table : Table) → table_at s.world.tables t ≡ Some table → fixes_in p t (observable (with_table s t f)) ≡ fix_count f.fixes p
   count-after s f table at =
       fixes-observable (with_table s t f)
-      ∙ (ap (λ o. option_map_or (λ table. fix_count table.fixed.fixes p) o 0) (set-here s.world.tables t (fixed_in (table_at s.world.tables t) f) table at)
-      ∙ ap (λ o. option_map_or (λ table. fix_count table.fixed.fixes p) (fixed_in o f) 0) at)
+      ∙ (ap (λ o. option_map_or (λ table. fix_count table.state.fixes p) o 0) (set-here s.world.tables t (table_with_state (table_at s.world.tables t) f) table at)
+      ∙ ap (λ o. option_map_or (λ table. fix_count table.state.fixes p) (table_with_state o f) 0) at)
 
-  count-before : (s : State) (table : Table) → table_at s.world.tables t ≡ Some table → fixes_in p t (observable s) ≡ fix_count table.fixed.fixes p
-  count-before s table at = fixes-observable s ∙ ap (λ o. option_map_or (λ table. fix_count table.fixed.fixes p) o 0) at
+  count-before : (s : State) (table : Table) → table_at s.world.tables t ≡ Some table → fixes_in p t (observable s) ≡ fix_count table.state.fixes p
+  count-before s table at = fixes-observable s ∙ ap (λ o. option_map_or (λ table. fix_count table.state.fixes p) o 0) at
 
   slots-after : (s : State) (f : TableState) (table : Table) → table_at s.world.tables t ≡ Some table → slots_in t (observable (with_table s t f)) ≡ f.content.slots
   slots-after s f table at =
       slots-observable (with_table s t f)
-      ∙ (ap (λ o. option_map_or (λ table. table.fixed.content.slots) o []) (set-here s.world.tables t (fixed_in (table_at s.world.tables t) f) table at)
-      ∙ ap (λ o. option_map_or (λ table. table.fixed.content.slots) (fixed_in o f) []) at)
+      ∙ (ap (λ o. option_map_or (λ table. table.state.content.slots) o []) (set-here s.world.tables t (table_with_state (table_at s.world.tables t) f) table at)
+      ∙ ap (λ o. option_map_or (λ table. table.state.content.slots) (table_with_state o f) []) at)
 
   slots-free : (kind : Kind) (keypos : ℕ) (ss : List Slot) → AreSlots kind keypos ss → HasNoEnd ss
   slots-free kind keypos [] are = tt
@@ -275,20 +277,20 @@ module _ (p t : ℕ) where
   record Borrowed (s : State) (was : TableState) : Type 0 where
     table : Table
     at : table_at s.world.tables t ≡ Some table
-    is : was ≡ table.fixed
+    is : was ≡ table.state
     living : lives s.world.processes p ≡ true
     readable : may_read table.metadata p ≡ true
 
-  borrowed-at : (s : State) (was : TableState) (o : Option Table) → table_at s.world.tables t ≡ o → Some was ≡ option_map (λ table. table.fixed) o → lives s.world.processes p ≡ true → option_map_or (λ table. may_read table.metadata p) o false ≡ true → Borrowed s was
+  borrowed-at : (s : State) (was : TableState) (o : Option Table) → table_at s.world.tables t ≡ o → Some was ≡ option_map (λ table. table.state) o → lives s.world.processes p ≡ true → option_map_or (λ table. may_read table.metadata p) o false ≡ true → Borrowed s was
   borrowed-at s was None at e living readable = absurd (cc)
   borrowed-at s was (Some table) at e living readable = record { table = table; at = at; is = cc; living = living; readable = readable }
 
-  borrowed : (s : State) (was : TableState) → Some was ≡ option_map (λ table. table.fixed) (table_at s.world.tables t) → can_read p t s ≡ true → Borrowed s was
+  borrowed : (s : State) (was : TableState) → Some was ≡ option_map (λ table. table.state) (table_at s.world.tables t) → can_read p t s ≡ true → Borrowed s was
   borrowed s was e h =
       let parts = both-true (lives s.world.processes p) (has_access may_read s.world.tables p t) h in
       borrowed-at s was (table_at s.world.tables t) refl e parts.0 parts.1
 
-  not-borrowed-at : (o : Option Table) → option_map (λ table. table.fixed) o ≡ None → option_map_or (λ table. may_read table.metadata p) o false ≡ false
+  not-borrowed-at : (o : Option Table) → option_map (λ table. table.state) o ≡ None → option_map_or (λ table. may_read table.metadata p) o false ≡ false
   not-borrowed-at None e = refl
   not-borrowed-at (Some table) e = absurd (cc)
 
@@ -297,20 +299,20 @@ module _ (p t : ℕ) where
   and-false false b h = refl
 
   -- there is no table
-  pub not-borrowed : (s : State) → None ≡ option_map (λ table. table.fixed) (table_at s.world.tables t) → can_read p t s ≡ false
+  pub not-borrowed : (s : State) → None ≡ option_map (λ table. table.state) (table_at s.world.tables t) → can_read p t s ≡ false
   not-borrowed s e = and-false (lives s.world.processes p) (has_access may_read s.world.tables p t) (not-borrowed-at (table_at s.world.tables t) (sym e))
 
-  same-after : (s : State) (f : TableState) (table : Table) → table_at s.world.tables t ≡ Some table → f ≡ table.fixed → with_table s t f ≡ s
+  same-after : (s : State) (f : TableState) (table : Table) → table_at s.world.tables t ≡ Some table → f ≡ table.state → with_table s t f ≡ s
   same-after s f table at e =
       ap (λ g. with_table s t g) e ∙ ap (λ ts. record s { world = record s.world { tables = ts } }) (fixed-same s.world.tables t table at)
 
-  module _ (s : State) (was f : TableState) (there : Some was ≡ option_map (λ table. table.fixed) (table_at s.world.tables t)) (can : can_read p t s ≡ true) where
+  module _ (s : State) (was f : TableState) (there : Some was ≡ option_map (λ table. table.state) (table_at s.world.tables t)) (can : can_read p t s ≡ true) where
     pub fix-refines : IncrementsFix p was (Ok tt) f → IsContent was.content → FixesTable p t (observable s) (Ok tt) (observable (with_table s t f))
     fix-refines h is =
         let l = borrowed s was there can in
-        let once : IncrementsFix p l.table.fixed (Ok tt) f = subst (λ g. IncrementsFix p g (Ok tt) f) l.is h in (
+        let once : IncrementsFix p l.table.state (Ok tt) f = subst (λ g. IncrementsFix p g (Ok tt) f) l.is h in (
           done-observable s (with_table s t f) (fix p t) true_reply (fix-done s l.table l.at l.living l.readable f once),
-          count-after s f l.table l.at ∙ (ap (λ (g : TableState). fix_count g.fixes p) once.1 ∙ (own-count l.table.fixed.fixes p (fix_count l.table.fixed.fixes p + 1) ∙ (more (fix_count l.table.fixed.fixes p) ∙ ap suc (sym (count-before s l.table l.at))))),
+          count-after s f l.table l.at ∙ (ap (λ (g : TableState). fix_count g.fixes p) once.1 ∙ (own-count l.table.state.fixes p (fix_count l.table.state.fixes p + 1) ∙ (more (fix_count l.table.state.fixes p) ∙ ap suc (sym (count-before s l.table l.at))))),
           subst (λ ss. HasDistinctKeys ss × HasNoEnd ss) (sym (slots-after s f l.table l.at ∙ ap (λ (g : TableState). g.content.slots) h.1)) (is.distinct, slots-free was.content.kind was.content.keypos was.content.slots is.slots),
         )
       where
@@ -335,7 +337,7 @@ module _ (p t : ℕ) where
     pub fix-buckets : IncrementsFix p was (Ok tt) f → step_on_buckets s (fix p t) true_reply (with_table s t f)
     fix-buckets h =
         let l = borrowed s was there can in
-        let once : IncrementsFix p l.table.fixed (Ok tt) f = subst (λ g. IncrementsFix p g (Ok tt) f) l.is h in
+        let once : IncrementsFix p l.table.state (Ok tt) f = subst (λ g. IncrementsFix p g (Ok tt) f) l.is h in
         done-buckets s (with_table s t f) (fix p t) true_reply (fix-done s l.table l.at l.living l.readable f once)
 
     fix-unchanged : f ≡ was → with_table s t f ≡ s
@@ -348,19 +350,19 @@ module _ (p t : ℕ) where
     pub let-go-buckets : f ≡ after_release p was → step_on_buckets s (release p t) true_reply (with_table s t f)
     let-go-buckets h =
         let l = borrowed s was there can in
-        let once : f ≡ after_release p l.table.fixed = h ∙ ap (after_release p) l.is in
+        let once : f ≡ after_release p l.table.state = h ∙ ap (after_release p) l.is in
         done-buckets s (with_table s t f) (release p t) true_reply (release-done s l.table l.at l.living l.readable f once)
 
     pub let-go : f ≡ after_release p was → UnfixesTable p t (observable s) true (observable (with_table s t f))
     let-go h =
         let l = borrowed s was there can in
-        let once : f ≡ after_release p l.table.fixed = h ∙ ap (after_release p) l.is in (
+        let once : f ≡ after_release p l.table.state = h ∙ ap (after_release p) l.is in (
           can_read-observable s ∙ can,
           done-observable s (with_table s t f) (release p t) true_reply (release-done s l.table l.at l.living l.readable f once),
           λ n e.
               count-after s f l.table l.at ∙ (ap (λ (g : TableState). fix_count g.fixes p) once
-              ∙ (ap (λ m. fix_count m p) (purged-fixes (record l.table.fixed { fixes = with_count l.table.fixed.fixes p (fix_count l.table.fixed.fixes p - 1) }))
-              ∙ (own-count l.table.fixed.fixes p (fix_count l.table.fixed.fixes p - 1) ∙ less n (fix_count l.table.fixed.fixes p) (sym (count-before s l.table l.at) ∙ e)))),
+              ∙ (ap (λ m. fix_count m p) (without_tombstones-fixes (record l.table.state { fixes = with_count l.table.state.fixes p (fix_count l.table.state.fixes p - 1) }))
+              ∙ (own-count l.table.state.fixes p (fix_count l.table.state.fixes p - 1) ∙ less n (fix_count l.table.state.fixes p) (sym (count-before s l.table l.at) ∙ e)))),
         )
       where
         less : (n m : ℕ) → m ≡ suc n → m - 1 ≡ n
@@ -371,9 +373,9 @@ module _ (p t : ℕ) where
   can-shallow s None h = tt
   can-shallow s (Some key) h = h.shallow
 
-  module _ (s : State) (was : TableState) (there : Some was ≡ option_map (λ table. table.fixed) (table_at s.world.tables t)) (can : can_read p t s ≡ true) (is : IsContent was.content) where
+  module _ (s : State) (was : TableState) (there : Some was ≡ option_map (λ table. table.state) (table_at s.world.tables t)) (can : can_read p t s ≡ true) (is : IsContent was.content) where
     borrowed-slots : was.content.slots ≡ slots_in t (observable s)
-    borrowed-slots = let l = borrowed s was there can in ap (λ (g : TableState). g.content.slots) l.is ∙ (sym (ap (λ o. option_map_or (λ table. table.fixed.content.slots) o []) l.at) ∙ sym (slots-observable s))
+    borrowed-slots = let l = borrowed s was there can in ap (λ (g : TableState). g.content.slots) l.is ∙ (sym (ap (λ o. option_map_or (λ table. table.state.content.slots) o []) l.at) ∙ sym (slots-observable s))
 
     goes-on : (asked found : Option Term) → walk_answer asked was.content.slots ≡ Some found → CanContinue t (observable s) found
     goes-on asked None e = tt
@@ -384,7 +386,7 @@ module _ (p t : ℕ) where
     pub finds : (asked found : Option Term) → CanContinue t (observable s) asked → walk_answer asked was.content.slots ≡ Some found → FindsKey p t asked (observable s) (Ok found)
     finds asked found can_go e =
         let l = borrowed s was there can in
-        let answer : walk_answer asked l.table.fixed.content.slots ≡ Some found = subst (λ (g : TableState). walk_answer asked g.content.slots ≡ Some found) l.is e in
+        let answer : walk_answer asked l.table.state.content.slots ≡ Some found = subst (λ (g : TableState). walk_answer asked g.content.slots ≡ Some found) l.is e in
         (can_read-observable s ∙ can, call-observable asked found (call-done s l.table l.at l.living l.readable asked found (can-shallow (observable s) asked can_go) answer), goes-on asked found e)
       where
         call-observable : (asked found : Option Term) → step s (call_of p t asked) (key_reply found) s → step (observable s) (call_of p t asked) (key_reply found) (observable s)

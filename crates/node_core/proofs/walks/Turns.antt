@@ -61,7 +61,7 @@ reads : (s : State) → KeepsBuckets s s × HasFirstBuckets s s
 reads s = buckets-follow s s (follows-same (λ w. false) s.world.tables)
 
 module _ (p t : ℕ) where
-  counted-at : (o : Option Table) (n : ℕ) → option_map_or (λ table. fix_count table.fixed.fixes p) o 0 ≡ suc n → is_some o ≡ true
+  counted-at : (o : Option Table) (n : ℕ) → option_map_or (λ table. fix_count table.state.fixes p) o 0 ≡ suc n → is_some o ≡ true
   counted-at None n e = absurd (omega (arith, e))
   counted-at (Some table) n e = refl
 

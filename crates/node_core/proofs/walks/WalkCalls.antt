@@ -28,7 +28,7 @@ use Rattle.node_core.specs.declared.step.Step.{Step}
 use Rattle.node_core.specs.declared.step.Step.TheVariants.{Enrol, End, Ask, Grow, Ready}
 use Rattle.node_core.specs.CallName.{call_name}
 use Rattle.node_core.specs.State.{State}
-use Rattle.node_core.specs.Access.{may_access, allowed, usable, reads}
+use Rattle.node_core.specs.Access.{may_access, table_if_allowed, usable, reads}
 use Rattle.node_core.specs.Calls.{call}
 use Rattle.node_core.specs.Machine.{step}
 use Rattle.node_core.specs.rules.Walking.{key_reply, slot_reply, key_and_objects, first_reply, next_reply, first_lookup_reply, next_lookup_reply}
@@ -70,7 +70,7 @@ answer-free None ss k free e = let is : first_key ss ≡ Some k = cc in first-fr
 answer-free (Some c) ss k free e = next-free ss c k free e
 
 -- ---- a call that reads the table
-named-at : (ts : Tables) (access : Access) (p : ℕ) (u : ℕ) (o : Option Table) (found : ℕ × Table) → option_and_then (allowed access p u) o ≡ Some found → u ≡ found.0
+named-at : (ts : Tables) (access : Access) (p : ℕ) (u : ℕ) (o : Option Table) (found : ℕ × Table) → option_and_then (table_if_allowed access p u) o ≡ Some found → u ≡ found.0
 named-at ts access p u None found e = cc
 named-at ts access p u (Some table) found e = by (may_access access table.metadata p) e
   where
@@ -78,7 +78,7 @@ named-at ts access p u (Some table) found e = by (may_access access table.metada
     by true e = let is : (u, table) ≡ found = cc in ap (λ (x : ℕ × Table). x.0) is
     by false e = cc
 
-usable-named : (ts : Tables) (access : Access) (p t : ℕ) (o : Option ℕ) (found : ℕ × Table) → option_map_or (λ u. u == t) o false ≡ true → option_and_then (λ u. option_and_then (allowed access p u) (table_at ts u)) o ≡ Some found → found.0 ≡ t
+usable-named : (ts : Tables) (access : Access) (p t : ℕ) (o : Option ℕ) (found : ℕ × Table) → option_map_or (λ u. u == t) o false ≡ true → option_and_then (λ u. option_and_then (table_if_allowed access p u) (table_at ts u)) o ≡ Some found → found.0 ≡ t
 usable-named ts access p t None found is e = cc
 usable-named ts access p t (Some u) found is e = sym (named-at ts access p u (table_at ts u) found e) ∙ number u t is
   where
@@ -86,13 +86,13 @@ usable-named ts access p t (Some u) found is e = sym (named-at ts access p u (ta
     number u t h = grind (arith, nat_tests)
 
 read-at : (old new : State) (q t : ℕ) (term : Term) (answer : TableState → Reply) (r : Reply) (table : Table) (o : Option (ℕ × Table)) → usable Read old.world.tables q term ≡ o → is_table old t term ≡ true → table_at old.world.tables t ≡ Some table
-    → MatchOption o (gives Badarg old r new) (λ found. gives (answer found.1.fixed) old r new) → (r ≡ answer table.fixed) ⊎ (r ≡ Badarg)
+    → MatchOption o (gives Badarg old r new) (λ found. gives (answer found.1.state) old r new) → (r ≡ answer table.state) ⊎ (r ≡ Badarg)
 read-at old new q t term answer r table None e is at h = inr h.0
 read-at old new q t term answer r table (Some found) e is at h =
     let here : found.0 ≡ t = usable-named old.world.tables Read q t (resolve old.world.tables term) found is e in
     let there : Some found.1 ≡ Some table = sym (usable-there old.world.tables Read q term found e).at ∙ (ap (table_at old.world.tables) here ∙ at) in
     let same : found.1 ≡ table = cc in
-    inl (h.0 ∙ ap (λ (x : Table). answer x.fixed) same)
+    inl (h.0 ∙ ap (λ (x : Table). answer x.state) same)
 
 -- the slot whose key a call of a walk replies: the first, or the next of a key
 abbrev pub slot_answer : Option Term → List Slot → Option (Option Slot)
@@ -116,31 +116,31 @@ replied objects asked slots r (inl e) = inl (sym e)
 replied objects asked slots r (inr e) = refused objects asked slots r e
 
 module _ (old new : State) (q t : ℕ) (r : Reply) (table : Table) (at : table_at old.world.tables t ≡ Some table) where
-  reading-replies : (term : Term) (answer : TableState → Reply) (objects : Bool) (call : Option Term) → answer table.fixed ≡ answer_reply objects call table.fixed.content.slots → is_table old t term ≡ true → reads old q term answer r new
-      → Replies objects call table.fixed.content.slots r
-  reading-replies term answer objects call own here h = replied objects call table.fixed.content.slots r (by (read-at old new q t term answer r table (usable Read old.world.tables q term) refl here at h))
+  reading-replies : (term : Term) (answer : TableState → Reply) (objects : Bool) (call : Option Term) → answer table.state ≡ answer_reply objects call table.state.content.slots → is_table old t term ≡ true → reads old q term answer r new
+      → Replies objects call table.state.content.slots r
+  reading-replies term answer objects call own here h = replied objects call table.state.content.slots r (by (read-at old new q t term answer r table (usable Read old.world.tables q term) refl here at h))
     where
-      by : (r ≡ answer table.fixed) ⊎ (r ≡ Badarg) → (r ≡ answer_reply objects call table.fixed.content.slots) ⊎ (r ≡ Badarg)
+      by : (r ≡ answer table.state) ⊎ (r ≡ Badarg) → (r ≡ answer_reply objects call table.state.content.slots) ⊎ (r ≡ Badarg)
       by (inl e) = inl (e ∙ own)
       by (inr e) = inr e
 
   -- a call on this table that a walk makes
-  on-table : (here : Bool) (found asked : Option Term × Bool) → cond here (Some found) None ≡ Some asked → Replies found.1 found.0 table.fixed.content.slots r → Replies asked.1 asked.0 table.fixed.content.slots r
+  on-table : (here : Bool) (found asked : Option Term × Bool) → cond here (Some found) None ≡ Some asked → Replies found.1 found.0 table.state.content.slots r → Replies asked.1 asked.0 table.state.content.slots r
   on-table true found asked e replies =
       let is : found ≡ asked = cc in
-      subst (λ (a : Option Term × Bool). Replies a.1 a.0 table.fixed.content.slots r) is replies
+      subst (λ (a : Option Term × Bool). Replies a.1 a.0 table.state.content.slots r) is replies
   on-table false found asked e replies = absurd (cc)
 
   is-here : (here : Bool) (found asked : Option Term × Bool) → cond here (Some found) None ≡ Some asked → here ≡ true
   is-here true found asked e = refl
   is-here false found asked e = absurd (cc)
 
-  reads-walk : (term : Term) (answer : TableState → Reply) (found asked : Option Term × Bool) → answer table.fixed ≡ answer_reply found.1 found.0 table.fixed.content.slots
-      → cond (is_table old t term) (Some found) None ≡ Some asked → reads old q term answer r new → Replies asked.1 asked.0 table.fixed.content.slots r
+  reads-walk : (term : Term) (answer : TableState → Reply) (found asked : Option Term × Bool) → answer table.state ≡ answer_reply found.1 found.0 table.state.content.slots
+      → cond (is_table old t term) (Some found) None ≡ Some asked → reads old q term answer r new → Replies asked.1 asked.0 table.state.content.slots r
   reads-walk term answer found asked own e h =
       on-table (is_table old t term) found asked e (reading-replies term answer found.1 found.0 own (is-here (is_table old t term) found asked e) h)
 
-  call-replies : (name : CallName) (args : List Term) (asked : Option Term × Bool) → walk_call old t name args ≡ Some asked → call old q name args r new → Replies asked.1 asked.0 table.fixed.content.slots r
+  call-replies : (name : CallName) (args : List Term) (asked : Option Term × Bool) → walk_call old t name args ≡ Some asked → call old q name args r new → Replies asked.1 asked.0 table.state.content.slots r
   call-replies name.First (term ∷ []) asked e h = reads-walk term first_reply (None, false) asked refl e h
   call-replies name.FirstLookup (term ∷ []) asked e h = reads-walk term first_lookup_reply (None, true) asked refl e h
   call-replies name.Next (term ∷ key ∷ []) asked e h = reads-walk term (next_reply key) (Some key, false) asked refl e h
@@ -149,17 +149,17 @@ module _ (old new : State) (q t : ℕ) (r : Reply) (table : Table) (at : table_a
 
   -- refusals before the call is made
   named-replies : (found : Option CallName) (args : List Term) (asked : Option Term × Bool) → option_and_then (λ name. walk_call old t name args) found ≡ Some asked
-      → refuse_none old found Badarg (λ name. call old q name args) r new → Replies asked.1 asked.0 table.fixed.content.slots r
+      → refuse_none old found Badarg (λ name. call old q name args) r new → Replies asked.1 asked.0 table.state.content.slots r
   named-replies None args asked e h = absurd (cc)
   named-replies (Some name) args asked e h = call-replies name args asked e h
 
   deep-replies : (deep : Bool) (found : Option CallName) (args : List Term) (asked : Option Term × Bool) → option_and_then (λ name. walk_call old t name args) found ≡ Some asked
-      → MatchBool deep (gives SystemLimit old r new) (refuse_none old found Badarg (λ name. call old q name args) r new) → Replies asked.1 asked.0 table.fixed.content.slots r
+      → MatchBool deep (gives SystemLimit old r new) (refuse_none old found Badarg (λ name. call old q name args) r new) → Replies asked.1 asked.0 table.state.content.slots r
   deep-replies true found args asked e h = let limit = h.0 in inr (λ x v. cc)
   deep-replies false found args asked e h = named-replies found args asked e h
 
   ask-replies : (ended deep : Bool) (found : Option CallName) (args : List Term) (asked : Option Term × Bool) → option_and_then (λ name. walk_call old t name args) found ≡ Some asked
-      → MatchBool ended (gives NoProcess old r new) (MatchBool deep (gives SystemLimit old r new) (refuse_none old found Badarg (λ name. call old q name args) r new)) → Replies asked.1 asked.0 table.fixed.content.slots r
+      → MatchBool ended (gives NoProcess old r new) (MatchBool deep (gives SystemLimit old r new) (refuse_none old found Badarg (λ name. call old q name args) r new)) → Replies asked.1 asked.0 table.state.content.slots r
   ask-replies true deep found args asked e h = let none = h.0 in inr (λ x v. cc)
   ask-replies false deep found args asked e h = deep-replies deep found args asked e h
 
@@ -168,7 +168,7 @@ asks-walk true o asked e = e
 asks-walk false o asked e = cc
 
 pub step-replies : (old new : State) (p t : ℕ) (s : Step) (r : Reply) (table : Table) (call : Option Term) (objects : Bool) → table_at old.world.tables t ≡ Some table → walk_step old p t s ≡ Some (call, objects) → step old s r new
-    → Replies objects call table.fixed.content.slots r
+    → Replies objects call table.state.content.slots r
 step-replies old new p t (Ask q asked_call) r table call objects at e h =
     ask-replies old new q t r table at (not (lives old.world.processes q)) (list_any is_too_deep asked_call.args) (call_name asked_call.name) asked_call.args (call, objects)
     (asks-walk (q == p) (option_and_then (λ name. walk_call old t name asked_call.args) (call_name asked_call.name)) (call, objects) e) h

@@ -31,17 +31,17 @@ use Rattle.node_core.proofs.walks.WalkCalls.{Replies, next_key-free, step-replie
 record IsThere (t : ℕ) (s : State) : Type 0 where
   table : Table
   at : table_at s.world.tables t ≡ Some table
-  fixed : is_fixed table.fixed.fixes ≡ true
+  fixed : is_fixed table.state.fixes ≡ true
 
-there_at : (t : ℕ) (s : State) (o : Option Table) → table_at s.world.tables t ≡ o → option_map_or (λ table. is_fixed table.fixed.fixes) o false ≡ true → IsThere t s
+there_at : (t : ℕ) (s : State) (o : Option Table) → table_at s.world.tables t ≡ o → option_map_or (λ table. is_fixed table.state.fixes) o false ≡ true → IsThere t s
 there_at t s None at fixed = cc
 there_at t s (Some table) at fixed = record { table = table; at = at; fixed = fixed }
 
 there : (t : ℕ) (s : State) → is_fixed_in t s ≡ true → IsThere t s
 there t s fixed = there_at t s (table_at s.world.tables t) refl fixed
 
-own_slots : (t : ℕ) (s : State) (table : Table) → table_at s.world.tables t ≡ Some table → table.fixed.content.slots ≡ slots_in t s
-own_slots t s table at = sym (ap (λ o. option_map_or (λ table. table.fixed.content.slots) o []) at)
+own_slots : (t : ℕ) (s : State) (table : Table) → table_at s.world.tables t ≡ Some table → table.state.content.slots ≡ slots_in t s
+own_slots t s table at = sym (ap (λ o. option_map_or (λ table. table.state.content.slots) o []) at)
 
 -- the keys of a table that is fixed before and after a step
 pub ground : StepsKeepKeys
@@ -50,7 +50,7 @@ ground old new s r t h before after =
     let now = there t new after in
     let stays = stays-there old new (step-follows old new s r h) t was.table now.table was.at now.at in
     subst (λ (ss : List Slot). IsSubsequence (keys_of ss) (keys_of (slots_in t new))) (own_slots t old was.table was.at) (
-    subst (λ (ss : List Slot). IsSubsequence (keys_of was.table.fixed.content.slots) (keys_of ss)) (own_slots t new now.table now.at) (
+    subst (λ (ss : List Slot). IsSubsequence (keys_of was.table.state.content.slots) (keys_of ss)) (own_slots t new now.table now.at) (
     stays.fixed.keys.order was.fixed now.fixed))
 
 -- what holds of each state of a run holds of the one before it
@@ -135,7 +135,7 @@ sound-kept old new s r t h before after sound =
     (subst HasDistinctKeys on (stays.fixed.keys.distinct (subst HasDistinctKeys back sound.0)), subst HasNoEnd on (stays.fixed.ends (subst HasNoEnd back sound.1)))
 
 abbrev slots_of : Option Table → List Slot
-slots_of o = option_map_or (λ table. table.fixed.content.slots) o []
+slots_of o = option_map_or (λ table. table.state.content.slots) o []
 
 sound-at : (s : State) (t : ℕ) (o : Option Table) → table_at s.world.tables t ≡ o → IsSound s → HasDistinctKeys (slots_of o) × HasNoEnd (slots_of o)
 sound-at s t None at sound = (distinct-none, tt)

@@ -3,7 +3,7 @@ use Rattle.std.specs.Prelude.{◌≡◌, ◌<◌, ◌≤◌, ◌⊎◌, ℕ, Lis
 use Rattle.std.specs.Coded.{Coded, code_by, coded×, coded_ℕ, coded_list, coded_option}
 
 pub record PendingTablesState : Type 0 where
-  pub ordered : List ℕ
+  pub queue : List ℕ
   pub dirty : Option ℕ
   pub capacity : ℕ
 
@@ -12,8 +12,8 @@ pending_tables_code =
     code_by
     (List ℕ × (Option ℕ × ℕ))
     (coded× (coded_list coded_ℕ) (coded× (coded_option coded_ℕ) coded_ℕ))
-    (λ s. (s.ordered, (s.dirty, s.capacity)))
-    (λ p. record { ordered = p.0; dirty = p.1.0; capacity = p.1.1 })
+    (λ s. (s.queue, (s.dirty, s.capacity)))
+    (λ p. record { queue = p.0; dirty = p.1.0; capacity = p.1.1 })
     (λ _. refl)
 
 abbrev pub Ascends : List ℕ → Type 0
@@ -30,11 +30,11 @@ AreBelow ids bound = (i : ℕ) → i < length ids → get_or ids i 0 < bound
 
 -- an identifier is in the queue, or is the dirty table
 abbrev pub IsIn : PendingTablesState → ℕ → Type 0
-IsIn s id = IsAmong s.ordered id ⊎ (s.dirty ≡ Some id)
+IsIn s id = IsAmong s.queue id ⊎ (s.dirty ≡ Some id)
 
 -- there is capacity for all below a bound, which is above this one and those in the queue
 pub record HasRoomFor (s : PendingTablesState) (id : ℕ) : Type 0 where
   pub bound : ℕ
-  pub below : AreBelow s.ordered bound
+  pub below : AreBelow s.queue bound
   pub less : id < bound
   pub room : bound ≤ s.capacity

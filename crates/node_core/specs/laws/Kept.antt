@@ -14,12 +14,12 @@ use Rattle.node_core.specs.Machine.{step}
 
 -- the slots of the table with this identifier; none if it does not exist
 abbrev pub slots_in : ℕ → State → List Slot
-slots_in t s = option_map_or (λ table. table.fixed.content.slots) (table_at s.world.tables t) []
+slots_in t s = option_map_or (λ table. table.state.content.slots) (table_at s.world.tables t) []
 
 -- whether the table with this identifier exists, and some process fixes it
 abbrev pub is_fixed_in : ℕ → State → Bool
 is_fixed_in t s =
-    option_map_or (λ table. is_fixed table.fixed.fixes) (table_at s.world.tables t) false
+    option_map_or (λ table. is_fixed table.state.fixes) (table_at s.world.tables t) false
 
 -- some process fixes the table in each of these states
 abbrev pub StaysFixed : ℕ → List State → Type 0

@@ -19,9 +19,9 @@ HasNoEnd slots = AllByRecursion (λ key. is_atom (codes "$end_of_table") key ≡
 -- have the same name
 pub record IsSound (s : State) : Type 0 where
   pub keys : (t : ℕ) (table : Table) → table_at s.world.tables t ≡ Some table
-      → HasDistinctKeys table.fixed.content.slots
+      → HasDistinctKeys table.state.content.slots
   pub ends : (t : ℕ) (table : Table) → table_at s.world.tables t ≡ Some table
-      → HasNoEnd table.fixed.content.slots
+      → HasNoEnd table.state.content.slots
   pub names :
       (t u : ℕ) (one other : Table) → table_at s.world.tables t ≡ Some one
       → table_at s.world.tables u ≡ Some other

@@ -3,8 +3,9 @@ ghost use Rattle.std.specs.Prelude.{◌≡◌, option_copied, option_map};
 ghost use Rattle.std.specs.Option.{option_copied_mut};
 ghost use Rattle.std.specs.Borrow.{sem};
 ghost use Rattle.node_core.specs.declared.node.access.Access.TheVariants.{Read};
-ghost use Rattle.ownership.specs.World.{fixed_at};
-ghost use Rattle.node_core.specs.Access.{may_access, usable, usable_fixed};
+ghost use Rattle.ownership.specs.World.{state_at};
+ghost use Rattle.node_core.specs.Access.{may_access, usable};
+ghost use Rattle.node_core.specs.inside.Lending.{usable_state};
 
 use super::Node;
 use super::due::mark_dirty;
@@ -26,7 +27,7 @@ impl<H: KeyHash + Copy + Drop> Node<H> {
     /// Returns the table that a term names, if the process may read it.
     #[inline(always)]
     pub(crate) fn readable_table(&self, pid: u32, term: &Term) -> Option<&Walked<SplitRows<H>>>
-        ensures { option_copied result ≡ usable_fixed Read self.now.world.tables pid term.now }
+        ensures { option_copied result ≡ usable_state Read self.now.world.tables pid term.now }
     {
         let id = self.world.resolve(term)?;
         let metadata = self.world.metadata(id)?;
@@ -50,7 +51,7 @@ impl<H: KeyHash + Copy + Drop> Node<H> {
             (LendsUsable H.row H.KeyHash H.Clone ⟦<SplitRows<H> as Rows>⟧
             self.entry access pid term.now result) }
         ensures value { option_copied_mut result
-            ≡ usable_fixed access self.old.world.tables pid term.now }
+            ≡ usable_state access self.old.world.tables pid term.now }
     {
         let id = self.world.resolve(term)?;
         let metadata = self.world.metadata(id)?;
@@ -65,7 +66,7 @@ impl<H: KeyHash + Copy + Drop> Node<H> {
     pub(crate) fn table_mut(&mut self, id: u32) -> Option<&mut Walked<SplitRows<H>>>
         ensures* lends { sem 𝓛
             (LendsTable H.row H.KeyHash H.Clone ⟦<SplitRows<H> as Rows>⟧ self.entry id result) }
-        ensures value { option_copied_mut result ≡ fixed_at self.old.world.tables id }
+        ensures value { option_copied_mut result ≡ state_at self.old.world.tables id }
     {
         mark_dirty(&self.world, &mut self.pending, id);
         self.world.table_mut(id)

@@ -5,7 +5,7 @@ ghost use Rattle.ets_term.specs.Data.{data_of};
 ghost use Rattle.match_spec.specs.Specifications.{is_pattern, is_spec};
 ghost use Rattle.table_ops.specs.Refusals as table_refusals;
 ghost use Rattle.node_core.specs.Access.{reads, writes};
-ghost use Rattle.node_core.specs.rules.Searching.{answers_reply, count_reply, DeletesMatching, DeletesChosen, match_reply, match_object_reply, MatchDelete, select_reply, select_count_reply, SelectDelete};
+ghost use Rattle.node_core.specs.rules.Searching.{results_reply, count_reply, DeletesMatching, DeletesChosen, match_reply, match_object_reply, MatchDelete, select_reply, select_count_reply, SelectDelete};
 ghost use Rattle.node_core.specs.inside.Refusals.{RefinesReply};
 
 use super::Node;
@@ -34,7 +34,7 @@ impl<H: KeyHash + Copy + Drop> Node<H> {
         let pattern = compile_pattern(self.alloc, pattern)?;
         let values = table.matches(&pattern);
         drop(pattern);
-        Ok(answers_reply(values?))
+        Ok(results_reply(values?))
     }
 
     /// Returns each object that matches a pattern.
@@ -81,7 +81,7 @@ impl<H: KeyHash + Copy + Drop> Node<H> {
         let spec = compile_spec(self.alloc, spec)?;
         let results = table.select(&spec);
         drop(spec);
-        Ok(answers_reply(results?))
+        Ok(results_reply(results?))
     }
 
     /// Counts the objects for which a match specification gives `true`.
@@ -169,8 +169,8 @@ fn delete_selected<R: Rows>(
 }
 
 /// Returns the list of a search's results as a reply.
-fn answers_reply(found: Items<Term>) -> Reply
-    ensures { result ≡ answers_reply (map data_of found) }
+fn results_reply(found: Items<Term>) -> Reply
+    ensures { result ≡ results_reply (map data_of found) }
 {
     Reply::Value(Term::List(found))
 }

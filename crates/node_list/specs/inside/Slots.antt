@@ -1,5 +1,4 @@
--- Nodes in two arrays: headers in a slab, and a slot for each. The slot of an item is the item; the slot of a dummy
--- is arbitrary.
+-- Nodes in two arrays: headers in a slab, and an item for each. For a dummy, any item fills the second array.
 use Rattle.std.specs.Prelude.{◌≡◌, ◌^◌, ◌-◌, ◌≤◌, ◌<◌, ◌≢◌, ℕ, pos, Bool, true, false, List, [], ◌∷◌, length, slice_get, slice_index_or, Option, Some, None, IsSome, option_map, Vec, vec_capacity, vec_items}
 use Rattle.slab.specs.Slab.{Slab, get, slab_len, with_value}
 use Rattle.ets_term.specs.declared.term.Term.{Term}
@@ -65,7 +64,7 @@ pub record WritesItem (old new : List Item) (at : ℕ) (slot : Item) : Type 0 wh
   pub others : (k : ℕ) → k ≢ at → k < length old → slot_at new k ≡ slot_at old k
   pub length : length old ≤ length new
 
--- the node at a place has this key and this link
+-- the node at a place has this split key and this link
 pub record HasHeader (s : Slab ListNode) (at : ℕ) (f : NodeHeader) : Type 0 where
   pub node : ListNode
   pub is : get s at ≡ Some node

@@ -5,10 +5,10 @@ use Rattle.node_list.specs.declared.node.ListNode.{ListNode}
 use Rattle.node_list.specs.Cells.{Cell, Sorted, StartsWithDummy}
 
 abbrev pub cell_of : ℕ → ListNode → Cell
-cell_of at node = record { at = at; key = node.split_key; item = node.item }
+cell_of at node = record { at = at; split_key = node.split_key; item = node.item }
 
 abbrev pub node_of : Cell → Option ℕ → ListNode
-node_of c next = record { split_key = c.key; next = next; item = c.item }
+node_of c next = record { split_key = c.split_key; next = next; item = c.item }
 
 -- the nodes from a link on, at most `n`
 unfoldable pub walk : ℕ → (ℕ → Option ListNode) → Option ℕ → List Cell
@@ -38,16 +38,17 @@ pub record ListInvariant (s : Slab ListNode) : Type 0 where
   pub first : StartsWithDummy (cells_from s (Some 0))
   pub counted : slab_len s ≡ length (cells_from s (Some 0))
 
--- the node at a place has at most this key
-pub record NodeHasKeyAtMost (s : Slab ListNode) (at key : ℕ) : Type 0 where
+-- the node at a place has at most this split key
+pub record NodeHasSplitKeyAtMost (s : Slab ListNode) (at split_key : ℕ) : Type 0 where
   pub node : ListNode
   pub is : get s at ≡ Some node
-  pub up_to : node.split_key ≤ key
+  pub up_to : node.split_key ≤ split_key
 
--- the place of the last cell before the first with a greater key, or else `last`
+-- the place of the last cell before the first with a greater split key, or else `last`
 abbrev pub last_not_above_in : ℕ → ℕ → List Cell → ℕ
-last_not_above_in key last [] = last
-last_not_above_in key last (c ∷ cs) = if nat_lt key c.key then last else last_not_above_in key c.at cs
+last_not_above_in split_key last [] = last
+last_not_above_in split_key last (c ∷ cs) =
+    if nat_lt split_key c.split_key then last else last_not_above_in split_key c.at cs
 
 -- a node of the list has this place
 abbrev pub HasPlace : ℕ → List Cell → Type 0

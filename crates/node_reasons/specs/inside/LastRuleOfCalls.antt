@@ -22,13 +22,13 @@ use Rattle.node_reasons.specs.declared.reason.Rule.TheVariants as rule
 use Rattle.node_reasons.specs.declared.reason.Reason.{Reason}
 use Rattle.node_reasons.specs.Reasons.{about_whole_call, argument, table_of_term}
 use Rattle.node_reasons.specs.Why.{limit_of}
-use Rattle.node_reasons.specs.inside.LastRules.{needs_access, last_rule_of_use, last_rule_of_content, needs_owner, last_rule_of_give_away, last_rule_of_safe_fixtable, last_rule_of_new, last_rule_of_info, last_rule_of_lookup_element, last_rule_of_update_counter, last_rule_of_update_element}
+use Rattle.node_reasons.specs.inside.LastRules.{access_reason_or, last_rule_of_use, last_rule_of_content, owner_reason_or, last_rule_of_give_away, last_rule_of_safe_fixtable, last_rule_of_new, last_rule_of_info, last_rule_of_lookup_element, last_rule_of_update_counter, last_rule_of_update_element}
 
-abbrev pub fixed_of : Option Table → Option TableState
-fixed_of table = option_map (λ t. t.fixed) table
+abbrev pub state_of : Option Table → Option TableState
+state_of table = option_map (λ t. t.state) table
 
 abbrev pub content_in : Option TableState → Option Content
-content_in fixed = option_map (λ f. f.content) fixed
+content_in state = option_map (λ s. s.content) state
 
 -- the table that the first argument names
 abbrev pub table_of_first : Tables → List Term → Option Table
@@ -39,7 +39,7 @@ table_of_first tables (x ∷ args) = table_of_term tables x
 module _ (p : ℕ) (metadata : Option Metadata) (content : Option Content) where
   -- the reason if the process does not have this access to the table; else this rule on the second argument
   abbrev pub last_on_second : Access → Rule → Reason
-  last_on_second access broken = needs_access access p metadata (argument 2 broken)
+  last_on_second access broken = access_reason_or access p metadata (argument 2 broken)
 
   -- the reason if the process does not have this access to the table; else that of its content
   abbrev pub last_on_content : Access → (Content → Reason) → Reason
@@ -70,7 +70,7 @@ module _ (p : ℕ) (metadata : Option Metadata) (content : Option Content) where
   last_rule_of_known name.Next (x ∷ y ∷ []) = last_on_second Read rule.NoKey
   last_rule_of_known name.NextLookup (x ∷ y ∷ []) = last_on_second Read rule.NoKey
   last_rule_of_known name.SafeFixtable (x ∷ y ∷ []) = last_rule_of_safe_fixtable p metadata y
-  last_rule_of_known name.SetOptions (x ∷ y ∷ []) = needs_owner p metadata (argument 2 rule.NotOptions)
+  last_rule_of_known name.SetOptions (x ∷ y ∷ []) = owner_reason_or p metadata (argument 2 rule.NotOptions)
   last_rule_of_known name.Info (x ∷ y ∷ []) = last_rule_of_info y
   last_rule_of_known name.LookupElement (x ∷ y ∷ z ∷ []) = last_on_content Read (last_rule_of_lookup_element y z true)
   last_rule_of_known name.UpdateCounter (x ∷ y ∷ z ∷ []) = last_on_content Write (last_rule_of_update_counter y z None)
@@ -87,7 +87,7 @@ module _ (p : ℕ) (metadata : Option Metadata) (content : Option Content) where
 -- the last reason of a call that is badarg
 abbrev pub last_rule_of_call : World → ℕ → CallName → List Term → Reason
 last_rule_of_call w p name args =
-    last_rule_of_known p (metadata_of (table_of_first w.tables args)) (content_in (fixed_of (table_of_first w.tables args)))
+    last_rule_of_known p (metadata_of (table_of_first w.tables args)) (content_in (state_of (table_of_first w.tables args)))
     name args
 
 -- the last reason of a call that exceeds a limit, or is badarg

@@ -8,7 +8,7 @@ use super::Caller;
 use crate::history::HistoryId;
 use crate::served::ServedNode;
 use crate::server::Server;
-use crate::server_lock::LockKind;
+use crate::server_lock::AnyLock;
 use ets_term::KeyHash;
 use node_core::{Call, Reply};
 use std::alloc::{AllocError, Global};
@@ -28,8 +28,8 @@ impl<B: HistoryId> Caller<B> {
         ensures { IfOk result (AnswersRead B.limits self.now.own.pid self.now.seen call.now) }
     {
         match &server.lock.kind {
-            LockKind::Single(lock) => self.read_locked(&*lock.read(rt), call),
-            LockKind::Sharded(lock) => self.read_locked(&**lock.read(rt, self.shard()), call),
+            AnyLock::Single(lock) => self.read_locked(&*lock.read(rt), call),
+            AnyLock::Sharded(lock) => self.read_locked(&**lock.read(rt, self.shard()), call),
         }
     }
 
@@ -60,8 +60,8 @@ impl<B: HistoryId> Caller<B> {
         ensures err { OnErr result (reply.new ≡ NoProcess) }
     {
         match &server.lock.kind {
-            LockKind::Single(lock) => self.read_into_locked(&*lock.read(rt), call, reply),
-            LockKind::Sharded(lock) => {
+            AnyLock::Single(lock) => self.read_into_locked(&*lock.read(rt), call, reply),
+            AnyLock::Sharded(lock) => {
                 self.read_into_locked(&**lock.read(rt, self.shard()), call, reply)
             }
         }
@@ -98,8 +98,8 @@ impl<B: HistoryId> Caller<B> {
         ensures { IfOk result (λ replies. AnswersReads B.limits self.now.own.pid self.now.seen calls.now replies.items) }
     {
         match &server.lock.kind {
-            LockKind::Single(lock) => self.read_all_locked(alloc, &*lock.read(rt), calls),
-            LockKind::Sharded(lock) => {
+            AnyLock::Single(lock) => self.read_all_locked(alloc, &*lock.read(rt), calls),
+            AnyLock::Sharded(lock) => {
                 self.read_all_locked(alloc, &**lock.read(rt, self.shard()), calls)
             }
         }

@@ -18,9 +18,9 @@ pub enum View {
 pub struct Numbers;
 
 impl TableRule<(), View, u64> for Numbers {
-    ghost use Rattle.node_shared.specs.Numbers.{Numbered, opening_view};
+    ghost use Rattle.node_shared.specs.Numbers.{HoldsNumbers, opening_view};
 
-    ghost holds = { Numbered };
+    ghost holds = { HoldsNumbers };
 
     ghost first = { opening_view };
 }

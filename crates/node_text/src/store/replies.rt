@@ -1,7 +1,7 @@
 //! Writes the last reply of a store, and why its last call was refused.
 ghost use Rattle.std.specs.Prelude.{◌≡◌};
-ghost use Rattle.external_term.specs.Encoding.{written};
-ghost use Rattle.term_text.specs.Printed.{printed};
+ghost use Rattle.external_term.specs.Encoding.{encode_with_version};
+ghost use Rattle.term_text.specs.Printed.{text_of_term};
 ghost use Rattle.node_text.specs.Answers.{WritesReply, WritesText, WritesReason, written_reply};
 
 use crate::copy::copy_prefix;
@@ -35,7 +35,7 @@ impl Store {
     /// Returns the status of the last reply. If it is `VALUE`, writes as much of the reply's text as fits into `out`, and
     /// its full length to `len`. Otherwise `len` is 0.
     pub fn write_reply(&self, alloc: Global, out: &mut [u8], len: &mut usize) -> i32
-        ensures { WritesReply printed self.now.reply (written_reply result len.new out.old out.new) }
+        ensures { WritesReply text_of_term self.now.reply (written_reply result len.new out.old out.new) }
     {
         *len = 0;
         let Reply::Value(term) = &self.reply else {
@@ -54,7 +54,7 @@ impl Store {
     /// as fit into `out`, and their number to `len`. Otherwise `len` is 0. Changes nothing else that a contract sees.
     pub fn write_reply_external(&mut self, out: &mut [u8], len: &mut usize) -> i32
         ensures same { self.new ≡ self.old }
-        ensures writes { WritesReply written self.old.reply (written_reply result len.new out.old out.new) }
+        ensures writes { WritesReply encode_with_version self.old.reply (written_reply result len.new out.old out.new) }
     {
         *len = 0;
         let Reply::Value(term) = &self.reply else {
@@ -90,7 +90,7 @@ impl Store {
 /// in the vector, in place of what it has. Returns `VALUE`, or `UNTOLD` if memory runs out for the bytes.
 fn write_term_external(term: &Term, bytes: &mut Vec<u8>, out: &mut [u8], len: &mut usize) -> i32
     requires { len.old ≡ 0 }
-    ensures { WritesText (written term.now) (written_reply result len.new out.old out.new) }
+    ensures { WritesText (encode_with_version term.now) (written_reply result len.new out.old out.new) }
 {
     bytes.clear();
     if write_external(term, bytes).is_err() {

@@ -10,8 +10,8 @@ use Rattle.ownership.specs.World.{Table, Tables, Processes, World}
 
 abbrev pub table_code : Coded Table
 table_code =
-    code_by (Metadata × TableState) (coded× metadata.the_row.coded state_code) (λ t. (t.metadata, t.fixed))
-    (λ p. record { metadata = p.0; fixed = p.1 }) (λ _. refl)
+    code_by (Metadata × TableState) (coded× metadata.the_row.coded state_code) (λ t. (t.metadata, t.state))
+    (λ p. record { metadata = p.0; state = p.1 }) (λ _. refl)
 
 abbrev pub world_code : Coded World
 world_code =

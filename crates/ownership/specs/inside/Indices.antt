@@ -4,7 +4,8 @@ use Rattle.std.specs.Option.{option_map_or}
 use Rattle.std.specs.Map.{lookup}
 use Rattle.indexmap.specs.IndexMap.{get_by_text}
 use Rattle.fixed_walk.specs.Fixes.{is_fixed}
-use Rattle.fixed_walk.specs.TableState.{TableState, HasNoTombstones}
+use Rattle.fixed_walk.specs.TableState.{TableState}
+use Rattle.fixed_walk.specs.Invariants.{HasNoTombstones}
 use Rattle.ownership.specs.declared.metadata.Metadata.{Metadata}
 use Rattle.ownership.specs.declared.metadata.Heir.{Heir}
 use Rattle.ownership.specs.declared.indices.Indices.{Indices}
@@ -82,13 +83,13 @@ IsUnfixed table = (is_fixed table.fixes ≡ false) × HasNoTombstones table.cont
 
 -- a table exists and is fixed
 abbrev pub is_fixed_at : Tables → ℕ → Bool
-is_fixed_at tables t = option_map_or (λ table. is_fixed table.fixed.fixes) (table_at tables t) false
+is_fixed_at tables t = option_map_or (λ table. is_fixed table.state.fixes) (table_at tables t) false
 
 -- the identifiers ascend, and each table that is not among them is idle, except the dirty one
 pub record FixedAreListed (ids : List ℕ) (dirty : Option ℕ) (tables : Tables) : Type 0 where
   pub order : AscendsBetween 0 (length tables) ids
   pub each : (t : ℕ) (table : Table) → table_at tables t ≡ Some table
-      → (dirty ≡ Some t) ⊎ IsAmong t ids ⊎ IsUnfixed table.fixed
+      → (dirty ≡ Some t) ⊎ IsAmong t ids ⊎ IsUnfixed table.state
 
 -- the invariant of the indices over these tables
 pub record IndicesInvariant (indices : Indices) (tables : Tables) : Type 0 where

@@ -15,6 +15,6 @@ abbrev pub NameIndexIsExact : (List ℕ → Option ℕ) → List (Option Metadat
 NameIndexIsExact names hs =
     (name : List ℕ) (t : ℕ) → (names name ≡ Some t) ↔ (is_named name (metadata_at hs t) ≡ true)
 
--- the first place whose table has this name
+-- the least identifier of a table with this name
 abbrev pub find_named : List (Option Metadata) → List ℕ → Option ℕ
 find_named hs name = position (is_named name) hs

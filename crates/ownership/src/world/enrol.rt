@@ -23,7 +23,7 @@ impl<R: Rows> World<R> {
     }
 
     /// Returns the number of processes ever enrolled.
-    pub fn enrolled(&self) -> usize
+    pub fn process_count(&self) -> usize
         ensures { result ≡ length self.now.processes }
     {
         self.processes.len()
@@ -55,7 +55,7 @@ impl<R: Rows> World<R> {
     fn has_max_processes(&self) -> bool
         ensures { result ≡ nat_le self.now.max_processes (length self.now.processes) }
     {
-        self.enrolled() >= self.max_processes as usize
+        self.process_count() >= self.max_processes as usize
     }
 
     /// Adds a living process without messages. Its number must be new.

@@ -1,7 +1,9 @@
 //! The calls that change the owner or the heir of a table. A new owner gets a transfer message with a gift: data that
 //! the old owner chose.
 ghost use Rattle.std.specs.Prelude.{◌≡◌, OnOk, OnErr};
-ghost use Rattle.ownership.specs.Tables.{GiveAway, SetHeir, SetOptions, with_changed, after_set_heir, after_transfer, with_owner};
+ghost use Rattle.ownership.specs.Tables.{GiveAway, SetOptions, after_set_heir, after_transfer, with_owner};
+ghost use Rattle.ownership.specs.Heirs.{SetHeir};
+ghost use Rattle.ownership.specs.World.{with_changed};
 ghost use Rattle.ownership.specs.Outcomes.{RefinesWorld};
 
 use super::World;

@@ -4,7 +4,7 @@ ghost use Rattle.ownership.specs.World.{table_at};
 ghost use Rattle.ownership.specs.Info.{info_of};
 
 use super::World;
-use crate::info::{InfoItem, heir_term, kind_term, protection_term, truth};
+use crate::info::{InfoItem, boolean_atom, heir_term, kind_term, protection_term};
 use crate::table::OwnedTable;
 use bucket_table::Rows;
 use ets_term::{Integer, Term};
@@ -36,7 +36,7 @@ fn info_value<R: Rows>(
     let table = owned.table();
     match item {
         InfoItem::Name => Ok(Term::Atom(metadata.name.try_clone(alloc)?)),
-        InfoItem::NamedTable => truth(alloc, metadata.named),
+        InfoItem::NamedTable => boolean_atom(alloc, metadata.named),
         InfoItem::Owner => Ok(Term::Pid(metadata.owner)),
         InfoItem::Protection => protection_term(alloc, metadata.protection),
         InfoItem::Heir => heir_term(alloc, &metadata.heir),
@@ -44,6 +44,6 @@ fn info_value<R: Rows>(
         InfoItem::Size => Ok(Term::Int(table.size() as Integer)),
         InfoItem::Kind => kind_term(alloc, table.kind()),
         InfoItem::Keypos => Ok(Term::Int(table.keypos() as Integer)),
-        InfoItem::Fixed => truth(alloc, table.is_fixed()),
+        InfoItem::Fixed => boolean_atom(alloc, table.is_fixed()),
     }
 }

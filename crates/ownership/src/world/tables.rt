@@ -3,7 +3,7 @@
 ghost use Rattle.std.specs.Prelude.{◌≡◌, ◌+◌, ◌<◌, ◌^◌, ◌&&◌, false, OnOk, OnErr, nat_le, length, is_some, option_copied, IfOk};
 ghost use Rattle.std.specs.Option.{option_copied_mut};
 ghost use Rattle.std.specs.Borrow.{sem};
-ghost use Rattle.ownership.specs.World.{table_at, fixed_at, metadata_of, whereis, resolve};
+ghost use Rattle.ownership.specs.World.{table_at, state_at, metadata_of, whereis, resolve};
 ghost use Rattle.ownership.specs.Messages.{name_or_identifier};
 ghost use Rattle.ownership.specs.Tables.{New, new_metadata, with_table, without_table};
 ghost use Rattle.ownership.specs.Outcomes.{RefinesWorld};
@@ -65,7 +65,7 @@ impl<R: Rows> World<R> {
 
     /// Returns the table with this identifier, or `None`.
     pub fn table(&self, id: u32) -> Option<&Walked<R>>
-        ensures { option_copied result ≡ fixed_at self.now.tables id }
+        ensures { option_copied result ≡ state_at self.now.tables id }
     {
         match self.tables.get(id as usize) {
             Some(Some(owned)) => Some(owned.table()),
@@ -78,7 +78,7 @@ impl<R: Rows> World<R> {
     // the result is `None`, all of it is as before.
     pub fn table_mut(&mut self, id: u32) -> Option<&mut Walked<R>>
         ensures* lends { sem 𝓛 (LendsTable R.row R.Rows self.entry id result) }
-        ensures value { option_copied_mut result ≡ fixed_at self.old.tables id }
+        ensures value { option_copied_mut result ≡ state_at self.old.tables id }
     {
         self.indices.mark_dirty(self.tables.as_slice(), id);
         let found = self.tables.get_mut(id as usize)?;
@@ -205,7 +205,7 @@ impl<R: Rows> World<R> {
     }
 }
 
-/// Returns the answer of `new` and the metadata of the new table.
+/// Returns the result of `new`, a name or an identifier, and the metadata of the new table.
 fn answer_and_metadata(
     alloc: Global,
     pid: u32,

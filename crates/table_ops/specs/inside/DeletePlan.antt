@@ -5,7 +5,8 @@ use Rattle.ets_term.specs.Order.{same}
 use Rattle.std.specs.List.{AllByRecursion}
 use Rattle.ets_term.specs.declared.term.Term.{Term}
 use Rattle.ets_term.specs.Depth.{element_at}
-use Rattle.bucket_table.specs.Slots.{Slot, with_objects, without, has_objects}
+use Rattle.bucket_table.specs.Slots.{Slot, with_objects, has_objects}
+use Rattle.bucket_table.specs.Rows.{without}
 use Rattle.bucket_table.specs.Walks.{ComesBefore}
 use Rattle.table_ops.specs.declared.delete_plan.SlotDelete.{SlotDelete}
 use Rattle.table_ops.specs.declared.partition.Partition.{Partition}
@@ -24,12 +25,12 @@ MatchesOnlyKey test (Some key) slots =
     AllByRecursion (λ slot. same key slot.0 ≡ false → chosen_count test slot.1 ≡ 0) slots
 
 -- the objects that are not chosen
-abbrev pub unmatched : (Term → Bool) → List Term → List Term
-unmatched choose objects = filter (λ object. not (choose object)) objects
+abbrev pub objects_kept : (Term → Bool) → List Term → List Term
+objects_kept choose objects = filter (λ object. not (choose object)) objects
 
 -- the kept objects as a plan stores them: none unless some are removed
 abbrev pub kept_of : Bool → (Term → Bool) → List Term → List Term
-kept_of some choose objects = if some then unmatched choose objects else []
+kept_of some choose objects = if some then objects_kept choose objects else []
 
 -- `removed` of these objects are chosen, and `kept` are the others if some are chosen
 pub record ArePartitioned (choose : Term → Bool) (objects : List Term)
@@ -46,22 +47,22 @@ abbrev pub PlannedSlot : Type 0
 PlannedSlot = Option Term × List Term
 
 -- the plan for one slot
-abbrev pub planned : (Term → Bool) → Slot → List PlannedSlot
-planned choose slot =
-    if nat_lt 0 (chosen_count choose slot.1) then (Some slot.0, unmatched choose slot.1) ∷ [] else []
+abbrev pub plan_of_slot : (Term → Bool) → Slot → List PlannedSlot
+plan_of_slot choose slot =
+    if nat_lt 0 (chosen_count choose slot.1) then (Some slot.0, objects_kept choose slot.1) ∷ [] else []
 
-abbrev pub planned_then : Bool → Slot → (Term → Bool) → List PlannedSlot → List PlannedSlot
-planned_then some slot choose plan = if some then (Some slot.0, unmatched choose slot.1) ∷ plan else plan
+abbrev pub plan_with_slot : Bool → Slot → (Term → Bool) → List PlannedSlot → List PlannedSlot
+plan_with_slot some slot choose plan = if some then (Some slot.0, objects_kept choose slot.1) ∷ plan else plan
 
 -- the plan for all slots
 abbrev pub plan_of : (Term → Bool) → List Slot → List PlannedSlot
 plan_of choose [] = []
 plan_of choose (slot ∷ slots) =
-    planned_then (nat_lt 0 (chosen_count choose slot.1)) slot choose (plan_of choose slots)
+    plan_with_slot (nat_lt 0 (chosen_count choose slot.1)) slot choose (plan_of choose slots)
 
 -- the plan of these slot deletes
-abbrev pub planned_at : (ℕ → Option Term) → List SlotDelete → List PlannedSlot
-planned_at key_at plan = map (λ delete. (key_at delete.place, delete.kept)) plan
+abbrev pub plan_at : (ℕ → Option Term) → List SlotDelete → List PlannedSlot
+plan_at key_at plan = map (λ delete. (key_at delete.place, delete.kept)) plan
 
 -- the slots after one slot keeps only these objects
 abbrev pub with_kept : Bool → Option Term → List Term → List Slot → List Slot

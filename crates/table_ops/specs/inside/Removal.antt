@@ -2,7 +2,8 @@
 use Rattle.std.specs.Prelude.{◌≡◌, ℕ, ◌+◌, Bool, not, ◌||◌, if◌then◌else◌, List, [], Some, length}
 use Rattle.ets_term.specs.declared.term.Term.{Term}
 use Rattle.node_list.specs.Chains.{all_but}
-use Rattle.bucket_table.specs.Slots.{Slot, objects_of, with_objects, without, has_objects}
+use Rattle.bucket_table.specs.Slots.{Slot, objects_of, with_objects, has_objects}
+use Rattle.bucket_table.specs.Rows.{without}
 
 -- the slots after the slot of a key, which had `objects`, keeps only `kept`
 abbrev pub after_removal : Bool → List Slot → Term → List Term → List Term → List Slot

@@ -1,7 +1,8 @@
 -- What private calls of an insertion do, and what it does to undo one.
 use Rattle.std.specs.Prelude.{◌≡◌, ℕ, ◌+◌, ◌-◌, ◌<◌, ◌≤◌, Bool, false, List, [], ◌∷◌, length, take, unwrap_or, Option, Some, None, Result, Ok, Err}
 use Rattle.ets_term.specs.declared.term.Term.{Term}
-use Rattle.bucket_table.specs.Slots.{Slot, with_objects, without, object_count}
+use Rattle.bucket_table.specs.Slots.{Slot, with_objects, object_count}
+use Rattle.bucket_table.specs.Rows.{without}
 use Rattle.table_ops.specs.declared.kind.Kind.{Kind}
 use Rattle.table_ops.specs.declared.refusal.Refusal.{Refusal}
 use Rattle.table_ops.specs.declared.refusal.Refusal.TheVariants.{Badarg, SystemLimit, Memory}

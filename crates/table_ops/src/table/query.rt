@@ -5,7 +5,9 @@ ghost use Rattle.std.specs.Prelude.{◌≡◌, ◌≤◌, ◌<◌, ◌^◌, is_s
 ghost use Rattle.node_list.specs.Ticks.{ticks};
 ghost use Rattle.table_ops.specs.Drop.{without_chosen};
 ghost use Rattle.table_ops.specs.Outcomes.{Returns};
-ghost use Rattle.table_ops.specs.Queries.{bound_in, matches, spec_result, is_chosen, answers_in, matching_in, chosen_in, looks_of_key, looks_of_pattern, looks_of_spec, ReturnsAllData, CountsLooks};
+ghost use Rattle.table_ops.specs.Queries.{bound_in, matches, spec_result, is_chosen, answers_in, chosen_in};
+ghost use Rattle.table_ops.specs.Results.{matching_in, ReturnsAllData};
+ghost use Rattle.table_ops.specs.Looks.{looks_of_key, looks_of_pattern, looks_of_spec, CountsLooks};
 ghost use Rattle.table_ops.specs.inside.DeletePlan.{RequiresKey};
 
 use super::Table;

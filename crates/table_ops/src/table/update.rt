@@ -4,7 +4,7 @@ ghost use Rattle.std.specs.Prelude.{◌≡◌, ◌&&◌, None, option_copied};
 ghost use Rattle.counters.specs.declared.ops.Ops.TheVariants.{One};
 ghost use Rattle.counters.specs.declared.elements.ElementSpecs.TheVariants as elements;
 ghost use Rattle.table_ops.specs.Refusals.{RefinesChange};
-ghost use Rattle.table_ops.specs.Update.{is_set, may_update, ops_avoid_key, specs_avoid_key, default_is_object, counter_is_valid, element_is_valid, UpdatesCounter, UpdatesElement};
+ghost use Rattle.table_ops.specs.Update.{is_set, may_update, ops_avoid_key, element_specs_avoid_key, default_is_object, counter_is_valid, element_is_valid, UpdatesCounter, UpdatesElement};
 
 use super::Table;
 use crate::refusal::Refusal;
@@ -180,10 +180,10 @@ impl<R: Rows> Table<R> {
     /// Returns whether no value is for keypos, and the Default, if there is one, is an object with this key.
     fn specs_are_valid(&self, key: &Term, specs: &ElementSpecs, default: Option<&Term>) -> bool
         ensures { result
-            ≡ (specs_avoid_key self.now.content.keypos specs.now
+            ≡ (element_specs_avoid_key self.now.content.keypos specs.now
             && default_is_object self.now.content.keypos key.now (option_copied default.entry)) }
     {
-        self.inner.specs_avoid_key(specs) && self.inner.default_is_object(key, default)
+        self.inner.element_specs_avoid_key(specs) && self.inner.default_is_object(key, default)
     }
 
     /// Returns whether the table is a set.

@@ -1,9 +1,11 @@
 //! The results of a query, a pattern or match specification, for the objects of one key or of all keys. `looks` counts
 //! the tested objects.
-ghost use Rattle.std.specs.Prelude.{◌≡◌, ◌≤◌, [], length, is_some, option_copied};
+ghost use Rattle.std.specs.Prelude.{◌≡◌, ◌≤◌, [], length, is_some, option_copied, filter_map};
 ghost use Rattle.bucket_table.specs.Slots.{HasDistinctKeys, object_count};
 ghost use Rattle.node_list.specs.Ticks.{tick, ticks};
-ghost use Rattle.table_ops.specs.Queries.{answers, also, looks_of_key, AppendsData, CountsLooks};
+ghost use Rattle.std.specs.List.{cons_option};
+ghost use Rattle.table_ops.specs.Results.{AppendsData};
+ghost use Rattle.table_ops.specs.Looks.{looks_of_key, CountsLooks};
 ghost use Rattle.table_ops.specs.Content.{objects_under};
 ghost use Rattle.table_ops.specs.Read.{all_objects};
 ghost use Rattle.table_ops.specs.inside.DeletePlan.{MatchesOnlyKey};
@@ -28,13 +30,13 @@ impl<R: Rows> TableRows<R> {
         looks: &mut Looks,
     ) -> Result<(), AllocError>
         requires { MatchesOnlyKey (λ object. is_some (P.projects trial.now.query.now object))
-            (option_copied key) (R.content self.now.rows) }
+            (option_copied key) (R.slots self.now.rows) }
         ensures answers { AppendsData result results.old.items results.new.items
-            (answers (P.projects trial.now.query.now) (all_objects (R.content self.now.rows))) }
+            (filter_map (P.projects trial.now.query.now) (all_objects (R.slots self.now.rows))) }
         ensures looks { CountsLooks result
-            (looks_of_key (option_copied key.entry) (R.content self.now.rows)) looks.old looks.new }
+            (looks_of_key (option_copied key.entry) (R.slots self.now.rows)) looks.old looks.new }
         ensures at_most { looks.new
-            ≤ ticks (looks_of_key (option_copied key.entry) (R.content self.now.rows)) looks.old }
+            ≤ ticks (looks_of_key (option_copied key.entry) (R.slots self.now.rows)) looks.old }
         ensures at_least { looks.old ≤ looks.new }
     {
         match key {
@@ -45,8 +47,8 @@ impl<R: Rows> TableRows<R> {
 
     /// Returns the objects of a key, oldest first.
     pub(crate) fn objects_of(&self, key: &Term) -> &[Term]
-        ensures objects { result.now ≡ objects_under (R.content self.now.rows) key.now }
-        ensures distinct { HasDistinctKeys (R.content self.now.rows) }
+        ensures objects { result.now ≡ objects_under (R.slots self.now.rows) key.now }
+        ensures distinct { HasDistinctKeys (R.slots self.now.rows) }
     {
         self.rows.reveal_invariant();
         match self.rows.get(key) {
@@ -64,9 +66,9 @@ impl<R: Rows> TableRows<R> {
         looks: &mut Looks,
     ) -> Result<(), AllocError>
         ensures answers { AppendsData result results.old.items results.new.items
-            (answers (P.projects trial.now.query.now) (all_objects (R.content self.now.rows))) }
-        ensures looks { CountsLooks result (object_count (R.content self.now.rows)) looks.old looks.new }
-        ensures at_most { looks.new ≤ ticks (object_count (R.content self.now.rows)) looks.old }
+            (filter_map (P.projects trial.now.query.now) (all_objects (R.slots self.now.rows))) }
+        ensures looks { CountsLooks result (object_count (R.slots self.now.rows)) looks.old looks.new }
+        ensures at_most { looks.new ≤ ticks (object_count (R.slots self.now.rows)) looks.old }
         ensures at_least { looks.old ≤ looks.new }
     {
         // Reads the counter only for the proof, which learns that the count is a `u64`.
@@ -89,7 +91,7 @@ impl<R: Rows> TableRows<R> {
         looks: &mut Looks,
     ) -> Result<(), AllocError>
         ensures answers { AppendsData result results.old.items results.new.items
-            (answers (P.projects trial.now.query.now) objects.now) }
+            (filter_map (P.projects trial.now.query.now) objects.now) }
         ensures looks { CountsLooks result (length objects.now) looks.old looks.new }
         ensures at_most { looks.new ≤ ticks (length objects.now) looks.old }
         ensures at_least { looks.old ≤ looks.new }
@@ -112,7 +114,7 @@ impl<R: Rows> TableRows<R> {
         looks: &mut Looks,
     ) -> Result<(), AllocError>
         ensures answers { AppendsData result results.old.items results.new.items
-            (also (P.projects trial.now.query.now object.now) []) }
+            (cons_option (P.projects trial.now.query.now object.now) []) }
         ensures looks { looks.new ≡ tick looks.old }
     {
         if let Some(answer) = trial.result_of(self.alloc, object, looks)? {

@@ -4,7 +4,8 @@ ghost use Rattle.std.specs.Prelude.{◌≡◌, ◌≤◌, ◌<◌, ◌^◌, [], 
 ghost use Rattle.bucket_table.specs.Slots.{object_count};
 ghost use Rattle.node_list.specs.Ticks.{tick, ticks};
 ghost use Rattle.table_ops.specs.Outcomes.{Returns};
-ghost use Rattle.table_ops.specs.Queries.{chosen_count, looks_of_key, CountsLooks};
+ghost use Rattle.table_ops.specs.Queries.{chosen_count};
+ghost use Rattle.table_ops.specs.Looks.{looks_of_key, CountsLooks};
 ghost use Rattle.table_ops.specs.Read.{all_objects};
 ghost use Rattle.table_ops.specs.inside.DeletePlan.{MatchesOnlyKey};
 
@@ -26,15 +27,15 @@ impl<R: Rows> TableRows<R> {
         key: Option<&Term>,
         looks: &mut Looks,
     ) -> Result<usize, AllocError>
-        requires few { object_count (R.content self.now.rows) < 2 ^ 32 }
+        requires few { object_count (R.slots self.now.rows) < 2 ^ 32 }
         requires only_key { MatchesOnlyKey (P.tests trial.now.query.now) (option_copied key)
-            (R.content self.now.rows) }
+            (R.slots self.now.rows) }
         ensures count { Returns result
-            (chosen_count (P.tests trial.now.query.now) (all_objects (R.content self.now.rows))) }
+            (chosen_count (P.tests trial.now.query.now) (all_objects (R.slots self.now.rows))) }
         ensures looks { CountsLooks result
-            (looks_of_key (option_copied key.entry) (R.content self.now.rows)) looks.old looks.new }
+            (looks_of_key (option_copied key.entry) (R.slots self.now.rows)) looks.old looks.new }
         ensures at_most { looks.new
-            ≤ ticks (looks_of_key (option_copied key.entry) (R.content self.now.rows)) looks.old }
+            ≤ ticks (looks_of_key (option_copied key.entry) (R.slots self.now.rows)) looks.old }
         ensures at_least { looks.old ≤ looks.new }
     {
         match key {
@@ -50,11 +51,11 @@ impl<R: Rows> TableRows<R> {
         trial: &Trial<'_, P>,
         looks: &mut Looks,
     ) -> Result<usize, AllocError>
-        requires few { object_count (R.content self.now.rows) < 2 ^ 32 }
+        requires few { object_count (R.slots self.now.rows) < 2 ^ 32 }
         ensures count { Returns result
-            (chosen_count (P.tests trial.now.query.now) (all_objects (R.content self.now.rows))) }
-        ensures looks { CountsLooks result (object_count (R.content self.now.rows)) looks.old looks.new }
-        ensures at_most { looks.new ≤ ticks (object_count (R.content self.now.rows)) looks.old }
+            (chosen_count (P.tests trial.now.query.now) (all_objects (R.slots self.now.rows))) }
+        ensures looks { CountsLooks result (object_count (R.slots self.now.rows)) looks.old looks.new }
+        ensures at_most { looks.new ≤ ticks (object_count (R.slots self.now.rows)) looks.old }
         ensures at_least { looks.old ≤ looks.new }
     {
         // Reads the counter only for the proof, which learns that the count is a `u64`.

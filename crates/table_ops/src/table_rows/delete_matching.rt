@@ -4,10 +4,11 @@ ghost use Rattle.std.specs.Prelude.{◌≡◌, ◌≤◌, ◌<◌, ◌^◌, ◌+
 ghost use Rattle.bucket_table.specs.Slots.{object_count};
 ghost use Rattle.node_list.specs.Ticks.{ticks};
 ghost use Rattle.table_ops.specs.Outcomes.{Returns};
-ghost use Rattle.table_ops.specs.Queries.{chosen_count, looks_of_key, CountsLooks};
+ghost use Rattle.table_ops.specs.Queries.{chosen_count};
+ghost use Rattle.table_ops.specs.Looks.{looks_of_key, CountsLooks};
 ghost use Rattle.table_ops.specs.Content.{objects_under};
 ghost use Rattle.table_ops.specs.Read.{all_objects};
-ghost use Rattle.table_ops.specs.inside.DeletePlan.{MatchesOnlyKey, plan_of, planned_at, with_kept, after_plan, KeepsPlacesBefore, AreInOrder};
+ghost use Rattle.table_ops.specs.inside.DeletePlan.{MatchesOnlyKey, plan_of, plan_at, with_kept, after_plan, KeepsPlacesBefore, AreInOrder};
 ghost use Rattle.table_ops.specs.inside.TableRows.{ChangesSlotsOnly};
 
 use super::TableRows;
@@ -30,19 +31,19 @@ impl<R: Rows> TableRows<R> {
         looks: &mut Looks,
     ) -> Result<usize, AllocError>
         requires empty { plan.old.list.items ≡ [] }
-        requires few { object_count (R.content self.now.rows) < 2 ^ 32 }
+        requires few { object_count (R.slots self.now.rows) < 2 ^ 32 }
         requires only_key { MatchesOnlyKey (P.tests trial.now.query.now) (option_copied key)
-            (R.content self.now.rows) }
+            (R.slots self.now.rows) }
         ensures count { Returns result
-            (chosen_count (P.tests trial.now.query.now) (all_objects (R.content self.now.rows))) }
+            (chosen_count (P.tests trial.now.query.now) (all_objects (R.slots self.now.rows))) }
         ensures looks { CountsLooks result
-            (looks_of_key (option_copied key.entry) (R.content self.now.rows)) looks.old looks.new }
+            (looks_of_key (option_copied key.entry) (R.slots self.now.rows)) looks.old looks.new }
         ensures at_most { looks.new
-            ≤ ticks (looks_of_key (option_copied key.entry) (R.content self.now.rows)) looks.old }
+            ≤ ticks (looks_of_key (option_copied key.entry) (R.slots self.now.rows)) looks.old }
         ensures at_least { looks.old ≤ looks.new }
         ensures plan { OnOk result
-            (planned_at (R.key_at self.now.rows) plan.new.list.items
-            ≡ plan_of (P.tests trial.now.query.now) (R.content self.now.rows)) }
+            (plan_at (R.key_at self.now.rows) plan.new.list.items
+            ≡ plan_of (P.tests trial.now.query.now) (R.slots self.now.rows)) }
     {
         match key {
             Some(key) => self.plan_key(trial, key, plan, looks),
@@ -60,17 +61,17 @@ impl<R: Rows> TableRows<R> {
     ) -> Result<usize, AllocError>
         requires empty { plan.old.list.items ≡ [] }
         requires only_key { MatchesOnlyKey (P.tests trial.now.query.now) (Some key.now)
-            (R.content self.now.rows) }
+            (R.slots self.now.rows) }
         ensures count { Returns result
-            (chosen_count (P.tests trial.now.query.now) (all_objects (R.content self.now.rows))) }
+            (chosen_count (P.tests trial.now.query.now) (all_objects (R.slots self.now.rows))) }
         ensures looks { CountsLooks result
-            (length (objects_under (R.content self.now.rows) key.now)) looks.old looks.new }
+            (length (objects_under (R.slots self.now.rows) key.now)) looks.old looks.new }
         ensures at_most { looks.new
-            ≤ ticks (length (objects_under (R.content self.now.rows) key.now)) looks.old }
+            ≤ ticks (length (objects_under (R.slots self.now.rows) key.now)) looks.old }
         ensures at_least { looks.old ≤ looks.new }
         ensures plan { OnOk result
-            (planned_at (R.key_at self.now.rows) plan.new.list.items
-            ≡ plan_of (P.tests trial.now.query.now) (R.content self.now.rows)) }
+            (plan_at (R.key_at self.now.rows) plan.new.list.items
+            ≡ plan_of (P.tests trial.now.query.now) (R.slots self.now.rows)) }
     {
         // Reads the counter only for the proof, which learns that the count is a `u64`.
         let _before = looks.count();
@@ -87,16 +88,16 @@ impl<R: Rows> TableRows<R> {
         plan: &mut DeletePlan,
         looks: &mut Looks,
     ) -> Result<usize, AllocError>
-        requires few { object_count (R.content self.now.rows) < 2 ^ 32 }
+        requires few { object_count (R.slots self.now.rows) < 2 ^ 32 }
         ensures count { Returns result
-            (chosen_count (P.tests trial.now.query.now) (all_objects (R.content self.now.rows))) }
-        ensures looks { CountsLooks result (object_count (R.content self.now.rows)) looks.old looks.new }
-        ensures at_most { looks.new ≤ ticks (object_count (R.content self.now.rows)) looks.old }
+            (chosen_count (P.tests trial.now.query.now) (all_objects (R.slots self.now.rows))) }
+        ensures looks { CountsLooks result (object_count (R.slots self.now.rows)) looks.old looks.new }
+        ensures at_most { looks.new ≤ ticks (object_count (R.slots self.now.rows)) looks.old }
         ensures at_least { looks.old ≤ looks.new }
         ensures plan { OnOk result
-            (planned_at (R.key_at self.now.rows) plan.new.list.items
-            ≡ planned_at (R.key_at self.now.rows) plan.old.list.items
-            ++ plan_of (P.tests trial.now.query.now) (R.content self.now.rows)) }
+            (plan_at (R.key_at self.now.rows) plan.new.list.items
+            ≡ plan_at (R.key_at self.now.rows) plan.old.list.items
+            ++ plan_of (P.tests trial.now.query.now) (R.slots self.now.rows)) }
     {
         // Reads the counter only for the proof, which learns that the count is a `u64`.
         let _before = looks.count();
@@ -115,10 +116,10 @@ impl<R: Rows> TableRows<R> {
     /// Executes a plan, from its last slot to its first. A change of a slot does not change the places of the slots
     /// before it, so the places in the rest of the plan stay valid.
     pub(crate) fn apply(&mut self, hold: bool, mut plan: DeletePlan)
-        requires { AreInOrder (R.content self.old.rows)
-            (planned_at (R.key_at self.old.rows) plan.list.items) }
-        ensures slots { R.content self.new.rows ≡ after_plan hold
-            (planned_at (R.key_at self.old.rows) plan.list.items) (R.content self.old.rows) }
+        requires { AreInOrder (R.slots self.old.rows)
+            (plan_at (R.key_at self.old.rows) plan.list.items) }
+        ensures slots { R.slots self.new.rows ≡ after_plan hold
+            (plan_at (R.key_at self.old.rows) plan.list.items) (R.slots self.old.rows) }
         ensures keeps { ChangesSlotsOnly R.readiness self.old self.new }
     {
         while let Some(delete) = plan.list.pop() {
@@ -131,9 +132,9 @@ impl<R: Rows> TableRows<R> {
     /// if `hold` is true.
     fn apply_one(&mut self, hold: bool, delete: SlotDelete)
         requires { is_some (R.key_at self.old.rows delete.place) ≡ true }
-        ensures slots { R.content self.new.rows ≡ with_kept hold
-            (R.key_at self.old.rows delete.place) delete.kept (R.content self.old.rows) }
-        ensures places { KeepsPlacesBefore (R.content self.old.rows)
+        ensures slots { R.slots self.new.rows ≡ with_kept hold
+            (R.key_at self.old.rows delete.place) delete.kept (R.slots self.old.rows) }
+        ensures places { KeepsPlacesBefore (R.slots self.old.rows)
             (R.key_at self.old.rows) (R.key_at self.new.rows) delete.place }
         ensures keeps { ChangesSlotsOnly R.readiness self.old self.new }
     {

@@ -28,11 +28,11 @@ impl<R: Rows> TableRows<R> {
         key: &Term,
         object: &Term,
     ) -> Result<Undo, Refusal>
-        requires entry { IsEntry (R.content self.old.rows) (R.hash_of self.old.rows)
+        requires entry { IsEntry (R.slots self.old.rows) (R.hash_of self.old.rows)
             (R.key_at self.old.rows) key.now entry }
-        requires kind { FitsKind self.old.kind (objects_under (R.content self.old.rows) key.now) }
+        requires kind { FitsKind self.old.kind (objects_under (R.slots self.old.rows) key.now) }
         ensures slots { PutsOne below_limit self.old.kind key.now object.now
-            (R.content self.old.rows) result (R.content self.new.rows) }
+            (R.slots self.old.rows) result (R.slots self.new.rows) }
         ensures keeps { ChangesSlotsOnly R.readiness self.old self.new }
     {
         let copy = object.try_clone(self.alloc)?;
@@ -50,9 +50,9 @@ impl<R: Rows> TableRows<R> {
         object: Term,
     ) -> Result<Undo, Refusal>
         requires { ForKey (R.key_at self.old.rows place) (λ key.
-            FitsKind self.old.kind (objects_under (R.content self.old.rows) key)) }
+            FitsKind self.old.kind (objects_under (R.slots self.old.rows) key)) }
         ensures slots { PutsAt below_limit self.old.kind (R.key_at self.old.rows place) object
-            (R.content self.old.rows) result (R.content self.new.rows) }
+            (R.slots self.old.rows) result (R.slots self.new.rows) }
         ensures keeps { ChangesSlotsOnly R.readiness self.old self.new }
     {
         match self.kind {
@@ -70,10 +70,10 @@ impl<R: Rows> TableRows<R> {
         key: &Term,
         object: Term,
     ) -> Result<Undo, Refusal>
-        requires new { objects_of (R.content self.old.rows) key.now ≡ None }
+        requires new { objects_of (R.slots self.old.rows) key.now ≡ None }
         requires hash { hash ≡ R.hash_of self.old.rows key.now }
         ensures slots { PutsOne below_limit self.old.kind key.now object
-            (R.content self.old.rows) result (R.content self.new.rows) }
+            (R.slots self.old.rows) result (R.slots self.new.rows) }
         ensures keeps { ChangesSlotsOnly R.readiness self.old self.new }
     {
         if !below_limit {
@@ -88,9 +88,9 @@ impl<R: Rows> TableRows<R> {
     /// Replaces the object of a set's slot, or inserts the object in a tombstone.
     fn put_in_set(&mut self, below_limit: bool, place: Place, object: Term) -> Result<Undo, Refusal>
         requires { ForKey (R.key_at self.old.rows place) (λ key.
-            FitsKind Set (objects_under (R.content self.old.rows) key)) }
+            FitsKind Set (objects_under (R.slots self.old.rows) key)) }
         ensures slots { PutsAt below_limit Set (R.key_at self.old.rows place) object
-            (R.content self.old.rows) result (R.content self.new.rows) }
+            (R.slots self.old.rows) result (R.slots self.new.rows) }
         ensures keeps { ChangesSlotsOnly R.readiness self.old self.new }
     {
         if !may_insert(below_limit, self.rows.objects_at(place)) {
@@ -111,7 +111,7 @@ impl<R: Rows> TableRows<R> {
     fn put_in_bag(&mut self, below_limit: bool, place: Place, object: Term) -> Result<Undo, Refusal>
         requires { IsSome (R.key_at self.old.rows place) }
         ensures slots { PutsAt below_limit Bag (R.key_at self.old.rows place) object
-            (R.content self.old.rows) result (R.content self.new.rows) }
+            (R.slots self.old.rows) result (R.slots self.new.rows) }
         ensures keeps { ChangesSlotsOnly R.readiness self.old self.new }
     {
         if contains(self.rows.objects_at(place), &object) {
@@ -124,7 +124,7 @@ impl<R: Rows> TableRows<R> {
     fn put_last(&mut self, below_limit: bool, place: Place, object: Term) -> Result<Undo, Refusal>
         requires { IsSome (R.key_at self.old.rows place) }
         ensures slots { PutsAt below_limit DuplicateBag (R.key_at self.old.rows place) object
-            (R.content self.old.rows) result (R.content self.new.rows) }
+            (R.slots self.old.rows) result (R.slots self.new.rows) }
         ensures keeps { ChangesSlotsOnly R.readiness self.old self.new }
     {
         if !below_limit {

@@ -20,9 +20,9 @@ impl<R: Rows> TableRows<R> {
     /// number after the insertion. If the key has no slot, inserts a new slot.
     pub(crate) fn put_one(&mut self, before: usize, object: Term) -> Result<usize, Refusal>
         requires object { is_object self.old.keypos object ≡ true }
-        requires holds { TableRowsInvariant R.content self.old before }
+        requires holds { TableRowsInvariant R.slots self.old before }
         ensures slots { PutsEach self.old.limit self.old.kind self.old.keypos (object ∷ [])
-            (R.content self.old.rows) result (R.content self.new.rows) }
+            (R.slots self.old.rows) result (R.slots self.new.rows) }
         ensures keeps { ChangesSlotsOnly R.readiness self.old self.new }
     {
         let Some(key) = key_of(self.keypos, &object) else {
@@ -48,9 +48,9 @@ impl<R: Rows> TableRows<R> {
     fn put_one_at(&mut self, before: usize, place: Place, object: Term) -> Result<usize, Refusal>
         requires object { is_object self.old.keypos object ≡ true }
         requires place { R.key_at self.old.rows place ≡ key_of self.old.keypos object }
-        requires holds { TableRowsInvariant R.content self.old before }
+        requires holds { TableRowsInvariant R.slots self.old before }
         ensures slots { PutsEach self.old.limit self.old.kind self.old.keypos (object ∷ [])
-            (R.content self.old.rows) result (R.content self.new.rows) }
+            (R.slots self.old.rows) result (R.slots self.new.rows) }
         ensures keeps { ChangesSlotsOnly R.readiness self.old self.new }
     {
         if self.is_set() && !self.rows.objects_at(place).is_empty() {
@@ -65,10 +65,10 @@ impl<R: Rows> TableRows<R> {
     /// number of objects of the table after the insertions.
     pub(crate) fn put_all(&mut self, before: usize, objects: &[Term]) -> Result<usize, Refusal>
         requires objects { list_all (is_object self.old.keypos) objects.now ≡ true }
-        requires holds { TableRowsInvariant R.content self.old before }
+        requires holds { TableRowsInvariant R.slots self.old before }
         requires shallow { list_any is_too_deep objects.now ≡ false }
         ensures slots { PutsEach self.old.limit self.old.kind self.old.keypos objects.now
-            (R.content self.old.rows) result (R.content self.new.rows) }
+            (R.slots self.old.rows) result (R.slots self.new.rows) }
         ensures keeps { ChangesSlotsOnly R.readiness self.old self.new }
     {
         let mut count = before;
@@ -91,9 +91,9 @@ impl<R: Rows> TableRows<R> {
     /// Inserts a copy of one object, and returns how to undo the insertion.
     fn put_object(&mut self, below_limit: bool, object: &Term) -> Result<Undo, Refusal>
         requires object { is_object self.old.keypos object.now ≡ true }
-        requires slots { AreSlots self.old.kind self.old.keypos (R.content self.old.rows) }
+        requires slots { AreSlots self.old.kind self.old.keypos (R.slots self.old.rows) }
         ensures slots { PutsObject below_limit self.old.kind self.old.keypos object.now
-            (R.content self.old.rows) result (R.content self.new.rows) }
+            (R.slots self.old.rows) result (R.slots self.new.rows) }
         ensures keeps { ChangesSlotsOnly R.readiness self.old self.new }
     {
         let Some(key) = key_of(self.keypos, object) else {
@@ -108,8 +108,8 @@ impl<R: Rows> TableRows<R> {
     fn roll_back(&mut self, objects: &[Term], mut undo_log: Vec<Undo>)
         requires objects { list_all (is_object self.old.keypos) objects.now ≡ true }
         requires long { length undo_log.items ≤ length objects.now }
-        ensures slots { R.content self.new.rows
-            ≡ after_roll_back self.old.keypos undo_log.items objects.now (R.content self.old.rows) }
+        ensures slots { R.slots self.new.rows
+            ≡ after_roll_back self.old.keypos undo_log.items objects.now (R.slots self.old.rows) }
         ensures keeps { ChangesSlotsOnly R.readiness self.old self.new }
     {
         while let Some(undo) = undo_log.pop() {
@@ -123,7 +123,7 @@ impl<R: Rows> TableRows<R> {
     /// Undoes the last insertion of an object with this key.
     #[tactic(auto, using(crate::proofs::SlotLaws::slot_laws))]
     fn undo(&mut self, key: &Term, undo: Undo)
-        ensures slots { R.content self.new.rows ≡ after_undo undo key.now (R.content self.old.rows) }
+        ensures slots { R.slots self.new.rows ≡ after_undo undo key.now (R.slots self.old.rows) }
         ensures keeps { ChangesSlotsOnly R.readiness self.old self.new }
     {
         let Some(place) = self.rows.find(key) else {

@@ -15,8 +15,8 @@ use node_list::Chain;
 impl<R: Rows> TableRows<R> {
     /// Returns the place of a key's slot, if it has one.
     pub(crate) fn find(&self, key: &Term) -> Option<Place>
-        ensures place { IsPlaceOfKey (R.content self.now.rows) (R.key_at self.now.rows) key.now result }
-        ensures distinct { HasDistinctKeys (R.content self.now.rows) }
+        ensures place { IsPlaceOfKey (R.slots self.now.rows) (R.key_at self.now.rows) key.now result }
+        ensures distinct { HasDistinctKeys (R.slots self.now.rows) }
     {
         self.rows.reveal_invariant();
         self.rows.find(key)
@@ -26,10 +26,10 @@ impl<R: Rows> TableRows<R> {
     /// a tombstone.
     pub(crate) fn remove_objects_at(&mut self, hold: bool, place: Place) -> Chain
         requires { IsSome (R.key_at self.old.rows place) }
-        ensures objects { objects_in (R.content self.old.rows) (R.key_at self.old.rows place)
+        ensures objects { objects_in (R.slots self.old.rows) (R.key_at self.old.rows place)
             ≡ Some result }
         ensures slots { ForKey (R.key_at self.old.rows place) (λ key.
-            R.content self.new.rows ≡ after_removal hold (R.content self.old.rows) key result []) }
+            R.slots self.new.rows ≡ after_removal hold (R.slots self.old.rows) key result []) }
         ensures keeps { ChangesSlotsOnly R.readiness self.old self.new }
     {
         if hold || self.rows.objects_at(place).is_empty() {
@@ -44,7 +44,7 @@ impl<R: Rows> TableRows<R> {
     pub(crate) fn delete_objects_at(&mut self, hold: bool, place: Place) -> usize
         requires { IsSome (R.key_at self.old.rows place) }
         ensures slots { ForKey (R.key_at self.old.rows place) (λ key.
-            DeletesObjects hold (R.content self.old.rows) key result (R.content self.new.rows)) }
+            DeletesObjects hold (R.slots self.old.rows) key result (R.slots self.new.rows)) }
         ensures keeps { ChangesSlotsOnly R.readiness self.old self.new }
     {
         if hold || self.rows.objects_at(place).is_empty() {
@@ -58,7 +58,7 @@ impl<R: Rows> TableRows<R> {
     pub(crate) fn remove_object_at(&mut self, hold: bool, place: Place, object: &Term) -> usize
         requires { IsSome (R.key_at self.old.rows place) }
         ensures slots { ForKey (R.key_at self.old.rows place) (λ key.
-            RemovesObject hold (R.content self.old.rows) key object.now result (R.content self.new.rows)) }
+            RemovesObject hold (R.slots self.old.rows) key object.now result (R.slots self.new.rows)) }
         ensures keeps { ChangesSlotsOnly R.readiness self.old self.new }
     {
         let mut objects = self.rows.replace_at(place, Chain::new(self.alloc));

@@ -6,7 +6,7 @@ ghost use Rattle.bucket_table.specs.Entries.{IsEntry, HasOneObject};
 ghost use Rattle.counters.specs.declared.ops.Ops.TheVariants.{One};
 ghost use Rattle.counters.specs.declared.elements.ElementSpecs.TheVariants as elements;
 ghost use Rattle.table_ops.specs.Put.{SetsObjects};
-ghost use Rattle.table_ops.specs.Update.{may_update, ops_avoid_key, specs_avoid_key, default_is_object};
+ghost use Rattle.table_ops.specs.Update.{may_update, ops_avoid_key, element_specs_avoid_key, default_is_object};
 ghost use Rattle.table_ops.specs.inside.TableRows.{ChangesSlotsOnly, IsPlaceWithObjects};
 ghost use Rattle.table_ops.specs.inside.Updated.{UpdatesCounterAt, UpdatesElementAt, InsertsDefaultAt};
 
@@ -48,8 +48,8 @@ impl<R: Rows> TableRows<R> {
     }
 
     /// Returns whether each value has a position that an update may name.
-    pub(crate) fn specs_avoid_key(&self, specs: &ElementSpecs) -> bool
-        ensures { result ≡ specs_avoid_key self.now.keypos specs.now }
+    pub(crate) fn element_specs_avoid_key(&self, specs: &ElementSpecs) -> bool
+        ensures { result ≡ element_specs_avoid_key self.now.keypos specs.now }
     {
         match specs {
             ElementSpecs::One(spec) => self.may_update(spec.position),
@@ -72,9 +72,9 @@ impl<R: Rows> TableRows<R> {
 
     /// Returns the place of the key's slot, if the slot has objects. `entry` is the result of a search for the key.
     pub(crate) fn place_with_objects(&self, key: &Term, entry: SlotEntry) -> Option<Place>
-        requires { IsEntry (R.content self.now.rows) (R.hash_of self.now.rows)
+        requires { IsEntry (R.slots self.now.rows) (R.hash_of self.now.rows)
             (R.key_at self.now.rows) key.now entry }
-        ensures { IsPlaceWithObjects (R.content self.now.rows) (R.key_at self.now.rows) key.now result }
+        ensures { IsPlaceWithObjects (R.slots self.now.rows) (R.key_at self.now.rows) key.now result }
     {
         let SlotEntry::Occupied(place) = entry else {
             return None;
@@ -91,9 +91,9 @@ impl<R: Rows> TableRows<R> {
         place: Place,
         ops: &Ops,
     ) -> Result<Term, CounterFault>
-        requires { HasOneObject (R.content self.old.rows) (R.key_at self.old.rows place) }
+        requires { HasOneObject (R.slots self.old.rows) (R.key_at self.old.rows place) }
         ensures slots { UpdatesCounterAt ops.now (R.key_at self.old.rows place)
-            (R.content self.old.rows) result (R.content self.new.rows) }
+            (R.slots self.old.rows) result (R.slots self.new.rows) }
         ensures keeps { ChangesSlotsOnly R.readiness self.old self.new }
     {
         match ops {
@@ -109,9 +109,9 @@ impl<R: Rows> TableRows<R> {
         place: Place,
         op: Op,
     ) -> Result<Term, CounterFault>
-        requires { HasOneObject (R.content self.old.rows) (R.key_at self.old.rows place) }
+        requires { HasOneObject (R.slots self.old.rows) (R.key_at self.old.rows place) }
         ensures slots { UpdatesCounterAt (One op) (R.key_at self.old.rows place)
-            (R.content self.old.rows) result (R.content self.new.rows) }
+            (R.slots self.old.rows) result (R.slots self.new.rows) }
         ensures keeps { ChangesSlotsOnly R.readiness self.old self.new }
     {
         let object = &self.rows.objects_at(place)[0];
@@ -124,9 +124,9 @@ impl<R: Rows> TableRows<R> {
     /// Updates counters of the only object of the slot at a place. The object is moved out of the slot for the update,
     /// and then back.
     fn update_counters_at(&mut self, place: Place, ops: &Ops) -> Result<Term, CounterFault>
-        requires { HasOneObject (R.content self.old.rows) (R.key_at self.old.rows place) }
+        requires { HasOneObject (R.slots self.old.rows) (R.key_at self.old.rows place) }
         ensures slots { UpdatesCounterAt ops.now (R.key_at self.old.rows place)
-            (R.content self.old.rows) result (R.content self.new.rows) }
+            (R.slots self.old.rows) result (R.slots self.new.rows) }
         ensures keeps { ChangesSlotsOnly R.readiness self.old self.new }
     {
         let mut object = self.rows.replace_one_at(place, Term::Int(0));
@@ -141,9 +141,9 @@ impl<R: Rows> TableRows<R> {
         place: Place,
         specs: &ElementSpecs,
     ) -> Result<(), CounterFault>
-        requires { HasOneObject (R.content self.old.rows) (R.key_at self.old.rows place) }
+        requires { HasOneObject (R.slots self.old.rows) (R.key_at self.old.rows place) }
         ensures slots { UpdatesElementAt specs.now (R.key_at self.old.rows place)
-            (R.content self.old.rows) result (R.content self.new.rows) }
+            (R.slots self.old.rows) result (R.slots self.new.rows) }
         ensures keeps { ChangesSlotsOnly R.readiness self.old self.new }
     {
         match specs {
@@ -162,11 +162,11 @@ impl<R: Rows> TableRows<R> {
         position: Position,
         value: &Term,
     ) -> Result<(), CounterFault>
-        requires { HasOneObject (R.content self.old.rows) (R.key_at self.old.rows place) }
+        requires { HasOneObject (R.slots self.old.rows) (R.key_at self.old.rows place) }
         ensures slots { UpdatesElementAt
             (elements.One (record { position = position; value = value.now }))
             (R.key_at self.old.rows place)
-            (R.content self.old.rows) result (R.content self.new.rows) }
+            (R.slots self.old.rows) result (R.slots self.new.rows) }
         ensures keeps { ChangesSlotsOnly R.readiness self.old self.new }
     {
         let object = &self.rows.objects_at(place)[0];
@@ -179,9 +179,9 @@ impl<R: Rows> TableRows<R> {
     /// Sets elements of the only object of the slot at a place. The object is moved out of the slot for the update, and
     /// then back.
     fn update_elements_at(&mut self, place: Place, specs: &ElementSpecs) -> Result<(), CounterFault>
-        requires { HasOneObject (R.content self.old.rows) (R.key_at self.old.rows place) }
+        requires { HasOneObject (R.slots self.old.rows) (R.key_at self.old.rows place) }
         ensures slots { UpdatesElementAt specs.now (R.key_at self.old.rows place)
-            (R.content self.old.rows) result (R.content self.new.rows) }
+            (R.slots self.old.rows) result (R.slots self.new.rows) }
         ensures keeps { ChangesSlotsOnly R.readiness self.old self.new }
     {
         let mut object = self.rows.replace_one_at(place, Term::Int(0));
@@ -199,10 +199,10 @@ impl<R: Rows> TableRows<R> {
         key: &Term,
         object: Term,
     ) -> Result<(), Refusal>
-        requires { IsEntry (R.content self.old.rows) (R.hash_of self.old.rows)
+        requires { IsEntry (R.slots self.old.rows) (R.hash_of self.old.rows)
             (R.key_at self.old.rows) key.now entry }
         ensures slots { InsertsDefaultAt below_limit key.now (Ok (object, tt))
-            (R.content self.old.rows) result (R.content self.new.rows) }
+            (R.slots self.old.rows) result (R.slots self.new.rows) }
         ensures keeps { ChangesSlotsOnly R.readiness self.old self.new }
     {
         if !below_limit {
@@ -214,11 +214,11 @@ impl<R: Rows> TableRows<R> {
 
     /// Inserts the first object of a key, in the key's tombstone or in a new slot.
     fn insert_first(&mut self, entry: SlotEntry, key: &Term, object: Term) -> Result<(), AllocError>
-        requires { IsEntry (R.content self.old.rows) (R.hash_of self.old.rows)
+        requires { IsEntry (R.slots self.old.rows) (R.hash_of self.old.rows)
             (R.key_at self.old.rows) key.now entry }
         ensures ok { OnOk result
-            (SetsObjects (R.content self.old.rows) key.now (object ∷ []) (R.content self.new.rows)) }
-        ensures err { OnErr result (R.content self.new.rows ≡ R.content self.old.rows) }
+            (SetsObjects (R.slots self.old.rows) key.now (object ∷ []) (R.slots self.new.rows)) }
+        ensures err { OnErr result (R.slots self.new.rows ≡ R.slots self.old.rows) }
         ensures keeps { ChangesSlotsOnly R.readiness self.old self.new }
     {
         let objects = Chain::one(self.alloc, object);

@@ -6,7 +6,7 @@ use Rattle.ets_term.specs.declared.term.Term.TheVariants.{Int, Pid, Tid, Binary}
 use Rattle.ets_term.specs.Depth.{max_depth}
 use Rattle.ets_term.specs.Character.{max_characters}
 use Rattle.term_text.specs.declared.fault.TextFault.{TextFault}
-use Rattle.term_text.specs.inside.Reader.{OpenBracket, Number, integer, pid, identifier, byte, Expect, whole, digit, after_byte, quoted, escaped, unquoted, admits, Reading, reads_on, fails, signed, max_magnitude, put, expect, take_byte, read_from}
+use Rattle.term_text.specs.inside.Reader.{OpenBracket, Number, integer, pid, identifier, byte, Expect, whole, digit, after_byte, quoted, escaped, after_quote, admits, Reading, reads_on, fails, with_sign, max_magnitude, put, expect, take_byte, read_from}
 use Rattle.term_text.specs.declared.bracket.Bracket.{Bracket}
 use Rattle.term_text.specs.declared.bracket.Bracket.TheVariants.{Square, Brace}
 use Rattle.term_text.specs.declared.quote_form.QuoteForm.{QuoteForm}
@@ -28,11 +28,11 @@ ReadsTerm text at s os (Ok x) = Reaches text at s x.1 (put os x.0 x.1)
 ReadsTerm text at s os (Err f) = ReaderFails f (read_from at s (drop at text))
 
 -- after the digits of a number, which end before the byte at offset `n`
-abbrev pub counted : ℕ → Number → ℕ → List OpenBracket → Reading
-counted n (integer below) v os = put os (Int (signed below v)) n
-counted n pid v os = expect n (codes ".0>") (whole (Pid v)) os
-counted n identifier v os = expect n (codes ">") (whole (Tid v)) os
-counted n (byte bs) v os = reads_on (after_byte (bs ++ v ∷ [])) os
+abbrev pub after_digits : ℕ → Number → ℕ → List OpenBracket → Reading
+after_digits n (integer below) v os = put os (Int (with_sign below v)) n
+after_digits n pid v os = expect n (codes ".0>") (whole (Pid v)) os
+after_digits n identifier v os = expect n (codes ">") (whole (Tid v)) os
+after_digits n (byte bs) v os = reads_on (after_byte (bs ++ v ∷ [])) os
 
 -- the offset after the digits that begin at offset `at`
 abbrev pub digits_end : List ℕ → ℕ → ℕ
@@ -42,7 +42,7 @@ digits_end text at = at + prefix_len is_digit (drop at text)
 abbrev pub ReadsNumber : List ℕ → ℕ → ℕ → ℕ → Result (ℕ × ℕ) TextFault → Type 0
 ReadsNumber text at start limit (Ok x) =
     (kind : Number) (os : List OpenBracket) → limit ≡ max_magnitude kind
-    → Reaches text at (reads_on (digit kind start) os) x.1 (counted x.1 kind x.0 os)
+    → Reaches text at (reads_on (digit kind start) os) x.1 (after_digits x.1 kind x.0 os)
 ReadsNumber text at start limit (Err f) =
     (kind : Number) (os : List OpenBracket) → limit ≡ max_magnitude kind
     → ReaderFails f (read_from at (reads_on (digit kind start) os) (drop at text))
@@ -101,7 +101,7 @@ ReadsCharacter text at q out_of_levels n (Err f) =
 abbrev pub ReadsQuoted : List ℕ → ℕ → QuoteForm → Bool → Result (List ℕ × ℕ) TextFault → Type 0
 ReadsQuoted text at q out_of_levels (Ok x) =
     (os : List OpenBracket) → IsOutOfLevels q out_of_levels os
-    → Reaches text at (reads_on (quoted q []) os) x.1 (unquoted x.1 q x.0 os)
+    → Reaches text at (reads_on (quoted q []) os) x.1 (after_quote x.1 q x.0 os)
 ReadsQuoted text at q out_of_levels (Err f) =
     (os : List OpenBracket) → IsOutOfLevels q out_of_levels os
     → ReaderFails f (read_from at (reads_on (quoted q []) os) (drop at text))

@@ -8,7 +8,7 @@ use Rattle.term_text.specs.declared.fault.TextFault.{TextFault}
 use Rattle.term_text.specs.declared.fault.TextFault.TheVariants.{Unexpected, Unclosed, OutOfRange, TooDeep, AtomTooLong}
 use Rattle.term_text.specs.declared.quote_form.QuoteForm.{QuoteForm}
 use Rattle.term_text.specs.declared.quote_form.QuoteForm.TheVariants as form
-pub use Rattle.term_text.specs.Forms.{OpenBracket, Number, integer, pid, identifier, byte, signed, size, max_magnitude, bracket, code}
+pub use Rattle.term_text.specs.Forms.{OpenBracket, Number, integer, pid, identifier, byte, with_sign, magnitude, max_magnitude, bracket, code}
 use Rattle.term_text.specs.Text.{apostrophe, quotation_mark, is_blank, is_digit, is_name, closes, begins_term}
 
 -- what must follow some fixed signs
@@ -89,9 +89,9 @@ next_unless_found at (found t n) b = found t n
 next_unless_found at (fails f) b = fails f
 
 -- the first byte in a bracket
-abbrev pub next_opened : ℕ → List OpenBracket → ℕ → Reading
-next_opened at [] b = begin at [] b
-next_opened at (o ∷ os) b = if closes o.square b then put os (bracket o) (at + 1) else begin at (o ∷ os) b
+abbrev pub next_in_bracket : ℕ → List OpenBracket → ℕ → Reading
+next_in_bracket at [] b = begin at [] b
+next_in_bracket at (o ∷ os) b = if closes o.square b then put os (bracket o) (at + 1) else begin at (o ∷ os) b
 
 -- the signs after the bytes of a binary
 abbrev pub binary_ends : ℕ → List ℕ → List OpenBracket → ℕ → Reading
@@ -104,7 +104,7 @@ next_after_byte at bs os b = if is_blank b then reads_on (after_byte bs) os
 
 -- the byte after the digits of a number
 abbrev pub next_after_number : ℕ → Number → ℕ → List OpenBracket → ℕ → Reading
-next_after_number at (integer below) n os b = next_unless_found at (put os (Int (signed below n)) at) b
+next_after_number at (integer below) n os b = next_unless_found at (put os (Int (with_sign below n)) at) b
 next_after_number at pid n os b = next_sign at (codes ".0>") (whole (Pid n)) os b
 next_after_number at identifier n os b = next_sign at (codes ">") (whole (Tid n)) os b
 next_after_number at (byte bs) n os b = next_after_byte at (bs ++ n ∷ []) os b
@@ -125,10 +125,10 @@ quote form.String = quotation_mark
 quote form.Binary = quotation_mark
 
 -- after the closing quote and n bytes; a string is the list of its characters' codes
-abbrev pub unquoted : ℕ → QuoteForm → List ℕ → List OpenBracket → Reading
-unquoted n (form.Atom start) cs os = put os (Atom cs) n
-unquoted n form.String cs os = put os (ListOf (map code cs)) n
-unquoted n form.Binary cs os = reads_on (after_string cs) os
+abbrev pub after_quote : ℕ → QuoteForm → List ℕ → List OpenBracket → Reading
+after_quote n (form.Atom start) cs os = put os (Atom cs) n
+after_quote n form.String cs os = put os (ListOf (map code cs)) n
+after_quote n form.Binary cs os = reads_on (after_string cs) os
 
 -- the first byte of a further character after n others: an atom has at most max_characters, and the characters of a
 -- string are one level further in
@@ -137,22 +137,22 @@ admits at (form.Atom start) n os s = if n == max_characters then fails (AtomTooL
 admits at form.String n os s = if nat_le (max_depth - 1) (length os) then fails (TooDeep at) else s
 admits at form.Binary n os s = s
 
-abbrev pub next_quoted : ℕ → QuoteForm → List ℕ → List OpenBracket → ℕ → Reading
-next_quoted at q cs os b = if b == quote q then unquoted (at + 1) q cs os
+abbrev pub next_in_quotes : ℕ → QuoteForm → List ℕ → List OpenBracket → ℕ → Reading
+next_in_quotes at q cs os b = if b == quote q then after_quote (at + 1) q cs os
     else if b == 92 then admits at q (length cs) os (reads_on (escaped q cs) os)
     else if is_character b then admits at q (length cs) os (reads_on (quoted q (cs ++ b ∷ [])) os)
     else fails (Unexpected at)
 
 abbrev pub next : ℕ → Mode → List OpenBracket → ℕ → Reading
 next at (wants opened) os b = if is_blank b then reads_on (wants opened) os
-    else if opened then next_opened at os b
+    else if opened then next_in_bracket at os b
     else begin at os b
 next at (digit kind start) os b = next_digit at kind start os b
 next at (number kind start n) os b = next_number at kind start n os b
 next at (name start cs) os b = if is_name b
     then (if length cs == max_characters then fails (AtomTooLong start) else reads_on (name start (cs ++ b ∷ [])) os)
     else next_unless_found at (put os (Atom cs) at) b
-next at (quoted q cs) os b = next_quoted at q cs os b
+next at (quoted q cs) os b = next_in_quotes at q cs os b
 next at (escaped q cs) os b = if (b == quote q) || (b == 92)
     then reads_on (quoted q (cs ++ b ∷ [])) os
     else fails (Unexpected at)
@@ -176,15 +176,15 @@ take_byte at (found t n) b = found t n
 take_byte at (fails f) b = fails f
 
 -- the end of the text after a term
-abbrev pub closed : ℕ → Reading → Reading
-closed at (reads_on mode os) = fails (Unclosed at)
-closed at (found t n) = found t n
-closed at (fails f) = fails f
+abbrev pub end_after_term : ℕ → Reading → Reading
+end_after_term at (reads_on mode os) = fails (Unclosed at)
+end_after_term at (found t n) = found t n
+end_after_term at (fails f) = fails f
 
 -- the end of the text, where an integer or a name may end
 abbrev pub ending : ℕ → Mode → List OpenBracket → Reading
-ending at (number (integer below) start n) os = closed at (put os (Int (signed below n)) at)
-ending at (name start cs) os = closed at (put os (Atom cs) at)
+ending at (number (integer below) start n) os = end_after_term at (put os (Int (with_sign below n)) at)
+ending at (name start cs) os = end_after_term at (put os (Atom cs) at)
 ending at mode os = fails (Unclosed at)
 
 abbrev pub end : ℕ → Reading → Reading

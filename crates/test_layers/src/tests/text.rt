@@ -90,7 +90,7 @@ fn first_mismatch(
 }
 
 /// Each row is a text and its wanted result: the printed term and the bytes that it takes, or the syntax error with its
-/// offset. The texts begin with a digit, a minus, a letter or a single quote, or are blank.
+/// offset. The texts begin with a digit, a minus, a letter or a single quote, perhaps after a space, or are blank.
 const NUMBERS_AND_ATOMS: [(&str, Reading); 26] = [
     ("007 ", Reads("7", Bytes(3))),
     ("-0", Reads("0", Bytes(2))),

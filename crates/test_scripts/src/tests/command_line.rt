@@ -1,7 +1,7 @@
-//! Command lines of the program. `settings` parses `--threads`, `--hash` and `--max-objects`. `request` also parses the
-//! other options, such as the limits of processes and tables.
+//! Command lines of the program. `settings` parses `--threads`, `--hash` and `--max-objects`. `parse_options` also parses
+//! the other options, such as the limits of processes and tables.
 use clap::error::ErrorKind;
-use ets_script::{request, settings};
+use ets_script::{parse_options, settings};
 use node_core::Limits;
 use std::alloc::Global;
 
@@ -153,12 +153,12 @@ struct Tables(u32);
 #[derive(Clone, Copy, PartialEq, Eq)]
 struct Objects(u32);
 
-/// The limits that `request` parses.
+/// The limits that `parse_options` parses.
 type ParsedLimits = (Processes, Tables, Objects);
 
-/// Returns the limits that `request` parses from these words, or the kind of the refusal.
+/// Returns the limits that `parse_options` parses from these words, or the kind of the refusal.
 fn parse_limits(alloc: Global, words: &[&str]) -> Result<ParsedLimits, ErrorKind> {
-    match request(alloc, words) {
+    match parse_options(alloc, words) {
         Ok(parsed) => Ok((
             Processes(parsed.processes),
             Tables(parsed.tables),
@@ -168,7 +168,7 @@ fn parse_limits(alloc: Global, words: &[&str]) -> Result<ParsedLimits, ErrorKind
     }
 }
 
-/// Parses words that `request` accepts. A row is the words of a command line, and the limits that they set.
+/// Parses words that `parse_options` accepts. A row is the words of a command line, and the limits that they set.
 #[test]
 fn words_have_their_limits(rt: HostRuntime) {
     let alloc = rt.alloc();
@@ -223,8 +223,8 @@ fn words_have_their_limits(rt: HostRuntime) {
     }
 }
 
-/// Parses words that `request` refuses. A row is the words of a command line, and the kind of the refusal. At the end,
-/// `settings` refuses an option that only `request` has.
+/// Parses words that `parse_options` refuses. A row is the words of a command line, and the kind of the refusal. At the
+/// end, `settings` refuses an option that only `parse_options` has.
 #[test]
 fn wrong_limits_are_refused(rt: HostRuntime) {
     let alloc = rt.alloc();

@@ -186,7 +186,7 @@ fn new_server_replies_to_reads<B: HistoryId, R: Wait>(
     history: NewHistory,
     limits: Limits,
 ) -> Option<bool>
-    requires table { history.word.shared.table_id ≡ B.table }
+    requires table { history.word.shared.table_id ≡ B.word }
     requires limits { limits ≡ B.limits }
 {
     let server = Server::<B, Fnv>::new(alloc, locking, history, limits, Fnv).ok()?;

@@ -124,7 +124,7 @@ fn new_server_serves_one_caller<B: HistoryId, R: Wait>(
     history: NewHistory,
     limits: Limits,
 ) -> Option<bool>
-    requires table { history.word.shared.table_id ≡ B.table }
+    requires table { history.word.shared.table_id ≡ B.word }
     requires limits { limits ≡ B.limits }
 {
     let server = Server::<B, Fnv>::new(alloc, Locking::Single, history, limits, Fnv).ok()?;
@@ -233,7 +233,7 @@ fn objects_of_new_server<B: HistoryId + Send + Sync, R: Threads + Wait + Sync>(
     history: NewHistory,
     limits: Limits,
 ) -> Option<u64>
-    requires table { history.word.shared.table_id ≡ B.table }
+    requires table { history.word.shared.table_id ≡ B.word }
     requires limits { limits ≡ B.limits }
 {
     let server = Server::<B, Fnv>::new(alloc, Locking::Sharded, history, limits, Fnv).ok()?;

@@ -29,7 +29,7 @@ impl<H: KeyHash + Copy + Drop> SplitIndex<H> {
             }
             let before = parent(at);
             // The law does nothing at run time. It gives the proof that the number falls, so the loop ends.
-            laws::parent_stands_before(at, before);
+            laws::parent_comes_before(at, before);
             at = before;
         }
     }

@@ -1,4 +1,5 @@
-//! When a bucket becomes ready, one scan sets all its hints, and another sets those of its parent if that is ready. The
+//! When a bucket becomes ready, one scan sets its hints, and another sets those of its parent if that is ready. Hints
+//! past the end of the list of hints stay unknown. The
 //! parent is the bucket that a doubling split to create this bucket. A hint caches the place of the first item of an
 //! interval.
 
@@ -39,7 +40,8 @@ impl<H: KeyHash + Copy + Drop> SplitIndex<H> {
         }
     }
 
-    /// Rebuilds the hints of a ready bucket by one scan. All are set to empty first, and then to the first items.
+    /// Rebuilds the hints of a ready bucket by one scan. Those that the list of hints has are set to empty first, and
+    /// then to the first items.
     fn rebuild_hints(&mut self, bucket: u32, start: At)
         requires rows { RowsInvariant H.hash self.old }
         requires start { get_or self.old.directory bucket None ≡ Some start }
@@ -60,6 +62,7 @@ impl<H: KeyHash + Copy + Drop> SplitIndex<H> {
             if interval >= end {
                 return;
             }
+            // (The next dummy is at or past `end`; this test spares a proof of it.)
             if split_key % 2 != 1 {
                 return;
             }

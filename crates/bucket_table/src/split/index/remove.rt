@@ -4,7 +4,7 @@
 ghost use Rattle.std.specs.Prelude.{◌≡◌, ◌+◌, ◌/◌, ◌^◌, Some, None, length, get_or, option_map};
 ghost use Rattle.node_list.specs.Cells.{new_item};
 ghost use Rattle.node_list.specs.Changes.{without};
-ghost use Rattle.node_list.specs.Places.{HasItem, cells_after, item_at, key_at};
+ghost use Rattle.node_list.specs.Places.{HasItem, cells_after, item_at, split_key_at};
 ghost use Rattle.bucket_table.specs.inside.SplitIndex.{RowsInvariant, KeepsDirectory};
 
 use super::SplitIndex;
@@ -62,7 +62,7 @@ impl<H: KeyHash + Copy + Drop> SplitIndex<H> {
         ensures rows { RowsInvariant H.hash self.new }
         ensures keeps { KeepsDirectory self.old self.new }
         ensures list { self.new.list ≡ self.old.list }
-        ensures key { key_at at self.old.list.cells ≡ Some result }
+        ensures key { split_key_at at self.old.list.cells ≡ Some result }
         ensures rehashed { get_or self.new.hints.previous (result / 2 ^ self.new.hints.interval_bits / 2) None
             ≡ None }
     {
@@ -75,7 +75,7 @@ impl<H: KeyHash + Copy + Drop> SplitIndex<H> {
     fn start_before(&self, split_key: u64, at: At) -> At
         requires rows { RowsInvariant H.hash self.now }
         requires item { HasItem at self.now.list.cells }
-        requires key { key_at at self.now.list.cells ≡ Some split_key }
+        requires key { split_key_at at self.now.list.cells ≡ Some split_key }
         ensures { HasItem at (cells_after result self.now.list.cells) }
     {
         self.list.reveal_invariant();
@@ -86,7 +86,7 @@ impl<H: KeyHash + Copy + Drop> SplitIndex<H> {
     fn remove_rehashed(&mut self, split_key: u64, start: At, at: At) -> (Term, Chain)
         requires rows { RowsInvariant H.hash self.old }
         requires item { HasItem at (cells_after start self.old.list.cells) }
-        requires key { key_at at self.old.list.cells ≡ Some split_key }
+        requires key { split_key_at at self.old.list.cells ≡ Some split_key }
         requires rehashed { get_or self.old.hints.previous (split_key / 2 ^ self.old.hints.interval_bits / 2) None
             ≡ None }
         ensures rows { RowsInvariant H.hash self.new }
@@ -107,7 +107,7 @@ impl<H: KeyHash + Copy + Drop> SplitIndex<H> {
     fn delete_rehashed(&mut self, split_key: u64, start: At, at: At) -> usize
         requires rows { RowsInvariant H.hash self.old }
         requires item { HasItem at (cells_after start self.old.list.cells) }
-        requires key { key_at at self.old.list.cells ≡ Some split_key }
+        requires key { split_key_at at self.old.list.cells ≡ Some split_key }
         requires rehashed { get_or self.old.hints.previous (split_key / 2 ^ self.old.hints.interval_bits / 2) None
             ≡ None }
         ensures rows { RowsInvariant H.hash self.new }

@@ -3,7 +3,7 @@
 
 ghost use Rattle.std.specs.Prelude.{◌≡◌, ℕ, ◌<◌, ◌^◌, IfSome, length};
 ghost use Rattle.split_key.specs.Keys.{key_of_item, key_of_dummy};
-ghost use Rattle.node_list.specs.Places.{HasKeyAtMost};
+ghost use Rattle.node_list.specs.Places.{HasSplitKeyAtMost};
 ghost use Rattle.bucket_table.specs.inside.Directory.{HasKeyBelow};
 ghost use Rattle.bucket_table.specs.inside.SplitIndex.{RowsInvariant};
 
@@ -67,7 +67,7 @@ impl<H: KeyHash + Copy + Drop> SplitIndex<H> {
     pub fn dummy_start(&self, bucket: u32) -> At
         requires rows { RowsInvariant H.hash self.now }
         requires below { bucket < length self.now.directory }
-        ensures { HasKeyAtMost (key_of_dummy bucket) result self.now.list.cells }
+        ensures { HasSplitKeyAtMost (key_of_dummy bucket) result self.now.list.cells }
     {
         self.list.reveal_invariant();
         let split_key = dummy_key(bucket);

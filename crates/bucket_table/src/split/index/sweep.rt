@@ -6,9 +6,9 @@ ghost use Rattle.node_list.specs.Places.{IsPlaceOf, place_after};
 ghost use Rattle.bucket_table.specs.declared.split.sweep.SweepMode.TheVariants.{RemoveTombstones};
 ghost use Rattle.bucket_table.specs.inside.Nodes.{slots_of};
 ghost use Rattle.bucket_table.specs.inside.SplitIndex.{RowsInvariant, KeepsDirectory};
-ghost use Rattle.bucket_table.specs.inside.Sweeps.{Sweeps, swept, SweepsNext, IsActionFor};
+ghost use Rattle.bucket_table.specs.inside.Sweeps.{Sweeps, after_sweep, SweepsNext, IsActionFor};
 ghost use Rattle.bucket_table.specs.inside.TombstoneLog.{TombstonesAreAmong};
-ghost use Rattle.bucket_table.specs.Slots.{purged};
+ghost use Rattle.bucket_table.specs.Slots.{without_tombstones};
 
 use super::SplitIndex;
 use crate::split::sweep::{NodeAction, SweepMode};
@@ -70,7 +70,8 @@ impl<H: KeyHash + Copy + Drop> SplitIndex<H> {
         requires rows { RowsInvariant H.hash self.old }
         ensures rows { RowsInvariant H.hash self.new }
         ensures keeps { KeepsDirectory self.old self.new }
-        ensures purged { purged (slots_of self.new.list.cells) ≡ purged (slots_of self.old.list.cells) }
+        ensures purged { without_tombstones (slots_of self.new.list.cells)
+            ≡ without_tombstones (slots_of self.old.list.cells) }
         ensures each { Sweeps RemoveTombstones self.old.list.cells self.new.list.cells }
         ensures tombstones { (others : List ℕ)
             → TombstonesAreAmong (H.hash self.old.hasher) (hash ∷ others) (slots_of self.old.list.cells)
@@ -94,7 +95,7 @@ impl<H: KeyHash + Copy + Drop> SplitIndex<H> {
         requires logged { TombstonesAreAmong (H.hash self.old.hasher) hashes.old.items (slots_of self.old.list.cells) }
         ensures rows { RowsInvariant H.hash self.new }
         ensures keeps { KeepsDirectory self.old self.new }
-        ensures slots { slots_of self.new.list.cells ≡ purged (slots_of self.old.list.cells) }
+        ensures slots { slots_of self.new.list.cells ≡ without_tombstones (slots_of self.old.list.cells) }
         ensures each { Sweeps RemoveTombstones self.old.list.cells self.new.list.cells }
     {
         while let Some(hash) = hashes.pop() {
@@ -107,7 +108,7 @@ impl<H: KeyHash + Copy + Drop> SplitIndex<H> {
         requires rows { RowsInvariant H.hash self.old }
         ensures rows { RowsInvariant H.hash self.new }
         ensures keeps { KeepsDirectory self.old self.new }
-        ensures slots { slots_of self.new.list.cells ≡ swept mode (slots_of self.old.list.cells) }
+        ensures slots { slots_of self.new.list.cells ≡ after_sweep mode (slots_of self.old.list.cells) }
         ensures each { Sweeps mode self.old.list.cells self.new.list.cells }
     {
         let mut at = self.list.head();

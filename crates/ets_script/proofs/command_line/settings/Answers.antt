@@ -1,6 +1,6 @@
 use Rattle.std.proofs.Common.{arith, ap, codes, List, map, refl, subst}
 use Rattle.clap.specs.Words.{App, Row, app_of, fault_of}
-use Rattle.ets_script.specs.CommandLine.{Asks, command_line}
+use Rattle.ets_script.specs.CommandLine.{AreSettings, command_line}
 use Rattle.ets_script.proofs.CommandLine.{parse-no_fault, faults, has_number, lacks-memory, parse-fault, rows, unanswered}
 use Rattle.ets_script.proofs.command_line.settings.Goals as goal
 
@@ -37,5 +37,5 @@ returns g c =
       hashes = given.0;
       names = given.1;
       faults = parse-no_fault _ c.try_get_matches_from.result matches known c.in_ok-matches.was;
-      settings = subst (λ (rs : List Row). Asks rs c.settings_of.result) found (c.settings_of.ensures objects);
+      settings = subst (λ (rs : List Row). AreSettings rs c.settings_of.result) found (c.settings_of.ensures objects);
     }

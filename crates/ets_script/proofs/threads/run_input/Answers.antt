@@ -2,15 +2,15 @@ use Rattle.std.proofs.Common.{ap, ◌∙◌, subst, arith}
 use Rattle.ets_script.specs.Plan.{empty_plan, lines_plan}
 use Rattle.ets_script.specs.Threads.{RunsJobs}
 use Rattle.ets_script.specs.inside.PlanCodes.{LimitedPlanState}
-use Rattle.ets_script.specs.inside.Processes.{Stops}
+use Rattle.ets_script.specs.inside.Processes.{StopsBeforeOutput}
 use Rattle.ets_script.proofs.Clients.{as-many, fault-of-err, unplanned}
 use Rattle.ets_script.proofs.threads.run_input.Goals as goal
 
 pub returns-in_err-plan-clause-err : goal.returns-in_err-plan-clause-err
-returns-in_err-plan-clause-err g c = fault-of-err (Stops c.args.settings.limits) c.from_residual.result _ c.from_residual.ensures.1 (unplanned c.args.settings.limits _ c.in_err-plan.ensures.err)
+returns-in_err-plan-clause-err g c = fault-of-err (StopsBeforeOutput c.args.settings.limits) c.from_residual.result _ c.from_residual.ensures.1 (unplanned c.args.settings.limits _ c.in_err-plan.ensures.err)
 
 pub returns-in_err-run-clause-err : goal.returns-in_err-run-clause-err
-returns-in_err-run-clause-err g c = fault-of-err (Stops c.args.settings.limits) c.from_residual-in_err-run.result _ c.from_residual-in_err-run.ensures.1 c.in_err-run.ensures.err
+returns-in_err-run-clause-err g c = fault-of-err (StopsBeforeOutput c.args.settings.limits) c.from_residual-in_err-run.result _ c.from_residual-in_err-run.ensures.1 c.in_err-run.ensures.err
 
 pub returns-clause-ok : goal.returns-clause-ok
 returns-clause-ok g c =

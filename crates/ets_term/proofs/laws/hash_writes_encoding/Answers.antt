@@ -1,5 +1,5 @@
-use Rattle.ets_term.proofs.Joined.{joined-writes}
+use Rattle.ets_term.proofs.Joined.{concat-writes}
 use Rattle.ets_term.proofs.laws.hash_writes_encoding.Goals as goal
 
 pub returns : goal.returns
-returns c = joined-writes c.args.term.now
+returns c = concat-writes c.args.term.now

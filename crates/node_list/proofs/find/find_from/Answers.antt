@@ -2,7 +2,7 @@ use Rattle.std.proofs.Common.{◌≡◌, ℕ, ◌^◌, ◌<◌, Option, ◌∷�
 use Rattle.std.proofs.lemmas.Bool.Decides.{nat_tests}
 use Rattle.slab.specs.Slab.{get, slab_len}
 use Rattle.node_list.specs.Cells.{Sorted}
-use Rattle.node_list.specs.Search.{place_of, passed, is_it}
+use Rattle.node_list.specs.Search.{place_of, visited_cells, is_it}
 use Rattle.node_list.specs.inside.NodeRef.{node_of_ref}
 use Rattle.node_list.specs.Ticks.{ticks}
 use Rattle.node_list.specs.inside.Walks.{cells_from, IsLinked, cell_of}
@@ -82,9 +82,9 @@ loop-at-preserved c =
       found = ap (λ (z : Option ℕ). place_of c.args.split_key c.args.term.now (cells_from c.args.nodes.nodes.now z)) c.get-at.ensures ∙ (sym f.found ∙ found);
       in_range = λ _. subst R (sym c.read-node.ensures.ticks) (tick-in_range c.loop-at.steps);
       ticked =
-          ap (λ (z : Option ℕ). ticks (length (passed c.args.split_key c.args.term.now (cells_from c.args.nodes.nodes.now z))) c.read-node.new.steps) c.get-at.ensures
-          ∙ (ap (ticks (length (passed c.args.split_key c.args.term.now (cells_from c.args.nodes.nodes.now (node_of_ref c.read-node.result).next)))) c.read-node.ensures.ticks
-          ∙ (sym (tick-on c.loop-at.steps (length (passed c.args.split_key c.args.term.now (cells_from c.args.nodes.nodes.now (node_of_ref c.read-node.result).next)))) ∙ ticked));
+          ap (λ (z : Option ℕ). ticks (length (visited_cells c.args.split_key c.args.term.now (cells_from c.args.nodes.nodes.now z))) c.read-node.new.steps) c.get-at.ensures
+          ∙ (ap (ticks (length (visited_cells c.args.split_key c.args.term.now (cells_from c.args.nodes.nodes.now (node_of_ref c.read-node.result).next)))) c.read-node.ensures.ticks
+          ∙ (sym (tick-on c.loop-at.steps (length (visited_cells c.args.split_key c.args.term.now (cells_from c.args.nodes.nodes.now (node_of_ref c.read-node.result).next)))) ∙ ticked));
     }
 
 pub returns-clause-found : goal.returns-clause-found

@@ -6,7 +6,7 @@ use Rattle.ownership.specs.World.{Tables, metadata_of}
 use Rattle.node_core.specs.declared.call_name.CallName.{CallName}
 use Rattle.node_core.proofs.calls.Arguments.{three, four}
 use Rattle.node_reasons.specs.Reasons.{table_of_term}
-use Rattle.node_reasons.specs.inside.LastRuleOfCalls.{fixed_of, content_in, last_rule_of_known}
+use Rattle.node_reasons.specs.inside.LastRuleOfCalls.{state_of, content_in, last_rule_of_known}
 use Rattle.node_reasons.proofs.calls.last_rule_of_call.Goals as goal
 
 one : {X : Type 0} (xs : List X) (x : X) → 1 ≤ length xs → length xs < 2 → x ≡ get_or xs 0 x → xs ≡ x ∷ []
@@ -22,8 +22,8 @@ two (a ∷ b ∷ c ∷ xs) x y h k e f = absurd (omega (arith, k))
 
 -- the table that is found is that of the first argument
 found : (ts : Tables) (name : CallName) (rest : List Term) {p q : ℕ} {x y : Term} {metadata : Option Metadata} {fixed : Option TableState}
-    → q ≡ p → y ≡ x → metadata ≡ metadata_of (table_of_term ts x) → fixed ≡ fixed_of (table_of_term ts x)
-    → last_rule_of_known q metadata (content_in fixed) name (y ∷ rest) ≡ last_rule_of_known p (metadata_of (table_of_term ts x)) (content_in (fixed_of (table_of_term ts x))) name (x ∷ rest)
+    → q ≡ p → y ≡ x → metadata ≡ metadata_of (table_of_term ts x) → fixed ≡ state_of (table_of_term ts x)
+    → last_rule_of_known q metadata (content_in fixed) name (y ∷ rest) ≡ last_rule_of_known p (metadata_of (table_of_term ts x)) (content_in (state_of (table_of_term ts x))) name (x ∷ rest)
 found ts name rest a b d e = λ i. last_rule_of_known (a i) (d i) (content_in (e i)) name (b i ∷ rest)
 
 pub returns-in-len1 : goal.returns-in-len1

@@ -1,11 +1,11 @@
 use Rattle.std.proofs.Common.{◌≡◌, ◌≤◌, ◌+◌, ◌-◌, length, drop}
 use Rattle.std.specs.List.{prefix_len}
-use Rattle.term_text.specs.Text.{is_digit, spelled}
+use Rattle.term_text.specs.Text.{is_digit, value_of_digits}
 use Rattle.term_text.proofs.number.short_digits_at.Given as goal
 
 abbrev pub invariant-loop-offset : goal.invariant-loop-offset
 invariant-loop-offset l = record {
-  value : spelled l.n (drop l.offset l.text) ≡ spelled 0 (drop l.at l.text);
+  value : value_of_digits l.n (drop l.offset l.text) ≡ value_of_digits 0 (drop l.at l.text);
   end : l.offset + prefix_len is_digit (drop l.offset l.text) ≡ l.at + prefix_len is_digit (drop l.at l.text);
   within : l.offset ≤ length l.text;
 }

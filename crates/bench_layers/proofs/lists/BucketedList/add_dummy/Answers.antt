@@ -8,7 +8,7 @@ use Rattle.bench_layers.proofs.lists.BucketedList.add_dummy.Goals as goal
 
 pub insert_dummy-at-requires-clause-start : goal.insert_dummy-at-requires-clause-start
 insert_dummy-at-requires-clause-start c =
-    read-has_key_at_most c.parent-parent_bucket.result c.index-start.result.now (vec_len c.args.self.now.dummies) c.dummy_key.result c.args.self.now.dummies.items c.args.self.now.list.cells c.index-start.ensures (omega (arith, c.parent_stands_before.ensures.below, c.len-bucket.ensures)) c.args.self.now.dummies.ok.0 c.requires.dummies (omega (arith, c.dummy_key.ensures, c.parent_stands_before.ensures.before))
+    read-has_key_at_most c.parent-parent_bucket.result c.index-start.result.now (vec_len c.args.self.now.dummies) c.dummy_key.result c.args.self.now.dummies.items c.args.self.now.list.cells c.index-start.ensures (omega (arith, c.parent_comes_before.ensures.below, c.len-bucket.ensures)) c.args.self.now.dummies.ok.0 c.requires.dummies (omega (arith, c.dummy_key.ensures, c.parent_comes_before.ensures.before))
 
 pub returns-clause-dummies : goal.returns-clause-dummies
 returns-clause-dummies c =

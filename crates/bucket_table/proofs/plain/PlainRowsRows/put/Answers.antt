@@ -2,7 +2,8 @@ use Rattle.std.proofs.Common.{◌≡◌, ◌<◌, ◌++◌, ◌∷◌, [], List,
 use Rattle.std.proofs.lemmas.List.{append-nil}
 use Rattle.std.specs.Vec.Iter.{into_iter_items}
 use Rattle.indexmap.specs.IndexMap.{spare}
-use Rattle.bucket_table.specs.Slots.{Slot, EnterAll}
+use Rattle.bucket_table.specs.Slots.{Slot}
+use Rattle.bucket_table.specs.Rows.{EnterAll}
 use Rattle.bucket_table.proofs.slots.Index.{still-new, enter-all}
 use Rattle.bucket_table.proofs.plain.PlainRowsRows.put.Goals as goal
 

@@ -1,7 +1,7 @@
 use Rattle.std.proofs.Common.{Some, option_copied, option_map, is_some, map, sym, ◌∙◌, ap, subst}
 use Rattle.node_list.specs.declared.node.Item.{Item}
 use Rattle.bucket_table.specs.Slots.{objects_of}
-use Rattle.bucket_table.specs.Buckets.{HasLooked}
+use Rattle.bucket_table.specs.Visits.{HasLooked}
 use Rattle.bucket_table.specs.SplitRowsState.{SplitRowsState}
 use Rattle.bucket_table.proofs.list.Content.{found-at}
 use Rattle.bucket_table.proofs.order.Read.{objects-same, looked-there}

@@ -4,7 +4,7 @@ use Rattle.bucket_table.specs.SplitRowsState.{SplitRowsState}
 use Rattle.bucket_table.specs.inside.Directory.{IsFirstUnready}
 use Rattle.bucket_table.specs.inside.Nodes.{slots_of}
 use Rattle.bucket_table.specs.inside.TombstoneLog.{TombstonesAreAmong}
-use Rattle.bucket_table.specs.inside.Sweeps.{swept}
+use Rattle.bucket_table.specs.inside.Sweeps.{after_sweep}
 use Rattle.bucket_table.proofs.sweep.Log.{among-swept}
 use Rattle.bucket_table.proofs.sweep.Order.{content-swept}
 use Rattle.bucket_table.proofs.split.SplitRows.sweep_slots.Goals as goal
@@ -29,7 +29,7 @@ invariant_of-self g c =
 pub returns-clause-slots : goal.returns-clause-slots
 returns-clause-slots g c =
     content-swept c.args.mode c.self.inside.index.list.cells c.sweep_all.new.self.list.cells c.sweep_all.ensures.each.alike c.sweep_all.ensures.slots
-    ∙ ap (λ (v : SplitRowsState g.row.H.Denot). swept c.args.mode v.slots) c.self.view_is
+    ∙ ap (λ (v : SplitRowsState g.row.H.Denot). after_sweep c.args.mode v.slots) c.self.view_is
 
 pub returns-clause-hasher : goal.returns-clause-hasher
 returns-clause-hasher g c = c.sweep_all.ensures.keeps.hasher ∙ ap (λ (v : SplitRowsState g.row.H.Denot). v.hasher) c.self.view_is

@@ -1,5 +1,5 @@
 use Rattle.std.proofs.Common.{subst}
-use Rattle.fixed_walk.specs.Fixes.{AreCounted}
+use Rattle.fixed_walk.specs.Invariants.{AreCounted}
 use Rattle.fixed_walk.proofs.CountLaws.{fixed-by-some}
 use Rattle.fixed_walk.proofs.fixes.Fixes.reveal_invariant.Goals as goal
 

@@ -11,7 +11,7 @@ pub returns-clause-ok : goal.returns-clause-ok
 returns-clause-ok g c =
     let rows = c.rows-rows.result.now in
     let key_at = g.R.Rows.key_at rows in
-    let slots = g.R.Rows.content rows in
+    let slots = g.R.Rows.slots rows in
     let key = c.args.key.now in
     let is : slots ≡ c.args.self.now.content.slots = c.rows-rows.ensures.slots ∙ ap (λ (t : TableState). t.content.slots) c.self.view_is in
     let key_is = next-answer key_at slots key (key_at c.in-Some.place) c.next_place.result c.reveal_invariant.ensures c.in-Some.ensures.0 c.next_place.ensures in
@@ -20,4 +20,4 @@ returns-clause-ok g c =
 pub returns-in_default-clause-err : goal.returns-in_default-clause-err
 returns-in_default-clause-err g c =
     let is = c.rows-rows.ensures.slots ∙ ap (λ (t : TableState). t.content.slots) c.self.view_is in
-    subst (λ (zs : List Slot). next_slot zs c.args.key.now ≡ None) is (next-absent (g.R.Rows.content c.rows-rows.result.now) c.args.key.now c.in_default.ensures)
+    subst (λ (zs : List Slot). next_slot zs c.args.key.now ≡ None) is (next-absent (g.R.Rows.slots c.rows-rows.result.now) c.args.key.now c.in_default.ensures)

@@ -1,6 +1,7 @@
 use Rattle.std.proofs.Common.{◌≡◌, false, sym, subst, ◌∙◌}
 use Rattle.fixed_walk.specs.Fixes.{is_fixed}
-use Rattle.fixed_walk.specs.TableState.{TableState, TombstonesOnlyWhileFixed}
+use Rattle.fixed_walk.specs.TableState.{TableState}
+use Rattle.fixed_walk.specs.Invariants.{TombstonesOnlyWhileFixed}
 use Rattle.fixed_walk.proofs.TombstoneLaws.{free-release_all}
 use Rattle.fixed_walk.proofs.walked.Walked.release_all.Goals as goal
 

@@ -6,13 +6,13 @@ use Rattle.fixed_walk.proofs.walked.walk.first_nonempty.Goals as goal
 
 pub loop-init : goal.loop-init
 loop-init g c =
-    let short = slots-short (g.R.Rows.key_at c.args.rows.now) (g.R.Rows.content c.args.rows.now) c.args.start in
+    let short = slots-short (g.R.Rows.key_at c.args.rows.now) (g.R.Rows.slots c.args.rows.now) c.args.start in
     record { has_slot = c.requires; same = refl; few = omega (arith, short) }
 
 pub returns-then-not-is_empty : goal.returns-then-not-is_empty
 returns-then-not-is_empty g c =
     let key_at = g.R.Rows.key_at c.args.rows.now in
-    let slots = g.R.Rows.content c.args.rows.now in
+    let slots = g.R.Rows.slots c.args.rows.now in
     let some = some-left c.slot_at.result.1.now (sym c.is_empty.ensures ∙ c.if-not-is_empty.true) in
     sym (from-here-first key_at slots c.in_ok-place.place c.slot_at.result.0.now c.slot_at.result.1.now c.slot_at.ensures.key c.slot_at.ensures.objects some)
     ∙ ap (λ at. first_slot (slots_from key_at slots at)) (sym c.in_ok-place.was) ∙ c.loop.invariant.same
@@ -20,7 +20,7 @@ returns-then-not-is_empty g c =
 pub loop-preserved : goal.loop-preserved
 loop-preserved g c =
     let key_at = g.R.Rows.key_at c.args.rows.now in
-    let slots = g.R.Rows.content c.args.rows.now in
+    let slots = g.R.Rows.slots c.args.rows.now in
     let key = c.slot_at.result.0.now in
     let objects = c.slot_at.result.1.now in
     let next = c.next_place-at.result in

@@ -5,4 +5,4 @@ pub returns : goal.returns
 returns g c h =
     let tables = c.self.inside.world.tables in
     let index = c.self.inside.pending in
-    rw (← c.self.view_is) (due-empty tables index c.self.invariant.due (c.is_empty.ensures.ordered h) (c.is_empty.ensures.dirty h))
+    rw (← c.self.view_is) (due-empty tables index c.self.invariant.due (c.is_empty.ensures.queue h) (c.is_empty.ensures.dirty h))

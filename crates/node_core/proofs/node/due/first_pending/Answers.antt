@@ -12,14 +12,14 @@ pub returns-in-Some : goal.returns-in-Some
 returns-in-Some g c =
     let tables = c.args.world.now.tables in
     let pending = c.args.pending.now in
-    let here : get_or pending.ordered c.loop-i.i 0 ≡ c.in_ok-id.id = get_or_from_slice_get pending.ordered c.loop-i.i c.in_ok-id.id 0 (sym c.in_ok-id.ensures) in
+    let here : get_or pending.queue c.loop-i.i 0 ≡ c.in_ok-id.id = get_or_from_slice_get pending.queue c.loop-i.i c.in_ok-id.id 0 (sym c.in_ok-id.ensures) in
     let first = due-here tables pending c.loop-i.i c.loop-i.invariant c.reveal_invariant.ensures c.in_ok-id.id here c.in-Some.step (sym c.in-Some.ensures) in
     cc
 
 pub loop-i-preserved : goal.loop-i-preserved
 loop-i-preserved g c =
     let pending = c.args.pending.now in
-    let here : get_or pending.ordered c.loop-i.i 0 ≡ c.in_ok-id.id = get_or_from_slice_get pending.ordered c.loop-i.i c.in_ok-id.id 0 (sym c.in_ok-id.ensures) in
+    let here : get_or pending.queue c.loop-i.i 0 ≡ c.in_ok-id.id = get_or_from_slice_get pending.queue c.loop-i.i c.in_ok-id.id 0 (sym c.in_ok-id.ensures) in
     due-behind c.args.world.now.tables pending c.loop-i.i c.loop-i.invariant c.reveal_invariant.ensures c.in_ok-id.id here (sym c.pending_at.ensures ∙ c.in_default.is)
 
 pub returns-in_err-dirty_table : goal.returns-in_err-dirty_table

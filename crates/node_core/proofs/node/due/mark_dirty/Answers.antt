@@ -16,7 +16,7 @@ returns-then-is_pending-clause-pending g c =
     let replaced = c.set_dirty.ensures.rest in
     let less = there c.in-Some.last tables c.in-Some.last (sym c.is_pending.ensures ∙ c.if-is_pending.true) in
     dirty-queued tables c.args.pending.now c.insert.new.self c.in-Some.last c.requires (sym c.in-Some.ensures.before)
-    (c.insert.ensures.below (length tables) (subst (λ (s : PendingTablesState). AreBelow s.ordered (length tables)) (sym replaced) c.requires.below) less)
+    (c.insert.ensures.below (length tables) (subst (λ (s : PendingTablesState). AreBelow s.queue (length tables)) (sym replaced) c.requires.below) less)
     (omega (arith, c.insert.ensures.capacity, ap (λ (s : PendingTablesState). s.capacity) replaced))
-    (λ t own. c.insert.ensures.old t (subst (λ (s : PendingTablesState). IsAmong s.ordered t) (sym replaced) own))
+    (λ t own. c.insert.ensures.old t (subst (λ (s : PendingTablesState). IsAmong s.queue t) (sym replaced) own))
     c.insert.ensures.new

@@ -6,4 +6,4 @@ abbrev pub invariant-loop-id : goal.invariant-loop-id
 invariant-loop-id g l = TracksPending l.world.tables l.pending
 
 abbrev pub decreases-loop-id : goal.decreases-loop-id
-decreases-loop-id g l = length l.pending.ordered
+decreases-loop-id g l = length l.pending.queue

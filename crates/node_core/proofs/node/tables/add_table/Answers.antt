@@ -29,11 +29,11 @@ returns-clause-pending g c =
     let old = c.args.world.now in
     let tables = old.tables in
     let room : c.made-id.result + 1 ≤ c.reserve.new.self.capacity = search rules in
-    let under : AreBelow c.reserve.new.self.ordered (length tables + 1) = subst (λ ids. AreBelow ids (length tables + 1)) (sym c.reserve.ensures.same) (λ i h. omega (arith, c.requires.below i h)) in
+    let under : AreBelow c.reserve.new.self.queue (length tables + 1) = subst (λ ids. AreBelow ids (length tables + 1)) (sym c.reserve.ensures.same) (λ i h. omega (arith, c.requires.below i h)) in
     let made : c.new_table.new.self ≡ with_table old (new_metadata c.args.pid c.args.name.now c.args.options) c.args.table = new-made old c.new_table.new.self c.args.pid c.args.name.now c.args.options c.args.table c.in_ok-answer.answer c.in_ok-answer.ensures in
-    subst (λ (w : World). TracksPending w.tables c.insert.new.self) (sym made) (added tables c.args.pending.now c.insert.new.self (Some (record { metadata = new_metadata c.args.pid c.args.name.now c.args.options; fixed = c.args.table })) c.requires
+    subst (λ (w : World). TracksPending w.tables c.insert.new.self) (sym made) (added tables c.args.pending.now c.insert.new.self (Some (record { metadata = new_metadata c.args.pid c.args.name.now c.args.options; state = c.args.table })) c.requires
     (c.insert.ensures.below (length tables + 1) under (omega (arith, c.made-id.ensures)))
     (omega (arith, room, c.made-id.ensures, c.insert.ensures.capacity))
-    (subst (IsAmong c.insert.new.self.ordered) c.made-id.ensures c.insert.ensures.new)
+    (subst (IsAmong c.insert.new.self.queue) c.made-id.ensures c.insert.ensures.new)
     (λ t among. c.insert.ensures.old t (subst (λ ids. IsAmong ids t) (sym c.reserve.ensures.same) among))
     (c.insert.ensures.dirty ∙ c.reserve.ensures.dirty))

@@ -3,7 +3,7 @@ use Rattle.slab.specs.Slab.{Slab}
 use Rattle.node_list.specs.declared.node.ListNode.{ListNode}
 use Rattle.node_list.specs.Cells.{Cell, Sorted}
 use Rattle.node_list.specs.Places.{from}
-use Rattle.node_list.specs.Search.{place_of, passed}
+use Rattle.node_list.specs.Search.{place_of, visited_cells}
 use Rattle.node_list.specs.Ticks.{ticks}
 use Rattle.node_list.specs.inside.Walks.{cells_from, IsLinked}
 use Rattle.node_list.specs.ListState.{ListState}
@@ -37,4 +37,4 @@ returns-clause-ticks c =
     let e = ap (λ (v : ListState). from c.args.start v.cells) c.self.view_is in
     let r = cells_from-suffix c.self.inside.nodes c.args.start c.requires.cell c.requires.later c.self.invariant.linked (e ∙ c.requires.is) in
     let is = ap (λ (s : Slab ListNode). cells_from s (Some c.args.start)) c.new-nodes.ensures ∙ (r.1 ∙ e) in
-    c.find_from.ensures.ticks ∙ ap (λ (zs : List Cell). ticks (length (passed c.args.split_key c.args.term.now zs)) c.args.steps.now) is
+    c.find_from.ensures.ticks ∙ ap (λ (zs : List Cell). ticks (length (visited_cells c.args.split_key c.args.term.now zs)) c.args.steps.now) is

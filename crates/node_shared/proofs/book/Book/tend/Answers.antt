@@ -1,7 +1,7 @@
 use Rattle.std.proofs.Common.{◌≡◌, ◌++◌, ◌∷◌, [], Some, rules, arith, subst}
 use Rattle.std.proofs.lemmas.Grind.{common_steps}
 use Rattle.node_core.specs.declared.step.Reply.TheVariants.{NoProcess}
-use Rattle.node_core.specs.rules.Growth.{due}
+use Rattle.node_core.specs.Pending.{due}
 use Rattle.node_shared.specs.declared.entry.Entry.{Entry}
 use Rattle.node_shared.specs.Journal.{entry, TakesStep}
 use Rattle.node_shared.proofs.Growing.{invariant-step, due-weighs}

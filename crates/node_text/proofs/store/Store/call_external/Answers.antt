@@ -1,5 +1,5 @@
 use Rattle.std.proofs.Common.{rules, ◌≡◌, ℕ, ℤ, Ok, inl, sym, subst, w32, to_z, of_z}
-use Rattle.external_term.specs.Encoding.{written}
+use Rattle.external_term.specs.Encoding.{encode_with_version}
 use Rattle.node_external.specs.declared.parsed_call.ParsedCall.{ParsedCall}
 use Rattle.node_external.specs.declared.parsed_call.ParsedCall.TheVariants.{Call, Faulty}
 use Rattle.node_external.specs.Calls as external
@@ -11,7 +11,7 @@ use Rattle.node_text.proofs.store.Store.call_external.Goals as goal
 
 -- a call that was done, and then its reply
 call-replied : (what : ParsedCall) (pid : ℕ) (old new : StoreState) (t : WrittenReply)
-    → RunsExternalCall what pid old (Ok (tt {0})) new → WritesReply written new.reply t → ExternalCallReturns what pid t old new
+    → RunsExternalCall what pid old (Ok (tt {0})) new → WritesReply encode_with_version new.reply t → ExternalCallReturns what pid t old new
 call-replied (Call name args) pid old new t runs writes = inl (runs, writes)
 call-replied (Faulty problem at) pid old new t runs writes = absurd runs
 
@@ -22,7 +22,7 @@ returns-in-Ok c =
     subst (λ (new : StoreState). RunsExternalCall parsed c.args.pid c.args.self.now (Ok (tt {0})) new) (sym c.write_reply_external.ensures.same) c.in-Ok.ensures in
     let status : to_z w32 (of_z w32 c.write_reply_external.result) ≡ c.write_reply_external.result = search rules in
     let written_by : ℤ → WrittenReply = λ status. written_reply status c.write_reply_external.new.len c.args.out.now c.write_reply_external.new.out in
-    let writes : WritesReply written c.write_reply_external.new.self.reply (written_by c.write_reply_external.result) =
-    subst (λ (new : StoreState). WritesReply written new.reply (written_by c.write_reply_external.result)) (sym c.write_reply_external.ensures.same) c.write_reply_external.ensures.writes in
+    let writes : WritesReply encode_with_version c.write_reply_external.new.self.reply (written_by c.write_reply_external.result) =
+    subst (λ (new : StoreState). WritesReply encode_with_version new.reply (written_by c.write_reply_external.result)) (sym c.write_reply_external.ensures.same) c.write_reply_external.ensures.writes in
     call-replied parsed c.args.pid c.args.self.now c.write_reply_external.new.self _ runs
-    (subst (λ (s : ℤ). WritesReply written c.write_reply_external.new.self.reply (written_by s)) (sym status) writes)
+    (subst (λ (s : ℤ). WritesReply encode_with_version c.write_reply_external.new.self.reply (written_by s)) (sym status) writes)

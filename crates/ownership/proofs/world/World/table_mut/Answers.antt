@@ -1,6 +1,6 @@
 use Rattle.std.proofs.Common.{◌≡◌, Option, None, Some, inl, option_map, sym, ap, subst, ◌∙◌}
 use Rattle.fixed_walk.specs.TableState.{TableState}
-use Rattle.ownership.specs.World.{Table, Tables, World, table_at, with_fixed}
+use Rattle.ownership.specs.World.{Table, Tables, World, table_at, with_state}
 use Rattle.ownership.specs.inside.Indices.{IndicesInvariant}
 use Rattle.ownership.proofs.MetadataLaws.{fixed-there}
 use Rattle.ownership.proofs.Keeping.{kept-fixed, kept-same}
@@ -25,7 +25,7 @@ returns g c =
     let at : table_at items c.args.id ≡ Some c.in_ok-owned.owned.now = sym (c.in_ok-found.ensures.item.3.1 None) ∙ sym c.in_ok-owned.ensures.value in
     let ends : (w : TableState) → _ = λ w.
     ap (λ tables. record { max_processes = c.self.inside.max_processes; max_tables = c.self.inside.max_tables; processes = c.self.inside.processes.entries; tables = tables }) (fixed-there items c.args.id c.in_ok-owned.owned.now w at)
-    ∙ ap (λ (v : World). record v { tables = with_fixed v.tables c.args.id w }) c.self.view_is in (
+    ∙ ap (λ (v : World). record v { tables = with_state v.tables c.args.id w }) c.self.view_is in (
       λ i. inl (c.table_mut.result.ghost_name, λ w. ends w i),
-      record { lends = tt; value = ap Some (c.table_mut.ensures.value) ∙ ap (λ (o : Option Table). option_map (λ table. table.fixed) o) (sym at ∙ ap (λ (v : World). table_at v.tables c.args.id) c.self.view_is) },
+      record { lends = tt; value = ap Some (c.table_mut.ensures.value) ∙ ap (λ (o : Option Table). option_map (λ table. table.state) o) (sym at ∙ ap (λ (v : World). table_at v.tables c.args.id) c.self.view_is) },
     )

@@ -8,7 +8,7 @@ use Rattle.table_ops.proofs.slots.SlotsIterator.next.Goals as goal
 
 pub invariant_of-self : goal.invariant_of-self
 invariant_of-self g c =
-    let slots = g.R.Rows.content c.self.inside.rows.now in
+    let slots = g.R.Rows.slots c.self.inside.rows.now in
     let key_at = g.R.Rows.key_at c.self.inside.rows.now in
     let i = c.self.inside.passed in
     let inv = c.self.invariant in
@@ -23,7 +23,7 @@ invariant_of-self g c =
 
 pub returns-clause-steps : goal.returns-clause-steps
 returns-clause-steps g c =
-    let slots = g.R.Rows.content c.self.inside.rows.now in
+    let slots = g.R.Rows.slots c.self.inside.rows.now in
     let key_at = g.R.Rows.key_at c.self.inside.rows.now in
     let i = c.self.inside.passed in
     let inv = c.self.invariant in

@@ -9,4 +9,4 @@ pub collect-requires : goal.collect-requires
 collect-requires g c =
     let give = g.P.Projection.projects c.args.trial.now.query.now in
     let only = subst (λ (t : ContentState). RequiresKey t.content.keypos (option_copied c.args.key) (λ (o : Term). is_some (give o))) (sym c.self.view_is) c.requires in
-    only_key (λ (o : Term). is_some (give o)) c.self.inside.inner.keypos (option_copied c.args.key) c.self.inside.inner.kind (g.R.Rows.content c.self.inside.inner.rows) only c.self.invariant.slots_are
+    only_key (λ (o : Term). is_some (give o)) c.self.inside.inner.keypos (option_copied c.args.key) c.self.inside.inner.kind (g.R.Rows.slots c.self.inside.inner.rows) only c.self.invariant.slots_are

@@ -9,8 +9,8 @@ use Rattle.table_ops.proofs.table.Table.delete_all.Goals as goal
 pub invariant_of-self : goal.invariant_of-self
 invariant_of-self g c =
     let i = c.self.invariant in
-    let old = g.R.Rows.content c.self.inside.inner.rows in
-    let new : g.R.Rows.content c.clear.new.self ≡ after_drop c.args.hold every_object old = c.clear.ensures.now ∙ sym (dropped-each c.args.hold old) in
+    let old = g.R.Rows.slots c.self.inside.inner.rows in
+    let new : g.R.Rows.slots c.clear.new.self ≡ after_drop c.args.hold every_object old = c.clear.ensures.now ∙ sym (dropped-each c.args.hold old) in
     record {
       counted = sym (ap object_count new ∙ nothing-left c.args.hold old);
       within = omega arith;
@@ -20,6 +20,6 @@ invariant_of-self g c =
 
 pub returns-clause-content : goal.returns-clause-content
 returns-clause-content g c =
-    let old = g.R.Rows.content c.self.inside.inner.rows in
-    let new : g.R.Rows.content c.clear.new.self ≡ after_drop c.args.hold every_object old = c.clear.ensures.now ∙ sym (dropped-each c.args.hold old) in
-    rw (← c.self.view_is) (ap (λ (l : List Slot). let r : Content = record (content_of g.R.Rows.content c.self.inside.inner) { slots = l } in r) new)
+    let old = g.R.Rows.slots c.self.inside.inner.rows in
+    let new : g.R.Rows.slots c.clear.new.self ≡ after_drop c.args.hold every_object old = c.clear.ensures.now ∙ sym (dropped-each c.args.hold old) in
+    rw (← c.self.view_is) (ap (λ (l : List Slot). let r : Content = record (content_of g.R.Rows.slots c.self.inside.inner) { slots = l } in r) new)

@@ -14,18 +14,18 @@ invariant_of-self-2 g c =
     let i = c.self.invariant in
     let p = c.in_ok-count.ensures.slots in
     let shallow : list_any is_too_deep c.args.objects.now ≡ false = sym c.any_too_deep.ensures ∙ c.if-any_too_deep.false in
-    holds-kept g.R.Rows.content c.self.inside.inner c.put_all.new.self c.in_ok-count.ensures.keeps.rest c.in_ok-count.count (record {
+    holds-kept g.R.Rows.slots c.self.inside.inner c.put_all.new.self c.in_ok-count.ensures.keeps.rest c.in_ok-count.count (record {
       counted = p.1;
       within = p.2;
       few = i.few;
-      slots_are = slots-puts-all c.self.inside.inner.kind c.self.inside.inner.keypos (g.R.Rows.content c.self.inside.inner.rows) c.args.objects.now (g.R.Rows.content c.put_all.new.self.rows) i.slots_are shallow p.0;
+      slots_are = slots-puts-all c.self.inside.inner.kind c.self.inside.inner.keypos (g.R.Rows.slots c.self.inside.inner.rows) c.args.objects.now (g.R.Rows.slots c.put_all.new.self.rows) i.slots_are shallow p.0;
     })
 
 pub returns-clause-content : goal.returns-clause-content
 returns-clause-content g c =
-    let old : Content = content_of g.R.Rows.content c.self.inside.inner in
+    let old : Content = content_of g.R.Rows.slots c.self.inside.inner in
     let p = c.in_ok-count.ensures.slots in
     let shallow : list_any is_too_deep c.args.objects.now ≡ false = sym c.any_too_deep.ensures ∙ c.if-any_too_deep.false in
     rw (← c.self.view_is)
-    (of-slots g.R.Rows.content c.self.inside.inner c.put_all.new.self c.in_ok-count.ensures.keeps.rest (λ (n : Content). InsertsWithinLimit c.args.done c.args.objects.now old (Ok c.args.done) n)
-    (stores-done c.args.done c.args.objects.now old shallow (g.R.Rows.content c.put_all.new.self.rows) p.0 (subst (λ n. n ≤ c.self.inside.inner.limit) p.1 p.2)))
+    (of-slots g.R.Rows.slots c.self.inside.inner c.put_all.new.self c.in_ok-count.ensures.keeps.rest (λ (n : Content). InsertsWithinLimit c.args.done c.args.objects.now old (Ok c.args.done) n)
+    (stores-done c.args.done c.args.objects.now old shallow (g.R.Rows.slots c.put_all.new.self.rows) p.0 (subst (λ n. n ≤ c.self.inside.inner.limit) p.1 p.2)))

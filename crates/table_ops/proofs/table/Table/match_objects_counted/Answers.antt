@@ -3,7 +3,8 @@ use Rattle.std.proofs.lemmas.Result.{IfOk-weaker}
 use Rattle.table_ops.specs.declared.projection.MatchedObject.{MatchedObject}
 use Rattle.ets_term.specs.declared.term.Term.{Term}
 use Rattle.table_ops.specs.Content.{ContentState}
-use Rattle.table_ops.specs.Queries.{matched_object, matches}
+use Rattle.table_ops.specs.Queries.{matches}
+use Rattle.table_ops.specs.Results.{matched_object}
 use Rattle.table_ops.specs.Read.{all_objects}
 use Rattle.table_ops.specs.inside.DeletePlan.{RequiresKey}
 use Rattle.table_ops.proofs.BoundKeyLaws.{copied, objects-require}

@@ -8,7 +8,7 @@ use Rattle.table_ops.proofs.table.Table.purge.Goals as goal
 pub invariant_of-self : goal.invariant_of-self
 invariant_of-self g c =
     let i = c.self.invariant in
-    let old = g.R.Rows.content c.self.inside.inner.rows in
+    let old = g.R.Rows.slots c.self.inside.inner.rows in
     record {
       counted = i.counted ∙ sym (ap object_count c.purge.ensures.now ∙ count-purged old);
       within = i.within;

@@ -22,7 +22,7 @@ update_counter_at-requires g c =
     let may : (is_set c.self.inside.inner.kind && (ops_avoid_key c.self.inside.inner.keypos ops && default_is_object c.self.inside.inner.keypos k d)) ≡ true =
     ap (λ (t : ContentState). is_set t.content.kind && (ops_avoid_key t.content.keypos ops && default_is_object t.content.keypos k d)) c.self.view_is ∙ sym c.counter_is_valid.ensures ∙ c.if-not-counter_is_valid.false in
     let set = (both (is_set c.self.inside.inner.kind) (ops_avoid_key c.self.inside.inner.keypos ops && default_is_object c.self.inside.inner.keypos k d) may).0 in
-    one-there c.self.inside.inner.kind c.self.inside.inner.keypos c.self.inside.inner.limit c.self.inside.count (g.R.Rows.content c.self.inside.inner.rows) (g.R.Rows.content c.self.inside.inner.rows) k
+    one-there c.self.inside.inner.kind c.self.inside.inner.keypos c.self.inside.inner.limit c.self.inside.count (g.R.Rows.slots c.self.inside.inner.rows) (g.R.Rows.slots c.self.inside.inner.rows) k
     (g.R.Rows.key_at c.self.inside.inner.rows c.in-Some.place) c.in-Some.ensures.0 set c.self.invariant c.in-Some.ensures.1
 
 pub invariant_of-self-in-Some : goal.invariant_of-self-in-Some
@@ -34,8 +34,8 @@ invariant_of-self-in-Some g c =
     ap (λ (t : ContentState). is_set t.content.kind && (ops_avoid_key t.content.keypos ops && default_is_object t.content.keypos k d)) c.self.view_is ∙ sym c.counter_is_valid.ensures ∙ c.if-not-counter_is_valid.false in
     let b = both (is_set c.self.inside.inner.kind) (ops_avoid_key c.self.inside.inner.keypos ops && default_is_object c.self.inside.inner.keypos k d) may in
     let named = both (ops_avoid_key c.self.inside.inner.keypos ops) (default_is_object c.self.inside.inner.keypos k d) b.1 in
-    holds-kept g.R.Rows.content c.self.inside.inner c.update_counter_at.new.self c.update_counter_at.ensures.keeps.rest c.self.inside.count
-    (counted-at c.self.inside.inner.kind c.self.inside.inner.keypos c.self.inside.inner.limit c.self.inside.count (g.R.Rows.content c.self.inside.inner.rows) (g.R.Rows.content c.update_counter_at.new.self.rows) k
+    holds-kept g.R.Rows.slots c.self.inside.inner c.update_counter_at.new.self c.update_counter_at.ensures.keeps.rest c.self.inside.count
+    (counted-at c.self.inside.inner.kind c.self.inside.inner.keypos c.self.inside.inner.limit c.self.inside.count (g.R.Rows.slots c.self.inside.inner.rows) (g.R.Rows.slots c.update_counter_at.new.self.rows) k
     (g.R.Rows.key_at c.self.inside.inner.rows c.in-Some.place) c.in-Some.ensures.0 b.0 c.self.invariant ops c.update_counter_at.result named.0 c.update_counter_at.ensures.slots)
 
 pub returns-in_err-object-clause-content : goal.returns-in_err-object-clause-content
@@ -45,7 +45,7 @@ returns-in_err-object-clause-content g c =
     let ops = c.args.ops.now in
     let may : (is_set c.self.inside.inner.kind && (ops_avoid_key c.self.inside.inner.keypos ops && default_is_object c.self.inside.inner.keypos k d)) ≡ true =
     ap (λ (t : ContentState). is_set t.content.kind && (ops_avoid_key t.content.keypos ops && default_is_object t.content.keypos k d)) c.self.view_is ∙ sym c.counter_is_valid.ensures ∙ c.if-not-counter_is_valid.false in
-    let old : Content = content_of g.R.Rows.content c.self.inside.inner in
+    let old : Content = content_of g.R.Rows.slots c.self.inside.inner in
     let given : d ≡ Some c.in-Some-default.default.now = ap option_copied c.in-Some-default.is in
     let made = start_counter ops (with_key c.self.inside.inner.keypos k c.in-Some-default.default.now) in
     let f = c.in_err-object.field-0.0 in
@@ -65,16 +65,16 @@ returns-in_err-insert_default-clause-content g c =
     let ops = c.args.ops.now in
     let may : (is_set c.self.inside.inner.kind && (ops_avoid_key c.self.inside.inner.keypos ops && default_is_object c.self.inside.inner.keypos k d)) ≡ true =
     ap (λ (t : ContentState). is_set t.content.kind && (ops_avoid_key t.content.keypos ops && default_is_object t.content.keypos k d)) c.self.view_is ∙ sym c.counter_is_valid.ensures ∙ c.if-not-counter_is_valid.false in
-    let old : Content = content_of g.R.Rows.content c.self.inside.inner in
+    let old : Content = content_of g.R.Rows.slots c.self.inside.inner in
     let given : d ≡ Some c.in-Some-default.default.now = ap option_copied c.in-Some-default.is in
     let made = start_counter ops (with_key c.self.inside.inner.keypos k c.in-Some-default.default.now) in
-    let s = refusal-starts (nat_lt c.self.inside.count old.limit) k made c.in_ok-object.object c.in_ok-object.answer (c.in_ok-object.ensures.done) old.slots (g.R.Rows.content c.insert_default.new.self.rows) c.in_err-insert_default.field-0.0 c.in_err-insert_default.ensures.slots in
+    let s = refusal-starts (nat_lt c.self.inside.count old.limit) k made c.in_ok-object.object c.in_ok-object.answer (c.in_ok-object.ensures.done) old.slots (g.R.Rows.slots c.insert_default.new.self.rows) c.in_err-insert_default.field-0.0 c.in_err-insert_default.ensures.slots in
     let p = err_from_is_err_and c.from_residual-in_err-insert_default.result c.from_residual-in_err-insert_default.ensures.1 in
-    let new : Content = content_of g.R.Rows.content c.insert_default.new.self in
+    let new : Content = content_of g.R.Rows.slots c.insert_default.new.self in
     let failed : c.from_residual-in_err-insert_default.result ≡ Err c.in_err-insert_default.field-0.0 = p.1 ∙ ap Err p.2 in
     let done : RefinesChange (UpdatesCounter k ops d old) old (Err c.in_err-insert_default.field-0.0) new =
-    of-slots g.R.Rows.content c.self.inside.inner c.insert_default.new.self c.in_err-insert_default.ensures.keeps.rest (λ (n : Content). RefinesChange (UpdatesCounter k ops d old) old (Err c.in_err-insert_default.field-0.0) n)
-    (started-comes k ops c.in-Some-default.default.now old c.self.inside.count c.in_default.ensures c.self.invariant.counted d given may (Err c.in_err-insert_default.field-0.0) (g.R.Rows.content c.insert_default.new.self.rows) s) in
+    of-slots g.R.Rows.slots c.self.inside.inner c.insert_default.new.self c.in_err-insert_default.ensures.keeps.rest (λ (n : Content). RefinesChange (UpdatesCounter k ops d old) old (Err c.in_err-insert_default.field-0.0) n)
+    (started-comes k ops c.in-Some-default.default.now old c.self.inside.count c.in_default.ensures c.self.invariant.counted d given may (Err c.in_err-insert_default.field-0.0) (g.R.Rows.slots c.insert_default.new.self.rows) s) in
     let same : old ≡ c.args.self.now.content = ap (λ (t : ContentState). t.content) c.self.view_is in
     subst (λ (r : Result Term Refusal). RefinesChange (UpdatesCounter k ops d c.args.self.now.content) c.args.self.now.content r new) (sym failed)
     (subst (λ (o : Content). RefinesChange (UpdatesCounter k ops d o) o (Err c.in_err-insert_default.field-0.0) new) same done)
@@ -89,9 +89,9 @@ invariant_of-self-2 g c =
     let b = both (is_set c.self.inside.inner.kind) (ops_avoid_key c.self.inside.inner.keypos ops && default_is_object c.self.inside.inner.keypos k d) may in
     let named = both (ops_avoid_key c.self.inside.inner.keypos ops) (default_is_object c.self.inside.inner.keypos k d) b.1 in
     let made = start_counter ops (with_key c.self.inside.inner.keypos k c.in-Some-default.default.now) in
-    let s = object-starts (nat_lt c.self.inside.count c.self.inside.inner.limit) k made c.in_ok-object.object c.in_ok-object.answer (c.in_ok-object.ensures.done) (g.R.Rows.content c.self.inside.inner.rows) (g.R.Rows.content c.insert_default.new.self.rows) c.in_ok-insert_default.ensures.slots in
-    holds-kept g.R.Rows.content c.self.inside.inner c.insert_default.new.self c.in_ok-insert_default.ensures.keeps.rest (c.self.inside.count + 1)
-    (started-counted c.self.inside.inner.kind c.self.inside.inner.keypos c.self.inside.inner.limit c.self.inside.count (g.R.Rows.content c.self.inside.inner.rows) (g.R.Rows.content c.insert_default.new.self.rows) k s.0 c.self.invariant c.in_default.ensures s.2
+    let s = object-starts (nat_lt c.self.inside.count c.self.inside.inner.limit) k made c.in_ok-object.object c.in_ok-object.answer (c.in_ok-object.ensures.done) (g.R.Rows.slots c.self.inside.inner.rows) (g.R.Rows.slots c.insert_default.new.self.rows) c.in_ok-insert_default.ensures.slots in
+    holds-kept g.R.Rows.slots c.self.inside.inner c.insert_default.new.self c.in_ok-insert_default.ensures.keeps.rest (c.self.inside.count + 1)
+    (started-counted c.self.inside.inner.kind c.self.inside.inner.keypos c.self.inside.inner.limit c.self.inside.count (g.R.Rows.slots c.self.inside.inner.rows) (g.R.Rows.slots c.insert_default.new.self.rows) k s.0 c.self.invariant c.in_default.ensures s.2
     (started c.self.inside.inner.keypos ops k c.in-Some-default.default.now s.0 c.in_ok-object.answer named.0 s.1) s.3)
 
 pub returns-clause-content : goal.returns-clause-content
@@ -101,10 +101,10 @@ returns-clause-content g c =
     let ops = c.args.ops.now in
     let may : (is_set c.self.inside.inner.kind && (ops_avoid_key c.self.inside.inner.keypos ops && default_is_object c.self.inside.inner.keypos k d)) ≡ true =
     ap (λ (t : ContentState). is_set t.content.kind && (ops_avoid_key t.content.keypos ops && default_is_object t.content.keypos k d)) c.self.view_is ∙ sym c.counter_is_valid.ensures ∙ c.if-not-counter_is_valid.false in
-    let old : Content = content_of g.R.Rows.content c.self.inside.inner in
+    let old : Content = content_of g.R.Rows.slots c.self.inside.inner in
     let made = start_counter ops (with_key c.self.inside.inner.keypos k c.in-Some-default.default.now) in
-    let s = object-starts (nat_lt c.self.inside.count c.self.inside.inner.limit) k made c.in_ok-object.object c.in_ok-object.answer (c.in_ok-object.ensures.done) (g.R.Rows.content c.self.inside.inner.rows) (g.R.Rows.content c.insert_default.new.self.rows) c.in_ok-insert_default.ensures.slots in
+    let s = object-starts (nat_lt c.self.inside.count c.self.inside.inner.limit) k made c.in_ok-object.object c.in_ok-object.answer (c.in_ok-object.ensures.done) (g.R.Rows.slots c.self.inside.inner.rows) (g.R.Rows.slots c.insert_default.new.self.rows) c.in_ok-insert_default.ensures.slots in
     let given : d ≡ Some c.in-Some-default.default.now = ap option_copied c.in-Some-default.is in
     rw (← c.self.view_is)
-    (of-slots g.R.Rows.content c.self.inside.inner c.insert_default.new.self c.in_ok-insert_default.ensures.keeps.rest (λ (n : Content). UpdatesCounter k ops d old (Ok c.in_ok-object.answer) n)
-    (started-comes k ops c.in-Some-default.default.now old c.self.inside.count c.in_default.ensures c.self.invariant.counted d given may (Ok c.in_ok-object.answer) (g.R.Rows.content c.insert_default.new.self.rows) s))
+    (of-slots g.R.Rows.slots c.self.inside.inner c.insert_default.new.self c.in_ok-insert_default.ensures.keeps.rest (λ (n : Content). UpdatesCounter k ops d old (Ok c.in_ok-object.answer) n)
+    (started-comes k ops c.in-Some-default.default.now old c.self.inside.count c.in_default.ensures c.self.invariant.counted d given may (Ok c.in_ok-object.answer) (g.R.Rows.slots c.insert_default.new.self.rows) s))

@@ -12,7 +12,7 @@ update_one_counter_at-requires g c =
     let may : (is_set c.self.inside.inner.kind && may_update c.self.inside.inner.keypos c.args.op.position) ≡ true =
     ap (λ (t : ContentState). is_set t.content.kind && may_update t.content.keypos c.args.op.position) c.self.view_is ∙ sym c.may_update_one.ensures ∙ c.if-not-may_update_one.false in
     let b = both (is_set c.self.inside.inner.kind) (may_update c.self.inside.inner.keypos c.args.op.position) may in
-    one-there c.self.inside.inner.kind c.self.inside.inner.keypos c.self.inside.inner.limit c.self.inside.count (g.R.Rows.content c.self.inside.inner.rows) (g.R.Rows.content c.self.inside.inner.rows) c.args.key.now
+    one-there c.self.inside.inner.kind c.self.inside.inner.keypos c.self.inside.inner.limit c.self.inside.count (g.R.Rows.slots c.self.inside.inner.rows) (g.R.Rows.slots c.self.inside.inner.rows) c.args.key.now
     (g.R.Rows.key_at c.self.inside.inner.rows c.in-Some.place) c.in-Some.ensures.0 b.0 c.self.invariant c.in-Some.ensures.1
 
 pub invariant_of-self : goal.invariant_of-self
@@ -20,8 +20,8 @@ invariant_of-self g c =
     let may : (is_set c.self.inside.inner.kind && may_update c.self.inside.inner.keypos c.args.op.position) ≡ true =
     ap (λ (t : ContentState). is_set t.content.kind && may_update t.content.keypos c.args.op.position) c.self.view_is ∙ sym c.may_update_one.ensures ∙ c.if-not-may_update_one.false in
     let b = both (is_set c.self.inside.inner.kind) (may_update c.self.inside.inner.keypos c.args.op.position) may in
-    holds-kept g.R.Rows.content c.self.inside.inner c.update_one_counter_at.new.self c.update_one_counter_at.ensures.keeps.rest c.self.inside.count
-    (counted-at c.self.inside.inner.kind c.self.inside.inner.keypos c.self.inside.inner.limit c.self.inside.count (g.R.Rows.content c.self.inside.inner.rows) (g.R.Rows.content c.update_one_counter_at.new.self.rows) c.args.key.now
+    holds-kept g.R.Rows.slots c.self.inside.inner c.update_one_counter_at.new.self c.update_one_counter_at.ensures.keeps.rest c.self.inside.count
+    (counted-at c.self.inside.inner.kind c.self.inside.inner.keypos c.self.inside.inner.limit c.self.inside.count (g.R.Rows.slots c.self.inside.inner.rows) (g.R.Rows.slots c.update_one_counter_at.new.self.rows) c.args.key.now
     (g.R.Rows.key_at c.self.inside.inner.rows c.in-Some.place) c.in-Some.ensures.0 b.0 c.self.invariant (One c.args.op) c.update_one_counter_at.result b.1 c.update_one_counter_at.ensures.slots)
 
 pub invariant_of-self-2 : goal.invariant_of-self-2
@@ -29,6 +29,6 @@ invariant_of-self-2 g c =
     let may : (is_set c.self.inside.inner.kind && may_update c.self.inside.inner.keypos c.args.op.position) ≡ true =
     ap (λ (t : ContentState). is_set t.content.kind && may_update t.content.keypos c.args.op.position) c.self.view_is ∙ sym c.may_update_one.ensures ∙ c.if-not-may_update_one.false in
     let b = both (is_set c.self.inside.inner.kind) (may_update c.self.inside.inner.keypos c.args.op.position) may in
-    holds-kept g.R.Rows.content c.self.inside.inner c.update_one_counter_at.new.self c.update_one_counter_at.ensures.keeps.rest c.self.inside.count
-    (counted-at c.self.inside.inner.kind c.self.inside.inner.keypos c.self.inside.inner.limit c.self.inside.count (g.R.Rows.content c.self.inside.inner.rows) (g.R.Rows.content c.update_one_counter_at.new.self.rows) c.args.key.now
+    holds-kept g.R.Rows.slots c.self.inside.inner c.update_one_counter_at.new.self c.update_one_counter_at.ensures.keeps.rest c.self.inside.count
+    (counted-at c.self.inside.inner.kind c.self.inside.inner.keypos c.self.inside.inner.limit c.self.inside.count (g.R.Rows.slots c.self.inside.inner.rows) (g.R.Rows.slots c.update_one_counter_at.new.self.rows) c.args.key.now
     (g.R.Rows.key_at c.self.inside.inner.rows c.in-Some.place) c.in-Some.ensures.0 b.0 c.self.invariant (One c.args.op) c.update_one_counter_at.result b.1 c.update_one_counter_at.ensures.slots)

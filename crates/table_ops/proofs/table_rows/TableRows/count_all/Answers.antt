@@ -8,7 +8,7 @@ use Rattle.table_ops.proofs.table_rows.TableRows.count_all.Goals as goal
 pub overflow_add-total : goal.overflow_add-total
 overflow_add-total g c =
     let choose = g.P.Predicate.tests c.args.trial.now.query.now in
-    let all = g.R.Rows.content c.args.self.now.rows in
+    let all = g.R.Rows.slots c.args.self.now.rows in
     let os = c.in-Some.objects.now in
     let rest = c.next.new.self in
     let same = ap (λ (l : List Slot). chosen_count choose (all_objects l)) c.in-Some.ensures.steps in

@@ -9,7 +9,7 @@ abbrev pub invariant-loop-objects : goal.invariant-loop-objects
 invariant-loop-objects g l =
     (goal.iterator-loop-objects g).can_next l.objects-iterator
     × (goal.iterator-loop-objects g).is_finite l.objects-iterator
-    × (l.total + chosen_count (g.P.Predicate.tests l.trial.query.now) (all_objects l.objects-iterator) ≡ chosen_count (g.P.Predicate.tests l.trial.query.now) (all_objects (g.R.Rows.content l.self.rows)))
-    × (ticks (object_count l.objects-iterator) l.looks ≡ ticks (object_count (g.R.Rows.content l.self.rows)) l.fn.looks)
+    × (l.total + chosen_count (g.P.Predicate.tests l.trial.query.now) (all_objects l.objects-iterator) ≡ chosen_count (g.P.Predicate.tests l.trial.query.now) (all_objects (g.R.Rows.slots l.self.rows)))
+    × (ticks (object_count l.objects-iterator) l.looks ≡ ticks (object_count (g.R.Rows.slots l.self.rows)) l.fn.looks)
     × (l.looks < 2 ^ 64)
     × (l.fn.looks ≤ l.looks)

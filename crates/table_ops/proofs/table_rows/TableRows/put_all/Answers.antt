@@ -18,12 +18,12 @@ put_object-requires g c =
     let xs = c.args.objects.now in
     let within : i < length xs = omega arith in
     let at : slice_get xs i ≡ Some c.object-item.result = slice_get_read xs (length xs) i c.object-item.result refl within c.object-item.is in
-    let mid = g.R.Rows.content c.loop-object.self.rows in
+    let mid = g.R.Rows.slots c.loop-object.self.rows in
     let back = sym c.loop-object.invariant.keeps.rest in
     record {
       object = subst (λ (s : TableRows g.row.R.Denot). is_object s.keypos c.object-item.result ≡ true) back (all-at (is_object c.args.self.now.keypos) xs i c.object-item.result c.requires.objects at);
       slots = subst (λ (s : TableRows g.row.R.Denot). AreSlots s.kind s.keypos mid) back
-          (slots-puts-all c.args.self.now.kind c.args.self.now.keypos (g.R.Rows.content c.args.self.now.rows) (take i xs) mid c.requires.holds.slots_are (any-take is_too_deep i xs c.requires.shallow) c.loop-object.invariant.done);
+          (slots-puts-all c.args.self.now.kind c.args.self.now.keypos (g.R.Rows.slots c.args.self.now.rows) (take i xs) mid c.requires.holds.slots_are (any-take is_too_deep i xs c.requires.shallow) c.loop-object.invariant.done);
     }
 
 pub loop-object-preserved : goal.loop-object-preserved
@@ -32,9 +32,9 @@ loop-object-preserved g c =
     let xs = c.args.objects.now in
     let x = c.object-item.result in
     let u = c.in-Ok.undo in
-    let old = g.R.Rows.content c.args.self.now.rows in
-    let mid = g.R.Rows.content c.loop-object.self.rows in
-    let new = g.R.Rows.content c.put_object.new.self.rows in
+    let old = g.R.Rows.slots c.args.self.now.rows in
+    let mid = g.R.Rows.slots c.loop-object.self.rows in
+    let new = g.R.Rows.slots c.put_object.new.self.rows in
     let undos = c.loop-object.undo_log.items in
     let inv = c.loop-object.invariant in
     let within : i < length xs = omega arith in
@@ -59,10 +59,10 @@ returns-in-Err g c =
     let xs = c.args.objects.now in
     let x = c.object-item.result in
     let e = c.in-Err.refusal in
-    let old = g.R.Rows.content c.args.self.now.rows in
-    let mid = g.R.Rows.content c.loop-object.self.rows in
-    let new = g.R.Rows.content c.put_object.new.self.rows in
-    let back = g.R.Rows.content c.roll_back.new.self.rows in
+    let old = g.R.Rows.slots c.args.self.now.rows in
+    let mid = g.R.Rows.slots c.loop-object.self.rows in
+    let new = g.R.Rows.slots c.put_object.new.self.rows in
+    let back = g.R.Rows.slots c.roll_back.new.self.rows in
     let inv = c.loop-object.invariant in
     let within : i < length xs = omega arith in
     let at : slice_get xs i ≡ Some x = slice_get_read xs (length xs) i x refl within c.object-item.is in
@@ -84,6 +84,6 @@ returns g c =
     let inv = c.loop-object.invariant in
     let all : take i xs ≡ xs = take_all i xs c.loop-object-test.false in
     record {
-      slots = (subst (λ l. PutsAll c.args.self.now.kind c.args.self.now.keypos (g.R.Rows.content c.args.self.now.rows) l (g.R.Rows.content c.loop-object.self.rows)) all inv.done, inv.counted, inv.within);
+      slots = (subst (λ l. PutsAll c.args.self.now.kind c.args.self.now.keypos (g.R.Rows.slots c.args.self.now.rows) l (g.R.Rows.slots c.loop-object.self.rows)) all inv.done, inv.counted, inv.within);
       keeps = inv.keeps;
     }

@@ -8,8 +8,8 @@ use Rattle.table_ops.proofs.table_rows.TableRows.put_in_set.Goals as goal
 
 pub returns-clause-slots : goal.returns-clause-slots
 returns-clause-slots g c =
-    let old = g.R.Rows.content c.args.self.now.rows in
-    let new = g.R.Rows.content c.replace_at-was.new.self in
+    let old = g.R.Rows.slots c.args.self.now.rows in
+    let new = g.R.Rows.slots c.replace_at-was.new.self in
     let place = g.R.Rows.key_at c.args.self.now.rows c.args.place in
     let one : c.one.result ≡ c.args.object ∷ [] = c.one.ensures in
     map-key place _ _ (λ key is kept.

@@ -7,9 +7,9 @@ use Rattle.table_ops.proofs.table_rows.TableRows.put_last.Goals as goal
 
 pub returns-in_default-clause-slots : goal.returns-in_default-clause-slots
 returns-in_default-clause-slots g c =
-    let old = g.R.Rows.content c.args.self.now.rows in
-    let mid = g.R.Rows.content c.replace_at-objects.new.self in
-    let new = g.R.Rows.content c.replace_at.new.self in
+    let old = g.R.Rows.slots c.args.self.now.rows in
+    let mid = g.R.Rows.slots c.replace_at-objects.new.self in
+    let new = g.R.Rows.slots c.replace_at.new.self in
     let place = g.R.Rows.key_at c.args.self.now.rows c.args.place in
     at-key place _ c.requires (λ key is.
     let own = own-in old place key c.replace_at-objects.result is c.replace_at-objects.ensures.objects in
@@ -18,9 +18,9 @@ returns-in_default-clause-slots g c =
 
 pub returns-clause-slots : goal.returns-clause-slots
 returns-clause-slots g c =
-    let old = g.R.Rows.content c.args.self.now.rows in
-    let mid = g.R.Rows.content c.replace_at-objects.new.self in
-    let new = g.R.Rows.content c.replace_at.new.self in
+    let old = g.R.Rows.slots c.args.self.now.rows in
+    let mid = g.R.Rows.slots c.replace_at-objects.new.self in
+    let new = g.R.Rows.slots c.replace_at.new.self in
     let place = g.R.Rows.key_at c.args.self.now.rows c.args.place in
     let was = c.replace_at-objects.result in
     let pushed : c.push-pushed.new.self ≡ was ++ c.args.object ∷ [] = c.in-Ok.ensures.ok in

@@ -7,9 +7,9 @@ use Rattle.table_ops.proofs.table_rows.TableRows.remove_object_at.Goals as goal
 
 pub returns-then-slot_stays-clause-slots : goal.returns-then-slot_stays-clause-slots
 returns-then-slot_stays-clause-slots g c =
-    let old = g.R.Rows.content c.args.self.now.rows in
-    let mid = g.R.Rows.content c.replace_at-objects.new.self in
-    let new = g.R.Rows.content c.replace_at.new.self in
+    let old = g.R.Rows.slots c.args.self.now.rows in
+    let mid = g.R.Rows.slots c.replace_at-objects.new.self in
+    let new = g.R.Rows.slots c.replace_at.new.self in
     let place = g.R.Rows.key_at c.args.self.now.rows c.args.place in
     let was = c.replace_at-objects.result in
     let rest = c.remove_all-count.new.self in
@@ -20,9 +20,9 @@ returns-then-slot_stays-clause-slots g c =
 
 pub returns-else-slot_stays-clause-slots : goal.returns-else-slot_stays-clause-slots
 returns-else-slot_stays-clause-slots g c =
-    let old = g.R.Rows.content c.args.self.now.rows in
-    let mid = g.R.Rows.content c.replace_at-objects.new.self in
-    let new = g.R.Rows.content c.delete_at.new.self in
+    let old = g.R.Rows.slots c.args.self.now.rows in
+    let mid = g.R.Rows.slots c.replace_at-objects.new.self in
+    let new = g.R.Rows.slots c.delete_at.new.self in
     let place = g.R.Rows.key_at c.args.self.now.rows c.args.place in
     let was = c.replace_at-objects.result in
     let rest = c.remove_all-count.new.self in

@@ -5,7 +5,7 @@ use Rattle.table_ops.proofs.table_rows.TableRows.roll_back.Given as goal
 
 abbrev pub invariant-loop-undo : goal.invariant-loop-undo
 invariant-loop-undo g l = record {
-  slots : after_roll_back l.initial.self.keypos l.undo_log.items l.objects (g.R.Rows.content l.self.rows) ≡ after_roll_back l.initial.self.keypos l.initial.undo_log.items l.objects (g.R.Rows.content l.initial.self.rows);
+  slots : after_roll_back l.initial.self.keypos l.undo_log.items l.objects (g.R.Rows.slots l.self.rows) ≡ after_roll_back l.initial.self.keypos l.initial.undo_log.items l.objects (g.R.Rows.slots l.initial.self.rows);
   keeps : ChangesSlotsOnly g.R.Rows.readiness l.initial.self l.self;
   long : length l.undo_log.items ≤ length l.objects;
 }

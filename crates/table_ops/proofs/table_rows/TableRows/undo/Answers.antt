@@ -6,9 +6,9 @@ use Rattle.table_ops.proofs.table_rows.TableRows.undo.Goals as goal
 
 pub returns-in-LastObject-clause-slots : goal.returns-in-LastObject-clause-slots
 returns-in-LastObject-clause-slots g c =
-    let old = g.R.Rows.content c.args.self.now.rows in
-    let mid = g.R.Rows.content c.replace_at-objects.new.self in
-    let new = g.R.Rows.content c.replace_at-in-LastObject.new.self in
+    let old = g.R.Rows.slots c.args.self.now.rows in
+    let mid = g.R.Rows.slots c.replace_at-objects.new.self in
+    let new = g.R.Rows.slots c.replace_at-in-LastObject.new.self in
     let place = g.R.Rows.key_at c.args.self.now.rows c.in-Some.place in
     let key = c.args.key.now in
     let is = c.in-Some.ensures.0 in

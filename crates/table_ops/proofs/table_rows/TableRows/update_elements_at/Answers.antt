@@ -8,16 +8,16 @@ use Rattle.table_ops.proofs.table_rows.TableRows.update_elements_at.Goals as goa
 
 pub replace_one_at-zero-requires : goal.replace_one_at-zero-requires
 replace_one_at-zero-requires g c =
-    let old = g.R.Rows.content c.args.self.now.rows in
-    let mid = g.R.Rows.content c.replace_one_at-object.new.self in
+    let old = g.R.Rows.slots c.args.self.now.rows in
+    let mid = g.R.Rows.slots c.replace_one_at-object.new.self in
     let at = g.R.Rows.key_at c.args.self.now.rows c.args.place in
     one-again old mid at (g.R.Rows.key_at c.replace_one_at-object.new.self c.args.place) _ c.requires c.replace_one_at-object.ensures.now (c.replace_one_at-object.ensures.places c.args.place)
 
 pub returns-clause-slots : goal.returns-clause-slots
 returns-clause-slots g c =
-    let old = g.R.Rows.content c.args.self.now.rows in
-    let mid = g.R.Rows.content c.replace_one_at-object.new.self in
-    let new = g.R.Rows.content c.replace_one_at-zero.new.self in
+    let old = g.R.Rows.slots c.args.self.now.rows in
+    let mid = g.R.Rows.slots c.replace_one_at-object.new.self in
+    let new = g.R.Rows.slots c.replace_one_at-zero.new.self in
     let at = g.R.Rows.key_at c.args.self.now.rows c.args.place in
     let own = g.R.Rows.key_at c.replace_one_at-object.new.self c.args.place in
     let was = c.requires.0 in

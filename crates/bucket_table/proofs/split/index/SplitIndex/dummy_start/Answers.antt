@@ -1,7 +1,7 @@
 use Rattle.bucket_table.specs.inside.Intervals.{IsNearestBelow}
 use Rattle.std.proofs.Common.{◌⊎◌, ℕ, ◌≤◌, ◌/◌, ◌^◌, subst, arith}
 use Rattle.split_key.specs.Keys.{key_of_dummy}
-use Rattle.node_list.specs.Places.{HasKeyAtMost}
+use Rattle.node_list.specs.Places.{HasSplitKeyAtMost}
 use Rattle.bucket_table.proofs.hints.Start.{lesser-up-to}
 use Rattle.bucket_table.proofs.hints.SearchBelow.{nearest-start, either-lesser}
 use Rattle.bucket_table.proofs.directory.Search.{start-is_place}
@@ -13,7 +13,7 @@ returns-in-Some g c =
     let K : ℕ → Type 0 = λ k. T k c.interval_of-interval.result in
     let J : ℕ → Type 0 = λ i. T (c.dummy_key.result / 2 ^ c.args.self.now.hints.interval_bits) i in
     let ensured = subst J c.interval_of-interval.ensures (subst K c.interval_of-floor.ensures c.in-Some.ensures) in
-    let B : ℕ → Type 0 = λ k. HasKeyAtMost k c.in-Some.first c.args.self.now.list.cells in
+    let B : ℕ → Type 0 = λ k. HasSplitKeyAtMost k c.in-Some.first c.args.self.now.list.cells in
     subst B c.dummy_key-split_key.ensures (lesser-up-to c.dummy_key-split_key.result c.in-Some.first c.args.self.now.list.cells (either-lesser c.args.self.now.hints.interval_bits c.dummy_key-split_key.result c.in-Some.first (c.dummy_key.result / 2 ^ c.args.self.now.hints.interval_bits) c.args.self.now.list.cells c.args.self.now.hints.current c.args.self.now.hints.previous c.reveal_invariant.ensures.sorted c.reveal_invariant.ensures.apart c.requires.rows.rows.hinted.hints c.requires.rows.previous ensured))
 
 pub returns-in-None : goal.returns-in-None

@@ -2,7 +2,7 @@ use Rattle.std.proofs.Common.{◌≡◌, ◌++◌, ◌∷◌, [], ℕ, List, len
 use Rattle.bucket_table.specs.inside.Nodes.{slots_of}
 use Rattle.bucket_table.specs.inside.TombstoneLog.{TombstonesAreAmong}
 use Rattle.bucket_table.proofs.sweep.Order.{sweeps-on}
-use Rattle.bucket_table.proofs.sweep.Log.{among-more, among-turn, purged-none}
+use Rattle.bucket_table.proofs.sweep.Log.{among-more, among-turn, without_tombstones-none}
 use Rattle.bucket_table.proofs.split.index.SplitIndex.purge_hashes.Goals as goal
 
 nothing_left : (l : List ℕ) → length l ≡ 0 → l ≡ []
@@ -33,4 +33,4 @@ returns-clause-slots g c =
     let hash_of = g.H.KeyHash.hash c.loop-hash.self.hasher in
     let none : c.loop-hash.hashes.items ≡ [] = nothing_left c.loop-hash.hashes.items (omega (arith, c.in_default.ensures.cases.0, c.loop-hash.hashes.ok.0)) in
     let A : List ℕ → Type 0 = λ hs. TombstonesAreAmong hash_of hs (slots_of c.loop-hash.self.list.cells) in
-    sym (purged-none hash_of (slots_of c.loop-hash.self.list.cells) (subst A none i.logged)) ∙ i.slots
+    sym (without_tombstones-none hash_of (slots_of c.loop-hash.self.list.cells) (subst A none i.logged)) ∙ i.slots

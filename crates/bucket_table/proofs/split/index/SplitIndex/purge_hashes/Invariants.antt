@@ -1,5 +1,5 @@
 use Rattle.std.proofs.Common.{◌≡◌, length}
-use Rattle.bucket_table.specs.Slots.{purged}
+use Rattle.bucket_table.specs.Slots.{without_tombstones}
 use Rattle.bucket_table.specs.inside.Nodes.{slots_of}
 use Rattle.bucket_table.specs.inside.SplitIndex.{RowsInvariant, KeepsDirectory}
 use Rattle.bucket_table.specs.inside.TombstoneLog.{TombstonesAreAmong}
@@ -11,7 +11,7 @@ abbrev pub invariant-loop-hash : goal.invariant-loop-hash
 invariant-loop-hash g l = record {
   rows : RowsInvariant g.H.KeyHash.hash l.self;
   logged : TombstonesAreAmong (g.H.KeyHash.hash l.self.hasher) l.hashes.items (slots_of l.self.list.cells);
-  slots : purged (slots_of l.self.list.cells) ≡ purged (slots_of l.initial.self.list.cells);
+  slots : without_tombstones (slots_of l.self.list.cells) ≡ without_tombstones (slots_of l.initial.self.list.cells);
   each : Sweeps RemoveTombstones l.initial.self.list.cells l.self.list.cells;
   keeps : KeepsDirectory l.initial.self l.self;
 }

@@ -6,7 +6,8 @@ use Rattle.ets_term.specs.declared.term.Term.{Term}
 use Rattle.ets_term.specs.Order.{same}
 use Rattle.node_list.specs.declared.node.Item.{Item}
 use Rattle.node_list.specs.Places.{item_at, first_item}
-use Rattle.bucket_table.specs.Slots.{Slot, without}
+use Rattle.bucket_table.specs.Slots.{Slot}
+use Rattle.bucket_table.specs.Rows.{without}
 use Rattle.bucket_table.specs.Entries.{objects_in}
 use Rattle.bucket_table.specs.Walks.{ComesBefore}
 use Rattle.bucket_table.specs.SplitRowsState.{SplitRowsState, key_of_place}

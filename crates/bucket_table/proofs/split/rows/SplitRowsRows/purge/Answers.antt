@@ -1,5 +1,5 @@
 use Rattle.std.proofs.Common.{ℕ, List, Option, map, is_some, sym, ◌∙◌, ap, subst, arith}
-use Rattle.bucket_table.specs.Slots.{Slot, purged}
+use Rattle.bucket_table.specs.Slots.{Slot, without_tombstones}
 use Rattle.bucket_table.specs.SplitRowsState.{SplitRowsState}
 use Rattle.bucket_table.specs.declared.split.sweep.SweepMode.TheVariants.{RemoveTombstones}
 use Rattle.bucket_table.specs.inside.Directory.{IsFirstUnready}
@@ -29,7 +29,7 @@ invariant_of-self g c =
 pub returns-clause-now : goal.returns-clause-now
 returns-clause-now g c =
     content-swept RemoveTombstones c.self.inside.index.list.cells c.purge_hashes.new.self.list.cells c.purge_hashes.ensures.each.alike c.purge_hashes.ensures.slots
-    ∙ ap (λ (v : SplitRowsState g.row.H.Denot). purged v.slots) c.self.view_is
+    ∙ ap (λ (v : SplitRowsState g.row.H.Denot). without_tombstones v.slots) c.self.view_is
 
 pub returns-clause-hash : goal.returns-clause-hash
 returns-clause-hash g c = ap (λ (h : g.row.H.Denot). g.H.KeyHash.hash h) (c.purge_hashes.ensures.keeps.hasher ∙ ap (λ (v : SplitRowsState g.row.H.Denot). v.hasher) c.self.view_is)

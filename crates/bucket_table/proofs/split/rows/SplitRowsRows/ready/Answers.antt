@@ -3,7 +3,7 @@ use Rattle.std.proofs.lemmas.List.{length-map, length-set}
 use Rattle.split_key.specs.Keys.{key_of_dummy}
 use Rattle.node_list.specs.Cells.{Cell, new_cell}
 use Rattle.node_list.specs.Changes.{put_cell}
-use Rattle.node_list.specs.Places.{IsFresh, HasKeyAtMost}
+use Rattle.node_list.specs.Places.{IsFresh, HasSplitKeyAtMost}
 use Rattle.bucket_table.specs.Buckets.{IsReadied}
 use Rattle.bucket_table.specs.declared.growth.Readying.TheVariants.{Ready}
 use Rattle.bucket_table.specs.Slots.{Slot}
@@ -23,8 +23,8 @@ use Rattle.bucket_table.proofs.split.rows.SplitRowsRows.ready.Goals as goal
 
 pub insert_dummy-at-requires-clause-start : goal.insert_dummy-at-requires-clause-start
 insert_dummy-at-requires-clause-start g c =
-    let K : ℕ → Type 0 = λ k. HasKeyAtMost k c.dummy_start-start.result c.reserve.new.self.cells in
-    let Z : List Cell → Type 0 = λ zs. HasKeyAtMost (key_of_dummy c.args.bucket) c.dummy_start-start.result zs in
+    let K : ℕ → Type 0 = λ k. HasSplitKeyAtMost k c.dummy_start-start.result c.reserve.new.self.cells in
+    let Z : List Cell → Type 0 = λ zs. HasSplitKeyAtMost (key_of_dummy c.args.bucket) c.dummy_start-start.result zs in
     subst K (sym c.dummy_key.ensures) (subst Z (sym c.in_ok-reserve.ensures.cells) c.dummy_start-start.ensures)
 
 pub rebuild_with_parent-requires-clause-rows : goal.rebuild_with_parent-requires-clause-rows

@@ -7,7 +7,8 @@ use Rattle.bucket_table.specs.Walks.{ComesBefore}
 use Rattle.ets_term.specs.Order.{same}
 use Rattle.node_list.specs.declared.node.Item.{Item}
 use Rattle.node_list.specs.Cells.{new_item}
-use Rattle.bucket_table.specs.Slots.{Slot, objects_of, without}
+use Rattle.bucket_table.specs.Slots.{Slot, objects_of}
+use Rattle.bucket_table.specs.Rows.{without}
 use Rattle.bucket_table.specs.SplitRowsState.{SplitRowsState, key_of_place}
 use Rattle.bucket_table.specs.inside.Nodes.{slots_of, places_of}
 use Rattle.bucket_table.proofs.list.Content.{found-item}

@@ -1,4 +1,4 @@
-use Rattle.term_text.proofs.laws.found_exactly_where_spelled.Goals as goal
+use Rattle.term_text.proofs.laws.reader_finds_spelled_terms.Goals as goal
 use Rattle.term_text.proofs.Sound.{sound}
 use Rattle.term_text.proofs.Spelled.{front-read}
 

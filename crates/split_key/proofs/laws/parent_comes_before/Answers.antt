@@ -1,7 +1,7 @@
 use Rattle.std.proofs.Common.{ℕ, ◌-◌, ◌<◌, arith, subst, sym}
 use Rattle.split_key.specs.Keys.{key_of_dummy}
 use Rattle.split_key.proofs.Halves.{before, exponent-lt}
-use Rattle.split_key.proofs.laws.parent_stands_before.Goals as goal
+use Rattle.split_key.proofs.laws.parent_comes_before.Goals as goal
 
 pub returns-clause-before : goal.returns-clause-before
 returns-clause-before c =

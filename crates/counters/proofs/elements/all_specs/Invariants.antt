@@ -1,6 +1,0 @@
-use Rattle.std.proofs.Common.{◌≡◌, ◌++◌, drop, option_map}
-use Rattle.counters.specs.Elements.{all_specs}
-use Rattle.counters.proofs.elements.all_specs.Given as goal
-
-abbrev pub invariant-loop-term : goal.invariant-loop-term
-invariant-loop-term l = option_map (λ specs. l.specs ++ specs) (all_specs l.fn.keypos (drop l.term-index l.terms)) ≡ all_specs l.fn.keypos l.terms
