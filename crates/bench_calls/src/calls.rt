@@ -61,7 +61,7 @@ pub(crate) fn call_of_key(alloc: Global, name: &str, k: u64) -> Result<Call, All
     build_call(alloc, name, vec![in alloc; Term::Tid(TABLE), key_term(k)]?)
 }
 
-/// Returns the integer of a reply, or None if it is another term.
+/// Returns the integer of a reply, or `None` if it is another term.
 pub(crate) fn integer_of_reply(reply: &Reply) -> Option<u64> {
     match reply {
         Reply::Value(Term::Int(k)) => u64::try_from(*k).ok(),
@@ -93,7 +93,7 @@ pub(crate) fn is_atom(reply: &Reply, text: &str) -> bool {
     }
 }
 
-/// Returns the key of a number.
+/// Returns the key that is this integer.
 fn key_term(k: u64) -> Term {
     Term::Int(Integer::from(k))
 }
@@ -103,7 +103,7 @@ fn atom_term(alloc: Global, text: &str) -> Result<Term, AllocError> {
     Ok(Term::Atom(build_atom(alloc, text)?))
 }
 
-/// Builds the atom of a text, which must be short printable ASCII.
+/// Builds the atom of a text, which must be short printable ASCII. Any other text counts as out of memory.
 fn build_atom(alloc: Global, text: &str) -> Result<Atom, AllocError> {
     match Atom::new(alloc, text) {
         Ok(atom) => Ok(atom),

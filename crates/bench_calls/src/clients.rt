@@ -21,9 +21,9 @@ use std::time::Instant;
 struct NoGate;
 
 impl Gate for NoGate {
-    fn before(&self, _client: usize, _call: usize) {}
+    fn before(&self, _client: usize, _job: usize) {}
 
-    fn after(&self, _client: usize, _call: usize) {}
+    fn after(&self, _client: usize, _job: usize) {}
 }
 
 /// Times clients in threads that make `calls` calls each, all at the same time. Running out of memory, and more than
@@ -145,7 +145,7 @@ fn enrol_client<L: Ledger, R: Wait>(
     }
 }
 
-/// Makes the table, and inserts an object of each of the `KEYS`, each with up to `GROWTH_STEPS` growth steps.
+/// Makes the table, and inserts `KEYS` objects. After each, up to `GROWTH_STEPS` pending growth steps are run.
 fn fill<L: Ledger, R: Wait>(
     rt: &R,
     alloc: Global,

@@ -28,9 +28,14 @@ use std::{env, io};
 /// The number of objects, calls or threads if the command line names none.
 const COUNT: u32 = 1_000;
 
-/// Runs one part of the benchmark. For `clients`, `server`, `reads` and `lists`, `count` is the number of threads, each
-/// of which makes `calls` calls. For `alone`, `count` is the number of calls, and for the others the number of objects;
-/// for `check` also the number of calls of each client and caller.
+/// Runs one part of the benchmark. `times`, `into` and `run` time the phases, each by another method of a node. `keyed`
+/// times them with the seeded hash, of an arbitrary seed. `walks` times traversals. `alone` times a mixture of calls
+/// without threads, and `clients` one in threads. `server`, `reads` and `lists` time the callers of a server. Any other
+/// word is `check`, which prints counts and no times.
+///
+/// For `clients`, `server`, `reads` and `lists`, `count` is the number of threads, each of which makes `calls` calls.
+/// For `alone`, `count` is the number of calls; for the others it is the number of objects. For `check` it is also the
+/// number of calls of each client and caller.
 fn run<R: Print + Alloc<A = Global> + Clock + Threads + Wait + Sync>(
     rt: &R,
     part: &str,

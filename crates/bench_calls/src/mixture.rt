@@ -8,16 +8,16 @@ use std::io;
 /// How many keys the table has.
 pub(crate) const KEYS: u64 = 10_000;
 
-/// The number of growth steps that may run after an insertion.
+/// The greatest number of pending growth steps that run after an insertion.
 pub(crate) const GROWTH_STEPS: u32 = 2;
 
 /// Builds the mixture: `calls` calls on keys in the order of this seed.
 pub(crate) fn mixture(alloc: Global, calls: u32, seed: u64) -> Result<Vec<Call>, AllocError> {
     let mut mixture = Vec::new(alloc);
-    for (at, k) in shuffle(alloc, u64::from(calls), seed)?.iter().enumerate() {
+    for (index, k) in shuffle(alloc, u64::from(calls), seed)?.iter().enumerate() {
         let k = k % KEYS;
         // Every tenth call is an insertion.
-        let call = if at % 10 == 9 {
+        let call = if index % 10 == 9 {
             insert_call(alloc, k)?
         } else {
             call_of_key(alloc, "lookup", k)?

@@ -16,13 +16,13 @@ pub enum Phase {
     Insert,
     /// Lookups of keys in the table.
     Hit,
-    /// Searches for keys that are not in the table.
+    /// `member` calls for keys that are not in the table.
     Miss,
     /// Additions of one to the value of a key.
     Counter,
-    /// Updates of an element.
+    /// Updates of the value of a key by `update_element`.
     Write,
-    /// Updates of an element with a default object.
+    /// The same updates with a default object, which is not used, since each key has an object.
     WriteWithDefault,
     /// Deletions of keys in the table.
     Delete,

@@ -18,7 +18,7 @@ use std::sync::Wait;
 use std::thread::Threads;
 use std::time::{Duration, Instant};
 
-/// About the least number of steps of a phase that are timed. A small table is built repeatedly for that many steps.
+/// Limits how often a small table is built: as often as its steps fit into this number, and at least once.
 const MIN_TIMED_STEPS: u32 = 300_000;
 
 /// The number of clients, and of callers of a server, in the part `check`.
@@ -156,8 +156,8 @@ pub(crate) fn print_clients<R: Print + Alloc<A = Global> + Clock + Threads + Wai
     time_clients(rt, clients, calls)?.print(rt, "shared", clients, calls)
 }
 
-/// Prints the nanoseconds per call of callers of a server that make `calls` calls each, in parallel: first on a server
-/// with a single lock, then with a sharded lock.
+/// Prints the nanoseconds per call of callers of a server that make `calls` calls each, in parallel. The first server
+/// has a single lock, the second a sharded lock.
 pub(crate) fn print_servers<R: Print + Alloc<A = Global> + Clock + Threads + Wait + Sync>(
     rt: &R,
     load: Load,
@@ -197,8 +197,9 @@ pub(crate) fn nanoseconds(spent: Duration) -> u64 {
     u64::try_from(spent.as_nanos()).unwrap_or(u64::MAX)
 }
 
-/// Prints how many steps of each phase had the right reply, how many objects each walk found, and how many lookups of
-/// clients and callers found an object. `count` is the number of objects, and of calls of each client and caller.
+/// Prints how many steps of each phase had the right reply, and how many objects each walk found. Then prints how many
+/// lookups of clients and callers found an object. `count` is the number of objects, and of calls of each client and
+/// caller.
 pub(crate) fn print_counts<R: Print + Alloc<A = Global> + Clock + Threads + Wait + Sync>(
     rt: &R,
     count: u32,

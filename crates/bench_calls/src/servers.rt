@@ -131,7 +131,7 @@ fn enrol_caller<B: HistoryId, R: Wait>(
     }
 }
 
-/// Makes the table, and inserts an object of each of the `KEYS`, each with up to `GROWTH_STEPS` growth steps.
+/// Makes the table, and inserts `KEYS` objects. After each, up to `GROWTH_STEPS` pending growth steps are run.
 fn fill<B: HistoryId, R: Wait>(
     rt: &R,
     alloc: Global,
@@ -147,7 +147,7 @@ fn fill<B: HistoryId, R: Wait>(
 }
 
 /// Makes the calls of each caller in a thread: splits the callers into halves until one is left. Returns how many
-/// lookups found an object. A caller that runs out of memory counts as 0.
+/// lookups found an object. A caller that runs out of memory counts as 0, and so do callers whose list cannot be split.
 fn call_all<
     B: HistoryId + Send + Sync,
     H: KeyHash + Copy + Drop + Send + Sync,

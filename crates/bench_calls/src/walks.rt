@@ -30,14 +30,14 @@ impl Walks {
         let keys = keys_in_order(alloc, node, count)?;
         let mut apart = Vec::new(alloc);
         let mut together = Vec::new(alloc);
-        let mut before = None;
+        let mut previous = None;
         for key in keys {
-            if let Some(before) = before {
-                apart.push(ask_step(call_of_key(alloc, "next", before)?))?;
+            if let Some(previous) = previous {
+                apart.push(ask_step(call_of_key(alloc, "next", previous)?))?;
                 apart.push(ask_step(call_of_key(alloc, "lookup", key)?))?;
-                together.push(ask_step(call_of_key(alloc, "next_lookup", before)?))?;
+                together.push(ask_step(call_of_key(alloc, "next_lookup", previous)?))?;
             }
-            before = Some(key);
+            previous = Some(key);
         }
         Ok(Walks { apart, together })
     }
@@ -57,7 +57,7 @@ fn keys_in_order(alloc: Global, node: &mut Node<Fnv>, count: u32) -> Result<Vec<
     Ok(keys)
 }
 
-/// Runs a step, and returns the key that is its reply, or `None` if the reply is not an integer: at the end of the
+/// Runs a step, and returns the key that is its reply. `None` is a reply that is not an integer: at the end of the
 /// table.
 fn run_for_key(node: &mut Node<Fnv>, step: Step) -> Result<Option<u64>, AllocError> {
     let reply = node.step(&step)?;

@@ -20,10 +20,9 @@ const INSERT_SEED: u64 = 1;
 const FIND_SEED: u64 = 2;
 
 /// Inserts the objects `{K,1}`, for each K below `item_count` in shuffled order, into a list of `buckets` buckets. If
-/// `finds` is 0, it then returns 0, so that the caller times the insertions alone. Otherwise it searches for each key in
-/// another order, and returns how many it found.
-/// It also returns 0 if `buckets` is not a power of two, if `item_count` or `buckets` is above 2^31, or if memory runs
-/// out.
+/// `finds` is 0, it then returns 0, so that the caller times the insertions alone. Otherwise it searches for each key
+/// in another order, and returns how many it found. It also returns 0 if `buckets` is not a power of two, if
+/// `item_count` or `buckets` is above 2^31, or if memory runs out.
 #[unsafe(no_mangle)]
 pub extern "C" fn bench_layers_list(alloc: Global, item_count: u64, buckets: u64, finds: u64) -> u64
     ensures { finds ≡ 0 → result ≡ 0 }
@@ -85,6 +84,7 @@ fn insert(alloc: Global, list: &mut BucketedList, item_count: u64) -> Result<(),
     ensures { IsReady list.new }
 {
     let len = order_len(item_count);
+    // The number of items still to insert. It is above 0 at each of them: only the proof needs `left > 0`.
     let mut left = item_count;
     for i in 0..len {
         let number = shuffled_number(i, INSERT_SEED, len - 1);
@@ -102,6 +102,7 @@ fn count_found(list: &BucketedList, item_count: u64) -> u64
     requires few_items { item_count ≤ 2 ^ 31 }
 {
     let len = order_len(item_count);
+    // A counter of visited nodes, which `has_item` needs. It is not read.
     let mut steps = Steps::new();
     let mut found = 0;
     for i in 0..len {

@@ -13,8 +13,9 @@ pub fn order_len(count: u64) -> u64
 
 /// Returns the number at index `i` of the order of this seed. Each seed has its own multipliers, so that items are not
 /// searched for in the order of their insertion. If `mask` is one less than a power of two, each number up to `mask`
-/// occurs once among the indices up to it. Each line maps these numbers one to one: a multiplication by an odd number
-/// does, and so does an exclusive or of a number with its shift. The multipliers are arbitrary.
+/// occurs once among the indices up to it. Each line maps these numbers one to one. Its parts do: the multiplications
+/// by odd numbers, and each exclusive or of a number with its shift. The multipliers are arbitrary odd numbers; an odd
+/// number stays odd after an exclusive or with an even one.
 pub fn shuffled_number(i: u64, seed: u64, mask: u64) -> u64 {
     let odd = seed.wrapping_mul(0xD6E8_FEB8_6659_FD92) | 1;
     let a = i.wrapping_mul(odd) & mask;

@@ -32,7 +32,7 @@ pub trait BenchTable: Drop {
     fn double(&mut self) -> Result<(), AllocError>;
 }
 
-/// Returns the key of a number.
+/// Returns the key that is this integer.
 pub(crate) fn key_of(k: u64) -> Term {
     Term::Int(Integer::from(k))
 }

@@ -42,12 +42,13 @@ impl BenchTable for SplitRows<Fnv> {
         let Some(place) = self.find(&key_of(k)) else {
             return Ok(false);
         };
+        // The placeholder 0 is in the table while the value is changed.
         let mut objects = self.replace_at(place, Chain::one(alloc, Term::Int(0)));
         let Some(Term::Tuple(elements)) = objects.pop() else {
             return Ok(false);
         };
         let mut elements = elements.into_vec();
-        let counted = match elements.get_mut(1) {
+        let has_counted = match elements.get_mut(1) {
             Some(Term::Int(value)) => {
                 *value = value.wrapping_add(1);
                 true
@@ -56,7 +57,7 @@ impl BenchTable for SplitRows<Fnv> {
         };
         objects.push(Term::Tuple(Items::from_vec(elements)))?;
         self.replace_at(place, objects);
-        Ok(counted)
+        Ok(has_counted)
     }
 
     fn delete(&mut self, k: u64) -> bool {
@@ -76,9 +77,9 @@ fn grow_if_pending(rows: &mut SplitRows<Fnv>) -> Result<bool, AllocError> {
         rows.ready(bucket)?;
         return Ok(true);
     }
-    let full = is_full(rows.len(), rows.buckets());
-    if full {
+    let must_double = is_full(rows.len(), rows.buckets());
+    if must_double {
         rows.grow()?;
     }
-    Ok(full)
+    Ok(must_double)
 }

@@ -24,6 +24,7 @@ fn out_of_memory_or_false(refusal: Refusal) -> Result<bool, AllocError> {
 impl BenchTable for Table<SplitRows<Fnv>> {
     fn empty(alloc: Global) -> Result<Table<SplitRows<Fnv>>, AllocError> {
         let rows = SplitRows::new(alloc, Fnv)?;
+        // The key is element 1, and `u32::MAX` is the limit of objects.
         Ok(Table::new(alloc, rows, Kind::Set, 1, u32::MAX))
     }
 
@@ -59,6 +60,7 @@ impl BenchTable for Table<SplitRows<Fnv>> {
 
     fn delete(&mut self, k: u64) -> bool {
         let before = self.size();
+        // The table is not fixed, so that no tombstone stays: `false`.
         self.delete_key(&key_of(k), false);
         self.size() < before
     }
@@ -76,9 +78,9 @@ fn grow_if_pending(table: &mut Table<SplitRows<Fnv>>) -> Result<bool, AllocError
         table.ready(bucket)?;
         return Ok(true);
     }
-    let full = is_full(table.slots(), table.buckets());
-    if full {
+    let must_double = is_full(table.slots(), table.buckets());
+    if must_double {
         table.grow()?;
     }
-    Ok(full)
+    Ok(must_double)
 }

@@ -2,6 +2,7 @@ pub mod Slots
 pub mod Entries
 pub mod Walks
 pub mod Buckets
+pub mod Readying
 pub mod SplitRowsState
 pub mod Visits
 pub mod Rows

@@ -1,9 +1,14 @@
--- What the operations of rows do to slots.
+-- What holds of the slots of rows, and what the operations of rows do to them.
 use Rattle.std.specs.Prelude.{◌≡◌, Bool, true, false, not, List, [], ◌∷◌, None, filter, map}
-use Rattle.std.specs.Map.{remove_entry}
+use Rattle.std.specs.List.{IsDistinct}
+use Rattle.std.specs.Map.{remove_entry, keys_of}
 use Rattle.ets_term.specs.declared.term.Term.{Term}
 use Rattle.ets_term.specs.Order.{same}
 use Rattle.bucket_table.specs.Slots.{objects_of, Slot, Enters, has_objects}
+
+-- No key has two slots.
+abbrev pub HasDistinctKeys : List Slot → Type 0
+HasDistinctKeys slots = IsDistinct same (keys_of slots)
 
 -- The slots after the slot of a key is removed.
 abbrev pub without : List Slot → Term → List Slot

@@ -1,17 +1,12 @@
 -- The content of rows: pairs of a key and its objects. A slot without objects is a tombstone.
 use Rattle.std.specs.Prelude.{◌≡◌, ℕ, ◌+◌, Bool, true, false, List, [], ◌∷◌, ◌++◌, Option, Some, None, if◌then◌else◌, length, filter}
-use Rattle.std.specs.Map.{lookup, set_value, keys_of}
-use Rattle.std.specs.List.{IsDistinct}
+use Rattle.std.specs.Map.{lookup, set_value}
 use Rattle.ets_term.specs.declared.term.Term.{Term}
 use Rattle.ets_term.specs.Order.{same}
 
 -- A key with its objects.
 abbrev pub Slot : Type 0
 Slot = Term × List Term
-
--- No key has two slots.
-abbrev pub HasDistinctKeys : List Slot → Type 0
-HasDistinctKeys slots = IsDistinct same (keys_of slots)
 
 -- The objects of a key's slot. `None` if the key has no slot.
 abbrev pub objects_of : List Slot → Term → Option (List Term)

@@ -7,6 +7,8 @@ pub type Place = usize;
 /// The result of a search for an insertion: the place of the key's slot, or the hash of a key without a slot.
 #[derive(Clone, Copy)]
 pub enum SlotEntry {
+    /// The key has a slot, at this place.
     Occupied(Place),
+    /// The key has no slot, and this is its hash, for `Rows::put_at`.
     Vacant(u32),
 }

@@ -12,8 +12,8 @@
 //! bucket is an interval of the list that starts at a sentinel, its dummy. The directory has the place of each dummy.
 //! The hints are a cache: for each eighth of a bucket, an *interval*, they give the place of its first item. A hint may
 //! also say that the interval is empty, or be unknown. A search starts at a hint, or without one at the dummy of the
-//! nearest ready bucket, which is the key's bucket or an ancestor of it. An insertion refreshes the hint of its
-//! interval if that is unknown.
+//! nearest ready bucket. That is the key's bucket or an ancestor of it. An insertion refreshes the hint of its interval
+//! if that hint is unknown.
 //!
 //! A doubling moves no node. It keeps the old hints as previous hints, and each insertion rehashes a few of them. The
 //! directory is written when buckets become ready. The order of the slots is that of their places, and a traversal

@@ -17,6 +17,7 @@ use std::mem;
 /// with their number.
 #[derive(Drop)]
 pub struct PlainRows {
+    /// From each key to its objects, in insertion order.
     slots: IndexMap<Term, Chain>,
 }
 
@@ -30,7 +31,7 @@ impl PlainRows {
         }
     }
 
-    /// Appends a slot for a key that has no slot.
+    /// Appends a slot for a key that has no slot. If memory runs out, changes no slot.
     fn push(&mut self, key: Term, objects: Chain) -> Result<(), AllocError>
         requires { objects_of self.old.slots.entries key ≡ None }
         ensures ok { OnOk result (self.new.slots.entries ≡ self.old.slots.entries ++ (key, objects) ∷ []) }
@@ -43,7 +44,9 @@ impl PlainRows {
     }
 }
 
-// The trait `Rows` documents these methods. The place of a slot is its index in the map.
+// The trait `Rows` documents these values and methods. The place of a slot is its index in the map. A method that takes
+// a place requires a slot there, so its `None` is unreachable. `entry` gives each key the hash 0, which `put_at` does
+// not use.
 impl Rows for PlainRows {
     ghost slots = { λ s. s.slots.entries };
 
@@ -172,6 +175,7 @@ impl Rows for PlainRows {
 
     fn replace_at(&mut self, place: Place, objects: Chain) -> Chain {
         match self.slots.get_index_mut(place) {
+            // `own` holds the objects that the slot has now.
             Some(own) => mem::replace(own, objects),
             None => unreachable!(),
         }
@@ -179,6 +183,7 @@ impl Rows for PlainRows {
 
     fn replace_one_at(&mut self, place: Place, object: Term) -> Term {
         match self.slots.get_index_mut(place) {
+            // `own` holds the only object of the slot.
             Some(own) => own.replace(0, object),
             None => unreachable!(),
         }
@@ -187,6 +192,7 @@ impl Rows for PlainRows {
     #[inline]
     fn set_element_at(&mut self, place: Place, index: usize, value: Term) {
         match self.slots.get_index_mut(place) {
+            // `own` holds the only object of the slot.
             Some(own) => own.set_element(index, value),
             None => unreachable!(),
         }

@@ -3,11 +3,12 @@
 ghost use Rattle.std.specs.Prelude.{◌≡◌, ◌≤◌, ◌+◌, ℕ, Bool, false, List, [], ◌∷◌, Option, Some, None, IsSome, IsOk, IfOk, OnOk, OnErr, MatchOption, length, position, not, option_copied, option_map, slice_get, get_or};
 ghost use Rattle.std.specs.Map.Iter.{deref_pair};
 ghost use Rattle.ets_term.specs.declared.term.Term.{Term};
-ghost use Rattle.bucket_table.specs.Slots.{Slot, HasDistinctKeys, objects_of, with_objects, Enters, without_tombstones, slots_behind};
-ghost use Rattle.bucket_table.specs.Rows.{without, EnterAll, AreNew, without_objects};
+ghost use Rattle.bucket_table.specs.Slots.{Slot, objects_of, with_objects, Enters, without_tombstones, slots_behind};
+ghost use Rattle.bucket_table.specs.Rows.{HasDistinctKeys, without, EnterAll, AreNew, without_objects};
 ghost use Rattle.bucket_table.specs.Entries.{IsEntry, HasOneObject, objects_in, with_objects_in, with_element_in};
 ghost use Rattle.bucket_table.specs.Walks.{IsFirstPlace, IsNextPlace, ComesBefore};
-ghost use Rattle.bucket_table.specs.Buckets.{IsGrown, IsReadied};
+ghost use Rattle.bucket_table.specs.Buckets.{IsGrown};
+ghost use Rattle.bucket_table.specs.Readying.{IsReadied};
 
 use crate::entry::{Place, SlotEntry};
 use crate::growth::{Growth, Readying};
@@ -21,22 +22,22 @@ pub trait Rows: Drop {
     /// The slots, in their order.
     ghost slots: { Self → List Slot };
 
-    /// The key of the slot at a place.
+    /// The key of the slot at a place, or `None` if no slot is there.
     ghost key_at: { Self → ℕ → Option Term };
 
     /// The number of slots that can be inserted without an allocation.
     ghost room: { Self → ℕ };
 
-    /// The hash of each key.
+    /// The hash of a key.
     ghost hash_of: { Self → Term → ℕ };
 
-    /// Whether each bucket is ready.
+    /// For each bucket, whether it is ready.
     ghost readiness: { Self → List Bool };
 
-    /// The greatest number of buckets.
+    /// The greatest number of buckets, which `grow` does not exceed.
     ghost most_buckets: { ℕ };
 
-    /// Returns the objects of the key's slot, if it has one.
+    /// Returns the objects of the key's slot: an empty slice for a tombstone. Returns `None` if the key has no slot.
     fn get(&self, key: &Term) -> Option<&[Term]>
         ensures { option_copied result ≡ objects_of (slots self.now) key.now };
 
@@ -86,12 +87,13 @@ pub trait Rows: Drop {
     fn reveal_invariant(&self)
         ensures { HasDistinctKeys (slots self.now) };
 
-    /// Returns the first slot, if there is one.
+    /// Returns the key and the objects of the first slot, if there is one. Takes no place, unlike `slot_at`: the place
+    /// is that of `first_place`.
     fn first_at(&self) -> Option<(&Term, &[Term])>
         ensures { option_map deref_pair result ≡ slice_get (slots self.now) 0 };
 
-    /// Returns the slot after the key's slot. The outer `None` means that the key has no slot, and the inner `None`
-    /// that its slot is the last.
+    /// Takes a key instead of a place. Returns the key and the objects of the slot after this key's slot. The outer
+    /// `None` means that the key has no slot, and the inner `None` that its slot is the last.
     fn next_at(&self, key: &Term) -> Option<Option<(&Term, &[Term])>>
         ensures { option_map (option_map deref_pair) result
             ≡ option_map (λ slots. slice_get slots 0) (slots_behind (slots self.now) key.now) };
@@ -109,7 +111,8 @@ pub trait Rows: Drop {
     fn first_place(&self) -> Option<Place>
         ensures { IsFirstPlace (key_at self.now) (slots self.now) result };
 
-    /// Returns the place of the slot after the slot at `place`, if there is one. `SplitRows` reads each place up to it.
+    /// Returns the place of the slot after the slot at `place`, if there is one. `SplitRows` reads the places
+    /// after `place` until one has a slot.
     fn next_place(&self, place: Place) -> Option<Place>
         requires { IsSome (key_at self.now place) }
         ensures { IsNextPlace (key_at self.now) (slots self.now) (key_at self.now place) result };
@@ -189,7 +192,8 @@ pub trait Rows: Drop {
         ensures hash { hash_of self.new ≡ hash_of self.old }
         ensures buckets { readiness self.new ≡ readiness self.old };
 
-    /// Inserts a slot for a key that has no slot. `hash` is the key's hash, as `entry` returned it.
+    /// Inserts a slot for a key that has no slot. Takes the key's hash, as `entry` returned it, instead of a place. The
+    /// rows choose the place. If memory runs out, no slot is inserted, and the key and the objects are dropped.
     fn put_at(&mut self, hash: u32, key: Term, objects: Chain) -> Result<(), AllocError>
         requires new { objects_of (slots self.old) key ≡ None }
         requires hash { hash ≡ hash_of self.old key }
@@ -200,14 +204,15 @@ pub trait Rows: Drop {
         ensures hash { hash_of self.new ≡ hash_of self.old }
         ensures buckets { readiness self.new ≡ readiness self.old };
 
-    /// Doubles the number of buckets, unless it is the greatest.
+    /// Doubles the number of buckets. Returns `AtMost`, and changes nothing, if the number is already the greatest.
     fn grow(&mut self) -> Result<Growth, AllocError>
         ensures content { slots self.new ≡ slots self.old }
         ensures hash { hash_of self.new ≡ hash_of self.old }
         ensures ok { IfOk result (λ growth. IsGrown most_buckets (readiness self.old) growth (readiness self.new)) }
         ensures err { OnErr result (readiness self.new ≡ readiness self.old) };
 
-    /// Makes a bucket ready.
+    /// Makes a bucket ready. Changes nothing if the bucket was ready before or no bucket has this number, and returns
+    /// which.
     fn ready(&mut self, bucket: u32) -> Result<Readying, AllocError>
         ensures content { slots self.new ≡ slots self.old }
         ensures hash { hash_of self.new ≡ hash_of self.old }

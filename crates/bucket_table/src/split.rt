@@ -26,7 +26,7 @@ use std::marker::Model;
 
 /// Rows in one list sorted by split keys, with a directory of buckets. The order of the slots is that of their places.
 /// `slots` is the number of slots. `first_unready` is the lowest bucket that is not ready, or the number of buckets if
-/// all are ready.
+/// all are ready. `log` has the hashes by which a purge finds the tombstones.
 #[derive(Drop)]
 pub struct SplitRows<H: KeyHash + Copy + Drop> {
     index: SplitIndex<H>,

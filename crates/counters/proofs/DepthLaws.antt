@@ -6,7 +6,7 @@ use Rattle.std.proofs.lemmas.Bool.Decides.{nat_tests}
 use Rattle.ets_term.specs.declared.term.Term.{Term, the_lemmas}
 use Rattle.ets_term.specs.declared.term.Term.TheVariants.{Tuple, Int}
 use Rattle.ets_term.specs.Depth.{depth, largest, max_depth, is_too_deep}
-use Rattle.counters.specs.Elements.{has_all, with_values_from, with_values, make_too_deep}
+use Rattle.counters.specs.Elements.{has_all_positions, with_values_from, with_values, make_too_deep}
 use Rattle.counters.specs.inside.Values.{too_deep_as_element, write_each}
 use Rattle.counters.specs.declared.elements.ElementSpec.{ElementSpec}
 use Rattle.counters.specs.laws.Depths.{MakesTooDeep}
@@ -86,13 +86,13 @@ length-slice_set [] k v = refl
 length-slice_set (e ∷ es) zero v = refl
 length-slice_set (e ∷ es) (suc k) v = ap suc (length-slice_set es k v)
 
-write_each-deep : (ss : List ElementSpec) (es : List Term) → has_all (length es) ss ≡ true → list_any is_deep (write_each ss es) ≡ (too_deep_as_element ss || stays_deep 0 ss es)
+write_each-deep : (ss : List ElementSpec) (es : List Term) → has_all_positions (length es) ss ≡ true → list_any is_deep (write_each ss es) ≡ (too_deep_as_element ss || stays_deep 0 ss es)
 write_each-deep [] es h = stays_deep-no_values 0 es
 write_each-deep (s ∷ ss) es h =
-    let parts = has-first (nat_lt 0 s.position) (nat_le s.position (length es)) (has_all (length es) ss) h in
+    let parts = has-first (nat_lt 0 s.position) (nat_le s.position (length es)) (has_all_positions (length es) ss) h in
     let some : 0 < s.position = grind (arith, nat_tests, parts.0) in
     let few : s.position ≤ length es = grind (arith, nat_tests, parts.1.0) in
-    write_each-deep ss (slice_set es (s.position - 1) s.value) (ap (λ n. has_all n ss) (length-slice_set es (s.position - 1) s.value) ∙ parts.1.1)
+    write_each-deep ss (slice_set es (s.position - 1) s.value) (ap (λ n. has_all_positions n ss) (length-slice_set es (s.position - 1) s.value) ∙ parts.1.1)
     ∙ ap (λ b. too_deep_as_element ss || b) (put 0 (s.position - 1) s ss es (omega (arith, some)) (omega (arith, some, few)))
     ∙ or-moved (too_deep_as_element ss) (is_deep s.value && not (names ss s.position)) (stays_deep 0 (s ∷ ss) es)
 
@@ -113,7 +113,7 @@ or-none : (a : Bool) → (a || false) ≡ a
 or-none true = refl
 or-none false = refl
 
-write_each-too_deep : (specs : List ElementSpec) (elements : List Term) → is_too_deep (Tuple elements) ≡ false → has_all (length elements) specs ≡ true → too_deep_as_element specs ≡ is_too_deep (Tuple (write_each specs elements))
+write_each-too_deep : (specs : List ElementSpec) (elements : List Term) → is_too_deep (Tuple elements) ≡ false → has_all_positions (length elements) specs ≡ true → too_deep_as_element specs ≡ is_too_deep (Tuple (write_each specs elements))
 write_each-too_deep ss es shallow h =
     let none : stays_deep 0 ss es ≡ false = stays_deep-shallow 0 ss es (sym (deep-Tuple es) ∙ shallow) in
     sym (deep-Tuple (write_each ss es) ∙ write_each-deep ss es h ∙ ap (λ b. too_deep_as_element ss || b) none ∙ or-none (too_deep_as_element ss))
@@ -140,13 +140,13 @@ no-values : (i : ℕ) (es : List Term) → with_values_from i [] es ≡ es
 no-values i [] = refl
 no-values i (e ∷ es) = ap (λ ts. e ∷ ts) (no-values (i + 1) es)
 
-pub each-with_values : (ss : List ElementSpec) (es : List Term) → has_all (length es) ss ≡ true → write_each ss es ≡ with_values ss es
+pub each-with_values : (ss : List ElementSpec) (es : List Term) → has_all_positions (length es) ss ≡ true → write_each ss es ≡ with_values ss es
 each-with_values [] es h = sym (no-values 1 es)
 each-with_values (s ∷ ss) es h =
-    let parts = has-first (nat_lt 0 s.position) (nat_le s.position (length es)) (has_all (length es) ss) h in
+    let parts = has-first (nat_lt 0 s.position) (nat_le s.position (length es)) (has_all_positions (length es) ss) h in
     let some : 0 < s.position = grind (arith, nat_tests, parts.0) in
     let few : s.position ≤ length es = grind (arith, nat_tests, parts.1.0) in
-    each-with_values ss (slice_set es (s.position - 1) s.value) (ap (λ n. has_all n ss) (length-slice_set es (s.position - 1) s.value) ∙ parts.1.1)
+    each-with_values ss (slice_set es (s.position - 1) s.value) (ap (λ n. has_all_positions n ss) (length-slice_set es (s.position - 1) s.value) ∙ parts.1.1)
     ∙ sym (value-set 1 (s.position - 1) s ss es (omega (arith, some)) (omega (arith, some, few)))
 
 -- ---- elements of depth 1
@@ -164,9 +164,9 @@ leaves-flat : (es : List Term) → list_any is_deep (leaves es) ≡ false
 leaves-flat [] = refl
 leaves-flat (e ∷ es) = rw (leaf-flat, leaves-flat es) refl
 
-pub deep-leaves : (ss : List ElementSpec) (es : List Term) → has_all (length es) ss ≡ true → too_deep_as_element ss ≡ make_too_deep ss es
+pub deep-leaves : (ss : List ElementSpec) (es : List Term) → has_all_positions (length es) ss ≡ true → too_deep_as_element ss ≡ make_too_deep ss es
 deep-leaves ss es h =
-    let here : has_all (length (leaves es)) ss ≡ true = ap (λ n. has_all n ss) (leaves-length es) ∙ h in
+    let here : has_all_positions (length (leaves es)) ss ≡ true = ap (λ n. has_all_positions n ss) (leaves-length es) ∙ h in
     write_each-too_deep ss (leaves es) (deep-Tuple (leaves es) ∙ leaves-flat es) here ∙ ap (λ ts. is_too_deep (Tuple ts)) (each-with_values ss (leaves es) here)
 
 pub make_too_deep-object : (specs : List ElementSpec) (elements : List Term) → MakesTooDeep specs elements

@@ -1,10 +1,11 @@
 -- The object that a Default makes for a missing key (stdlib manual, module ets, update_counter/4).
 use Rattle.std.specs.Prelude.{ℕ, ◌-◌, ◌&&◌, not, nat_lt, nat_le, if◌then◌else◌, Option, Some, None, Result, Ok, Err, length, slice_set, codes}
-use Rattle.ets_term.specs.declared.term.Term.{Term, out-Term}
-use Rattle.ets_term.specs.declared.term.Term.TheOpen.{Term-F}
+use Rattle.std.specs.Option.{option_and_then}
+use Rattle.ets_term.specs.declared.term.Term.{Term}
 use Rattle.ets_term.specs.declared.term.Term.TheVariants as term
 use Rattle.ets_term.specs.Atoms.{is_atom}
 use Rattle.ets_term.specs.Depth.{is_too_deep}
+use Rattle.ets_term.specs.Views.{as_tuple}
 use Rattle.counters.specs.Counters as counters
 use Rattle.counters.specs.Elements as elements
 use Rattle.counters.specs.declared.elements.ElementSpecs.{ElementSpecs}
@@ -12,17 +13,13 @@ use Rattle.counters.specs.declared.fault.CounterFault.{CounterFault}
 use Rattle.counters.specs.declared.fault.CounterFault.TheVariants.{Badarg, SystemLimit}
 use Rattle.counters.specs.declared.ops.Ops.{Ops}
 
--- the Default with the key at keypos, by the first level of the Default
-abbrev pub with_key_form : ℕ → Term → Term-F Term → Option Term
-with_key_form keypos key (Term-F.Tuple ts) =
-    if nat_lt 0 keypos && nat_le keypos (length ts) && not (is_atom (codes "$end_of_table") key)
-    then Some (term.Tuple (slice_set ts (keypos - 1) key))
-    else None
-with_key_form keypos key _ = None
-
 -- the Default with the key at keypos; None if that is not an object
 abbrev pub with_key : ℕ → Term → Term → Option Term
-with_key keypos key default = with_key_form keypos key (out-Term default)
+with_key keypos key default =
+    option_and_then (λ ts.
+    if nat_lt 0 keypos && nat_le keypos (length ts) && not (is_atom (codes "$end_of_table") key)
+    then Some (term.Tuple (slice_set ts (keypos - 1) key))
+    else None) (as_tuple default)
 
 -- a result whose object is deeper than max_depth is refused with system limit
 abbrev pub refuse_deep : {X : Type 0} → (X → Term) → Result X CounterFault → Result X CounterFault

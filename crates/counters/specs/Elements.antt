@@ -44,8 +44,8 @@ element_spec_list (One spec) = spec ∷ []
 element_spec_list (Many specs) = specs
 
 -- whether a tuple of `count` elements has each position
-abbrev pub has_all : ℕ → List ElementSpec → Bool
-has_all count specs = list_all (λ spec. nat_lt 0 spec.position && nat_le spec.position count) specs
+abbrev pub has_all_positions : ℕ → List ElementSpec → Bool
+has_all_positions count specs = list_all (λ spec. nat_lt 0 spec.position && nat_le spec.position count) specs
 
 -- the last value given for a position; the element itself if no value is given for it
 abbrev pub value_for : List ElementSpec → ℕ → Term → Term
@@ -70,7 +70,7 @@ make_too_deep specs elements = is_too_deep (term.Tuple (with_values specs (map (
 -- the new elements; badarg if a position is missing, and then system limit if a value is too deep
 abbrev pub write_values : List ElementSpec → List Term → Result (List Term) CounterFault
 write_values specs elements =
-    if not (has_all (length elements) specs) then Err Badarg
+    if not (has_all_positions (length elements) specs) then Err Badarg
     else if make_too_deep specs elements then Err SystemLimit
     else Ok (with_values specs elements)
 

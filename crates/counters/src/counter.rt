@@ -27,8 +27,8 @@ pub fn integer_at(elements: &[Term], position: Position) -> Option<Integer>
     integer_of(elements.get((position - 1) as usize)?)
 }
 
-/// Returns the new value of the counter that one operation names. `Badarg` if there is no integer at the position;
-/// `SystemLimit` if the new value is out of range.
+/// Returns the new value of the counter that one operation names. Returns `Badarg` if there is no integer at the
+/// position, and `SystemLimit` if the new value is out of range.
 #[inline(always)]
 fn next_value(elements: &[Term], op: Op) -> Result<Integer, CounterFault>
     ensures done { IfOk result (λ n. apply_to_elements (One op) elements.now
@@ -75,9 +75,9 @@ fn apply_one(elements: &mut Items<Term>, op: Op) -> Result<Term, CounterFault>
 }
 
 /// Updates the counters of an object in place (stdlib manual, module ets, update_counter/3). Returns the new value, or
-/// the list of new values if the operations are a list. All operations are done or none. `Badarg` if the object is not
-/// a tuple or has no integer at one of the positions; `SystemLimit` if a new value is out of range. A single operation
-/// takes no memory and writes only its element.
+/// the list of new values if the operations are a list. All operations are done or none. Returns `Badarg` if the object
+/// is not a tuple or has no integer at one of the positions. Otherwise returns `SystemLimit` if a new value is out of
+/// range. A single operation takes no memory and writes only its element.
 pub fn update_counter(alloc: Global, object: &mut Term, ops: &Ops) -> Result<Term, CounterFault>
     ensures done { AnswersAs result (apply_ops ops.now object.old) object.new }
     ensures badarg { FailsJustAs result CounterFault.Badarg (apply_ops ops.now object.old) }

@@ -12,26 +12,26 @@ use crate::write::write_elements;
 use ets_term::Term;
 use std::alloc::Global;
 
-/// Returns whether the Default becomes an object if the key is set at keypos, counted from 1: the Default is a tuple
+/// Returns whether the Default becomes an object if the key is set at keypos, counted from 1. It does if it is a tuple
 /// that has this element, and the key is not `'$end_of_table'`.
-pub fn is_default(default: &Term, keypos: u32, key: &Term) -> bool
+pub fn is_valid_default(default: &Term, keypos: u32, key: &Term) -> bool
     ensures { result ≡ is_some (with_key keypos key.now default.now) }
 {
     match default {
-        Term::Tuple(elements) => is_position(elements.len(), keypos)
+        Term::Tuple(elements) => has_position(elements.len(), keypos)
             && !key.is_atom("$end_of_table"),
         _ => false,
     }
 }
 
-/// Returns whether a tuple of `count` elements has an element at keypos.
-fn is_position(count: usize, keypos: u32) -> bool
+/// Returns whether a tuple of `count` elements has an element at keypos, counted from 1.
+fn has_position(count: usize, keypos: u32) -> bool
     ensures { result ≡ (nat_lt 0 keypos && nat_le keypos count) }
 {
     0 < keypos && keypos as usize <= count
 }
 
-/// Returns a copy of the Default with the key set at keypos. `Badarg` if `is_default` is false.
+/// Returns a copy of the Default with the key set at keypos. Returns `Badarg` if `is_valid_default` is false.
 pub fn with_key(
     alloc: Global,
     default: &Term,
@@ -42,11 +42,12 @@ pub fn with_key(
     ensures badarg { IsErrOf result CounterFault.Badarg ↔ (with_key keypos key.now default.now ≡ None) }
     ensures limit { ¬ IsErrOf result CounterFault.SystemLimit }
 {
-    if !is_default(default, keypos, key) {
+    if !is_valid_default(default, keypos, key) {
         return Err(CounterFault::Badarg);
     }
     let key = key.try_clone(alloc)?;
     let mut object = default.try_clone(alloc)?;
+    // This test and the next are always true, since the Default is valid.
     if let Term::Tuple(elements) = &mut object {
         let at = keypos as usize - 1;
         if at < elements.len() {
@@ -56,9 +57,10 @@ pub fn with_key(
     Ok(object)
 }
 
-/// Returns the object to store for a missing key, and the answer (stdlib manual, module ets, update_counter/4): the
-/// Default with the key at keypos and its counters updated. `Badarg` if `is_default` is false, or if `update_counter`
-/// refuses so. Then `SystemLimit`, also if the object has more than `MAX_DEPTH` levels.
+/// Returns the object to store for a missing key, and the answer (stdlib manual, module ets, update_counter/4). The
+/// object is the Default with the key at keypos and its counters updated. Returns `Badarg` if `is_valid_default` is
+/// false, or `update_counter` returns it. Otherwise returns `SystemLimit` if `update_counter` returns it, or the object
+/// is deeper than `MAX_DEPTH`.
 pub fn start_counter(
     alloc: Global,
     default: &Term,
@@ -81,8 +83,8 @@ pub fn start_counter(
 }
 
 /// Returns the object to store for a missing key: the Default with the key at keypos, after `write_elements` has
-/// written the values. `Badarg` if `is_default` is false, or if `write_elements` refuses so. Then `SystemLimit`, also
-/// if the object has more than `MAX_DEPTH` levels.
+/// written the values. Returns `Badarg` if `is_valid_default` is false, or `write_elements` returns it. Otherwise
+/// returns `SystemLimit` if `write_elements` returns it, or the object is deeper than `MAX_DEPTH`.
 pub fn start_with_elements(
     alloc: Global,
     default: &Term,

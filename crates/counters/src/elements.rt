@@ -28,8 +28,8 @@ pub enum ElementSpecs {
     Many(Items<ElementSpec>),
 }
 
-/// Reads the values for elements of an object with this keypos: `{Pos,Value}`, or a list of these pairs. `Badarg` for
-/// any other term, and if a position is not an integer, is less than 1 or is keypos.
+/// Reads the values for elements of an object with this keypos: `{Pos,Value}`, or a list of these pairs. Returns
+/// `Badarg` for any other term, and if a position is not an integer, is less than 1 or is keypos.
 pub fn read_element_specs(
     alloc: Global,
     term: &Term,
@@ -57,7 +57,7 @@ pub fn read_element_specs(
 }
 
 /// Reads the position and the value of a pair that is not in a list, and copies nothing. Returns `None` for any other
-/// term, which `read_element_specs` reads.
+/// term, and if the position is not allowed. `read_element_specs` reads or refuses such a term.
 #[inline(always)]
 pub fn read_pair(term: &Term, keypos: u32) -> Option<(Position, &Term)>
     ensures { IfSome result (λ pair.
@@ -69,7 +69,8 @@ pub fn read_pair(term: &Term, keypos: u32) -> Option<(Position, &Term)>
     }
 }
 
-/// Reads a position and a value from the elements of a tuple, which must be two.
+/// Reads a position and a value from the elements of a tuple. Returns `None` if the elements are not two, or
+/// `updatable_position` does not allow the position.
 #[inline(always)]
 fn pair_of_parts(keypos: u32, parts: &[Term]) -> Option<(Position, &Term)>
     ensures { IfSome result (λ pair.
@@ -81,7 +82,8 @@ fn pair_of_parts(keypos: u32, parts: &[Term]) -> Option<(Position, &Term)>
     }
 }
 
-/// Reads the position of a pair, and copies its value. `Badarg` if the elements are not such a pair.
+/// Reads the position of a pair, and copies its value. `parts` are the elements of the pair's tuple. Returns `Badarg`
+/// if they are not two, or `updatable_position` does not allow the position.
 fn element_spec_of_parts(
     alloc: Global,
     keypos: u32,
@@ -103,7 +105,8 @@ fn element_spec_of_parts(
     })
 }
 
-/// Reads a list of pairs, as `element_spec_of_parts` reads each.
+/// Reads a list of pairs, as `element_spec_of_parts` reads each. Returns `Badarg` at the first term that is not such a
+/// pair.
 fn all_element_specs(
     alloc: Global,
     keypos: u32,

@@ -38,7 +38,7 @@ mod sum;
 mod write;
 
 pub use counter::{apply_ops, counter_value, update_counter};
-pub use defaults::{is_default, start_counter, start_with_elements, with_key};
+pub use defaults::{is_valid_default, start_counter, start_with_elements, with_key};
 pub use elements::{ElementSpec, ElementSpecs, read_element_specs, read_pair};
 pub use fault::CounterFault;
 pub use ops::{Op, Ops, Threshold, read_increment, read_ops};

@@ -21,7 +21,9 @@ pub struct Overwritten {
     value: Integer,
 }
 
-/// Does a list of operations in place, all or none, and returns the list of new values.
+/// Does a list of operations in place, all or none, and returns the list of new values. Returns `Badarg` if there is no
+/// integer at the position of an operation. Otherwise returns `SystemLimit` if a new value is out of range, unless
+/// memory runs out first.
 pub fn apply_many(
     alloc: Global,
     elements: &mut Items<Term>,
@@ -68,7 +70,8 @@ fn apply_list(
     Ok(answers)
 }
 
-/// Does one operation; adds the replaced integer to the undo log and the new value to the answers.
+/// Does one operation. Adds the replaced integer to the undo log, `overwritten`, and the new value to the answers.
+/// Returns `SystemLimit` if the new value is out of range.
 fn apply_next(
     elements: &mut Items<Term>,
     op: Op,
@@ -80,6 +83,7 @@ fn apply_next(
     ensures limit { IsErrOf result CounterFault.SystemLimit → apply_one op elements.old ≡ None }
     ensures back { restore overwritten.new elements.new ≡ restore overwritten.old elements.old }
 {
+    // `apply_many` checked that each position has an integer, so this refusal does not occur.
     let Some(value) = integer_at(elements.as_slice(), op.position) else {
         return Err(CounterFault::SystemLimit);
     };
@@ -99,6 +103,7 @@ fn restore(elements: &mut Items<Term>, mut overwritten: Items<Overwritten>)
     ensures { elements.new ≡ restore overwritten elements.old }
 {
     while let Some(last) = overwritten.pop() {
+        // This is always true: an operation replaced this element.
         if last.at < elements.len() {
             let _new = elements.replace(last.at, Term::Int(last.value));
         }

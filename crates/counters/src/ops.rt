@@ -66,7 +66,7 @@ fn op_from(
     })
 }
 
-/// Reads an operation from the elements of a tuple.
+/// Reads an operation from the elements of a tuple. Returns `None` if they are not those of an operation.
 fn op_of_parts(keypos: u32, parts: &[Term]) -> Option<Op>
     ensures { result ≡ op_of_parts keypos parts.now }
 {
@@ -90,7 +90,7 @@ fn op_of(keypos: u32, term: &Term) -> Option<Op>
     }
 }
 
-/// Reads a list of operations.
+/// Reads a list of operations. Returns `Badarg` at the first term that is not an operation.
 fn all_ops(alloc: Global, keypos: u32, terms: &[Term]) -> Result<Items<Op>, CounterFault>
     ensures read { IfOk result (λ ops. all_ops keypos terms.now ≡ Some ops) }
     ensures badarg { IsErrOf result CounterFault.Badarg → all_ops keypos terms.now ≡ None }
@@ -107,8 +107,8 @@ fn all_ops(alloc: Global, keypos: u32, terms: &[Term]) -> Result<Items<Op>, Coun
 }
 
 /// Reads the operations on an object with this keypos: `Incr`, which is `{keypos+1,Incr}`, or `{Pos,Incr}`, or
-/// `{Pos,Incr,Threshold,SetValue}`, or a list of the tuple forms. `Badarg` for any other term, and if a part of a tuple
-/// is not an integer or a position is less than 1 or is keypos.
+/// `{Pos,Incr,Threshold,SetValue}`, or a list of the tuple forms. Returns `Badarg` for any other term. Also returns
+/// `Badarg` if a part of a tuple is not an integer, or a position is less than 1 or is keypos.
 pub fn read_ops(alloc: Global, term: &Term, keypos: u32) -> Result<Ops, CounterFault>
     ensures read { IfOk result (λ ops. ops_of keypos term.now ≡ Some ops) }
     ensures badarg { IsErrOf result CounterFault.Badarg → ops_of keypos term.now ≡ None }
@@ -127,7 +127,7 @@ pub fn read_ops(alloc: Global, term: &Term, keypos: u32) -> Result<Ops, CounterF
 }
 
 /// Reads an operation that is not in a list and has no threshold: `Incr` or `{Pos,Incr}`. Returns `None` for any other
-/// term, which `read_ops` reads. Most operations are of this kind, and reading them takes no memory.
+/// term, which `read_ops` reads or refuses. Most operations are of this kind, and reading them takes no memory.
 #[inline(always)]
 pub fn read_increment(term: &Term, keypos: u32) -> Option<Op>
     ensures { IfSome result (λ op. ops_of keypos term.now ≡ Some (One op)) }
@@ -139,7 +139,8 @@ pub fn read_increment(term: &Term, keypos: u32) -> Option<Op>
     }
 }
 
-/// Reads an operation without a threshold from the elements of a tuple.
+/// Reads an operation without a threshold from the elements of a tuple. Returns `None` if they are not those of
+/// `{Pos,Incr}`.
 #[inline(always)]
 fn increment_of_parts(keypos: u32, parts: &[Term]) -> Option<Op>
     ensures { IfSome result (λ op. op_of_parts keypos parts.now ≡ Some op) }
@@ -150,7 +151,7 @@ fn increment_of_parts(keypos: u32, parts: &[Term]) -> Option<Op>
     }
 }
 
-/// Returns the operation `Incr`, given as an integer alone: it adds to the element after the key.
+/// Returns the operation `Incr`, an integer `n` alone: it adds `n` to the element after the key.
 #[inline(always)]
 fn increment_by(keypos: u32, n: Integer) -> Op
     ensures { result ≡ record { position = keypos + 1; increment = n; threshold = None } }

@@ -1,7 +1,7 @@
 //! Writes values to elements of one object, in place or in a copy.
 ghost use Rattle.std.specs.Prelude.{◌≡◌, ◌-◌, ◌<◌, ◌^◌, ◌==◌, ◌∷◌, [], slice_set, Ok, Err, IfOk, OnOk, OnErr, IfErr};
 ghost use Rattle.std.specs.List.{list_any};
-ghost use Rattle.counters.specs.Elements.{has_all, write_values, apply_elements};
+ghost use Rattle.counters.specs.Elements.{has_all_positions, write_values, apply_elements};
 ghost use Rattle.counters.specs.inside.Values.{too_deep_as_element, write_each};
 ghost use Rattle.counters.specs.declared.elements.ElementSpecs.TheVariants.{One};
 ghost use Rattle.counters.specs.Outcomes.{FailsOnlyAs, FailsJustAs, with_value_at};
@@ -27,9 +27,9 @@ pub fn apply_elements(
 }
 
 /// Writes copies of values into elements of an object in place (stdlib manual, module ets, update_element/3). Of
-/// several values for a position, the last one is written. All values are written or none. `Badarg` if the object is
-/// not a tuple or does not have each position; then `SystemLimit` if a value to be written has `MAX_DEPTH` levels or
-/// more.
+/// several values for a position, the last one is written. All values are written or none. Returns `Badarg` if the
+/// object is not a tuple or does not have each position. Otherwise returns `SystemLimit` if a value to be written has
+/// `MAX_DEPTH` levels or more.
 pub fn write_elements(
     alloc: Global,
     object: &mut Term,
@@ -44,14 +44,14 @@ pub fn write_elements(
         return Err(CounterFault::Badarg);
     };
     match specs {
-        ElementSpecs::One(spec) => copy_one(alloc, elements, spec),
-        ElementSpecs::Many(specs) => copy_list(alloc, elements, specs.as_slice()),
+        ElementSpecs::One(spec) => write_copy(alloc, elements, spec),
+        ElementSpecs::Many(specs) => write_copies(alloc, elements, specs.as_slice()),
     }
 }
 
 /// Returns a copy of `value` for the element of `object` at `position`, and writes nothing. `object` is only checked:
-/// refuses what `write_elements` refuses. If it returns a copy, the object has that element, so the element's index fits
-/// a `usize`.
+/// refuses what `write_elements` refuses. If it returns a copy, the object has that element, so the element's index
+/// fits a `usize`.
 #[inline(always)]
 pub fn copy_for_element(
     alloc: Global,
@@ -108,8 +108,8 @@ fn copy_value(alloc: Global, value: &Term) -> Result<Term, AllocError>
 }
 
 /// Writes a copy of the value of `spec`, which is not in a list, into the element that `spec` names. `copy_if_allowed`
-/// checks the value and copies it. If it refuses, the elements stay.
-fn copy_one(
+/// checks the value and copies it. If it refuses, the elements stay as they were.
+fn write_copy(
     alloc: Global,
     elements: &mut Items<Term>,
     spec: &ElementSpec,
@@ -125,9 +125,9 @@ fn copy_one(
 }
 
 /// Writes copies of the values of `specs`, a list, into the elements that they name, in the order of the list.
-/// `check_list` checks the list and all values are copied before the first one is written. If that fails, the elements
-/// stay.
-fn copy_list(
+/// `check_list` checks the list, and all values are copied, before the first one is written. If the check or a copy
+/// fails, the elements stay as they were.
+fn write_copies(
     alloc: Global,
     elements: &mut Items<Term>,
     specs: &[ElementSpec],
@@ -157,8 +157,8 @@ fn copy_specs(alloc: Global, specs: &[ElementSpec]) -> Result<Vec<ElementSpec>, 
     Ok(copies)
 }
 
-/// Checks whether one value may be written: `Badarg` if the tuple does not have the position, then `SystemLimit` if the
-/// value is too deep for an element.
+/// Checks whether one value may be written. Returns `Badarg` if the tuple does not have the position. Otherwise returns
+/// `SystemLimit` if the value has `MAX_DEPTH` levels or more: an object with this element would be too deep.
 #[inline(always)]
 fn check_one(elements: &[Term], position: Position, value: &Term) -> Result<(), CounterFault>
     ensures ok { OnOk result
@@ -177,12 +177,13 @@ fn check_one(elements: &[Term], position: Position, value: &Term) -> Result<(), 
     Ok(())
 }
 
-/// Checks whether a list of values may be written, with the refusals of `check_one`.
+/// Checks whether a list of values may be written. Returns `Badarg` if the tuple lacks a position. Otherwise returns
+/// `SystemLimit` if `too_deep_as_element` is true.
 fn check_list(elements: &[Term], specs: &[ElementSpec]) -> Result<(), CounterFault>
     ensures ok { OnOk result (write_values specs.now elements.now ≡ Ok (write_each specs.now elements.now)) }
     ensures err { IfErr result (λ fault. write_values specs.now elements.now ≡ Err fault) }
 {
-    if !has_all(elements.len(), specs) {
+    if !has_all_positions(elements.len(), specs) {
         return Err(CounterFault::Badarg);
     }
     if too_deep_as_element(specs) {
@@ -192,19 +193,19 @@ fn check_list(elements: &[Term], specs: &[ElementSpec]) -> Result<(), CounterFau
 }
 
 /// Returns whether a tuple of `count` elements has each position.
-fn has_all(count: usize, specs: &[ElementSpec]) -> bool
-    ensures { result ≡ has_all count specs.now }
+fn has_all_positions(count: usize, specs: &[ElementSpec]) -> bool
+    ensures { result ≡ has_all_positions count specs.now }
 {
     specs.iter().all(|spec| 0 < spec.position && spec.position <= count as Position)
 }
 
-/// Returns whether a value is too deep for an element and no later value of the list replaces it.
+/// Returns whether some value has `MAX_DEPTH` levels or more, and no later value of the list replaces it.
 fn too_deep_as_element(specs: &[ElementSpec]) -> bool
     ensures { result ≡ too_deep_as_element specs.now }
 {
     for i in 0..specs.len() {
         let spec = &specs[i];
-        if spec.value.depth() >= MAX_DEPTH && !gives_value(&specs[i + 1..], spec.position) {
+        if spec.value.depth() >= MAX_DEPTH && !has_value_for(&specs[i + 1..], spec.position) {
             return true;
         }
     }
@@ -212,7 +213,7 @@ fn too_deep_as_element(specs: &[ElementSpec]) -> bool
 }
 
 /// Returns whether the list has a value for a position.
-fn gives_value(specs: &[ElementSpec], position: Position) -> bool
+fn has_value_for(specs: &[ElementSpec], position: Position) -> bool
     ensures { result ≡ list_any (λ later. later.position == position) specs.now }
 {
     specs.iter().any(|later| later.position == position)
@@ -222,13 +223,14 @@ fn gives_value(specs: &[ElementSpec], position: Position) -> bool
 fn write_all(elements: &mut Items<Term>, mut specs: Vec<ElementSpec>)
     ensures { elements.new ≡ write_each specs.items elements.old }
 {
+    // `pop` takes the last value, so the list is reversed first.
     specs.as_mut_slice().reverse();
     while let Some(first) = specs.pop() {
         write(elements, first.position, first.value);
     }
 }
 
-/// Writes one element, if the tuple has it.
+/// Writes one element, if the tuple has it. `position` counts from 1; the callers have checked that it is not 0.
 fn write(elements: &mut Items<Term>, position: Position, value: Term)
     ensures { elements.new ≡ slice_set elements.old (position - 1) value }
 {

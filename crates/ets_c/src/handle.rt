@@ -13,11 +13,12 @@ use std::mem;
 pub struct Handle {
     pub pointer: StorePtr,
     pub is_open: bool,
+    // The flag is true exactly if the pointer owns a store.
     ghost says_open: { is_open ≡ is_some pointer.store },
 }
 
 impl Handle {
-    /// Makes a closed handle, with which `take` replaces an open one.
+    /// Makes a closed handle, with which `take` replaces the handle.
     fn make_closed(alloc: Global) -> Handle
         ensures { result.pointer.store ≡ None }
     {
@@ -27,7 +28,7 @@ impl Handle {
         }
     }
 
-    /// Takes the store out, which leaves the handle closed.
+    /// Takes the store out, which leaves the handle closed. Returns `None` if the handle was closed.
     pub(crate) fn take(&mut self, alloc: Global) -> Option<Box<Store>>
         ensures store { MatchOption result (self.old.pointer.store ≡ None) (λ b. self.old.pointer.store ≡ Some b.value) }
         ensures closed { self.new.pointer.store ≡ None }

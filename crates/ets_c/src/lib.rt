@@ -57,12 +57,13 @@ pub extern "C" fn yoyoash_open(
     let Ok(store) = Box::new(alloc, Store::new(alloc, limits)) else {
         return NO_MEMORY;
     };
+    // The earlier store, if any, is dropped at the end of this function.
     let _before = handle.take(alloc);
     handle.put(store);
     VALUE
 }
 
-/// Spawns the process with this number. A number can be used only once.
+/// Spawns the process with this number, and returns the status of the reply. A number can be used only once.
 #[unsafe(no_mangle)]
 pub extern "C" fn yoyoash_spawn(alloc: Global, handle: &mut Handle, pid: u32) -> i32
     ensures { HandleSteps handle.old.pointer.store (Enrol pid) result handle.new.pointer.store }
@@ -70,7 +71,8 @@ pub extern "C" fn yoyoash_spawn(alloc: Global, handle: &mut Handle, pid: u32) ->
     step(alloc, handle, &Step::Enrol(pid))
 }
 
-/// Ends the process with this number. Its tables go to their heirs, and those without an heir are deleted.
+/// Ends the process with this number, and returns the status of the reply. Its tables go to their heirs, and those
+/// without an heir are deleted.
 #[unsafe(no_mangle)]
 pub extern "C" fn yoyoash_exit(alloc: Global, handle: &mut Handle, pid: u32) -> i32
     ensures { HandleSteps handle.old.pointer.store (End pid) result handle.new.pointer.store }
@@ -78,7 +80,7 @@ pub extern "C" fn yoyoash_exit(alloc: Global, handle: &mut Handle, pid: u32) -> 
     step(alloc, handle, &Step::End(pid))
 }
 
-/// Runs one step on the store of a handle, and returns its status.
+/// Runs one step on the store of a handle, and returns the status of its reply, or `CLOSED` if there is no store.
 fn step(alloc: Global, handle: &mut Handle, event: &Step) -> i32
     ensures { HandleSteps handle.old.pointer.store event.now result handle.new.pointer.store }
 {
@@ -158,7 +160,8 @@ pub extern "C" fn yoyoash_call_external(
     status
 }
 
-/// Returns the status of the reply to the last step that was run, and writes its bytes, as `yoyoash_call_external` does.
+/// Returns the status of the reply to the last step that was run, and writes its bytes, as `yoyoash_call_external`
+/// does.
 #[unsafe(no_mangle)]
 pub extern "C" fn yoyoash_reply_external(
     alloc: Global,
@@ -179,7 +182,8 @@ pub extern "C" fn yoyoash_reply_external(
     status
 }
 
-/// Writes in words why the last call, spawn or exit was refused; the length is 0 if it was not.
+/// Writes in words why the last call, spawn or exit was refused; the length is 0 if it was not refused. Writes as much
+/// of the text as fits into `out`, and its full length to `len`.
 #[unsafe(no_mangle)]
 pub extern "C" fn yoyoash_why(
     alloc: Global,
@@ -204,6 +208,7 @@ pub extern "C" fn yoyoash_why(
 pub extern "C" fn yoyoash_close(alloc: Global, handle: &mut Handle)
     ensures { handle.new.pointer.store ≡ None }
 {
+    // The store, if any, is dropped at the end of this function.
     let _ended = handle.take(alloc);
 }
 

@@ -9,7 +9,7 @@ use node_text::Store;
 use std::alloc::{Allocator, Global};
 use std::marker::Model;
 
-/// A box, as its pointer and its allocator.
+/// What a box consists of, its pointer and its allocator. It owns what the box owned.
 pub(crate) struct RawBox<T, A: Allocator> {
     at: *mut T,
     alloc: A,
@@ -43,6 +43,7 @@ impl<T: Drop, A: Allocator> RawBox<T, A> {
 #[repr(C)]
 #[derive(Drop)]
 pub struct StorePtr {
+    /// Where the store is; null if there is none.
     at: *mut u8,
     alloc: Global,
     pub ghost store: { Option StoreState } by { coded_option store_row.coded },
@@ -59,7 +60,7 @@ impl Model for StorePtr {
 unsafe impl Send for StorePtr {}
 
 impl StorePtr {
-    /// Forgets the type of the store, so that C can hold the pointer.
+    /// Turns the pointer of a box into a pointer that C can hold, without the type `Store`.
     pub(crate) fn from_raw_box(raw_box: RawBox<Store, Global>) -> StorePtr
         ensures { result.store ≡ Some raw_box.value }
     {
@@ -70,7 +71,7 @@ impl StorePtr {
         }
     }
 
-    /// Recalls the type of the store. The pointer must not be null.
+    /// Turns the pointer back into that of a box, with the type `Store`. The pointer must own a store.
     pub(crate) fn into_raw_box(self) -> RawBox<Store, Global>
         requires { IsSome self.store }
         ensures { self.store ≡ Some result.value }

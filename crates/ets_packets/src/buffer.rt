@@ -25,6 +25,7 @@ pub(crate) enum RefillFault {
 pub(crate) struct Buffer {
     /// Where a read puts its bytes.
     chunk: Vec<u8>,
+    /// The bytes of all reads, without those that `refill` has discarded.
     input: Vec<u8>,
     /// The number of bytes at the front of `input` that were answered.
     start: usize,
@@ -85,7 +86,7 @@ impl Buffer {
     }
 }
 
-/// Removes the first `count` elements.
+/// Removes the first `count` bytes.
 fn discard_front(input: &mut Vec<u8>, count: usize)
     requires { count ≤ vec_len input.old }
     ensures { input.new.items ≡ slice_range input.old.items count (vec_len input.old) }

@@ -22,6 +22,7 @@ pub(crate) enum Front {
 pub(crate) fn first_packet(bytes: &[u8]) -> Front
     ensures { IsFront bytes.now result }
 {
+    // The first four bytes are the length of the body.
     if bytes.len() < 4 {
         return Front::Incomplete;
     }

@@ -72,7 +72,8 @@ impl<'a, W: Write> Output<'a, W> {
         Ok(())
     }
 
-    /// Adds bytes, and writes the buffer if it then has a whole block.
+    /// Adds bytes, and writes the buffer if it then has a whole block. If the buffer cannot grow, writes the buffered
+    /// bytes and then these to the writer.
     #[inline(always)]
     pub fn add(&mut self, bytes: &[u8]) -> Result<(), WriteFault>
         ensures same_writer { HasWriterOf self.old self.new }

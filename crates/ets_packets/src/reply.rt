@@ -11,7 +11,8 @@ use node_core::{Reply, Step};
 use node_text::{CallFault, LastRefusal, Store};
 use std::alloc::Global;
 
-/// A reply's body has a status byte, and then at most this many bytes.
+/// A reply's body has a status byte, and then at most this many bytes. The number is 2^32 - 2, so that the length of
+/// the body fits four bytes.
 const MAX_PAYLOAD: usize = 0xFFFF_FFFE;
 
 // The statuses of replies, which are the numbers of `node_text`. `CLOSED`, 6, is missing, because a reply always comes
@@ -48,7 +49,7 @@ pub(crate) fn answer(alloc: Global, store: &mut Store, body: &[u8], payload: &mu
     }
 }
 
-/// Runs a step, puts its term or the reason of its refusal into `payload`, and returns the status.
+/// Runs a step, puts the reply's term or the reason of the refusal into `payload`, and returns the status.
 fn step(alloc: Global, store: &mut Store, event: &Step, payload: &mut Vec<u8>) -> u8
     requires { payload.old.items ≡ [] }
     ensures answers { Steps event.now store.old (packet_reply result payload.new.items) store.new }
@@ -61,7 +62,8 @@ fn step(alloc: Global, store: &mut Store, event: &Step, payload: &mut Vec<u8>) -
     put_reply(alloc, store, payload)
 }
 
-/// Makes the call of these bytes, puts its term or the reason of its refusal into `payload`, and returns the status.
+/// Makes the call of these bytes, puts the reply's term or the reason of the refusal into `payload`, and returns the
+/// status.
 fn call(alloc: Global, store: &mut Store, pid: u32, bytes: &[u8], payload: &mut Vec<u8>) -> u8
     requires { payload.old.items ≡ [] }
     ensures answers { Calls (parse_call bytes.now) pid store.old (packet_reply result payload.new.items) store.new }
@@ -96,7 +98,8 @@ fn put_reply(alloc: Global, store: &Store, payload: &mut Vec<u8>) -> u8
     status
 }
 
-/// Puts a term in the external format into `payload`, and returns the status.
+/// Puts a term in the external format into `payload`, and returns `VALUE`. If memory runs out or the bytes are too
+/// many, leaves `payload` empty and returns `UNTOLD`.
 fn put_term(term: &Term, payload: &mut Vec<u8>) -> u8
     requires { payload.old.items ≡ [] }
     ensures bytes { (packet_reply result payload.new.items ≡ packet_reply 0 (encode_with_version term.now))
@@ -110,7 +113,7 @@ fn put_term(term: &Term, payload: &mut Vec<u8>) -> u8
     VALUE
 }
 
-/// Puts the text of a reason into `payload`, if there is memory for it.
+/// Puts the text of a reason into `payload`, if there is a reason, and memory for its text.
 fn put_reason(alloc: Global, reason: Option<LastRefusal>, payload: &mut Vec<u8>)
     requires { payload.old.items ≡ [] }
     ensures bytes { (payload.new.items ≡ reason_text reason) ⊎ (payload.new.items ≡ []) }
@@ -124,7 +127,7 @@ fn put_reason(alloc: Global, reason: Option<LastRefusal>, payload: &mut Vec<u8>)
     }
 }
 
-/// Puts a text into `payload`, if there is memory for it.
+/// Puts a text into `payload`, if there is memory for it and it has at most `MAX_PAYLOAD` bytes.
 fn put_text(text: &[u8], payload: &mut Vec<u8>)
     requires { payload.old.items ≡ [] }
     ensures bytes { (payload.new.items ≡ text.now) ⊎ (payload.new.items ≡ []) }

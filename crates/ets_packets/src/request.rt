@@ -20,7 +20,7 @@ pub(crate) enum Request {
 /// The number of bytes in the body before those of a call: the kind and the process number.
 pub(crate) const CALL_START: usize = 5;
 
-/// Parses the body of a packet.
+/// Parses the body of a packet: a byte that says the kind, the process number in four bytes, and for a call its bytes.
 pub(crate) fn parse_request(body: &[u8]) -> Request
     ensures { result ≡ spec.parse_request body.now }
 {
@@ -30,7 +30,8 @@ pub(crate) fn parse_request(body: &[u8]) -> Request
     request_of(body[0], number_at(body, 1), body.len() == CALL_START)
 }
 
-/// Returns the request of this kind for this process. `is_short` says that nothing follows the process number.
+/// Returns the request of this kind for this process: 0 is a spawn, 1 an exit, and 2 a call. `is_short` says that
+/// nothing follows the process number.
 fn request_of(kind: u8, pid: u32, is_short: bool) -> Request
     ensures { result ≡ spec.request_of kind pid is_short }
 {

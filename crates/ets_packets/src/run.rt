@@ -56,7 +56,7 @@ pub fn run_packets<R: Read, W: Write>(
     Ok(())
 }
 
-/// Answers all packets, and writes all replies.
+/// Answers all packets of the input, and writes all replies.
 fn answer_all<R: Read, W: Write>(
     reader: &mut R,
     output: &mut Output<'_, W>,
@@ -75,12 +75,14 @@ fn answer_all<R: Read, W: Write>(
         if buffer.refill(reader)? == 0 {
             return end_after(buffer.bytes());
         }
+        // Whether a packet follows whose body has more than `MAX_PACKET` bytes, the limit.
         let is_long = answer_buffered(output, buffer, responder)?;
         output.flush()?;
         if is_long {
             return Err(PacketFault::TooLong);
         }
     }
+    // The input has not ended after 2^64 - 1 reads.
     Err(PacketFault::Read)
 }
 
@@ -95,7 +97,8 @@ fn end_after(part: &[u8]) -> Result<(), PacketFault>
     }
 }
 
-/// Answers the whole packets that are buffered. Returns whether a packet that is too long follows them.
+/// Answers the whole packets that are buffered. Returns whether a packet that is too long follows them: its body has
+/// more than `MAX_PACKET` bytes, the limit.
 fn answer_buffered<W: Write>(
     output: &mut Output<'_, W>,
     buffer: &mut Buffer,
@@ -152,7 +155,7 @@ fn clear(alloc: Global, bytes: &mut Vec<u8>)
     bytes.clear();
 }
 
-/// Adds the packet of a reply to the output.
+/// Adds the packet of a reply with this status and this payload to the output.
 fn add_reply<W: Write>(
     status: u8,
     payload: &[u8],
@@ -167,7 +170,8 @@ fn add_reply<W: Write>(
     output.add(payload)
 }
 
-/// Returns the first five bytes of a reply: the length of its body, big-endian, and the status.
+/// Returns the first five bytes of a reply: the length of its body, big-endian, and the status. The body is the status
+/// byte and the payload.
 fn reply_prefix(status: u8, payload: &[u8]) -> [u8; 5]
     requires { length payload.now < 2 ^ 32 - 1 }
     ensures { result ≡ big4 (length (status ∷ payload.now)) ++ status ∷ [] }

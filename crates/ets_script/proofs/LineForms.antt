@@ -6,30 +6,30 @@ use Rattle.std.proofs.lemmas.Bool.Decides.{nat_tests}
 use Rattle.std.specs.List.{prefix_len, list_all}
 use Rattle.std.specs.Str.{bytes_eq}
 use Rattle.term_text.specs.Text.{is_digit, is_lowercase, is_name, begins, value_of_digits}
-use Rattle.ets_script.specs.Classes.{is_line_blank, is_printable, past_blanks, is_sign}
+use Rattle.ets_script.specs.Classes.{is_line_blank, is_printable, skip_blanks, is_sign}
 use Rattle.ets_script.specs.Reads.{read}
-use Rattle.ets_script.specs.Commands.{Command, spawn, exit, grow, ready, gap, word, bucket, line_end, name_command, grow_command, ready_command, ask_command, ask, opening, separator, arguments, arguments_from, by_word, command_of, printable_prefix, command, is_silent}
+use Rattle.ets_script.specs.Commands.{Command, spawn, exit, grow, ready, gap, word, bucket, line_end, name_command, grow_command, ready_command, ask_command, ask, open_parenthesis, separator, arguments, arguments_from, by_word, command_of, printable_prefix, command, is_silent}
 use Rattle.ets_script.specs.Terms.{term, term_of}
 use Rattle.ets_script.specs.LineForms.{AreBlanks, IsGap, IsName, IsPrintable, IsNameLine, IsTerm, IsBucket, IsGrowLine, IsReadyLine, AreTerms, AreArguments, IsCallLine, is_command, IsSilentLine, Means}
 use Rattle.ets_term.specs.declared.term.Term.{Term}
 use Rattle.term_text.proofs.Spelled.{front-read}
 
 -- a text that does not begin with a blank is left as it is
-past_blanks-text : (rest : List ℕ) → begins is_line_blank rest ≡ false → past_blanks rest ≡ rest
-past_blanks-text [] e = refl
-past_blanks-text (b ∷ bs) e = rw e refl
+skip_blanks-text : (rest : List ℕ) → begins is_line_blank rest ≡ false → skip_blanks rest ≡ rest
+skip_blanks-text [] e = refl
+skip_blanks-text (b ∷ bs) e = rw e refl
 
-past_blanks-blanks : (a rest : List ℕ) → AreBlanks a → begins is_line_blank rest ≡ false → past_blanks (a ++ rest) ≡ rest
-past_blanks-blanks [] rest h e = past_blanks-text rest e
-past_blanks-blanks (b ∷ bs) rest h e =
+skip_blanks-blanks : (a rest : List ℕ) → AreBlanks a → begins is_line_blank rest ≡ false → skip_blanks (a ++ rest) ≡ rest
+skip_blanks-blanks [] rest h e = skip_blanks-text rest e
+skip_blanks-blanks (b ∷ bs) rest h e =
     let parts = and_parts (is_line_blank b) (list_all is_line_blank bs) h in
-    rw parts.0 (past_blanks-blanks bs rest parts.1 e)
+    rw parts.0 (skip_blanks-blanks bs rest parts.1 e)
 
-past_blanks-none : (a : List ℕ) → AreBlanks a → past_blanks a ≡ []
-past_blanks-none [] h = refl
-past_blanks-none (b ∷ bs) h =
+skip_blanks-none : (a : List ℕ) → AreBlanks a → skip_blanks a ≡ []
+skip_blanks-none [] h = refl
+skip_blanks-none (b ∷ bs) h =
     let parts = and_parts (is_line_blank b) (list_all is_line_blank bs) h in
-    rw parts.0 (past_blanks-none bs parts.1)
+    rw parts.0 (skip_blanks-none bs parts.1)
 
 prefix_len-append : (p : ℕ → Bool) (xs rest : List ℕ) → list_all p xs ≡ true → begins p rest ≡ false → prefix_len p (xs ++ rest) ≡ length xs
 prefix_len-append p [] [] h e = refl
@@ -85,10 +85,10 @@ gap-begins [] rest (h, some) = absurd (omega (arith, some))
 gap-begins (b ∷ bs) rest (h, some) = (and_parts (is_line_blank b) (list_all is_line_blank bs) h).0
 
 gap-blanks : (bs rest : List ℕ) → IsGap bs → begins is_line_blank rest ≡ false → gap (bs ++ rest) ≡ read tt rest
-gap-blanks bs rest g e = rw (gap-begins bs rest g, past_blanks-blanks bs rest g.0 e) refl
+gap-blanks bs rest g e = rw (gap-begins bs rest g, skip_blanks-blanks bs rest g.0 e) refl
 
 line_end-blanks : (bs : List ℕ) → AreBlanks bs → line_end bs ≡ read tt []
-line_end-blanks bs h = rw (past_blanks-none bs h) refl
+line_end-blanks bs h = rw (skip_blanks-none bs h) refl
 
 -- a name after a gap, before blanks
 name_command-form : (says : List ℕ → Command) (space name after : List ℕ) → IsGap space → IsName name → AreBlanks after → name_command says (space ++ (name ++ after)) ≡ read (says name) []
@@ -118,7 +118,7 @@ command-printable line rest c h is =
 -- the first word of a line
 command_of-word : (before name more : List ℕ) → AreBlanks before → IsName name → begins is_name more ≡ false → command_of (before ++ (name ++ more)) ≡ by_word name more
 command_of-word before name more h n e =
-    rw (past_blanks-blanks before (name ++ more) h (name-no_blank name more n.first)) (rw (word-name name more n e) refl)
+    rw (skip_blanks-blanks before (name ++ more) h (name-no_blank name more n.first)) (rw (word-name name more n e) refl)
 
 -- a line with a word is not silent
 lowercase-sign : (b : ℕ) → is_lowercase b ≡ true → (b == 37) ≡ false
@@ -134,11 +134,11 @@ not_silent (x ∷ xs) e = rw (not_empty (length xs)) (lowercase-sign x e)
 
 word-not_silent : (line before name more : List ℕ) → line ≡ before ++ (name ++ more) → AreBlanks before → IsName name → is_silent line ≡ false
 word-not_silent line before name more is h n =
-    rw is (rw (past_blanks-blanks before (name ++ more) h (name-no_blank name more n.first)) (not_silent (name ++ more) (begins-append is_lowercase name more n.first)))
+    rw is (rw (skip_blanks-blanks before (name ++ more) h (name-no_blank name more n.first)) (not_silent (name ++ more) (begins-append is_lowercase name more n.first)))
 
 pub silent-form : (line : List ℕ) → IsSilentLine line → is_silent line ≡ true
-silent-form line (inl blanks) = rw (past_blanks-none line blanks) refl
-silent-form line (inr (before, comment, blanks, is)) = rw is (rw (past_blanks-blanks before (codes "%" ++ comment) blanks refl) (or-true (length (codes "%" ++ comment) == 0) refl))
+silent-form line (inl blanks) = rw (skip_blanks-none line blanks) refl
+silent-form line (inr (before, comment, blanks, is)) = rw is (rw (skip_blanks-blanks before (codes "%" ++ comment) blanks refl) (or-true (length (codes "%" ++ comment) == 0) refl))
   where
     or-true : (a : Bool) → true ≡ true → (a || true) ≡ true
     or-true true h = refl
@@ -240,13 +240,13 @@ ready-form line t n p (before, gap1, s, gap2, digits, after, b, g, e, f, g2, d, 
 )
 
 separator-comma : (blanks rest : List ℕ) → AreBlanks blanks → separator (blanks ++ (codes "," ++ rest)) ≡ read true rest
-separator-comma blanks rest h = rw (past_blanks-blanks blanks (codes "," ++ rest) h refl) refl
+separator-comma blanks rest h = rw (skip_blanks-blanks blanks (codes "," ++ rest) h refl) refl
 
 separator-close : (blanks rest : List ℕ) → AreBlanks blanks → separator (blanks ++ (codes ")" ++ rest)) ≡ read false rest
-separator-close blanks rest h = rw (past_blanks-blanks blanks (codes ")" ++ rest) h refl) refl
+separator-close blanks rest h = rw (skip_blanks-blanks blanks (codes ")" ++ rest) h refl) refl
 
-opening-form : (blanks rest : List ℕ) → AreBlanks blanks → opening (blanks ++ (codes "(" ++ rest)) ≡ read tt rest
-opening-form blanks rest h = rw (past_blanks-blanks blanks (codes "(" ++ rest) h refl) refl
+opening-form : (blanks rest : List ℕ) → AreBlanks blanks → open_parenthesis (blanks ++ (codes "(" ++ rest)) ≡ read tt rest
+opening-form blanks rest h = rw (skip_blanks-blanks blanks (codes "(" ++ rest) h refl) refl
 
 terms-length : (ts : List Term) (text rest : List ℕ) → AreTerms ts text rest → length ts ≤ length text
 terms-length [] text rest f = absurd f
@@ -271,11 +271,11 @@ arguments_from-terms (suc k) before (t ∷ (u ∷ us)) text rest (s, blanks, mor
 arguments-form : (ts : List Term) (text rest : List ℕ) → AreArguments ts text rest → arguments (text ++ rest) ≡ read ts rest
 arguments-form [] text rest (blanks, b, is) =
     let whole : text ++ rest ≡ blanks ++ (codes ")" ++ rest) = ap (λ l. l ++ rest) is ∙ append_assoc blanks (codes ")") rest in
-    rw whole (rw (past_blanks-blanks blanks (codes ")" ++ rest) b refl) refl)
+    rw whole (rw (skip_blanks-blanks blanks (codes ")" ++ rest) b refl) refl)
 arguments-form (t ∷ ts) text rest (blanks, row, b, e, n, f, is) =
     let whole : text ++ rest ≡ blanks ++ (row ++ rest) = ap (λ l. l ++ rest) is ∙ append_assoc blanks row rest in
     let short : length (t ∷ ts) ≤ length (row ++ rest) = let le = terms-length (t ∷ ts) row rest f in omega (arith, le, length-append row rest) in
-    rw whole (rw (past_blanks-blanks blanks (row ++ rest) b e) (rw n (arguments_from-terms (length (row ++ rest)) [] (t ∷ ts) row rest f short)))
+    rw whole (rw (skip_blanks-blanks blanks (row ++ rest) b e) (rw n (arguments_from-terms (length (row ++ rest)) [] (t ∷ ts) row rest f short)))
 
 or-false : (a b : Bool) → (a || b) ≡ false → (a ≡ false) × (b ≡ false)
 or-false true b e = cc

@@ -21,6 +21,7 @@ pub enum Answer {
     NoMemory,
     /// The line is not a command; the offset of its first syntax error.
     Syntax(usize),
+    /// The line has more than `MAX_LINE` bytes, and was not parsed.
     TooLong,
 }
 
@@ -41,7 +42,7 @@ impl Answer {
         *self = Answer::Replied(Reply::NoProcess);
     }
 
-    /// Prints the answer on a line of its own, after the buffered text.
+    /// Prints the answer on a line of its own, after the buffered text. Prints nothing for `Silent`.
     #[inline(always)]
     pub fn print<W: Write>(&self, output: &mut Output<'_, W>) -> Result<(), WriteFault>
         ensures same_writer { HasWriterOf output.old output.new }
@@ -76,8 +77,8 @@ pub fn print_reply<W: Write>(reply: &Reply, output: &mut Output<'_, W>) -> Resul
     }
 }
 
-/// Checks whether the term is `true`, which `insert` and other frequent calls reply. It is printed without the printer of
-/// terms, which is faster.
+/// Checks whether the term is `true`, which `insert` and other frequent calls reply. `print_reply` prints `true`
+/// without the printer of terms, which is faster.
 #[inline(always)]
 fn is_true(term: &Term) -> bool
     ensures { result ≡ true → text.text_of_term term.now ≡ codes "true" }

@@ -67,7 +67,7 @@ fn is_conflict(options: &Options) -> bool
     }
 }
 
-/// Returns which options exclude each other. It is called only if some do.
+/// Returns the text of a refusal, which names two options that exclude each other. It is called only if some do.
 fn conflict_words(options: &Options) -> &'static str {
     if !options.external {
         "the argument '--threads' cannot be used with '--why'"
@@ -117,7 +117,7 @@ fn parse_words<S: AsStr>(alloc: Global, words: &[S]) -> Result<Options, Error>
     })
 }
 
-/// Returns the refusal of two options that exclude each other, in the parser's form.
+/// Returns the refusal of two options that exclude each other, with these words, in the form of clap's errors.
 fn conflict(alloc: Global, words: &str) -> Result<Error, AllocError>
     ensures { IfOk result (λ error. kind_of error ≡ ArgumentConflict) }
 {
@@ -199,7 +199,8 @@ fn settings_of(matches: &ArgMatches) -> Settings
     }
 }
 
-/// Returns the number that was matched for the option of this name, which has one.
+/// Returns the number that was matched for the option of this name. Each such option has a default, so the 0 for an
+/// option without a number is not used.
 fn matched_number(matches: &ArgMatches, name: &str) -> u32
     ensures { HasNumber (found_of matches.now) name.now
         → IsDecimal (one_text (found_of matches.now) name.now) result }
@@ -207,7 +208,7 @@ fn matched_number(matches: &ArgMatches, name: &str) -> u32
     matches.get_one(name).unwrap_or(0)
 }
 
-/// Checks whether there is a value, and it is this name.
+/// Checks whether there is a value, and it is this name. The value of a flag that was passed is `true`.
 fn is_named(name: &str, value: Option<&str>) -> bool
     ensures { result ≡ spec.is_named name.now (option_map (λ text. text.now) value.entry) }
 {
@@ -217,8 +218,8 @@ fn is_named(name: &str, value: Option<&str>) -> bool
     }
 }
 
-/// Prints the text of the parser's error, and returns the program's status: 0 after the help or the version, 2 if the
-/// command line was refused, and 1 if memory ran out.
+/// Prints the text of the parser's error, and returns the program's status. It is 0 after the help or the version, 2 if
+/// the command line was refused, and 1 if memory ran out.
 pub fn refuse<R: Print + Eprint>(rt: &R, error: &Error) -> io::Result<u8>
     ensures { IfOk result (λ status. status ≡ spec.refused_status (kind_of error.now)) }
 {

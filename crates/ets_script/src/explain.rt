@@ -34,7 +34,7 @@ pub fn explain<'a, H: KeyHash + Copy + Drop>(
     }
 }
 
-/// Explains the refusal of a command.
+/// Explains the refusal of a command by this reply.
 fn explain_command<'a, H: KeyHash + Copy + Drop>(
     script: &Script<H>,
     command: Command<'a>,
@@ -43,6 +43,7 @@ fn explain_command<'a, H: KeyHash + Copy + Drop>(
     ensures { ExplainsCommand script.now command.entry reply.now result }
 {
     match command {
+        // The answer to a faulty line is `Syntax`, which is not a reply.
         Command::Faulty(_) => None,
         Command::Spawn(name) => match script.pid(name) {
             Some(_) => Some(Diagnostic::AlreadySpawned(name)),
@@ -66,7 +67,7 @@ fn explain_command<'a, H: KeyHash + Copy + Drop>(
     }
 }
 
-/// Explains the refusal of a step.
+/// Explains the refusal of a step by this reply: names the first rule that the step breaks.
 fn explain_step<'a, H: KeyHash + Copy + Drop>(
     script: &Script<H>,
     event: Step,

@@ -7,14 +7,14 @@ use thiserror::Error;
 /// Why a script stops before its end.
 #[derive(Debug, Drop, Error)]
 pub enum ScriptFault {
-    /// The reader failed, or there was no end of input in a billion reads, or in those that `run_within` allows. The
-    /// answers to all whole lines that were read are written. In threads, nothing is written.
+    /// The reader failed, or the input did not end within a billion reads, or the number that `run_within` was given.
+    /// The answers to all whole lines that were read are written. In threads, nothing is written.
     #[error("read fault")]
     Read,
     /// The writer failed, or took no byte. What was written is a prefix of the answers.
     #[error("write fault")]
     Write,
-    /// There was no memory at the start, and nothing was read; or a script whose processes run in threads ran out of
+    /// There was no memory at the start, and nothing was read. Or a script whose processes run in threads ran out of
     /// memory, and nothing was written.
     #[error("** nomem")]
     Memory,

@@ -14,7 +14,7 @@ use ets_packets::{Output, WriteFault};
 use node_shared::{Entry, SharedEntry};
 use std::io::Write;
 
-/// Prints the planned answers and the results of the processes, and flushes.
+/// Prints the planned answers and the results of the processes, and flushes the output.
 pub fn print_results<W: Write>(
     planned: &PlannedAnswers,
     run: &RunResult,
@@ -49,7 +49,7 @@ fn print_all<W: Write>(
     print_run(&planned.names, run, output)
 }
 
-/// Prints the journal, and then the names of the processes that stopped.
+/// Prints the journal, and then a `** nomem` line for each process that did not run all its jobs.
 fn print_run<W: Write>(
     names: &Names,
     run: &RunResult,
@@ -63,7 +63,7 @@ fn print_run<W: Write>(
         (run_text names.now run.now)) }
 {
     print_entries(names, run.entries.as_slice(), output)?;
-    print_stopped(names, run.left.as_slice(), output)
+    print_stopped_processes(names, run.left.as_slice(), output)
 }
 
 /// Prints answers, one after another.
@@ -80,7 +80,7 @@ fn print_answers<W: Write>(answers: &[Answer], output: &mut Output<'_, W>) -> Re
     Ok(())
 }
 
-/// Prints the line of each entry of a process, in order.
+/// Prints the lines of the entries in order. An entry that no process made has no line.
 fn print_entries<W: Write>(
     names: &Names,
     entries: &[SharedEntry],
@@ -98,7 +98,8 @@ fn print_entries<W: Write>(
     Ok(())
 }
 
-/// Prints the line of an entry, or nothing if it is not an entry of a process.
+/// Prints the line of an entry: the process's name and the reply. Prints nothing for a growth step, which no process
+/// makes.
 fn print_entry<W: Write>(
     names: &Names,
     entry: &Entry,
@@ -119,7 +120,7 @@ fn print_entry<W: Write>(
     }
 }
 
-/// Prints a name and a space.
+/// Prints the name of a process and a space, which begin a line.
 fn print_name<W: Write>(name: &[u8], output: &mut Output<'_, W>) -> Result<(), WriteFault>
     ensures same_writer { HasWriterOf output.old output.new }
     ensures ok { OnOk result (Adds W.contents output.old output.new (name.now ++ codes " ")) }
@@ -129,8 +130,9 @@ fn print_name<W: Write>(name: &[u8], output: &mut Output<'_, W>) -> Result<(), W
     output.add(b" ")
 }
 
-/// Prints a line for each process that did not run all its jobs.
-fn print_stopped<W: Write>(
+/// Prints a `** nomem` line for each process that did not run all its jobs. `left` has the number of jobs that each
+/// process did not run.
+fn print_stopped_processes<W: Write>(
     names: &Names,
     left: &[usize],
     output: &mut Output<'_, W>,
@@ -148,7 +150,7 @@ fn print_stopped<W: Write>(
     Ok(())
 }
 
-/// Prints the line of a process that stopped before its last `left` jobs, or nothing if it ran all its jobs.
+/// Prints the `** nomem` line of a process that did not run its last `left` jobs, or nothing if it ran all its jobs.
 fn print_stop<W: Write>(
     name: &[u8],
     left: usize,

@@ -8,7 +8,7 @@
 //! docs/script.md. With `--external` the program answers packets of calls, as `ets_packets` says, in place of lines.
 //!
 //! *Weakness.* Only tests show that answers are flushed before each read, what `refuse` prints, and that
-//! `run_script_with_reasons` reports each refused line. Private contracts say which text it writes for one.
+//! `run_script_with_reasons` reports each refused line. Private contracts say which text it writes for a refused line.
 //!
 //! *Mechanism.* Bytes are read in pieces. A line is found by `memchr`, parsed once from left to right, executed, and
 //! answered into a buffer, which is written before the next read.

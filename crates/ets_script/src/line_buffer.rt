@@ -20,6 +20,7 @@ pub struct ReadFault;
 /// The bytes that were read and not yet consumed.
 #[derive(Drop)]
 pub struct LineBuffer {
+    /// `CAPACITY` bytes, of which those from `start` to `end` were read and not yet consumed.
     buffer: Vec<u8>,
     start: usize,
     end: usize,
@@ -74,7 +75,7 @@ impl LineBuffer {
         self.is_skipping
     }
 
-    /// Removes the first `count` bytes, which end with a line.
+    /// Removes the first `count` bytes, which end with a line. The bytes after them start a new line.
     pub fn consume(&mut self, count: usize)
         requires { count ≤ length self.old.bytes }
         ensures bytes { self.new.bytes ≡ drop count self.old.bytes }
@@ -92,7 +93,7 @@ impl LineBuffer {
         find_line(self.bytes(), self.is_skipping)
     }
 
-    /// Discards the buffered bytes, a part of a line, if the line is too long.
+    /// Discards the buffered bytes, a part of a line, if the line is too long. The rest of the line is then skipped.
     pub fn skip_long(&mut self)
         requires { IsOneLine self.old.bytes }
         ensures { Waits self.old self.new }
@@ -104,7 +105,7 @@ impl LineBuffer {
     }
 
     /// Reads more bytes after those buffered, and returns their number: 0 only at the end of the input. When no more
-    /// reads are allowed, that is a fault, so that an endless input ends.
+    /// reads are allowed, that is a fault, so that a script with an endless input stops.
     pub fn refill<R: Read>(&mut self, reader: &mut R) -> Result<usize, ReadFault>
         requires { length self.old.bytes ≤ MAX_LINE }
         ensures ok { IfOk result (Refills self.old self.new
@@ -125,8 +126,8 @@ impl LineBuffer {
     }
 }
 
-/// Moves the bytes from `start` to `end` to the buffer's front, unless `MAX_LINE` bytes fit after them. Returns their
-/// start.
+/// Moves the bytes from `start` to `end` to the buffer's front, unless `MAX_LINE` bytes fit after them. Returns where
+/// they start then.
 fn shift(buffer: &mut Vec<u8>, start: usize, end: usize) -> usize
     requires part { start ≤ end }
     requires within { end ≤ vec_len buffer.old }
@@ -144,7 +145,7 @@ fn shift(buffer: &mut Vec<u8>, start: usize, end: usize) -> usize
     0
 }
 
-/// Reads once into the buffer, after its first `end` bytes.
+/// Reads once into the buffer, after its first `end` bytes, and returns the number of bytes read.
 fn read_into<R: Read>(reader: &mut R, buffer: &mut Vec<u8>, end: usize) -> Result<usize, ReadFault>
     requires { end ≤ vec_len buffer.old }
     ensures len { vec_len buffer.new ≡ vec_len buffer.old }

@@ -24,8 +24,8 @@ pub struct PlannedAnswers {
     pub names: Names,
 }
 
-/// The work: the jobs of each process, in the order of the processes, and `turns`, the greatest number of pending
-/// growth steps, which is the number of lines.
+/// The work: the jobs of each process, in the order of the processes, and `turns`. That is the greatest number of
+/// pending growth steps to run, which is the number of lines.
 #[derive(Drop)]
 pub struct ProcessJobs {
     pub jobs: Items<Items<Job>>,
@@ -40,7 +40,9 @@ pub struct Plan {
     max_names: u32,
     answers: Items<Answer>,
     names: IndexSet<Vec<u8>>,
+    /// The jobs of each process, in the order of `names`.
     jobs: Items<Items<Job>>,
+    /// The number of lines so far, but at most 2^32 - 1.
     lines: u32,
 }
 
@@ -93,14 +95,14 @@ impl Plan {
         (planned, work)
     }
 
-    /// Counts a line.
+    /// Counts a line. Contracts do not see the count.
     pub fn count_line(&mut self)
         ensures { self.new ≡ self.old }
     {
         self.lines = self.lines.saturating_add(1);
     }
 
-    /// Adds a line to the plan.
+    /// Adds a line to the plan. A silent line changes nothing.
     pub fn add_line(&mut self, line: &[u8]) -> Result<(), AllocError>
         ensures { IfOk result (λ _. self.new ≡ with_line (text line.now) self.old) }
     {
@@ -118,7 +120,7 @@ impl Plan {
         self.add_answer(Answer::TooLong)
     }
 
-    /// Adds a command. `grow` and `ready` are skipped: a thread of its own does the growth steps.
+    /// Adds a command. Skips `grow` and `ready`, because a thread of its own runs the growth steps.
     fn add_command(&mut self, command: Command<'_>) -> Result<(), AllocError>
         ensures { IfOk result (λ _. self.new ≡ with_command (command_view command.entry) self.old) }
     {
@@ -141,7 +143,7 @@ impl Plan {
         self.answers.push(answer)
     }
 
-    /// Returns the index of the process of this name.
+    /// Returns the index of the process of this name, or `None` if the name is not in the plan.
     fn index_of(&self, name: &[u8]) -> Option<usize>
         ensures index { result ≡ index_of self.now.plan name.now }
         ensures within { IfSome result (λ n. n < length self.now.plan.jobs) }
@@ -168,8 +170,8 @@ impl Plan {
         add_job(self.alloc, &mut self.jobs, process_index, job)
     }
 
-    /// Adds a process for a name. The answer is `badarg` if the name is taken, and `system_limit` if there are too
-    /// many. Reserves capacity first.
+    /// Adds a process for a name. Adds the answer `badarg` instead if the name is taken, and `system_limit` if there
+    /// are `max_names` names. Reserves capacity first.
     fn add_spawn(&mut self, name: &[u8]) -> Result<(), AllocError>
         ensures { IfOk result (λ _. self.new ≡ with_name name.now self.old) }
     {
@@ -210,6 +212,7 @@ fn add_job(
     ensures added { IfOk result (λ _. jobs.new ≡ jobs_with process_index job jobs.old) }
     ensures len { length jobs.new ≡ length jobs.old }
 {
+    // The process's own jobs are moved out, changed, and moved back.
     let mut own = jobs.replace(process_index, Items::new(alloc));
     let pushed = own.push(job);
     let _ = jobs.replace(process_index, own);

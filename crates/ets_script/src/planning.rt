@@ -26,7 +26,7 @@ pub fn plan_input<R: Read>(
     Ok(plan)
 }
 
-/// Plans all lines.
+/// Plans all lines that the reader has. The buffer is empty at first.
 fn plan_lines<R: Read>(
     reader: &mut R,
     buffer: &mut LineBuffer,
@@ -51,7 +51,8 @@ fn plan_lines<R: Read>(
     }
 }
 
-/// Plans the next line, if its LF is buffered, and returns the number of its bytes.
+/// Plans the next line, if its LF is buffered, and returns the number of the line's bytes. Returns `None` if more bytes
+/// must be read first.
 fn plan_next(buffer: &LineBuffer, plan: &mut Plan) -> Result<Option<usize>, AllocError>
     ensures { IfOk result (PlansNext buffer.now plan.old plan.new) }
 {

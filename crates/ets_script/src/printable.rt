@@ -33,6 +33,7 @@ pub fn are_printable(text: &[u8]) -> bool
 fn are_each_printable(text: &[u8]) -> bool
     ensures { result ≡ list_all spec.is_printable text.now }
 {
+    // Whether all bytes so far are printable.
     let mut are = true;
     for byte in text {
         are &= is_printable(*byte);

@@ -20,8 +20,8 @@ use std::sync::ledger::{Blank, Ledger};
 use std::thread;
 use std::thread::Threads;
 
-/// The results of the processes: the journal, and of each process the number of jobs that it did not run because memory
-/// ran out.
+/// The results of the processes: `entries` is the journal. `left` has, for each process, the number of jobs that it did
+/// not run because memory ran out.
 #[derive(Drop)]
 pub struct RunResult {
     pub entries: Vec<SharedEntry>,
@@ -37,8 +37,8 @@ impl Gate for NoGate {
     fn after(&self, _client: usize, _call: usize) {}
 }
 
-/// Runs the jobs of a script on a node with these settings: each process in a thread of its own, and one more thread
-/// for pending growth steps.
+/// Runs the jobs of a script on a node with these settings. Each process runs in a thread of its own, and one more
+/// thread runs pending growth steps.
 pub fn run_jobs<T: Threads + Wait + Sync, H: KeyHash + Copy + Drop + Send + Sync>(
     rt: &T,
     alloc: Global,
@@ -49,6 +49,7 @@ pub fn run_jobs<T: Threads + Wait + Sync, H: KeyHash + Copy + Drop + Send + Sync
         run.entries.items run.left.items) }
     ensures err { IfErr result (StopsBeforeOutput settings.limits) }
 {
+    // `Shared::new` requires one part for each process that the limit allows, and one more.
     let blank = Blank::new(settings.limits.processes as u64 + 1);
     run_with_ledger::<Brand, T, H>(rt, alloc, blank, settings, work)
 }
@@ -73,7 +74,7 @@ fn run_with_ledger<
     ensures err { IfErr result (StopsBeforeOutput settings.limits) }
 {
     let shared = Shared::<L, H>::new(alloc, blank, settings.limits, settings.hasher);
-    let Ok((clients, left)) = run_shared(rt, alloc, &shared, work) else {
+    let Ok((clients, left)) = run_processes(rt, alloc, &shared, work) else {
         return Err(ScriptFault::Memory);
     };
     match close(shared, clients) {
@@ -89,7 +90,7 @@ fn run_with_ledger<
 
 /// Enrols the processes, runs their jobs, and returns their clients and, for each, the number of jobs that it did not
 /// run.
-fn run_shared<
+fn run_processes<
     L: Ledger + Send + Sync,
     T: Threads + Wait + Sync,
     H: KeyHash + Copy + Drop + Send + Sync,
@@ -106,7 +107,8 @@ fn run_shared<
     unzip(alloc, workers)
 }
 
-/// Enrols a process for each list of jobs, in order. Draws no number if there is no list.
+/// Enrols a process for each list of jobs, in order, and returns each client with its jobs. Draws no number if there is
+/// no list.
 fn enrol_all<L: Ledger, T: Wait, H: KeyHash + Copy + Drop>(
     rt: &T,
     alloc: Global,
@@ -124,7 +126,7 @@ fn enrol_all<L: Ledger, T: Wait, H: KeyHash + Copy + Drop>(
     enrol_each(rt, shared, &pids, seats, jobs)
 }
 
-/// Enrols a process for each list of jobs, with the numbers that the seats draw.
+/// Enrols a process for each list of jobs, with the numbers that the seats draw. Returns each client with its jobs.
 fn enrol_each<L: Ledger, T: Wait, H: KeyHash + Copy + Drop>(
     rt: &T,
     shared: &Shared<L, H>,
@@ -137,6 +139,7 @@ fn enrol_each<L: Ledger, T: Wait, H: KeyHash + Copy + Drop>(
 {
     let mut work = Vec::with_capacity(*seats.allocator(), jobs.len())?;
     let lists = jobs.into_vec();
+    // `own` is the list of one process.
     for own in lists {
         let client = enrol(rt, shared, draw(pids, &mut seats), work.len())?;
         work.push((client, own.into_vec()))?;
@@ -144,7 +147,7 @@ fn enrol_each<L: Ledger, T: Wait, H: KeyHash + Copy + Drop>(
     Ok(work)
 }
 
-/// Draws the next number, if a seat is left. It never waits.
+/// Draws the next number with one of the seats, or returns `None` if there is no seat. It never waits.
 fn draw(pids: &Pids, seats: &mut Vec<Seat>) -> Option<Drawn>
     requires { AreSeatsOf pids.now seats.old.items }
     ensures { AreSeatsOf pids.now seats.new.items }
@@ -175,7 +178,7 @@ fn enrol<L: Ledger, T: Wait, H: KeyHash + Copy + Drop>(
 }
 
 /// Runs the clients' jobs, each client in a thread of its own, while another thread runs at most `turns` pending growth
-/// steps.
+/// steps. Returns each client with the number of jobs that it did not run.
 fn run_and_keep<
     L: Ledger + Send + Sync,
     T: Threads + Wait + Sync,
@@ -189,6 +192,7 @@ fn run_and_keep<
 ) -> Result<Vec<Worked<L>>, AllocError>
     ensures { IfOk result (λ workers. AllWorked work.items workers.items) }
 {
+    // `_kept` is the number of growth steps that were run.
     let (_kept, workers) = thread::join(
         rt,
         move || -> u32

@@ -22,11 +22,11 @@ use std::sync::Wait;
 use std::thread::Threads;
 
 /// The status after a fault.
-const FAILED: u8 = 1;
+const FAILURE: u8 = 1;
 
-/// Answers a script with these settings, in threads or line by line, and returns the program's status: 0 at the end of
-/// the input; otherwise 1, with one line on standard error. `Err` means that this line was not written. In threads it may
-/// wait.
+/// Answers a script with these settings, in threads or line by line, and returns the program's status. It is 0 at the
+/// end of the input. Otherwise it is 1, and one line is written to `errors`. `Err` means that this line was not
+/// written. In threads the function may wait.
 pub fn answer_input<T: Threads + Wait + Sync, R: Read, W: Write, E: Write>(
     rt: &T,
     alloc: Global,
@@ -73,7 +73,8 @@ fn usual_options(settings: &Settings) -> Options
     }
 }
 
-/// Answers a script as `answer_input` does, with the limits of the options. Answers packets if an option says so.
+/// Answers a script as `answer_input` does, with the limits of the options. Answers packets instead if `external` is
+/// set.
 pub fn answer_with_options<T: Threads + Wait + Sync, R: Read, W: Write, E: Write>(
     rt: &T,
     alloc: Global,
@@ -122,12 +123,12 @@ fn answer_packets<R: Read, W: Write, E: Write>(
     }
 }
 
-/// Prints why packets are not answered on a line of standard error, and returns the status.
+/// Prints on a line of standard error why no more packets are answered, and returns the status.
 fn report_packets<E: Write>(fault: &PacketFault, errors: &mut E) -> io::Result<u8>
     ensures { IfOk result (λ status. status ≡ 1) }
 {
     writeln!(errors, "ets_script: {fault}")?;
-    Ok(FAILED)
+    Ok(FAILURE)
 }
 
 /// Answers a script line by line with the limits of the options, and returns the status.
@@ -148,7 +149,7 @@ fn answer_lines<R: Read, W: Write, E: Write>(
     report(run, errors)
 }
 
-/// Runs a script line by line, and reports why lines were refused if an option says so.
+/// Runs a script line by line, and reports why lines were refused if the option `why` is set.
 fn run_lines<H: KeyHash + Copy + Drop, R: Read, W: Write, E: Write>(
     alloc: Global,
     options: &Options,
@@ -203,7 +204,7 @@ fn report<T: Drop, E: Write>(run: Result<T, ScriptFault>, errors: &mut E) -> io:
         Ok(_) => Ok(0),
         Err(fault) => {
             writeln!(errors, "{fault}")?;
-            Ok(FAILED)
+            Ok(FAILURE)
         }
     }
 }

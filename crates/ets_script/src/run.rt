@@ -24,7 +24,7 @@ use node_core::Node;
 use std::alloc::Global;
 use std::io::{Read, Write};
 
-/// The greatest number of times that a script reads its input.
+/// The greatest number of times that a script reads its input, so that a script with an endless input stops.
 pub const MAX_READS: u32 = 1_000_000_000;
 
 /// Answers each line of a script, from an empty node with these settings to the node that it returns. All answers so
@@ -59,8 +59,9 @@ pub fn run_within<R: Read, W: Write, H: KeyHash + Copy + Drop>(
     run_with(streams, script, reads, &mut NoObserver)
 }
 
-/// Runs a script as `run_script` does, and reports why lines were refused: a line for each, after the answers to the
-/// lines that were read with it. If writing a reason fails, no more reasons are reported, but lines are still answered.
+/// Runs a script as `run_script` does, and reports why lines were refused. Writes a line for each, after the answers to
+/// the lines that were read with it. If writing a reason fails, no more reasons are reported, but lines are still
+/// answered.
 pub fn run_script_with_reasons<R: Read, W: Write, E: Write, H: KeyHash + Copy + Drop>(
     alloc: Global,
     streams: &mut Streams<R, W>,
@@ -162,8 +163,8 @@ fn answer_all<R: Read, W: Write, H: KeyHash + Copy + Drop, L: Observer>(
     }
 }
 
-/// Answers the next line, if its LF is buffered, and returns the number of its bytes. The answer is written over the
-/// previous answer.
+/// Answers the next line, if its LF is buffered, and returns the number of the line's bytes. Returns `None` if more
+/// bytes must be read first. The answer is written over the previous answer.
 fn answer_next<H: KeyHash + Copy + Drop, L: Observer>(
     buffer: &LineBuffer,
     script: &mut Script<H>,
@@ -188,7 +189,7 @@ fn answer_next<H: KeyHash + Copy + Drop, L: Observer>(
     }
 }
 
-/// Answers the last line, which has no LF, and writes all answers.
+/// Answers the buffered bytes as the last line, which has no LF, and writes all answers.
 fn answer_last<W: Write, H: KeyHash + Copy + Drop, L: Observer>(
     buffer: &LineBuffer,
     output: &mut Output<'_, W>,
@@ -207,7 +208,8 @@ fn answer_last<W: Write, H: KeyHash + Copy + Drop, L: Observer>(
     output.flush()
 }
 
-/// Answers the buffered bytes as a line without an LF. An empty line prints nothing.
+/// Answers the buffered bytes as a line without an LF, or returns `TooLong` if the start of the line was discarded. An
+/// empty line prints nothing.
 fn answer_part<H: KeyHash + Copy + Drop>(buffer: &LineBuffer, script: &mut Script<H>) -> Answer
     ensures { AnswersPart buffer.now.is_skipping script.old buffer.now.bytes result script.new }
 {

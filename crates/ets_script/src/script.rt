@@ -19,9 +19,10 @@ use std::alloc::Global;
 use std::marker::Model;
 
 /// The names that were spawned, in order, and the node. A contract sees only these two. It does not see `last_caller`
-/// and `arguments`, which are not in the view, so both may change where a contract says that the script is unchanged.
+/// and `arguments`, which are not in the view. Both may change where a contract says that the script is unchanged.
 #[derive(Drop)]
 pub struct Script<H: KeyHash + Copy + Drop> {
+    /// The index of a name is the number of its process.
     names: IndexSet<Vec<u8>>,
     node: Node<H>,
     /// The process that made the last call; 0 before the first call.
@@ -78,7 +79,7 @@ impl<H: KeyHash + Copy + Drop> Script<H> {
         *self.names.allocator()
     }
 
-    /// Executes a line. Writes its answer over an earlier answer, and uses the memory of that again.
+    /// Executes a line. Writes its answer over the answer to an earlier line, whose memory a reply uses again.
     pub fn answer(&mut self, line: &[u8], answer: &mut Answer)
         ensures { AnswersLine self.old (text line.now) answer.new self.new }
     {
@@ -104,7 +105,8 @@ impl<H: KeyHash + Copy + Drop> Script<H> {
         }
     }
 
-    /// Executes a line of any form. The rare case of `answer`, not inlined, because most lines are calls.
+    /// Executes a line of any form. `answer` uses it for a line that `read_call` does not find to be a call. It is not
+    /// inlined, because most lines are calls.
     #[inline(never)]
     fn answer_other(&mut self, alloc: Global, line: &[u8], answer: &mut Answer)
         ensures { AnswersLine self.old (text line.now) answer.new self.new }
@@ -119,7 +121,7 @@ impl<H: KeyHash + Copy + Drop> Script<H> {
         }
     }
 
-    /// Executes a command.
+    /// Executes a command, and writes its answer over `answer`.
     fn execute(&mut self, alloc: Global, command: Command<'_>, answer: &mut Answer)
         ensures { Executes (command_view command.entry) self.old answer.new self.new
             ⊎ KeepsState self.old NoMemory answer.new self.new }
@@ -134,7 +136,7 @@ impl<H: KeyHash + Copy + Drop> Script<H> {
         }
     }
 
-    /// Ends the process with this name.
+    /// Ends the process with this name. Answers `NoProcess` if the name was not spawned.
     #[inline(never)]
     fn exit(&mut self, name: &[u8], answer: &mut Answer)
         ensures { Executes (spec.exit name.now) self.old answer.new self.new
@@ -166,7 +168,7 @@ impl<H: KeyHash + Copy + Drop> Script<H> {
         self.step(&mut Step::Ready(table, bucket), answer);
     }
 
-    /// Returns the process with this name.
+    /// Returns the process with this name, which may have exited, or `None` if the name was not spawned.
     pub fn pid(&self, name: &[u8]) -> Option<u32>
         ensures { result ≡ pid_of self.now name.now }
     {
@@ -176,7 +178,7 @@ impl<H: KeyHash + Copy + Drop> Script<H> {
         }
     }
 
-    /// Returns the number of the process that is spawned next.
+    /// Returns the number of the process that is spawned next: the number of names, but at most 2^32 - 1.
     pub fn next_pid(&self) -> u32
         ensures { result ≡ min (length self.now.names) (2 ^ 32 - 1) }
     {

@@ -23,9 +23,9 @@ use std::io::{Read, Write};
 use std::sync::Wait;
 use std::thread::Threads;
 
-/// Reads a script to its end, runs the lines of each of its processes in a thread of its own, on a node with these
-/// settings, and prints the result: the answers that were planned, the replies in the order of the journal, and the
-/// names of the processes that ran out of memory. It may wait.
+/// Reads a script to its end, and runs the lines of each process in a thread of its own, on a node with these settings.
+/// Then prints the planned answers, and the replies in the order of the journal. A `** nomem` line follows for each
+/// process that did not run all its jobs. It may wait.
 pub fn run_threads<
     T: Threads + Wait + Sync,
     R: Read,
@@ -69,7 +69,7 @@ fn run_input<T: Threads + Wait + Sync, R: Read, H: KeyHash + Copy + Drop + Send 
     Ok((planned, run))
 }
 
-/// Returns the greatest number of names that may be spawned.
+/// Returns the greatest number of names that may be spawned: as the limits say, but at most `MAX_PIDS`.
 fn max_names(limits: Limits) -> u32
     ensures { result ≡ min limits.processes MAX_PIDS }
 {

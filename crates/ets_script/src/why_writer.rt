@@ -23,6 +23,7 @@ pub struct WhyWriter<'a, E> {
     output: Output<'a, E>,
     /// The number of lines so far.
     lines: u64,
+    /// Whether the writer has failed.
     has_failed: bool,
 }
 
@@ -41,7 +42,7 @@ impl<'a, E: Write> WhyWriter<'a, E> {
         }
     }
 
-    /// Returns the number of the next line; the first is line 1.
+    /// Counts the next line, and returns its number. The first is line 1.
     fn next_number(&mut self) -> u64
         ensures number { self.old.lines < 2 ^ 64 - 1 → result ≡ self.old.lines + 1 }
         ensures lines { self.new.lines ≡ result }
@@ -52,7 +53,8 @@ impl<'a, E: Write> WhyWriter<'a, E> {
         self.lines
     }
 
-    /// Writes the reason of this line. Without memory for its text, it writes nothing.
+    /// Writes a diagnostic that `write_why` has found, with the number of its line. If memory runs out for the text,
+    /// writes nothing.
     fn write_reason(&mut self, number: u64, diagnostic: &Diagnostic<'_>) -> Result<(), AllocError>
         ensures same_lines { self.new.lines ≡ self.old.lines }
         ensures same_writer { HasWriterOf self.old.output self.new.output }
@@ -65,7 +67,7 @@ impl<'a, E: Write> WhyWriter<'a, E> {
         Ok(())
     }
 
-    /// Writes this text.
+    /// Writes this text, unless the writer has failed before.
     fn write_text(&mut self, text: &[u8])
         ensures same_lines { self.new.lines ≡ self.old.lines }
         ensures same_writer { HasWriterOf self.old.output self.new.output }
@@ -76,7 +78,8 @@ impl<'a, E: Write> WhyWriter<'a, E> {
         }
     }
 
-    /// Writes why this line was refused, or nothing if it was not. Without memory for the text, it writes nothing.
+    /// Finds out whether this line was refused and why, and passes the diagnostic to `write_reason`. Writes nothing if
+    /// the line was not refused, or memory runs out.
     fn write_why<H: KeyHash + Copy + Drop>(
         &mut self,
         number: u64,
@@ -110,6 +113,7 @@ impl<E: Write> Observer for WhyWriter<'_, E> {
             (Explains script.now line.now answer.now) ⊎ KeepsOutput self.old self.new }
     {
         let number = self.next_number();
+        // If memory runs out, the reason of this line is left out, and the script goes on.
         let _ = self.write_why(number, script, line, answer);
     }
 

@@ -6,9 +6,12 @@ use std::alloc::Global;
 use std::process::ExitCode;
 use std::{env, io};
 
-/// The size in bytes of the block that `keep_freed_memory` takes and frees.
+/// The size in bytes of the block that `keep_freed_memory` takes and frees: 1 MiB. It must exceed glibc's first
+/// threshold of 128 KiB, because only a larger block raises that when it is freed.
 const KEPT_BLOCK: usize = 1 << 20;
 
+/// Answers the standard input as the command line says, and returns the status. It is 2 for a command line that is
+/// refused.
 fn main(rt: HostRuntime) -> io::Result<ExitCode> {
     let alloc = rt.alloc();
     keep_freed_memory(alloc);

@@ -4,8 +4,7 @@ use Rattle.std.specs.Int.{cast_unsigned, byte_at, bytes_high_first, to_be_bytes,
 use Rattle.std.specs.Int.Bits.{xor_zero_r}
 use Rattle.std.proofs.Math.Nat.{div-eq_of_lt, mod-eq_of_lt, mul-one, mul_assoc, pow-succ', pow-le-pow_right}
 use Rattle.std.proofs.lemmas.Nat.{mul-mod_first, mul-mod_second}
-use Rattle.ets_term.specs.Encoding.{fnv_step}
-use Rattle.ets_term.specs.Integers.{integer_bytes}
+use Rattle.ets_term.specs.Encoding.{fnv_step, integer_bytes}
 
 abbrev prime : ℕ
 prime = 16777619

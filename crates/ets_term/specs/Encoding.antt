@@ -1,9 +1,12 @@
 -- The bytes of a term, and their FNV-1a hash.
-use Rattle.std.specs.Prelude.{ℕ, ◌*◌, ◌%◌, ◌^◌, List, [], ◌∷◌, ◌++◌, length, fold, bit_xor}
-use Rattle.std.specs.Int.{to_be_bytes, w32, w64}
+use Rattle.std.specs.Prelude.{ℕ, ℤ, ◌*◌, ◌%◌, ◌^◌, List, [], ◌∷◌, ◌++◌, length, fold, bit_xor}
+use Rattle.std.specs.Int.{cast_unsigned, to_be_bytes, w32, w64, w128}
 use Rattle.ets_term.specs.declared.term.Term.{Term, fold-Term}
 use Rattle.ets_term.specs.declared.term.Term.TheOpen.{Term-F}
-use Rattle.ets_term.specs.Integers.{integer_bytes}
+
+-- the bytes of an integer in two's complement, the high byte first
+unfoldable pub integer_bytes : ℤ → List ℕ
+integer_bytes n = to_be_bytes w128 (cast_unsigned w128 n)
 
 -- the lists, joined to one list
 abbrev pub concat : {A : Type 0} → List (List A) → List A

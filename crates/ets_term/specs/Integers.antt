@@ -1,6 +1,5 @@
 -- The integers of terms: 128 bits, two's complement.
-use Rattle.std.specs.Prelude.{ℕ, ℤ, ◌^◌, ◌-◌, ◌&&◌, if◌then◌else◌, int_le, pos, negsuc, List, Option, Some, None}
-use Rattle.std.specs.Int.{cast_unsigned, to_be_bytes, w128}
+use Rattle.std.specs.Prelude.{ℕ, ℤ, ◌^◌, ◌-◌, ◌&&◌, if◌then◌else◌, int_le, pos, negsuc, Option, Some, None}
 
 -- the least integer of a term
 abbrev pub least : ℤ
@@ -13,7 +12,3 @@ greatest = pos (2 ^ 127 - 1)
 -- the integer itself, None if it is out of range
 abbrev pub in_range : ℤ → Option ℤ
 in_range n = if int_le least n && int_le n greatest then Some n else None
-
--- the bytes of an integer in two's complement, the high byte first
-unfoldable pub integer_bytes : ℤ → List ℕ
-integer_bytes n = to_be_bytes w128 (cast_unsigned w128 n)

@@ -3,8 +3,7 @@ use Rattle.std.specs.Prelude.{ℕ, List, [], ◌∷◌, length}
 use Rattle.std.specs.Int.{to_be_bytes, w32, w64}
 use Rattle.ets_term.specs.declared.term.Term.{Term, fold-Term}
 use Rattle.ets_term.specs.declared.term.Term.TheOpen.{Term-F}
-use Rattle.ets_term.specs.Encoding.{concat}
-use Rattle.ets_term.specs.Integers.{integer_bytes}
+use Rattle.ets_term.specs.Encoding.{concat, integer_bytes}
 
 -- the writes of a term, from the writes of its elements
 abbrev pub writes_form : Term-F (List (List ℕ)) → List (List ℕ)

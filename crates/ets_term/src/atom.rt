@@ -41,6 +41,7 @@ pub enum AtomFault {
     Memory,
 }
 
+// A refusal of memory becomes the fault `Memory`, so that `?` works in `Atom::new`.
 impl From<AllocError> for AtomFault {
     ghost use Rattle.std.specs.Prelude.{◌≡◌};
     ghost use Rattle.ets_term.specs.declared.atom.AtomFault.TheVariants.{Memory};
@@ -56,7 +57,9 @@ impl From<AllocError> for AtomFault {
 impl Atom {
     /// Returns the atom with this text, which may be empty. A text of up to 22 characters takes no memory.
     ///
-    /// If the text has more than 255 characters, returns `TooLong`, even if a character is not printable.
+    /// If the text has more than 255 characters, returns `TooLong`, even if a character is not printable. If a
+    /// character of a shorter text is not printable ASCII, returns `BadCharacter`. If memory is refused, returns
+    /// `Memory`.
     pub fn new(alloc: Global, text: &str) -> Result<Atom, AtomFault>
         ensures made { IfOk result (λ a. a ≡ text.now) }
         ensures fits { IfOk result (λ _. IsAtomText text.now) }
@@ -76,13 +79,14 @@ impl Atom {
         })
     }
 
-    /// Returns the atom with these characters, and does not check that they are the text of an atom. Up to 22
-    /// characters take no memory.
+    /// Returns the atom with these characters, or an error if memory is refused. Does not check that they are the text
+    /// of an atom; its caller must. Up to 22 characters take no memory.
     pub fn of_bytes(alloc: Global, bytes: &[u8]) -> Result<Atom, AllocError>
         requires { IsAtomText bytes.now }
         ensures same { IfOk result (λ a. a ≡ bytes.now) }
         ensures short { length bytes.now ≤ max_inline → IsOk result }
     {
+        // Printable ASCII is valid UTF-8.
         let text = unsafe { str::from_utf8_unchecked(bytes) };
         Ok(Atom {
             text: AtomText::of_text(alloc, text)?,
@@ -97,7 +101,7 @@ impl Atom {
         self.text.as_str()
     }
 
-    /// Returns an equal atom. An atom of up to 22 characters takes no memory.
+    /// Returns an equal atom, or an error if memory is refused. An atom of up to 22 characters takes no memory.
     pub fn try_clone(&self, alloc: Global) -> Result<Atom, AllocError>
         ensures same { IfOk result (λ a. a ≡ self.now) }
         ensures short { length self.now ≤ max_inline → IsOk result }
@@ -108,7 +112,7 @@ impl Atom {
     }
 }
 
-/// Returns whether all bytes are printable ASCII.
+/// Returns whether all bytes are printable ASCII, from the space (32) to the tilde (126).
 fn is_printable(bytes: &[u8]) -> bool
     ensures { result ≡ list_all is_character bytes.now }
 {

@@ -6,18 +6,21 @@ ghost use Rattle.ets_term.specs.inside.AtomTexts.{characters, EndsInline};
 
 use std::alloc::{AllocError, Global};
 
-/// The greatest number of characters that are stored inline.
+/// The greatest number of characters that are stored inline: 24 bytes, less one for the length and one for the tag.
 pub(crate) const MAX_INLINE: usize = 22;
 
 /// The characters of an atom. A value takes 24 bytes with its tag, as many as a `String`.
 #[derive(Drop)]
 pub(crate) enum AtomText {
+    /// At most `MAX_INLINE` characters: the first `len` of `bytes`.
     Inline { len: u8, bytes: [u8; MAX_INLINE] },
+    /// More characters. The box takes 8 bytes of the value, a `String` 24.
     Allocated(Box<String>),
 }
 
 impl AtomText {
-    /// Copies the characters of a text.
+    /// Returns a copy of the characters of a text, or an error if memory is refused. A text of up to 22 characters
+    /// takes no memory.
     pub(crate) fn of_text(alloc: Global, text: &str) -> Result<AtomText, AllocError>
         ensures same { IfOk result (λ s. characters s ≡ text.now) }
         ensures fits { IfOk result (λ s. EndsInline s) }
@@ -36,6 +39,7 @@ impl AtomText {
         ensures { result.now ≡ characters self.now }
     {
         match self {
+            // The clause `text` requires that the bytes are UTF-8.
             AtomText::Inline { len, bytes } => unsafe {
                 str::from_utf8_unchecked(&bytes[..*len as usize])
             },
@@ -44,7 +48,7 @@ impl AtomText {
     }
 }
 
-/// Copies a short text inline.
+/// Copies a text of at most `MAX_INLINE` characters inline.
 fn inline_text(text: &[u8]) -> AtomText
     requires { length text.now ≤ max_inline }
     ensures same { characters result ≡ text.now }

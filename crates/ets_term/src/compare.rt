@@ -1,4 +1,4 @@
-//! The order of terms.
+//! The order of terms, `cmp_terms`, and the comparison operators of Rust, which agree with it.
 ghost use Rattle.std.proofs.Common.{rules};
 ghost use Rattle.std.specs.Prelude.{◌≡◌, ◌↔◌, map};
 ghost use Rattle.std.specs.Ordering.{as_partial_cmp};
@@ -26,6 +26,8 @@ impl Term {
     }
 }
 
+// In this file, `ghost eq`, `partial_cmp` and `cmp` say what the comparisons return. The other `ghost` lines in the
+// implementations are proofs.
 impl PartialEq for Term {
     ghost eq = { same };
 
@@ -34,6 +36,7 @@ impl PartialEq for Term {
     #[inline(always)]
     fn eq(&self, other: &Term) -> bool {
         match (self, other) {
+            // Two integers are compared here, without a call.
             (Term::Int(x), Term::Int(y)) => x == y,
             _ => equal_terms(self, other),
         }
@@ -68,7 +71,7 @@ impl Ord for Term {
     }
 }
 
-/// Compares two terms.
+/// Returns the order of two terms, which `Term::cmp_terms` describes.
 #[cycle(compare)]
 #[tactic(auto, using(crate::proofs::DataLists::data_list_len_of, crate::proofs::DataLists::decided))]
 fn compare(a: &Term, b: &Term) -> Ordering
@@ -81,10 +84,12 @@ fn compare(a: &Term, b: &Term) -> Ordering
         (Term::Tid(x), Term::Tid(y)) => x.cmp(y),
         (Term::Tuple(x), Term::Tuple(y)) => match x.len().cmp(&y.len()) {
             Ordering::Equal => compare_items(x.as_slice(), y.as_slice()),
+            // Tuples of different sizes.
             by_size => by_size,
         },
         (Term::List(x), Term::List(y)) => compare_items(x.as_slice(), y.as_slice()),
         (Term::Binary(x), Term::Binary(y)) => x.as_slice().cmp(y.as_slice()),
+        // Terms of different kinds.
         _ => kind_rank(a).cmp(&kind_rank(b)),
     }
 }
@@ -94,8 +99,10 @@ fn compare(a: &Term, b: &Term) -> Ordering
 fn compare_items(xs: &[Term], ys: &[Term]) -> Ordering
     ensures { result ≡ data_list_order (data_list (map data_of xs.now)) (data_list (map data_of ys.now)) }
 {
+    // The number of indices that both lists have.
     let both = xs.len().min(ys.len());
     for i in 0..both {
+        // The order of the two elements at index `i`.
         let here = compare(&xs[i], &ys[i]);
         if here != Ordering::Equal {
             return here;
@@ -104,7 +111,7 @@ fn compare_items(xs: &[Term], ys: &[Term]) -> Ordering
     xs.len().cmp(&ys.len())
 }
 
-/// Returns the rank of the term's kind in the order.
+/// Returns the rank of the term's kind in the order, from 0 for integers, the least, to 6 for binaries.
 fn kind_rank(term: &Term) -> u8
     ensures { result ≡ rank (data_of term.now) }
 {

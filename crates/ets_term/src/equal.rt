@@ -20,6 +20,7 @@ pub fn equal_terms(a: &Term, b: &Term) -> bool
         (Term::Tuple(x), Term::Tuple(y)) => equal_items(x.as_slice(), y.as_slice()),
         (Term::List(x), Term::List(y)) => equal_items(x.as_slice(), y.as_slice()),
         (Term::Binary(x), Term::Binary(y)) => x.as_slice() == y.as_slice(),
+        // Terms of different kinds.
         _ => false,
     }
 }
@@ -46,7 +47,8 @@ fn equal_items(xs: &[Term], ys: &[Term]) -> bool
     true
 }
 
-/// Returns whether two terms are different integers. Tested first, because it takes no recursive call.
+/// Returns whether two terms are different integers. `equal_items` tests this first, because the test takes no
+/// recursive call.
 fn integers_differ(a: &Term, b: &Term) -> bool
     ensures { result ≡ true → same a.now b.now ≡ false }
 {

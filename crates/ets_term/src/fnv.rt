@@ -1,8 +1,7 @@
-//! The hasher FNV-1a.
+//! The hasher FNV-1a, over the bytes that encode a term.
 ghost use Rattle.std.specs.Prelude.{◌≡◌, ◌∷◌, fold, map};
 ghost use Rattle.std.specs.Int.{to_be_bytes, w64};
-ghost use Rattle.ets_term.specs.Encoding.{encoding, concat, fnv_step};
-ghost use Rattle.ets_term.specs.Integers.{integer_bytes as bytes_of};
+ghost use Rattle.ets_term.specs.Encoding.{encoding, concat, fnv_step, integer_bytes as bytes_of};
 
 use crate::integer::{Integer, integer_bytes};
 use crate::key_hash::KeyHash;
@@ -34,6 +33,7 @@ impl KeyHash for Fnv {
 
     #[inline(always)]
     fn hash32(&self, term: &Term) -> u32 {
+        // The hash starts with the offset basis, 2166136261. An integer is hashed without a call of `fnv_term`.
         match term {
             Term::Int(n) => fnv_integer(fnv_bytes(2166136261, &[1]), *n),
             _ => fnv_term(2166136261, term),
@@ -41,7 +41,7 @@ impl KeyHash for Fnv {
     }
 }
 
-/// Continues the hash `start` with the encoding of a term.
+/// Returns the hash `start` continued with the encoding of a term. The numbers 1 to 7 are the bytes of the kinds.
 #[cycle(fnv)]
 fn fnv_term(start: u32, term: &Term) -> u32
     ensures { result ≡ fold fnv_step start (encoding term.now) }
@@ -49,6 +49,7 @@ fn fnv_term(start: u32, term: &Term) -> u32
     match term {
         Term::Int(n) => fnv_integer(fnv_bytes(start, &[1]), *n),
         Term::Atom(atom) => {
+            // An atom has at most 255 characters, so its length fits in a byte.
             let text = atom.text().as_bytes();
             fnv_bytes(fnv_bytes(start, &[2, text.len() as u8]), text)
         }
@@ -60,7 +61,7 @@ fn fnv_term(start: u32, term: &Term) -> u32
     }
 }
 
-/// Continues the hash `start` with the encodings of some terms.
+/// Returns the hash `start` continued with the encodings of some terms, one after another.
 #[cycle(fnv)]
 fn fnv_items(start: u32, items: &[Term]) -> u32
     ensures { result ≡ fold fnv_step start (concat (map encoding items.now)) }
@@ -72,8 +73,9 @@ fn fnv_items(start: u32, items: &[Term]) -> u32
     hash
 }
 
-/// Continues the hash `start` with the bytes of an integer. The leading zero bytes of an integer from 0 to 2^64-1 take
-/// one multiplication. Only an integer below 2^16 is hashed here, so that the compiler inlines little.
+/// Returns the hash `start` continued with the 16 bytes of an integer. The leading zero bytes of an integer from 0 to
+/// 2^64-1 take one multiplication. Only an integer from 0 to 2^16-1 is hashed here, so that the compiler inlines
+/// little.
 #[inline(always)]
 fn fnv_integer(start: u32, n: Integer) -> u32
     ensures { result ≡ fold fnv_step start (bytes_of n) }
@@ -84,7 +86,8 @@ fn fnv_integer(start: u32, n: Integer) -> u32
     fnv_wide_integer(start, n)
 }
 
-/// Continues the hash `start` with the bytes of any integer, as `fnv_integer` does.
+/// Returns the hash `start` continued with the 16 bytes of any integer, as `fnv_integer` does. An integer from 0 to
+/// 2^32-1 has at least twelve leading zero bytes, and an integer up to 2^64-1 at least eight.
 #[inline(never)]
 fn fnv_wide_integer(start: u32, n: Integer) -> u32
     ensures { result ≡ fold fnv_step start (bytes_of n) }
@@ -98,14 +101,15 @@ fn fnv_wide_integer(start: u32, n: Integer) -> u32
     fnv_bytes(start, &integer_bytes(n))
 }
 
-/// Continues the hash `start` with the byte of a kind and the eight bytes of a count.
+/// Returns the hash `start` continued with the byte of a kind and the eight bytes of a count.
 fn fnv_count(start: u32, kind: u8, count: usize) -> u32
     ensures { result ≡ fold fnv_step start (kind ∷ to_be_bytes w64 count) }
 {
     fnv_bytes(fnv_bytes(start, &[kind]), &(count as u64).to_be_bytes())
 }
 
-/// Continues the hash `start` with bytes: for each byte an exclusive or, then a product with the prime.
+/// Returns the hash `start` continued with bytes: for each byte an exclusive or, then a product with the prime,
+/// 16777619.
 fn fnv_bytes(start: u32, bytes: &[u8]) -> u32
     ensures { result ≡ fold fnv_step start bytes.now }
 {

@@ -9,6 +9,7 @@ use crate::integer::integer_bytes;
 use crate::term::Term;
 use std::hash::{Hash, Hasher};
 
+// `hash_input` is the list of all writes. `respects_eq` proves that equal terms make the same writes.
 impl Hash for Term {
     ghost hash_input = { writes };
 
@@ -19,7 +20,8 @@ impl Hash for Term {
     }
 }
 
-/// Writes a term to a hasher. The bytes are those of the encoding that `Fnv` describes.
+/// Writes a term to a hasher. The bytes are those of the encoding that `Fnv` describes: first the byte of the kind,
+/// from 1 to 7.
 #[cycle(feed)]
 fn feed<H: Hasher>(term: &Term, state: &mut H)
     ensures { state.new ≡ fold H.write state.old (writes term.now) }
@@ -30,6 +32,7 @@ fn feed<H: Hasher>(term: &Term, state: &mut H)
             state.write(&integer_bytes(*n));
         }
         Term::Atom(atom) => {
+            // An atom has at most 255 characters, so its length fits in a byte.
             let text = atom.text().as_bytes();
             state.write(&[2, text.len() as u8]);
             state.write(text);

@@ -14,6 +14,7 @@ use std::{mem, slice};
 /// and to a `Vec` take no memory.
 #[derive(Debug, Drop)]
 pub struct Items<T> {
+    /// The elements, in order.
     pub(crate) items: Vec<T>,
 }
 
@@ -100,7 +101,7 @@ impl<T> Items<T> {
 }
 
 impl<T: Drop> Items<T> {
-    /// Appends an item. If memory is refused, nothing changes.
+    /// Appends an item. If memory is refused, returns an error and drops the item; the others stay as they are.
     pub fn push(&mut self, item: T) -> Result<(), AllocError>
         ensures ok { OnOk result (self.new ≡ self.old ++ item ∷ []) }
         ensures err { OnErr result (self.new ≡ self.old) }
@@ -110,6 +111,7 @@ impl<T: Drop> Items<T> {
     }
 }
 
+// `Items::from_vec` as a conversion: `from_gives` says what `from` returns.
 impl<T> From<Vec<T>> for Items<T> {
     ghost from_gives = { λ v r. r ≡ v.items };
 
@@ -118,6 +120,7 @@ impl<T> From<Vec<T>> for Items<T> {
     }
 }
 
+// `Items` used as a slice: `deref_gives` says what `deref` returns.
 impl<T> DerefSlice for Items<T> {
     type Elem = T;
 

@@ -13,6 +13,7 @@ pub trait KeyHash {
     fn hash32(&self, term: &Term) -> u32
         ensures { result ≡ hash self.now term.now };
 
+    // The law that all hashes are below 2^32. Each implementation proves it.
     ghost below: { (hasher : Self) (term : declared.Term) → hash hasher term < 2 ^ 32 };
 }
 

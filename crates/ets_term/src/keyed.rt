@@ -10,20 +10,22 @@ use crate::term::Term;
 /// A hasher with a secret factor, which it makes from a seed. Keys of one bucket are hard to choose for a user without
 /// the seed.
 ///
-/// It mixes words of 64 bits into a hash, which starts as the factor. The hash and the factor are multiplied, each after
-/// an exclusive or with the word, whose bits are rotated for the factor. The exclusive or of the halves of the 128-bit
-/// product is the next hash. The high half of the last hash is the hash of a term.
+/// It mixes words of 64 bits into a hash, which starts as the factor. The hash and the factor are multiplied, each
+/// after an exclusive or with the word, whose bits are rotated for the factor. The exclusive or of the halves of the
+/// 128-bit product is the next hash. The high half of the last hash is the hash of a term.
 ///
 /// An integer from -2^63+8 to 2^63-1 is one word. Other terms start with the word of their kind, which is 2^63 plus its
 /// number as in `Fnv`. Then come the two words of an integer, the high one first; or the number of a pid or table
 /// identifier; or the count, then the characters, elements or bytes.
 #[derive(Clone, Copy)]
 pub struct Keyed {
+    /// The secret number that is made from the seed.
     factor: u64,
 }
 
 impl Keyed {
-    /// Returns the hasher with this seed. The two constants are fixed odd numbers.
+    /// Returns the hasher with this seed. The two constants are fixed odd numbers. The first is 2^64 divided by the
+    /// golden ratio, rounded down.
     pub fn new(seed: u64) -> Keyed
         ensures { result.factor ≡ factor_of seed }
     {
@@ -42,6 +44,7 @@ impl KeyHash for Keyed {
 
     #[inline(always)]
     fn hash32(&self, term: &Term) -> u32 {
+        // The first argument is the factor; the second is the hash, which starts as the factor.
         let mixed = match term {
             Term::Int(n) => mix_integer(self.factor, self.factor, *n),
             _ => mix_term(self.factor, self.factor, term),
@@ -50,7 +53,7 @@ impl KeyHash for Keyed {
     }
 }
 
-/// Mixes the words of a term into the hash `start`.
+/// Returns the hash `start` after the words of a term are mixed into it. The numbers 2 to 7 are the kinds, as in `Fnv`.
 #[cycle(mix)]
 fn mix_term(factor: u64, start: u64, term: &Term) -> u64
     ensures { result ≡ fold (keyed_step factor) start (words term.now) }
@@ -68,21 +71,21 @@ fn mix_term(factor: u64, start: u64, term: &Term) -> u64
         Term::Pid(n) => mix_number(factor, start, 3, u64::from(*n)),
         Term::Tid(n) => mix_number(factor, start, 4, u64::from(*n)),
         Term::Tuple(items) => {
-            let counted = mix_number(factor, start, 5, items.len() as u64);
-            mix_items(factor, counted, items.as_slice())
+            let with_count = mix_number(factor, start, 5, items.len() as u64);
+            mix_items(factor, with_count, items.as_slice())
         }
         Term::List(items) => {
-            let counted = mix_number(factor, start, 6, items.len() as u64);
-            mix_items(factor, counted, items.as_slice())
+            let with_count = mix_number(factor, start, 6, items.len() as u64);
+            mix_items(factor, with_count, items.as_slice())
         }
         Term::Binary(bytes) => {
-            let counted = mix_number(factor, start, 7, bytes.len() as u64);
-            mix_bytes(factor, counted, bytes.as_slice())
+            let with_count = mix_number(factor, start, 7, bytes.len() as u64);
+            mix_bytes(factor, with_count, bytes.as_slice())
         }
     }
 }
 
-/// Mixes the words of some terms into the hash `start`, one term after another.
+/// Returns the hash `start` after the words of some terms are mixed into it, one term after another.
 #[cycle(mix)]
 fn mix_items(factor: u64, start: u64, items: &[Term]) -> u64
     ensures { result ≡ fold (keyed_step factor) start (concat (map words items.now)) }
@@ -94,7 +97,7 @@ fn mix_items(factor: u64, start: u64, items: &[Term]) -> u64
     hash
 }
 
-/// Mixes a word for each byte into the hash `start`.
+/// Returns the hash `start` after a word for each byte is mixed into it.
 fn mix_bytes(factor: u64, start: u64, bytes: &[u8]) -> u64
     ensures { result ≡ fold (keyed_step factor) start bytes.now }
 {
@@ -105,18 +108,20 @@ fn mix_bytes(factor: u64, start: u64, bytes: &[u8]) -> u64
     hash
 }
 
-/// The words of kinds are this number and a kind.
+/// The word of a kind is this number plus the number of the kind.
 const KIND: u64 = 1 << 63;
 
 /// The number of values of a word: 2^64.
 const WORD: u128 = 1 << 64;
 
-/// Mixes the words of an integer into the hash `start`.
+/// Returns the hash `start` after the words of an integer are mixed into it.
 #[inline(always)]
 fn mix_integer(factor: u64, start: u64, n: Integer) -> u64
     ensures { result ≡ fold (keyed_step factor) start (integer_words n) }
 {
+    // The 128 bits of the integer in two's complement.
     let bits = n.cast_unsigned();
+    // The eight least 64-bit integers are mixed as large ones, since one word could equal the word of a kind.
     if -9223372036854775800 <= n && n <= 9223372036854775807 {
         mix(factor, start, (bits % WORD) as u64)
     } else {
@@ -124,23 +129,26 @@ fn mix_integer(factor: u64, start: u64, n: Integer) -> u64
     }
 }
 
-/// Mixes the kind of integers and the two words of an integer into the hash `start`.
+/// Returns the hash `start` after three words are mixed into it: of the integer kind, 1, and the high and the low word
+/// of an integer's `bits`.
 #[inline(never)]
 fn mix_large(factor: u64, start: u64, bits: u128) -> u64
     ensures { result ≡ fold (keyed_step factor) start (large_words bits) }
 {
+    // The hash after the word of the kind and the high word.
     let high = mix_number(factor, start, 1, (bits / WORD) as u64);
     mix(factor, high, (bits % WORD) as u64)
 }
 
-/// Mixes the word of a kind, and then a number or a count, into the hash `start`.
+/// Returns the hash `start` after the word of a kind, and then a number or a count, are mixed into it.
 fn mix_number(factor: u64, start: u64, kind: u8, number: u64) -> u64
     ensures { result ≡ keyed_step factor (keyed_step factor start (kind_word kind)) number }
 {
     mix(factor, mix(factor, start, KIND + u64::from(kind)), number)
 }
 
-/// Mixes one word into a hash.
+/// Returns the hash after one word is mixed into it. The word is rotated for the factor, so that it changes other bits
+/// there than in the hash. The contract fixes the 27 bits.
 #[inline(always)]
 fn mix(factor: u64, hash: u64, word: u64) -> u64
     ensures { result ≡ keyed_step factor hash word }
@@ -148,10 +156,11 @@ fn mix(factor: u64, hash: u64, word: u64) -> u64
     fold_product(hash ^ word, factor ^ word.rotate_left(27))
 }
 
-/// Multiplies to a 128-bit product, and returns the exclusive or of its halves.
+/// Returns the exclusive or of the halves of the 128-bit product of `a` and `b`.
 fn fold_product(a: u64, b: u64) -> u64
     ensures { result ≡ fold_halves a b }
 {
+    // The two halves of `a * b + 0`.
     let (low, high) = a.carrying_mul(b, 0);
     low ^ high
 }

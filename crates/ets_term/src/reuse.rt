@@ -29,7 +29,7 @@ impl Items<Term> {
     }
 }
 
-/// Makes `target` equal to a term. If the term is an integer, it calls no other function.
+/// Makes `target` equal to a term, as `Term::clone_into` does. If the term is an integer, it calls no other function.
 #[cycle(reuse)]
 #[inline(always)]
 fn overwrite_term(alloc: Global, term: &Term, target: &mut Term) -> Result<(), AllocError>
@@ -40,6 +40,7 @@ fn overwrite_term(alloc: Global, term: &Term, target: &mut Term) -> Result<(), A
             *target = Term::Int(*n);
             return Ok(());
         }
+        // `parts` are the elements of the term, and `own` those of `target`.
         Term::Tuple(parts) => {
             if let Term::Tuple(own) = target {
                 if own.len() == parts.len() {
@@ -56,6 +57,7 @@ fn overwrite_term(alloc: Global, term: &Term, target: &mut Term) -> Result<(), A
         }
         _ => {}
     }
+    // In all other cases, a new copy of the term replaces `target`.
     *target = term.try_clone(alloc)?;
     Ok(())
 }

@@ -16,20 +16,23 @@ pub const MAX_DEPTH: usize = 128;
 /// are built alike: of the same kind, with equal parts. This is `=:=` of Erlang.
 #[derive(Drop)]
 pub enum Term {
+    /// An integer of 128 bits.
     Int(Integer),
+    /// An atom, of at most 255 characters.
     Atom(Atom),
     /// The process with this number, `<0.7.0>` in text.
     Pid(u32),
     /// The table identifier with this number, `#Tid<7>` in text.
     Tid(u32),
+    /// A tuple of these elements.
     Tuple(Items<Term>),
-    /// A proper list.
+    /// A proper list of these elements.
     List(Items<Term>),
     /// A binary of whole bytes.
     Binary(Items<u8>),
 }
 
-/// The integer 0.
+/// The default term is the integer 0.
 impl Default for Term {
     ghost use Rattle.std.specs.Prelude.{pos};
     ghost use Rattle.ets_term.specs.declared.term.Term.TheVariants.{Int};
@@ -42,7 +45,8 @@ impl Default for Term {
 }
 
 impl Term {
-    /// Returns an equal term. Takes memory for all its parts, and frees it again if any of it is refused.
+    /// Returns an equal term, or an error if memory is refused. The copy takes memory for all its parts. If any of that
+    /// memory is refused, the rest is freed again.
     pub fn try_clone(&self, alloc: Global) -> Result<Term, AllocError>
         ensures { IfOk result (λ t. t ≡ self.now) }
     {
@@ -50,7 +54,7 @@ impl Term {
     }
 
     /// Returns the depth of the term, or `usize::MAX` if the term is deeper. A term that holds no terms has depth 1,
-    /// `{}` and `[]` too. Other terms have one more than the depth of their deepest element.
+    /// `{}` and `[]` too. The depth of any other term is one more than that of its deepest element.
     pub fn depth(&self) -> usize
         ensures { result ≡ min (depth self.now) usize.MAX }
     {
@@ -91,7 +95,7 @@ impl Term {
     }
 }
 
-/// Copies a term.
+/// Returns a copy of a term, or an error if memory is refused.
 #[cycle(copy)]
 fn copy(alloc: Global, term: &Term) -> Result<Term, AllocError>
     ensures { IfOk result (λ t. t ≡ term.now) }
@@ -107,8 +111,8 @@ fn copy(alloc: Global, term: &Term) -> Result<Term, AllocError>
     }
 }
 
-/// Copies items one after another. Integers and tuples are copied in this function, so a tuple of integers takes no
-/// call per element.
+/// Returns copies of the items, or an error if memory is refused. Integers and tuples are copied in this function, so a
+/// tuple of integers takes no call per element.
 #[cycle(copy)]
 fn copy_items(alloc: Global, items: &[Term]) -> Result<Items<Term>, AllocError>
     ensures { IfOk result (λ v. v ≡ items.now) }
@@ -144,6 +148,7 @@ fn depth_of(term: &Term) -> usize
 fn max_depth(items: &[Term]) -> usize
     ensures { result ≡ min (largest (map depth items.now)) usize.MAX }
 {
+    // The greatest depth so far.
     let mut most = 0;
     for item in items {
         most = most.max(depth_of(item));
@@ -160,6 +165,7 @@ fn is_deeper(levels: usize, term: &Term) -> bool
     match term {
         Term::Tuple(items) => is_deeper_with_items(levels, items.as_slice()),
         Term::List(items) => is_deeper_with_items(levels, items.as_slice()),
+        // A leaf has one level.
         _ => levels == 0,
     }
 }

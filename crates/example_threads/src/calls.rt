@@ -19,7 +19,7 @@ pub(crate) fn ask<L: Ledger, H: KeyHash + Copy + Drop, R: Wait>(
     is_answered.then_some(())
 }
 
-/// Makes a call. Returns its reply if that is an integer.
+/// Makes a call. Returns its reply if that is an integer, else `None`, also if memory runs out.
 pub(crate) fn ask_integer<L: Ledger, H: KeyHash + Copy + Drop, R: Wait>(
     rt: &R,
     shared: &Shared<L, H>,

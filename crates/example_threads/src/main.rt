@@ -37,7 +37,9 @@ fn main(rt: HostRuntime) -> io::Result<ExitCode> {
     Ok(ExitCode::SUCCESS)
 }
 
-/// Runs five clients on one node, and returns their totals, if the clients' records agree with the journal.
+/// Runs five clients on one node. Returns their totals, or `None` if memory runs out or the clients' records differ
+/// from the journal. `blank` is an unused ledger, which counts the entries of each client, and `L` is its name in
+/// types.
 fn share_node<L: Ledger + Send + Sync, R: Threads + Wait + Sync>(
     rt: &R,
     alloc: Global,

@@ -29,7 +29,7 @@ pub(crate) fn set_up<L: Ledger, R: Wait>(
     Some((traverser, work))
 }
 
-/// Draws a number for each client, and returns the clients.
+/// Enrols `count` processes, and returns the client of each. A seat is the right to draw one process number.
 fn clients<L: Ledger, R: Wait>(
     rt: &R,
     alloc: Global,
@@ -76,7 +76,7 @@ fn fill_bag<L: Ledger, R: Wait>(
     Some(())
 }
 
-/// Pairs each client with its jobs.
+/// Pairs each client with its jobs. Each inserts `TIMES` keys of its own, above those that the bag starts with.
 fn with_jobs<L: Ledger>(
     alloc: Global,
     clients: Vec<Client<L>>,
@@ -105,7 +105,7 @@ fn jobs(alloc: Global, first: Integer) -> Option<Vec<Job>> {
     Some(jobs)
 }
 
-/// Adds a job that makes this call.
+/// Appends a job that makes this call.
 fn push_call(jobs: &mut Vec<Job>, call: Call) -> Option<()> {
     jobs.push(Job::Ask(call)).ok()
 }

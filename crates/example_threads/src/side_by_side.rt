@@ -17,9 +17,9 @@ use std::thread::Threads;
 struct NoGate;
 
 impl Gate for NoGate {
-    fn before(&self, _client: usize, _call: usize) {}
+    fn before(&self, _client: usize, _job: usize) {}
 
-    fn after(&self, _client: usize, _call: usize) {}
+    fn after(&self, _client: usize, _job: usize) {}
 }
 
 /// What the clients counted, inserted and visited.
@@ -29,7 +29,7 @@ pub(crate) struct Totals {
     pub(crate) counter: Integer,
     /// The number of objects in the bag at the end.
     pub(crate) objects: Integer,
-    /// How many of the keys that were in the bag before the traversal it has visited.
+    /// How many keys the traversal visited of those that were in the bag before it.
     pub(crate) old_keys: usize,
 }
 

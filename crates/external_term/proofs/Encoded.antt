@@ -5,9 +5,9 @@ use Rattle.std.proofs.lemmas.Bool.Decides.{nat_tests}
 use Rattle.ets_term.specs.Encoding.{concat}
 use Rattle.ets_term.specs.declared.term.Term.{Term, the_lemmas}
 use Rattle.ets_term.specs.declared.term.Term.TheVariants.{Int, Atom, Pid, Tid, Tuple, List as ListOf, Binary}
-use Rattle.external_term.specs.Encoding.{big4, integer_bytes, atom_bytes, pid_bytes, reference_bytes, tuple_bytes, string_bytes, long_list_bytes, list_bytes, binary_bytes, tuple_header, encode, is_small, is_string, char_of}
+use Rattle.external_term.specs.Encoding.{big4, encode_integer, atom_bytes, pid_bytes, reference_bytes, tuple_bytes, string_bytes, long_list_bytes, list_bytes, binary_bytes, tuple_header, encode, is_small, is_string, char_of}
 
-pub encode-Int : (n : ℤ) → encode (Int n) ≡ integer_bytes n
+pub encode-Int : (n : ℤ) → encode (Int n) ≡ encode_integer n
 encode-Int n = search (rules, the_lemmas)
 
 pub encode-Atom : (s : List ℕ) → encode (Atom s) ≡ atom_bytes s

@@ -10,7 +10,7 @@ use Rattle.ets_term.specs.Integers.{least, greatest}
 use Rattle.ets_term.specs.declared.term.Term.{Term}
 use Rattle.ets_term.specs.declared.term.Term.TheVariants.{Int, Atom, Binary}
 use Rattle.external_term.specs.declared.field.Width.TheVariants.{One, Four}
-use Rattle.external_term.specs.Encoding.{big4, digits_of, big_bytes, integer_bytes, atom_bytes, binary_bytes}
+use Rattle.external_term.specs.Encoding.{big4, digits_of, big_bytes, encode_integer, atom_bytes, binary_bytes}
 use Rattle.external_term.specs.Fields.{after, number_at, piece_at}
 use Rattle.external_term.specs.Integers.{with_sign32, little, with_sign, max_magnitude, big_if, big_value}
 use Rattle.external_term.specs.Texts.{is_atom_text, atom_if, name_at}
@@ -96,7 +96,7 @@ signed32_high n m e h =
     let g : 2 ^ 32 - 1 - n ≡ m = omega arith in
     ap (λ (b : Bool). if b then pos n else negsuc (2 ^ 32 - 1 - n)) f ∙ ap negsuc g
 
-pub integer_reads : (n : ℤ) (levels : ℕ) → least ≤ℤ n → n ≤ℤ greatest → Reads (Int n) levels (integer_bytes n)
+pub integer_reads : (n : ℤ) (levels : ℕ) → least ≤ℤ n → n ≤ℤ greatest → Reads (Int n) levels (encode_integer n)
 integer_reads (pos n) levels low high = let top : n < 2 ^ 127 = omega (arith, ints, high) in
     elim (cases_lt n 256) [
       | inl h ↦ reads_as (Int (pos n)) (Int (pos n)) levels _ _ refl (sym (byte_bytes n h)) (byte_reads n levels)

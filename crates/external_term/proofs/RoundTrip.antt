@@ -14,7 +14,7 @@ use Rattle.ets_term.specs.declared.term.Term.TheFolds.{map-Term}
 use Rattle.ets_term.specs.declared.term.Term.TheOpen.{Term-F}
 use Rattle.ets_term.specs.declared.term.Term.TheVariants.{Int, Atom, Pid, Tid, Tuple, List as ListOf, Binary, rolls-Int, rolls-Atom, rolls-Pid, rolls-Tid, rolls-Tuple, rolls-List, rolls-Binary}
 use Rattle.external_term.specs.declared.field.Width.TheVariants.{One, Two, Four}
-use Rattle.external_term.specs.Encoding.{big2, big4, integer_bytes, atom_bytes, pid_bytes, reference_bytes, tuple_header, tuple_bytes, list_bytes, string_bytes, binary_bytes, encode, is_small, is_string, char_of, encode_with_version}
+use Rattle.external_term.specs.Encoding.{big2, big4, encode_integer, atom_bytes, pid_bytes, reference_bytes, tuple_header, tuple_bytes, list_bytes, string_bytes, binary_bytes, encode, is_small, is_string, char_of, encode_with_version}
 use Rattle.external_term.specs.Fields.{after, number_at, piece_at}
 use Rattle.external_term.specs.Texts.{code, string_if}
 use Rattle.external_term.specs.Reader.{version_if}
@@ -85,7 +85,7 @@ other : {A : Type 0} (b : Bool) → b ≡ false → b ≡ true → A
 other b e f = absurd (false≢true (sym e ∙ f))
 
 -- an integer that is written as a byte is that byte
-int_char : (n : ℤ) → is_small (integer_bytes n) ≡ true → code (char_of (integer_bytes n)) ≡ Int n
+int_char : (n : ℤ) → is_small (encode_integer n) ≡ true → code (char_of (encode_integer n)) ≡ Int n
 int_char (pos n) h = elim (cases_lt n 256) [
   | inl k ↦ ap code (byte_char n k)
   | inr k ↦ other _ (large_not_small (pos n) (omega (arith, ints, k))) h
@@ -194,7 +194,7 @@ list_some (x ∷ xs) =
 
 one_read : (y : Term-F Known) → IsRead (roll-Term (map-Term Known Term bare y))
 one_read (Term-F.Int n) = subst IsRead (sym (rolls-Int n))
-    (by_parts (Int n) (int n) (integer_bytes n) 0 (data-Int n) (encode-Int n) (depth-Int n) (some_bytes n) (int_char n) (λ levels h d small. integer_reads n levels h.0 h.1))
+    (by_parts (Int n) (int n) (encode_integer n) 0 (data-Int n) (encode-Int n) (depth-Int n) (some_bytes n) (int_char n) (λ levels h d small. integer_reads n levels h.0 h.1))
 one_read (Term-F.Atom s) = subst IsRead (sym (rolls-Atom s))
     (by_parts (Atom s) (atom s) (atom_bytes s) 0 (data-Atom s) (encode-Atom s) (depth-Atom s) (omega arith) (λ h. other _ refl h) (λ levels h d small. atom_reads s levels h))
 one_read (Term-F.Pid n) = subst IsRead (sym (rolls-Pid n))

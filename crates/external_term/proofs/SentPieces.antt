@@ -5,7 +5,7 @@ use Rattle.std.proofs.lemmas.List.{append-nil, length-map, drop-drop, map-append
 use Rattle.std.specs.Io.KnownBytes.{Appends, Keeps}
 use Rattle.ets_term.specs.Encoding.{concat}
 use Rattle.ets_term.specs.declared.term.Term.{Term}
-use Rattle.external_term.specs.Encoding.{big2, big4, digits_of, integer_bytes, tuple_header, tuple_bytes, string_bytes, long_list_bytes, encode, char_of}
+use Rattle.external_term.specs.Encoding.{big2, big4, digits_of, encode_integer, tuple_header, tuple_bytes, string_bytes, long_list_bytes, encode, char_of}
 use Rattle.external_term.specs.Sent.{AppendsPrefix, AppendsOrPrefix}
 use Rattle.external_term.proofs.Digits.{low_short}
 
@@ -75,7 +75,7 @@ short_if true b n xs ys h k = omega arith
 short_if false true n xs ys h k = omega (arith, h)
 short_if false false n xs ys h k = omega (arith, k)
 
-pub integer_short : (n : ℤ) → length (integer_bytes n) ≤ 19
+pub integer_short : (n : ℤ) → length (encode_integer n) ≤ 19
 integer_short (pos n) = short_if (nat_lt n 256) (nat_lt n (2 ^ 31)) n (big4 n) (length (digits_of n) ∷ 0 ∷ digits_of n) (omega arith) (omega (arith, low_short 16 n))
 integer_short (negsuc n) = short_if false (nat_lt n (2 ^ 31)) n (big4 (2 ^ 32 - 1 - n)) (length (digits_of (n + 1)) ∷ 1 ∷ digits_of (n + 1)) (omega arith) (omega (arith, low_short 16 (n + 1)))
 

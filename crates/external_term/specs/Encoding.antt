@@ -28,10 +28,10 @@ abbrev pub big_bytes : ℕ → ℕ → List ℕ
 big_bytes sign n = 110 ∷ length (digits_of n) ∷ sign ∷ digits_of n
 
 -- an integer: SMALL_INTEGER_EXT from 0 to 255, INTEGER_EXT for other integers of 32 bits, else SMALL_BIG_EXT
-abbrev pub integer_bytes : ℤ → List ℕ
-integer_bytes (pos n) =
+abbrev pub encode_integer : ℤ → List ℕ
+encode_integer (pos n) =
     if nat_lt n 256 then 97 ∷ n ∷ [] else if nat_lt n (2 ^ 31) then 98 ∷ big4 n else big_bytes 0 n
-integer_bytes (negsuc n) = if nat_lt n (2 ^ 31) then 98 ∷ big4 (2 ^ 32 - 1 - n) else big_bytes 1 (n + 1)
+encode_integer (negsuc n) = if nat_lt n (2 ^ 31) then 98 ∷ big4 (2 ^ 32 - 1 - n) else big_bytes 1 (n + 1)
 
 -- an atom: SMALL_ATOM_UTF8_EXT
 abbrev pub atom_bytes : List ℕ → List ℕ
@@ -88,7 +88,7 @@ binary_bytes bs = 109 ∷ (big4 (length bs) ++ bs)
 
 -- the bytes of a term without the version, from the bytes of its elements
 abbrev pub encode_form : Term-F (List ℕ) → List ℕ
-encode_form (Term-F.Int n) = integer_bytes n
+encode_form (Term-F.Int n) = encode_integer n
 encode_form (Term-F.Atom s) = atom_bytes s
 encode_form (Term-F.Pid n) = pid_bytes n
 encode_form (Term-F.Tid n) = reference_bytes n

@@ -1,6 +1,6 @@
 //! Appends terms that contain no other terms, and headers, to a vector that has room for them.
 ghost use Rattle.std.specs.Prelude.{◌≡◌, ◌+◌, ◌≤◌, ◌<◌, ◌^◌, ◌++◌, length, vec_len, vec_capacity, pos, negsuc};
-ghost use Rattle.external_term.specs.Encoding.{integer_bytes, atom_bytes, pid_bytes, reference_bytes, node_name_bytes, tuple_header, binary_bytes, big_bytes};
+ghost use Rattle.external_term.specs.Encoding.{encode_integer, atom_bytes, pid_bytes, reference_bytes, node_name_bytes, tuple_header, binary_bytes, big_bytes};
 
 use crate::identifier::NODE;
 use crate::integer::Magnitude;
@@ -13,6 +13,7 @@ fn append_big(sign: u8, n: Magnitude, out: &mut Vec<u8>)
     ensures items { out.new.items ≡ out.old.items ++ big_bytes sign n }
     ensures capacity { vec_capacity out.old ≤ vec_capacity out.new }
 {
+    // 110 is the tag SMALL_BIG_EXT. The number of bytes of the magnitude follows.
     put_tag_and_u8(110, digit_count(n) as u8, out);
     out.push_reserved(sign);
     put_digits(n, out);
@@ -21,10 +22,11 @@ fn append_big(sign: u8, n: Magnitude, out: &mut Vec<u8>)
 /// Appends the integer `n`, which is not negative.
 #[tactic(auto, using(crate::proofs::SmallIntegers::byte_bytes, crate::proofs::SmallIntegers::word_bytes, crate::proofs::SmallIntegers::wide_bytes))]
 fn append_positive(n: Magnitude, out: &mut Vec<u8>)
-    requires { vec_len out.old + length (integer_bytes (pos n)) ≤ vec_capacity out.old }
-    ensures items { out.new.items ≡ out.old.items ++ integer_bytes (pos n) }
+    requires { vec_len out.old + length (encode_integer (pos n)) ≤ vec_capacity out.old }
+    ensures items { out.new.items ≡ out.old.items ++ encode_integer (pos n) }
     ensures capacity { vec_capacity out.old ≤ vec_capacity out.new }
 {
+    // 97 is the tag SMALL_INTEGER_EXT, for one byte. 98 is INTEGER_EXT, for 32 bits with a sign: for `n` below 2^31.
     if n < 256 {
         put_tag_and_u8(97, n as u8, out);
     } else if n < 0x8000_0000 {
@@ -37,27 +39,30 @@ fn append_positive(n: Magnitude, out: &mut Vec<u8>)
 /// Appends the integer `-1 - n`.
 #[tactic(auto, using(crate::proofs::SmallIntegers::negative_word, crate::proofs::SmallIntegers::negative_wide))]
 fn append_negative(n: Magnitude, out: &mut Vec<u8>)
-    requires room { vec_len out.old + length (integer_bytes (negsuc n)) ≤ vec_capacity out.old }
+    requires room { vec_len out.old + length (encode_integer (negsuc n)) ≤ vec_capacity out.old }
     requires fits { n < 2 ^ 127 }
-    ensures items { out.new.items ≡ out.old.items ++ integer_bytes (negsuc n) }
+    ensures items { out.new.items ≡ out.old.items ++ encode_integer (negsuc n) }
     ensures capacity { vec_capacity out.old ≤ vec_capacity out.new }
 {
+    // 98 is the tag INTEGER_EXT, for `n` below 2^31. In 32 bits of two's complement, `-1 - n` is 2^32 - 1 - `n`.
     if n < 0x8000_0000 {
         put_tag_and_u32(98, 0xFFFF_FFFF - n as usize, out);
     } else {
+        // The sign 1 is negative, and the magnitude of `-1 - n` is `n + 1`.
         append_big(1, n + 1, out);
     }
 }
 
 /// Appends an integer as SMALL_INTEGER_EXT, INTEGER_EXT or SMALL_BIG_EXT.
 pub(crate) fn append_integer(n: Integer, out: &mut Vec<u8>)
-    requires { vec_len out.old + length (integer_bytes n) ≤ vec_capacity out.old }
-    ensures items { out.new.items ≡ out.old.items ++ integer_bytes n }
+    requires { vec_len out.old + length (encode_integer n) ≤ vec_capacity out.old }
+    ensures items { out.new.items ≡ out.old.items ++ encode_integer n }
     ensures capacity { vec_capacity out.old ≤ vec_capacity out.new }
 {
     if n >= 0 {
         append_positive(n as Magnitude, out);
     } else {
+        // `-(n + 1)` is in range also for the least integer, and `-n` is not.
         append_negative(-(n + 1) as Magnitude, out);
     }
 }
@@ -69,6 +74,7 @@ pub(crate) fn append_name(text: &[u8], out: &mut Vec<u8>)
     ensures items { out.new.items ≡ out.old.items ++ atom_bytes text.now }
     ensures capacity { vec_capacity out.old ≤ vec_capacity out.new }
 {
+    // 119 is the tag SMALL_ATOM_UTF8_EXT.
     put_tag_and_u8(119, text.len() as u8, out);
     put(text, out);
 }
@@ -89,6 +95,7 @@ fn append_node(out: &mut Vec<u8>)
     ensures items { out.new.items ≡ out.old.items ++ node_name_bytes }
     ensures capacity { vec_capacity out.old ≤ vec_capacity out.new }
 {
+    // 119 is the tag SMALL_ATOM_UTF8_EXT, and 13 the number of characters of `NODE`.
     put_tag_and_u8(119, 13, out);
     put(NODE, out);
 }
@@ -99,9 +106,11 @@ pub(crate) fn append_pid(n: u32, out: &mut Vec<u8>)
     ensures items { out.new.items ≡ out.old.items ++ pid_bytes n }
     ensures capacity { vec_capacity out.old ≤ vec_capacity out.new }
 {
+    // 88 is the tag NEW_PID_EXT.
     out.push_reserved(88);
     append_node(out);
     put_u32(n as usize, out);
+    // The serial and the creation, of 4 bytes each.
     put(&[0, 0, 0, 0, 0, 0, 0, 0], out);
 }
 
@@ -111,8 +120,10 @@ pub(crate) fn append_reference(n: u32, out: &mut Vec<u8>)
     ensures items { out.new.items ≡ out.old.items ++ reference_bytes n }
     ensures capacity { vec_capacity out.old ≤ vec_capacity out.new }
 {
+    // 90 is the tag NEWER_REFERENCE_EXT. The two bytes after it are the number of words, 1.
     put(&[90, 0, 1], out);
     append_node(out);
+    // The creation, and then the only word.
     put(&[0, 0, 0, 0], out);
     put_u32(n as usize, out);
 }
@@ -123,6 +134,7 @@ pub(crate) fn append_binary(bytes: &[u8], out: &mut Vec<u8>)
     ensures items { out.new.items ≡ out.old.items ++ binary_bytes bytes.now }
     ensures capacity { vec_capacity out.old ≤ vec_capacity out.new }
 {
+    // 109 is the tag BINARY_EXT.
     put_tag_and_u32(109, bytes.len(), out);
     put(bytes, out);
 }
@@ -134,6 +146,7 @@ pub(crate) fn append_tuple_header(n: usize, out: &mut Vec<u8>)
     ensures items { out.new.items ≡ out.old.items ++ tuple_header n }
     ensures capacity { vec_capacity out.old ≤ vec_capacity out.new }
 {
+    // 104 is the tag SMALL_TUPLE_EXT, and 105 is LARGE_TUPLE_EXT.
     if n < 256 {
         put_tag_and_u8(104, n as u8, out);
     } else {

@@ -10,7 +10,7 @@ use std::io::Error;
 pub enum ExternalFault {
     /// The bytes end inside the field that begins at this offset, or fewer bytes are left there than items must follow.
     Truncated(usize),
-    /// The first byte is not the version, 131.
+    /// The first byte is not the version, 131. The offset is 0.
     BadVersion(usize),
     /// The byte at this offset is not a supported tag. The format also has tags that are not supported, such as those
     /// of floats (70) and maps (116).
@@ -19,13 +19,13 @@ pub enum ExternalFault {
     TooDeep(usize),
     /// The tail of a list, at this offset, is not the empty list.
     ImproperList(usize),
-    /// The atom at this offset has more than 255 characters, or a character that is not printable ASCII; or there is no
-    /// atom at this offset, where the name of a node must be.
+    /// The atom at this offset has more than 255 characters, or a character that is not printable ASCII. Or the term at
+    /// this offset is not an atom, where the name of a node must be.
     BadAtom(usize),
-    /// The integer at this offset does not fit 128 bits.
+    /// The integer at this offset does not fit 128 bits, or its magnitude has more than 16 bytes, zeros included.
     BadInteger(usize),
     /// The pid or reference at this offset is not of the Erlang node `nonode@nohost`, or a part of it other than its
-    /// number is not 0.
+    /// number is not 0. Or it is a reference without words.
     ForeignIdentifier(usize),
     /// Memory ran out. The bytes may be correct.
     Memory,

@@ -27,7 +27,7 @@ impl Width {
     }
 }
 
-/// Returns the two bytes at the offset as a number.
+/// Returns the two bytes at the offset as a number. The high byte comes first.
 #[inline(always)]
 fn number16(bytes: &[u8], at: usize) -> usize
     requires { at + 2 ≤ length bytes.now }
@@ -37,7 +37,7 @@ fn number16(bytes: &[u8], at: usize) -> usize
     bytes[at] as usize * 256 + bytes[at + 1] as usize
 }
 
-/// Returns the four bytes at the offset as a number.
+/// Returns the four bytes at the offset as a number. The high byte comes first.
 #[inline(always)]
 pub(crate) fn number32(bytes: &[u8], at: usize) -> usize
     requires { at + 4 ≤ length bytes.now }
@@ -47,7 +47,8 @@ pub(crate) fn number32(bytes: &[u8], at: usize) -> usize
     number16(bytes, at) * 65536 + number16(bytes, at + 2)
 }
 
-/// Reads an unsigned number, and returns it with the offset after it.
+/// Reads an unsigned number of this width, and returns it with the offset after it. Returns `Truncated` if fewer bytes
+/// are left.
 #[inline(always)]
 pub(crate) fn number_at(
     bytes: &[u8],
@@ -69,7 +70,8 @@ pub(crate) fn number_at(
     }
 }
 
-/// Checks that there are `n` bytes at the offset. Returns the offset where they begin and the offset after them.
+/// Checks that there are `n` bytes at the offset. Returns the offset where they begin and the offset after them, or
+/// `Truncated` if fewer bytes are left.
 pub(crate) fn piece_at(bytes: &[u8], at: usize, n: usize) -> Result<(usize, usize), ExternalFault>
     requires { at ≤ length bytes.now }
     ensures within { IfOk result (λ x. (x.0 + n ≡ x.1) × (x.1 ≤ length bytes.now)) }

@@ -12,7 +12,7 @@ use ets_term::Term;
 /// The name of the node of every pid and table identifier.
 pub(crate) const NODE: &[u8] = b"nonode@nohost";
 
-/// Reads the name of a node, and returns where its characters begin and end.
+/// Reads the name of a node, an atom whose tag is at the offset. Returns where its characters begin and end.
 fn node_at(bytes: &[u8], at: usize) -> Result<(usize, usize), ExternalFault>
     requires { at ≤ length bytes.now }
     ensures within { IfOk result (λ x. (x.0 ≤ x.1) × (x.1 ≤ length bytes.now)) }
@@ -41,8 +41,8 @@ fn is_ours(node: &[u8], before: &[u8], behind: &[u8]) -> bool
     node == NODE && are_all_zero(before) && are_all_zero(behind)
 }
 
-/// Reads the number of a pid or reference. The form begins at `start`, and the name of the node is at `at`. Then come
-/// `before` bytes, the number (4 bytes) and `behind` bytes.
+/// Reads the number of a pid or reference. Its tag is at `start`, and the name of the node is at `at`. Then come
+/// `before` bytes, the number (4 bytes) and `behind` bytes. Returns the number and the offset after all of them.
 fn identifier_at(
     bytes: &[u8],
     start: usize,
@@ -55,8 +55,10 @@ fn identifier_at(
     ensures within { IfOk result (λ x. x.1 ≤ length bytes.now) }
     ensures reads { ReturnsOrMemory (read_identifier bytes.now start at before behind) result }
 {
+    // The characters of the node are from `from` up to `to`, the other fields from `first` up to `end`.
     let (from, to) = node_at(bytes, at)?;
     let (first, end) = piece_at(bytes, to, before + 4 + behind)?;
+    // The offset of the number.
     let n = first + before;
     if !is_ours(&bytes[from..to], &bytes[first..n], &bytes[n + 4..end]) {
         return Err(ExternalFault::ForeignIdentifier(start));
@@ -64,7 +66,8 @@ fn identifier_at(
     Ok((number32(bytes, n) as u32, end))
 }
 
-/// Reads the pid whose tag is at the offset. Its serial and creation have `behind` bytes in all.
+/// Reads the pid whose tag is at the offset. After its number come `behind` bytes: the serial and the creation. Returns
+/// the pid and the offset after it.
 pub(crate) fn pid_at(bytes: &[u8], at: usize, behind: usize) -> Result<(Term, usize), ExternalFault>
     requires within { at < length bytes.now }
     requires short { behind < 2 ^ 32 }
@@ -75,18 +78,20 @@ pub(crate) fn pid_at(bytes: &[u8], at: usize, behind: usize) -> Result<(Term, us
     Ok((Term::Pid(n), end))
 }
 
-/// Reads the reference in the old form REFERENCE_EXT whose tag is at the offset.
+/// Reads the reference in the old form REFERENCE_EXT whose tag is at the offset. Returns the table identifier and the
+/// offset after it.
 pub(crate) fn old_reference_at(bytes: &[u8], at: usize) -> Result<(Term, usize), ExternalFault>
     requires { at < length bytes.now }
     ensures within { IfOk result (λ x. x.1 ≤ length bytes.now) }
     ensures reads { ReturnsOrMemory (read_old bytes.now at) result }
 {
+    // The number follows the node at once, and a creation of 1 byte follows the number.
     let (n, end) = identifier_at(bytes, at, at + 1, 0, 1)?;
     Ok((Term::Tid(n), end))
 }
 
 /// Reads the reference whose tag is at the offset, with a creation of `creation` bytes and a number of words of 4
-/// bytes. The first word is the number of the table identifier.
+/// bytes. The first word is the number of the table identifier. Returns the table identifier and the offset after it.
 pub(crate) fn reference_at(
     bytes: &[u8],
     at: usize,
@@ -101,6 +106,7 @@ pub(crate) fn reference_at(
     if words == 0 {
         return Err(ExternalFault::ForeignIdentifier(at));
     }
+    // `4 * words - 4` is the number of bytes of the words after the first.
     let (n, end) = identifier_at(bytes, at, next, creation, 4 * words - 4)?;
     Ok((Term::Tid(n), end))
 }

@@ -4,12 +4,13 @@ ghost use Rattle.external_term.specs.Encoding.{big2, big4, digits_of};
 
 use crate::integer::{MAX_DIGITS, Magnitude};
 
-/// Appends some bytes.
+/// Appends the bytes.
 pub(crate) fn put(bytes: &[u8], out: &mut Vec<u8>)
     requires { vec_len out.old + length bytes.now ≤ vec_capacity out.old }
     ensures items { out.new.items ≡ out.old.items ++ bytes.now }
     ensures capacity { vec_capacity out.old ≤ vec_capacity out.new }
 {
+    // The result is always `Ok`, because the vector has room.
     let _ = out.extend_from_slice(bytes);
 }
 
@@ -32,7 +33,7 @@ pub(crate) fn put_tag_and_u8(tag: u8, n: u8, out: &mut Vec<u8>)
     out.push_reserved(n);
 }
 
-/// Appends a tag and a number of two bytes.
+/// Appends a tag and the low two bytes of a number, the high byte first.
 pub(crate) fn put_tag_and_u16(tag: u8, n: usize, out: &mut Vec<u8>)
     requires { vec_len out.old + 3 ≤ vec_capacity out.old }
     ensures items { out.new.items ≡ out.old.items ++ tag ∷ big2 n }
@@ -43,19 +44,20 @@ pub(crate) fn put_tag_and_u16(tag: u8, n: usize, out: &mut Vec<u8>)
     out.push_reserved(byte_of(n, 1));
 }
 
-/// Appends a number of four bytes.
+/// Appends the low four bytes of a number, the high byte first.
 pub(crate) fn put_u32(n: usize, out: &mut Vec<u8>)
     requires { vec_len out.old + 4 ≤ vec_capacity out.old }
     ensures items { out.new.items ≡ out.old.items ++ big4 n }
     ensures capacity { vec_capacity out.old ≤ vec_capacity out.new }
 {
+    // 16777216 is 256^3, and 65536 is 256^2.
     out.push_reserved(byte_of(n, 16777216));
     out.push_reserved(byte_of(n, 65536));
     out.push_reserved(byte_of(n, 256));
     out.push_reserved(byte_of(n, 1));
 }
 
-/// Appends a tag and a number of four bytes.
+/// Appends a tag and the low four bytes of a number, the high byte first.
 pub(crate) fn put_tag_and_u32(tag: u8, n: usize, out: &mut Vec<u8>)
     requires { vec_len out.old + 5 ≤ vec_capacity out.old }
     ensures items { out.new.items ≡ out.old.items ++ tag ∷ big4 n }
@@ -65,12 +67,13 @@ pub(crate) fn put_tag_and_u32(tag: u8, n: usize, out: &mut Vec<u8>)
     put_u32(n, out);
 }
 
-/// Returns the number of bytes of a magnitude.
+/// Returns the number of bytes of a magnitude without leading zeros: 0 for 0.
 #[tactic(auto, using(crate::proofs::Digits::low_none, crate::proofs::Digits::low_more, crate::proofs::Digits::low_end))]
 pub(crate) fn digit_count(n: Magnitude) -> usize
     ensures count { result ≡ length (digits_of n) }
     ensures few { result ≤ MAX_DIGITS }
 {
+    // `n` without its low `i` bytes.
     let mut left = n;
     for i in 0..MAX_DIGITS {
         if left == 0 {
@@ -81,13 +84,14 @@ pub(crate) fn digit_count(n: Magnitude) -> usize
     MAX_DIGITS
 }
 
-/// Appends the bytes of a magnitude, the low byte first.
+/// Appends the bytes of a magnitude without leading zeros, the low byte first. Appends nothing for 0.
 #[tactic(auto, using(crate::proofs::Digits::low_none, crate::proofs::Digits::low_more, crate::proofs::Digits::low_end))]
 pub(crate) fn put_digits(n: Magnitude, out: &mut Vec<u8>)
     requires { vec_len out.old + length (digits_of n) ≤ vec_capacity out.old }
     ensures items { out.new.items ≡ out.old.items ++ digits_of n }
     ensures capacity { vec_capacity out.old ≤ vec_capacity out.new }
 {
+    // `n` without the bytes that are already appended.
     let mut left = n;
     for i in 0..MAX_DIGITS {
         if left == 0 {

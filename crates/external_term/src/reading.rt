@@ -14,7 +14,8 @@ use crate::text::{atom_at, binary_at, string_at};
 use ets_term::{Items, MAX_DEPTH, Term};
 use std::alloc::Global;
 
-/// The greatest number of items for which memory is reserved before the first is read.
+/// The greatest number of items for which memory is reserved before the first is read. So a count without its items
+/// takes little memory before the fault is found.
 const MAX_RESERVED: usize = 64;
 
 /// Reads the version and the term at the start of the bytes. Returns the term and the number of bytes of both, or the
@@ -41,6 +42,7 @@ pub fn read_pair(alloc: Global, bytes: &[u8]) -> Option<(Term, Term, usize)>
     if bytes.len() < 5 || bytes[0] != 131 || bytes[1] != 104 || bytes[2] != 2 {
         return None;
     }
+    // The tuple is one level, so each element may have one level less.
     let Ok((first, next)) = term_at(alloc, bytes, 3, MAX_DEPTH - 1) else {
         return None;
     };
@@ -105,7 +107,8 @@ fn form_at(
     }
 }
 
-/// Reads the tuple whose tag is at the offset. Its elements may have at most `levels_left` levels.
+/// Reads the tuple whose tag is at the offset. Its elements may have at most `levels_left` levels. `width` is that of
+/// the number of elements.
 #[cycle(term)]
 fn tuple_at(
     alloc: Global,
@@ -142,6 +145,7 @@ fn list_at(
         Ok(found) => found,
         Err(fault) => return Err(fault),
     };
+    // The tail is after the items. It must be the empty list, whose only byte is its tag.
     let (tail, end) = number_at(bytes, last, Width::One)?;
     if tail != NIL_EXT as usize {
         return Err(ExternalFault::ImproperList(last));
@@ -162,6 +166,7 @@ fn items_at(
     ensures within { IfOk result (λ x. x.1 ≤ length bytes.now) }
     ensures reads { ReturnsOrMemory (read_items bytes.now (read_term bytes.now levels_left) count at) result }
 {
+    // Each term has at least one byte.
     if count > bytes.len() - at {
         return Err(ExternalFault::Truncated(at));
     }

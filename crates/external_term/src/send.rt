@@ -1,7 +1,7 @@
-//! Writes bytes, and terms that contain no other terms, to a writer in the External Term Format. Each term is encoded in
-//! a buffer, the block, and then sent. Of a binary only the header goes through the block.
+//! Writes bytes, and terms that contain no other terms, to a writer in the External Term Format. Each term is encoded
+//! in a buffer, the block, and then sent. Of a binary only the header goes through the block.
 ghost use Rattle.std.specs.Prelude.{◌≤◌, vec_capacity};
-ghost use Rattle.external_term.specs.Encoding.{integer_bytes, atom_bytes, pid_bytes, reference_bytes, binary_bytes};
+ghost use Rattle.external_term.specs.Encoding.{encode_integer, atom_bytes, pid_bytes, reference_bytes, binary_bytes};
 ghost use Rattle.external_term.specs.Sent.{AppendsOrPrefix};
 ghost use Rattle.external_term.specs.inside.Block.{block_bytes};
 
@@ -23,6 +23,7 @@ pub(crate) enum WriterFault {
 pub(crate) fn send_bytes<W: Write>(bytes: &[u8], out: &mut W) -> Result<(), WriterFault>
     ensures { AppendsOrPrefix (W.contents out.old) (W.contents out.new) bytes.now result }
 {
+    // The number of bytes that the writer has taken.
     let mut done = 0;
     while done < bytes.len() {
         match out.write(&bytes[done..]) {
@@ -34,7 +35,7 @@ pub(crate) fn send_bytes<W: Write>(bytes: &[u8], out: &mut W) -> Result<(), Writ
     Ok(())
 }
 
-/// Sends an integer to the writer `out`.
+/// Sends an integer to the writer `out`, through the block.
 #[tactic(auto, using(crate::proofs::SentPieces::integer_short))]
 pub(crate) fn send_integer<W: Write>(
     n: Integer,
@@ -43,14 +44,14 @@ pub(crate) fn send_integer<W: Write>(
 ) -> Result<(), WriterFault>
     requires { block_bytes ≤ vec_capacity block.old }
     ensures room { block_bytes ≤ vec_capacity block.new }
-    ensures sent { AppendsOrPrefix (W.contents out.old) (W.contents out.new) (integer_bytes n) result }
+    ensures sent { AppendsOrPrefix (W.contents out.old) (W.contents out.new) (encode_integer n) result }
 {
     block.clear();
     append_integer(n, block);
     send_bytes(block.as_slice(), out)
 }
 
-/// Sends an atom.
+/// Sends an atom to the writer `out`, through the block.
 pub(crate) fn send_atom<W: Write>(
     name: &Atom,
     block: &mut Vec<u8>,
@@ -65,7 +66,7 @@ pub(crate) fn send_atom<W: Write>(
     send_bytes(block.as_slice(), out)
 }
 
-/// Sends a pid.
+/// Sends a pid to the writer `out`, through the block.
 pub(crate) fn send_pid<W: Write>(
     n: u32,
     block: &mut Vec<u8>,
@@ -80,7 +81,7 @@ pub(crate) fn send_pid<W: Write>(
     send_bytes(block.as_slice(), out)
 }
 
-/// Sends a table identifier.
+/// Sends a table identifier to the writer `out`, through the block.
 pub(crate) fn send_reference<W: Write>(
     n: u32,
     block: &mut Vec<u8>,
@@ -95,7 +96,7 @@ pub(crate) fn send_reference<W: Write>(
     send_bytes(block.as_slice(), out)
 }
 
-/// Sends a binary: its header from the block, then its own bytes.
+/// Sends a binary: its header (tag and length) from the block, then its own bytes.
 pub(crate) fn send_binary<W: Write>(
     bytes: &[u8],
     block: &mut Vec<u8>,
@@ -106,6 +107,7 @@ pub(crate) fn send_binary<W: Write>(
     ensures sent { AppendsOrPrefix (W.contents out.old) (W.contents out.new) (binary_bytes bytes.now) result }
 {
     block.clear();
+    // 109 is the tag BINARY_EXT.
     put_tag_and_u32(109, bytes.len(), block);
     send_bytes(block.as_slice(), out)?;
     send_bytes(bytes, out)

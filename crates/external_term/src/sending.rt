@@ -18,7 +18,8 @@ use ets_term::Term;
 use std::alloc::Global;
 use std::io::Write;
 
-/// The number of bytes of the block in which a form is built before it is sent.
+/// The number of bytes of the block in which a piece of a term is encoded before it is sent. The longest piece that
+/// cannot be divided is an atom of 257 bytes.
 const BLOCK_BYTES: usize = 320;
 
 /// Writes the version and the term into a writer, in many small pieces. Takes a block of 320 bytes and no other memory.
@@ -40,15 +41,19 @@ pub fn write_external_to<W: Write>(
     let Ok(mut block) = Vec::with_capacity(alloc, BLOCK_BYTES) else {
         return Err(ExternalSendFault::Memory);
     };
-    match send_written(term, &mut block, out) {
+    match send_with_version(term, &mut block, out) {
         Ok(()) => Ok(()),
         Err(WriterFault::Zero) => Err(ExternalSendFault::Zero),
         Err(WriterFault::Io(error)) => Err(ExternalSendFault::Io(error)),
     }
 }
 
-/// Sends the version and the term.
-fn send_written<W: Write>(term: &Term, block: &mut Vec<u8>, out: &mut W) -> Result<(), WriterFault>
+/// Sends the version, and then the term through the block.
+fn send_with_version<W: Write>(
+    term: &Term,
+    block: &mut Vec<u8>,
+    out: &mut W,
+) -> Result<(), WriterFault>
     requires { block_bytes ≤ vec_capacity block.old }
     ensures { AppendsOrPrefix (W.contents out.old) (W.contents out.new) (encode_with_version term.now) result }
 {
@@ -56,7 +61,7 @@ fn send_written<W: Write>(term: &Term, block: &mut Vec<u8>, out: &mut W) -> Resu
     send_term(term, block, out)
 }
 
-/// Sends a term.
+/// Sends a term to the writer `out`, piece by piece through the block.
 #[cycle(send)]
 fn send_term<W: Write>(term: &Term, block: &mut Vec<u8>, out: &mut W) -> Result<(), WriterFault>
     requires { block_bytes ≤ vec_capacity block.old }
@@ -74,7 +79,7 @@ fn send_term<W: Write>(term: &Term, block: &mut Vec<u8>, out: &mut W) -> Result<
     }
 }
 
-/// Sends the tuple of these elements.
+/// Sends the tuple of these elements: its header, and then the elements.
 #[cycle(send)]
 fn send_tuple<W: Write>(items: &[Term], block: &mut Vec<u8>, out: &mut W) -> Result<(), WriterFault>
     requires { block_bytes ≤ vec_capacity block.old }
@@ -87,7 +92,7 @@ fn send_tuple<W: Write>(items: &[Term], block: &mut Vec<u8>, out: &mut W) -> Res
     send_items(items, block, out)
 }
 
-/// Sends the list of these elements.
+/// Sends the list of these elements as NIL_EXT, STRING_EXT or LIST_EXT.
 #[cycle(send)]
 #[tactic(auto, using(crate::proofs::Encoded::list_empty, crate::proofs::Encoded::list_string, crate::proofs::Encoded::list_long))]
 fn send_list<W: Write>(items: &[Term], block: &mut Vec<u8>, out: &mut W) -> Result<(), WriterFault>
@@ -151,12 +156,13 @@ fn send_string<W: Write>(
     send_chars(items, block, out)
 }
 
-/// Sends the characters of a string, at most one block at a time.
+/// Sends the characters of a string, whose elements are all bytes, at most one block at a time.
 fn send_chars<W: Write>(items: &[Term], block: &mut Vec<u8>, out: &mut W) -> Result<(), WriterFault>
     requires { block_bytes ≤ vec_capacity block.old }
     ensures room { block_bytes ≤ vec_capacity block.new }
     ensures sent { AppendsOrPrefix (W.contents out.old) (W.contents out.new) (map char_of (map encode items.now)) result }
 {
+    // The number of characters that are sent.
     let mut done = 0;
     while done < items.len() {
         let count = BLOCK_BYTES.min(items.len() - done);
@@ -166,7 +172,7 @@ fn send_chars<W: Write>(items: &[Term], block: &mut Vec<u8>, out: &mut W) -> Res
     Ok(())
 }
 
-/// Sends a part of the characters of a string, which fit in the block.
+/// Sends a part of the characters of a string, which fits in the block.
 fn send_block<W: Write>(items: &[Term], block: &mut Vec<u8>, out: &mut W) -> Result<(), WriterFault>
     requires room { block_bytes ≤ vec_capacity block.old }
     requires few { length items.now ≤ block_bytes }

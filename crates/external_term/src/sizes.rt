@@ -1,19 +1,21 @@
 //! Computes the numbers of bytes of written terms.
 ghost use Rattle.std.specs.Prelude.{◌≡◌, ◌≤◌, ◌<◌, ◌^◌, length, map, min, pos, negsuc};
 ghost use Rattle.ets_term.specs.Encoding.{concat};
-ghost use Rattle.external_term.specs.Encoding.{encode, integer_bytes, tuple_header, tuple_bytes, list_bytes};
+ghost use Rattle.external_term.specs.Encoding.{encode, encode_integer, tuple_header, tuple_bytes, list_bytes};
 
 use crate::integer::Magnitude;
 use crate::put::digit_count;
 use crate::small::is_string;
 use ets_term::{Integer, Term};
 
-/// Returns the number of bytes of the integer `n`, which is 0 or positive.
+/// Returns the number of bytes that the integer `n`, which is not negative, is written in.
 #[tactic(auto, using(crate::proofs::SmallIntegers::byte_bytes, crate::proofs::SmallIntegers::word_bytes, crate::proofs::SmallIntegers::wide_bytes))]
 fn positive_size(n: Magnitude) -> usize
-    ensures size { result ≡ length (integer_bytes (pos n)) }
+    ensures size { result ≡ length (encode_integer (pos n)) }
     ensures few { result < 20 }
 {
+    // SMALL_INTEGER_EXT has a tag and 1 byte, INTEGER_EXT a tag and 4 bytes. SMALL_BIG_EXT has a tag, a length, a sign,
+    // and then the bytes of the magnitude.
     if n < 256 {
         2
     } else if n < 0x8000_0000 {
@@ -23,13 +25,15 @@ fn positive_size(n: Magnitude) -> usize
     }
 }
 
-/// Returns the number of bytes of the integer `-1 - n`.
+/// Returns the number of bytes that the integer `-1 - n` is written in.
 #[tactic(auto, using(crate::proofs::SmallIntegers::negative_word, crate::proofs::SmallIntegers::negative_wide))]
 fn negative_size(n: Magnitude) -> usize
     requires { n < 2 ^ 127 }
-    ensures size { result ≡ length (integer_bytes (negsuc n)) }
+    ensures size { result ≡ length (encode_integer (negsuc n)) }
     ensures few { result < 20 }
 {
+    // INTEGER_EXT has a tag and 4 bytes, for integers from -2^31 on. SMALL_BIG_EXT has a tag, a length, a sign, and
+    // then the bytes of the magnitude, which is `n + 1`.
     if n < 0x8000_0000 {
         5
     } else {
@@ -37,14 +41,15 @@ fn negative_size(n: Magnitude) -> usize
     }
 }
 
-/// Returns the number of bytes of an integer.
+/// Returns the number of bytes that an integer is written in.
 fn integer_size(n: Integer) -> usize
-    ensures size { result ≡ length (integer_bytes n) }
+    ensures size { result ≡ length (encode_integer n) }
     ensures few { result < 20 }
 {
     if n >= 0 {
         positive_size(n as Magnitude)
     } else {
+        // `-(n + 1)` is in range also for the least integer, and `-n` is not.
         negative_size(-(n + 1) as Magnitude)
     }
 }
@@ -54,6 +59,7 @@ fn integer_size(n: Integer) -> usize
 fn header_size(n: usize) -> usize
     ensures { result ≡ length (tuple_header n) }
 {
+    // SMALL_TUPLE_EXT has 1 byte for the number of elements, LARGE_TUPLE_EXT has 4.
     if n < 256 { 2 } else { 5 }
 }
 
@@ -64,6 +70,7 @@ pub(crate) fn size_of_term(term: &Term) -> usize
 {
     match term {
         Term::Int(n) => integer_size(*n),
+        // The tag, 1 byte of the length, and the characters.
         Term::Atom(name) => name.text().len() + 2,
         // The tag, 15 bytes of the node's name, and 4 bytes each of the number, the serial and the creation.
         Term::Pid(_) => 28,
@@ -72,6 +79,7 @@ pub(crate) fn size_of_term(term: &Term) -> usize
         Term::Tid(_) => 26,
         Term::Tuple(items) => tuple_size(items.as_slice()),
         Term::List(items) => list_size(items.as_slice()),
+        // The tag, 4 bytes of the length, and the bytes.
         Term::Binary(bytes) => bytes.as_slice().len().saturating_add(5),
     }
 }
@@ -89,6 +97,8 @@ fn tuple_size(items: &[Term]) -> usize
 fn list_size(items: &[Term]) -> usize
     ensures { result ≡ min (length (list_bytes (map encode items.now))) usize.MAX }
 {
+    // NIL_EXT is only a tag. STRING_EXT has a tag, a length of 2 bytes, and the characters. LIST_EXT has a tag, a
+    // number of elements of 4 bytes, the elements, and the tail of 1 byte.
     if items.is_empty() {
         return 1;
     }

@@ -1,16 +1,16 @@
 //! Tests of lists that are written as strings: short lists whose elements are all bytes, the integers from 0 to 255.
 ghost use Rattle.std.specs.Prelude.{◌≡◌, map};
-ghost use Rattle.external_term.specs.Encoding.{encode, integer_bytes, is_small, is_string as is_written_short, char_of};
+ghost use Rattle.external_term.specs.Encoding.{encode, encode_integer, is_small, is_string as is_written_short, char_of};
 
 use ets_term::{Integer, Term};
 
-/// The greatest number of elements of a list that is written as a string.
+/// The greatest number of elements of a list that is written as a string: its length has two bytes.
 const MAX_STRING: usize = 0xFFFF;
 
 /// Returns whether the integer is a byte: from 0 to 255.
 #[tactic(auto, using(crate::proofs::SmallIntegers::byte_is_small, crate::proofs::SmallIntegers::negative_not_small, crate::proofs::SmallIntegers::large_not_small))]
 fn is_byte(n: Integer) -> bool
-    ensures { result ≡ is_small (integer_bytes n) }
+    ensures { result ≡ is_small (encode_integer n) }
 {
     if n < 0 {
         return false;
@@ -24,7 +24,7 @@ fn is_byte(n: Integer) -> bool
 /// Returns the integer as a byte if it is from 0 to 255, else 0.
 #[tactic(auto, using(crate::proofs::SmallIntegers::byte_char, crate::proofs::SmallIntegers::negative_char, crate::proofs::SmallIntegers::large_char))]
 fn byte_or_zero(n: Integer) -> u8
-    ensures { result ≡ char_of (integer_bytes n) }
+    ensures { result ≡ char_of (encode_integer n) }
 {
     if n < 0 {
         return 0;
@@ -67,7 +67,8 @@ pub(crate) fn byte_of_term(term: &Term) -> u8
     }
 }
 
-/// Returns whether a list of these elements, if it is not empty, is written as STRING_EXT.
+/// Returns whether a list of these elements, if it is not empty, is written as STRING_EXT: whether they are few enough
+/// and all bytes.
 pub(crate) fn is_string(items: &[Term]) -> bool
     ensures { result ≡ is_written_short (map encode items.now) }
 {

@@ -14,6 +14,7 @@ use std::alloc::{AllocError, Global};
 fn is_printable(text: &[u8]) -> bool
     ensures { result ≡ list_all is_character text.now }
 {
+    // 32 is the space, and 126 the tilde.
     text.iter().all(|b| *b >= 32 && *b <= 126)
 }
 
@@ -24,7 +25,7 @@ fn is_atom(text: &[u8]) -> bool
     text.len() <= MAX_CHARACTERS && is_printable(text)
 }
 
-/// Reads the length and the characters of an atom. Returns the offsets where the characters begin and end.
+/// Reads the length of an atom, at the offset, and finds its characters. Returns the offsets where they begin and end.
 pub(crate) fn name_at(
     bytes: &[u8],
     at: usize,
@@ -38,7 +39,7 @@ pub(crate) fn name_at(
     piece_at(bytes, next, n)
 }
 
-/// Reads the atom whose tag is at the offset.
+/// Reads the atom whose tag is at the offset. Returns the atom and the offset after it. `width` is that of its length.
 pub(crate) fn atom_at(
     alloc: Global,
     bytes: &[u8],
@@ -57,7 +58,7 @@ pub(crate) fn atom_at(
     Ok((Term::Atom(Atom::of_bytes(alloc, text)?), end))
 }
 
-/// Reads the binary whose tag is at the offset.
+/// Reads the binary whose tag is at the offset. Returns the binary and the offset after it.
 pub(crate) fn binary_at(
     alloc: Global,
     bytes: &[u8],
@@ -73,7 +74,7 @@ pub(crate) fn binary_at(
     Ok((Term::Binary(Items::from_vec(copied)), end))
 }
 
-/// Returns the characters as integers.
+/// Returns the code of each character as an integer, or an error if memory runs out.
 fn codes_of(alloc: Global, chars: &[u8]) -> Result<Items<Term>, AllocError>
     ensures { IfOk result (λ ts. ts ≡ map code chars.now) }
 {
@@ -84,8 +85,8 @@ fn codes_of(alloc: Global, chars: &[u8]) -> Result<Items<Term>, AllocError>
     Ok(Items::from_vec(codes))
 }
 
-/// Reads the string whose tag is at the offset, as a list of integers. Fails if `levels_left` is 0, because the
-/// characters are one level deeper, unless there are none.
+/// Reads the string whose tag is at the offset, as a list of integers. Returns the list and the offset after it. The
+/// characters are one level deeper than the list, so a string with characters is a fault if `levels_left` is 0.
 pub(crate) fn string_at(
     alloc: Global,
     bytes: &[u8],

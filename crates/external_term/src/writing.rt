@@ -13,13 +13,14 @@ use crate::small::{byte_of_term, is_string};
 use crate::tag::{LIST_EXT, NIL_EXT, STRING_EXT, VERSION};
 use ets_term::Term;
 
-/// The greatest number of bytes of a written term.
+/// The greatest number of bytes of a written term, with the version: 2^32 - 1. So each length fits its 4 bytes.
 pub const MAX_BYTES: usize = 0xFFFF_FFFF;
 
 /// Returns the number of bytes that `write_external` appends for a term, or `usize::MAX` if it is greater.
 pub fn external_size(term: &Term) -> usize
     ensures { result ≡ min (length (encode_with_version term.now)) usize.MAX }
 {
+    // The version has 1 byte.
     size_of_term(term).saturating_add(1)
 }
 
@@ -42,7 +43,7 @@ pub fn write_external(term: &Term, out: &mut Vec<u8>) -> Result<(), ExternalWrit
     Ok(())
 }
 
-/// Appends a term.
+/// Appends a term, without the version.
 #[cycle(append)]
 fn append_term(term: &Term, out: &mut Vec<u8>)
     requires { vec_len out.old + length (encode term.now) ≤ vec_capacity out.old }
@@ -60,7 +61,7 @@ fn append_term(term: &Term, out: &mut Vec<u8>)
     }
 }
 
-/// Appends the tuple of these elements.
+/// Appends the tuple of these elements: its header, and then the elements.
 #[cycle(append)]
 fn append_tuple(items: &[Term], out: &mut Vec<u8>)
     requires { vec_len out.old + length (tuple_bytes (map encode items.now)) ≤ vec_capacity out.old }
@@ -71,7 +72,7 @@ fn append_tuple(items: &[Term], out: &mut Vec<u8>)
     append_items(items, out);
 }
 
-/// Appends the list of these elements.
+/// Appends the list of these elements as NIL_EXT, STRING_EXT or LIST_EXT.
 #[cycle(append)]
 #[tactic(auto, using(crate::proofs::Encoded::list_empty, crate::proofs::Encoded::list_string, crate::proofs::Encoded::list_long))]
 fn append_list(items: &[Term], out: &mut Vec<u8>)
@@ -98,7 +99,7 @@ fn append_string(items: &[Term], out: &mut Vec<u8>)
     append_chars(items, out);
 }
 
-/// Appends the characters of a string.
+/// Appends the characters of a string: the elements, all of them bytes.
 pub(crate) fn append_chars(items: &[Term], out: &mut Vec<u8>)
     requires { vec_len out.old + length items.now ≤ vec_capacity out.old }
     ensures items { out.new.items ≡ out.old.items ++ map char_of (map encode items.now) }

@@ -1,16 +1,17 @@
 -- A relation of slots that is reflexive, transitive and kept by new objects of a key: insertions and updates keep it.
 use Rattle.std.proofs.Common.{◌≡◌, ℕ, Bool, true, false, cond, List, [], ◌∷◌, ◌++◌, Option, None, Some, option_and_then, refl, sym, subst, codes, length}
-use Rattle.std.specs.Prelude.{◌&&◌, not, nat_lt, nat_le, MatchOption, Ok, Err, Result}
+use Rattle.std.specs.Prelude.{◌&&◌, ◌-◌, if◌then◌else◌, slice_set, not, nat_lt, nat_le, MatchOption, Ok, Err, Result}
 use Rattle.std.specs.Bool.{MatchBool}
 use Rattle.std.specs.List.{list_any, list_all}
-use Rattle.ets_term.specs.declared.term.Term.{Term, out-Term}
-use Rattle.ets_term.specs.declared.term.Term.TheOpen.{Term-F}
+use Rattle.ets_term.specs.declared.term.Term.{Term}
+use Rattle.ets_term.specs.declared.term.Term.TheVariants.{Tuple}
+use Rattle.ets_term.specs.Views.{as_tuple}
 use Rattle.ets_term.specs.Atoms.{is_atom}
 use Rattle.ets_term.specs.Depth.{element_at, is_too_deep}
 use Rattle.ets_term.specs.Order.{same}
 use Rattle.bucket_table.specs.Slots.{Slot, Enters, objects_of, with_objects, has_objects, object_count}
 use Rattle.counters.specs.Counters.{apply_ops}
-use Rattle.counters.specs.Defaults.{with_key, with_key_form, start_counter, start_elements}
+use Rattle.counters.specs.Defaults.{with_key, start_counter, start_elements}
 use Rattle.counters.specs.Elements.{apply_elements}
 use Rattle.counters.specs.declared.elements.ElementSpecs.{ElementSpecs}
 use Rattle.counters.specs.declared.fault.CounterFault.{CounterFault}
@@ -22,7 +23,7 @@ use Rattle.table_ops.specs.declared.refusal.Refusal.TheVariants.{Badarg, SystemL
 use Rattle.table_ops.specs.Content.{Content, is_object, objects_under}
 use Rattle.table_ops.specs.Put.{add, SetsObjects, PutsAll, InsertsWithinLimit, Inserts, InsertsNew, is_taken}
 use Rattle.table_ops.specs.Refusals.{RefinesChange}
-use Rattle.table_ops.specs.Update.{is_set, ops_avoid_key, element_specs_avoid_key, default_is_object, with_object, UpdatesCounterOf, InsertsDefault, UpdatesOrInsertsCounter, UpdatesCounter, UpdatesElementOf, with_true, UpdatesOrInsertsElement, UpdatesElement}
+use Rattle.table_ops.specs.Update.{is_set, ops_avoid_key, element_specs_avoid_key, default_is_object, with_object, UpdatesObject, InsertsDefault, UpdatesOrInsertsCounter, UpdatesCounter, with_true, UpdatesOrInsertsElement, UpdatesElement}
 use Rattle.table_ops.specs.Outcomes.{gives}
 
 abbrev pub is_end : Term → Bool
@@ -67,22 +68,17 @@ with_key-at : (test : Bool) (term object : Term) → cond test (Some term) None 
 with_key-at true term object e = refl
 with_key-at false term object e = cc
 
-tuple-key : (keypos : ℕ) (key object : Term) (form : Term-F Term) → with_key_form keypos key form ≡ Some object → is_end key ≡ false
-tuple-key keypos key object (Term-F.Tuple ts) e = second (nat_lt 0 keypos && nat_le keypos (length ts)) (is_end key) (with_key-at (nat_lt 0 keypos && nat_le keypos (length ts) && not (is_end key)) _ object e)
-tuple-key keypos key object (Term-F.Int n) e = cc
-tuple-key keypos key object (Term-F.Atom n) e = cc
-tuple-key keypos key object (Term-F.Pid n) e = cc
-tuple-key keypos key object (Term-F.Tid n) e = cc
-tuple-key keypos key object (Term-F.List n) e = cc
-tuple-key keypos key object (Term-F.Binary n) e = cc
+tuple-key : (keypos : ℕ) (key object : Term) (o : Option (List Term)) → option_and_then (λ ts. if nat_lt 0 keypos && nat_le keypos (length ts) && not (is_atom (codes "$end_of_table") key) then Some (Tuple (slice_set ts (keypos - 1) key)) else None) o ≡ Some object → is_end key ≡ false
+tuple-key keypos key object None e = cc
+tuple-key keypos key object (Some ts) e = second (nat_lt 0 keypos && nat_le keypos (length ts)) (is_end key) (with_key-at (nat_lt 0 keypos && nat_le keypos (length ts) && not (is_end key)) _ object e)
 
 counted-key : (keypos : ℕ) (key d : Term) (ops : Ops) (o : Option Term) (made : Term × Term) → with_key keypos key d ≡ o → start_counter ops o ≡ Ok made → is_end key ≡ false
 counted-key keypos key d ops None made k e = cc
-counted-key keypos key d ops (Some object) made k e = tuple-key keypos key object (out-Term d) k
+counted-key keypos key d ops (Some object) made k e = tuple-key keypos key object (as_tuple d) k
 
 written-key : (keypos : ℕ) (key d : Term) (specs : ElementSpecs) (o : Option Term) (made : Term × Bool) → with_key keypos key d ≡ o → with_true (start_elements specs o) ≡ Ok made → is_end key ≡ false
 written-key keypos key d specs None made k e = cc
-written-key keypos key d specs (Some object) made k e = tuple-key keypos key object (out-Term d) k
+written-key keypos key d specs (Some object) made k e = tuple-key keypos key object (as_tuple d) k
 
 module _ (Q : List Slot → List Slot → Type 0) (keeping : Keeping Q) where
   pub unchanged : (old new : Content) → new ≡ old → Q old.slots new.slots
@@ -134,7 +130,7 @@ module _ (Q : List Slot → List Slot → Type 0) (keeping : Keeping Q) where
   fills : (key object : Term) (old new : Content) → new ≡ with_object key object old → Q old.slots new.slots
   fills key object old new e = subst (λ (t : Content). Q old.slots t.slots) (sym e) (keeping.filled old.slots key (object ∷ []) refl)
 
-  counts_at : (key : Term) (old new : Content) (c : Result (Term × Term) CounterFault) (r : Result Term Refusal) → UpdatesCounterOf key old c r new → Q old.slots new.slots
+  counts_at : (key : Term) (old new : Content) (c : Result (Term × Term) CounterFault) (r : Result Term Refusal) → UpdatesObject key old c r new → Q old.slots new.slots
   counts_at key old new (Ok counted) r c = fills key counted.0 old new c.1
   counts_at key old new (Err fault) r c = unchanged old new c.1
 
@@ -159,7 +155,7 @@ module _ (Q : List Slot → List Slot → Type 0) (keeping : Keeping Q) where
   pub counter-keeps : (key : Term) (ops : Ops) (default : Option Term) (old new : Content) (r : Result Term Refusal) → UpdatesCounter key ops default old r new → Q old.slots new.slots
   counter-keeps key ops default old new r c = counter_at (is_set old.kind && (ops_avoid_key old.keypos ops && default_is_object old.keypos key default)) key ops default old new r c
 
-  elements_at : (key : Term) (old new : Content) (c : Result Term CounterFault) (r : Result Bool Refusal) → UpdatesElementOf key old c r new → Q old.slots new.slots
+  elements_at : (key : Term) (old new : Content) (c : Result Term CounterFault) (r : Result Bool Refusal) → UpdatesObject key old (with_true c) r new → Q old.slots new.slots
   elements_at key old new (Ok object) r c = fills key object old new c.1
   elements_at key old new (Err fault) r c = unchanged old new c.1
 

@@ -7,7 +7,8 @@ use Rattle.std.proofs.lemmas.Bool.Decides.{nat_tests}
 use Rattle.ets_term.specs.declared.term.Term.{Term}
 use Rattle.ets_term.specs.Order.{same}
 use Rattle.ets_term.specs.laws.Same.{same-exact, same-refl}
-use Rattle.bucket_table.specs.Slots.{Slot, HasDistinctKeys, objects_of, has_objects, slots_behind}
+use Rattle.bucket_table.specs.Slots.{Slot, objects_of, has_objects, slots_behind}
+use Rattle.bucket_table.specs.Rows.{HasDistinctKeys}
 use Rattle.bucket_table.specs.Walks.{IsFirstPlace, IsNextPlace, behind_in}
 use Rattle.bucket_table.proofs.list.Content.{behind-absent}
 use Rattle.table_ops.proofs.InvariantLaws.{turned}

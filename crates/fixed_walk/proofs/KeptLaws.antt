@@ -6,7 +6,8 @@ use Rattle.std.specs.Map.{keys_of}
 use Rattle.std.proofs.lemmas.Map.{keys-set_value}
 use Rattle.ets_term.specs.declared.term.Term.{Term}
 use Rattle.ets_term.specs.Order.{same}
-use Rattle.bucket_table.specs.Slots.{Slot, HasDistinctKeys, objects_of, has_objects, with_objects, Enters, without_tombstones}
+use Rattle.bucket_table.specs.Slots.{Slot, objects_of, has_objects, with_objects, Enters, without_tombstones}
+use Rattle.bucket_table.specs.Rows.{HasDistinctKeys}
 use Rattle.bucket_table.proofs.slots.Distinct.{distinct-added}
 use Rattle.counters.specs.declared.elements.ElementSpecs.{ElementSpecs}
 use Rattle.counters.specs.declared.ops.Ops.{Ops}

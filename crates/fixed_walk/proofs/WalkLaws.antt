@@ -6,7 +6,8 @@ use Rattle.std.proofs.lemmas.Bool.{cases_Bool}
 use Rattle.ets_term.specs.declared.term.Term.{Term}
 use Rattle.ets_term.specs.Order.{same}
 use Rattle.ets_term.specs.laws.Same.{same-exact, same-refl}
-use Rattle.bucket_table.specs.Slots.{Slot, HasDistinctKeys, has_objects, slots_behind}
+use Rattle.bucket_table.specs.Slots.{Slot, has_objects, slots_behind}
+use Rattle.bucket_table.specs.Rows.{HasDistinctKeys}
 use Rattle.table_ops.specs.Content.{is_present}
 use Rattle.table_ops.proofs.InvariantLaws.{turned}
 use Rattle.fixed_walk.specs.Walk.{first_key, next_key}

@@ -1,10 +1,16 @@
--- What holds of every table and its fixes.
+-- The state of a table with its fixes, and what holds of it between calls.
 use Rattle.std.specs.Prelude.{◌≡◌, false, true, List, ◌≢◌, ◌↔◌, ◌<◌, ℕ, Some}
 use Rattle.std.specs.List.{AllByRecursion}
 use Rattle.bucket_table.specs.Slots.{Slot, has_objects}
+use Rattle.table_ops.specs.ContentState.{ContentState}
 use Rattle.fixed_walk.specs.Fixes.{is_fixed, FixCounts, fix_count}
 use Rattle.fixed_walk.specs.TableState.{TableState}
 use Rattle.std.specs.FinMap as map
+
+-- the state of a table with these fixes
+abbrev pub with_fixes : ContentState → FixCounts → TableState
+with_fixes table fixes =
+    record { content = table.content; buckets = table.buckets; fixes = fixes }
 
 -- there are no tombstones: each slot has objects
 abbrev pub HasNoTombstones : List Slot → Type 0

@@ -1,6 +1,6 @@
 -- A table with its fixes, and what fixing and releasing it do (stdlib manual, module ets, safe_fixtable/2).
 use Rattle.std.specs.Prelude.{◌≡◌, ℕ, ◌+◌, ◌-◌, ◌<◌, Bool, if◌then◌else◌, List, Result, Ok, Err}
-use Rattle.table_ops.specs.Content.{Content, ContentState}
+use Rattle.table_ops.specs.Content.{Content}
 use Rattle.table_ops.specs.Drop.{Which, without_those, without_held}
 use Rattle.table_ops.specs.Outcomes.{Change}
 use Rattle.fixed_walk.specs.declared.fault.FixFault.{FixFault}
@@ -12,11 +12,6 @@ pub record TableState : Type 0 where
   pub content : Content
   pub buckets : List Bool
   pub fixes : FixCounts
-
--- the state of a table with these fixes
-abbrev pub with_fixes : ContentState → FixCounts → TableState
-with_fixes table fixes =
-    record { content = table.content; buckets = table.buckets; fixes = fixes }
 
 -- a change of the content, as a change of the state that changes nothing else
 abbrev pub on_content : {X : Type 0} → (Content → Change X Content) → TableState → Change X TableState

@@ -68,7 +68,7 @@ impl Fixes {
         let _ = self.counts.len();
     }
 
-    /// Adds one fix of a process.
+    /// Adds one fix of a process, which must have fewer than 4,294,967,295.
     pub fn increment(&mut self, pid: u32) -> Result<(), AllocError>
         requires { fix_count self.old pid < max_fixes }
         ensures ok { OnOk result (self.new ≡ with_count self.old pid (fix_count self.old pid + 1)) }
@@ -101,8 +101,8 @@ impl Fixes {
     {
         let count = self.count(pid);
         if count > 1 {
-            if let Some(own) = self.counts.get_mut(&pid) {
-                *own = count - 1;
+            if let Some(stored_count) = self.counts.get_mut(&pid) {
+                *stored_count = count - 1;
             }
         } else {
             let _ = self.counts.swap_remove(&pid);

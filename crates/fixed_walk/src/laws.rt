@@ -31,6 +31,7 @@ pub fn calls_keep_keys()
         → IncrementsFix pid old r new → KeepsKeys old new }
     ensures release { (pid : ℕ) (old : TableState) → KeepsKeys old (after_release pid old) }
     ensures release_all { (pid : ℕ) (old : TableState) → KeepsKeys old (after_release_all pid old) }
+    // This is for a doubling, and for the readying of a bucket, which leave the content as it is.
     ensures rows { (old new : TableState) → new.content ≡ old.content → KeepsKeys old new }
 {}
 

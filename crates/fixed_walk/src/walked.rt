@@ -2,11 +2,11 @@
 //! without objects: a tombstone.
 ghost use Rattle.std.specs.Prelude.{◌≡◌, ◌<◌, ◌^◌, length, not, position, IfOk, OnErr};
 ghost use Rattle.std.specs.FinMap as map;
-ghost use Rattle.bucket_table.specs.Buckets.{IsGrown, IsReadied};
+ghost use Rattle.bucket_table.specs.Buckets.{IsGrown};
+ghost use Rattle.bucket_table.specs.Readying.{IsReadied};
 ghost use Rattle.bucket_table.specs.Slots.{object_count};
-ghost use Rattle.table_ops.specs.Content.{IsContent};
-ghost use Rattle.fixed_walk.specs.Invariants.{IsFixedBySome, HasNoTombstones, TombstonesOnlyWhileFixed};
-ghost use Rattle.fixed_walk.specs.TableState.{with_fixes};
+ghost use Rattle.table_ops.specs.Invariants.{IsContent};
+ghost use Rattle.fixed_walk.specs.Invariants.{IsFixedBySome, HasNoTombstones, TombstonesOnlyWhileFixed, with_fixes};
 
 use crate::fixes::Fixes;
 use bucket_table::{Growth, Readying, Rows};
@@ -32,8 +32,8 @@ pub struct Walked<R: Rows> {
 
 // The value that contracts see of this type (`view`), and what is true of its fields between calls (`invariant`).
 impl<R: Rows> Model for Walked<R> {
-    ghost use Rattle.fixed_walk.specs.TableState.{TableState, with_fixes};
-    ghost use Rattle.fixed_walk.specs.Invariants.{TombstonesOnlyWhileFixed};
+    ghost use Rattle.fixed_walk.specs.TableState.{TableState};
+    ghost use Rattle.fixed_walk.specs.Invariants.{with_fixes, TombstonesOnlyWhileFixed};
     ghost use Rattle.fixed_walk.specs.inside.Codes.{state_code};
 
     ghost Value = { TableState };
@@ -113,7 +113,8 @@ impl<R: Rows> Walked<R> {
         self.table.first_unready()
     }
 
-    /// Doubles the number of buckets of the rows, unless it is already the greatest. Traversals are not affected.
+    /// Doubles the number of buckets of the rows. If the number is already the greatest, changes nothing and returns
+    /// `AtMost`. Traversals are not affected.
     pub fn grow(&mut self) -> Result<Growth, AllocError>
         ensures content { self.new ≡ record self.old { buckets = self.new.buckets } }
         ensures ok { IfOk result (λ growth.
@@ -123,7 +124,8 @@ impl<R: Rows> Walked<R> {
         self.table.grow()
     }
 
-    /// Makes a bucket of the rows ready. Traversals are not affected.
+    /// Makes a bucket of the rows ready. Returns whether the bucket became ready, was ready before, or does not exist.
+    /// Traversals are not affected.
     pub fn ready(&mut self, bucket: u32) -> Result<Readying, AllocError>
         ensures content { self.new ≡ record self.old { buckets = self.new.buckets } }
         ensures ok { IfOk result (λ readying.

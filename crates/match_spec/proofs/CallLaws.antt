@@ -14,7 +14,7 @@ use Rattle.match_spec.specs.declared.expression.function.Function.TheVariants.{N
 use Rattle.match_spec.specs.declared.expression.guards.GuardKind.TheVariants.{Atom, Integer, List as AnyList, Tuple, Binary, Pid, Reference}
 use Rattle.match_spec.specs.Expressions.{strict_connective, short_circuit_connective, is_function}
 use Rattle.match_spec.specs.Functions.{truth, boolean, exclusive, absolute, head, tail, list_length, size, element, is_type, comparison, on_integers, divide, unary_function_of, binary_function_of, call}
-use Rattle.match_spec.specs.inside.Functions.{apply, deciding, is_or, calculate_or, compare_or, function_of, unary_function_of as one_by_enum, binary_function_of as two_by_enum, strict_connective as strict_by_enum, short_circuit_connective as short_circuit_by_enum, is_function as is_function_by_enum}
+use Rattle.match_spec.specs.inside.Functions.{apply, deciding_truth, is_or, calculate_or, compare_or, function_of, unary_function_of as one_by_enum, binary_function_of as two_by_enum, strict_connective as strict_by_enum, short_circuit_connective as short_circuit_by_enum, is_function as is_function_by_enum}
 
 abbrev pub of_one : Function → Data → Option Data
 of_one g d = apply g (d ∷ [])
@@ -90,15 +90,15 @@ binary_function_of-is f =
     by false false false false false false false false false false false false true = refl
     by false false false false false false false false false false false false false = refl
 
-connective-is : (c d : Bool) → (if c then Some false else if d then Some true else None) ≡ option_map deciding (if c then Some And else if d then Some Or else None)
+connective-is : (c d : Bool) → (if c then Some false else if d then Some true else None) ≡ option_map deciding_truth (if c then Some And else if d then Some Or else None)
 connective-is true d = refl
 connective-is false true = refl
 connective-is false false = refl
 
-pub strict_connective-is : (f : List ℕ) → strict_connective f ≡ option_map deciding (strict_by_enum f)
+pub strict_connective-is : (f : List ℕ) → strict_connective f ≡ option_map deciding_truth (strict_by_enum f)
 strict_connective-is f = connective-is (bytes_eq f (codes "and")) (bytes_eq f (codes "or"))
 
-pub short_circuit_connective-is : (f : List ℕ) → short_circuit_connective f ≡ option_map deciding (short_circuit_by_enum f)
+pub short_circuit_connective-is : (f : List ℕ) → short_circuit_connective f ≡ option_map deciding_truth (short_circuit_by_enum f)
 short_circuit_connective-is f = connective-is (bytes_eq f (codes "andalso")) (bytes_eq f (codes "orelse"))
 
 is_some-map : {X Y : Type 0} (g : X → Y) (o : Option X) → is_some (option_map g o) ≡ is_some o
@@ -111,10 +111,10 @@ by_count false true o w = refl
 by_count false false o w = refl
 
 same_names : (p a b : Bool) (s t : Option Connective) (o w : Option Function) (s' t' : Option Bool) (o' : Option (Data → Option Data)) (w' : Option (Data → Data → Option Data))
-    → s' ≡ option_map deciding s → t' ≡ option_map deciding t → o' ≡ option_map of_one o → w' ≡ option_map of_two w
+    → s' ≡ option_map deciding_truth s → t' ≡ option_map deciding_truth t → o' ≡ option_map of_one o → w' ≡ option_map of_two w
     → (((is_some s || is_some t) && p) || is_some (if a then o else if b then w else None))
     ≡ (((is_some s' || is_some t') && p) || (if a then is_some o' else (b && is_some w')))
-same_names p a b s t o w s' t' o' w' e f g h = rw (e, f, g, h, is_some-map deciding s, is_some-map deciding t, is_some-map of_one o, is_some-map of_two w) (ap (λ x. ((is_some s || is_some t) && p) || x) (by_count a b o w))
+same_names p a b s t o w s' t' o' w' e f g h = rw (e, f, g, h, is_some-map deciding_truth s, is_some-map deciding_truth t, is_some-map of_one o, is_some-map of_two w) (ap (λ x. ((is_some s || is_some t) && p) || x) (by_count a b o w))
 
 pub is_function-is : (f : List ℕ) (n : ℕ) → is_function_by_enum f n ≡ is_function f n
 is_function-is f n =

@@ -3,6 +3,7 @@ use Rattle.std.proofs.Common.{◌≡◌, ℕ, suc, ◌==◌, ◌&&◌, ◌||◌,
 use Rattle.std.proofs.lemmas.Bool.Decides.{nat_tests}
 use Rattle.std.specs.Option.{option_map, option_and_then, option_map_or}
 use Rattle.std.specs.Str.{bytes_eq}
+use Rattle.std.specs.Map.{values_of}
 use Rattle.ets_term.specs.declared.term.Term.{Term}
 use Rattle.ets_term.specs.declared.term.Term.TheVariants.{Atom}
 use Rattle.ets_term.specs.Data.{Data, int, atom, pid, tid, tuple, list, binary, DataList, no_terms, term, data_list}
@@ -17,8 +18,8 @@ use Rattle.match_spec.specs.declared.expression.Expression.TheVariants.{Constant
 use Rattle.match_spec.specs.inside.CompiledExpressions.{expression_value, expression_step, all_of, strict_of, apply_of, short_circuit_of, expression_of, expressions_of, name_expression, call_expression, short_circuit_else, apply_else}
 use Rattle.match_spec.specs.inside.FirstPaths.{FirstPaths, first_path, paths_of, first_paths_of}
 use Rattle.match_spec.specs.Functions.{truth, call}
-use Rattle.match_spec.specs.inside.Functions.{apply, deciding, function_of, strict_connective as strict_by_enum, short_circuit_connective as short_circuit_by_enum}
-use Rattle.match_spec.specs.Patterns.{Bindings, values, occurrences}
+use Rattle.match_spec.specs.inside.Functions.{apply, deciding_truth, function_of, strict_connective as strict_by_enum, short_circuit_connective as short_circuit_by_enum}
+use Rattle.match_spec.specs.Patterns.{Bindings, occurrences}
 use Rattle.match_spec.specs.Paths.{Path, subterm_at}
 use Rattle.match_spec.specs.Expressions.{value, all_values, strict_value, short_circuit_value, name_value, strict_connective, short_circuit_connective, is_function, is_expression, are_expressions, is_constant, is_bound}
 use Rattle.match_spec.specs.Variables.{variable, variables}
@@ -80,7 +81,7 @@ module _ (pattern object : Data) where
   named a None h = by (bytes_eq a (codes "$_")) (bytes_eq a (codes "$$"))
     where
       by : (c d : Bool) → of (if c then Object else if d then Bound else Constant (Atom a)) object
-          ≡ (if c then Some object else if d then Some (list (data_list (values b))) else Some (atom a))
+          ≡ (if c then Some object else if d then Some (list (data_list (values_of b))) else Some (atom a))
       by true d = ap (λ f. f object) (of-Object ps)
       by false true = ap (λ f. f object) (of-Bindings ps) ∙ ap (λ ds. Some (list (data_list ds))) (subterms_at-first pattern object)
       by false false = ap (λ f. f object) (of-Constant ps (Atom a)) ∙ ap Some (data_of-Atom a)
@@ -132,10 +133,10 @@ module _ (pattern object : Data) where
   by_connective f es o p = option_map_or (stopped es) o (option_map_or (joined es) p (called f es))
 
   module _ (f : List ℕ) (es : DataList) (all : all_of (map of (xs es)) object ≡ all_values b object es)
-      (joins : (connective : Connective) → strict_of connective (map of (xs es)) object ≡ strict_value b object (deciding connective) es)
-      (stops : (connective : Connective) → short_circuit_of connective (map of (xs es)) object ≡ short_circuit_value b object (deciding connective) es) where
+      (joins : (connective : Connective) → strict_of connective (map of (xs es)) object ≡ strict_value b object (deciding_truth connective) es)
+      (stops : (connective : Connective) → short_circuit_of connective (map of (xs es)) object ≡ short_circuit_value b object (deciding_truth connective) es) where
     by_kind : (o p : Option Connective) → (((is_some o || is_some p) && nat_lt 0 (data_list_len es)) || is_some (function_of f (data_list_len es))) ≡ true
-        → of (short_circuit_else o p (function_of f (data_list_len es)) (xs es)) object ≡ by_connective f es (option_map deciding o) (option_map deciding p)
+        → of (short_circuit_else o p (function_of f (data_list_len es)) (xs es)) object ≡ by_connective f es (option_map deciding_truth o) (option_map deciding_truth p)
     by_kind (Some connective) p h = ap (λ v. v object) (of-ShortCircuit ps connective (xs es)) ∙ stops connective
     by_kind None (Some connective) h = ap (λ v. v object) (of-Strict ps connective (xs es)) ∙ ap (option_map truth) (joins connective)
     by_kind None None h = applies f es h all
@@ -143,7 +144,7 @@ module _ (pattern object : Data) where
     not_constant : is_function f (data_list_len es) ≡ true → of (call_expression f (data_list_len es) (xs es)) object ≡ by_connective f es (short_circuit_connective f) (strict_connective f)
     not_constant h =
         by_kind (short_circuit_by_enum f) (strict_by_enum f) (is_function-is f (data_list_len es) ∙ h)
-        ∙ ap (λ o. by_connective f es o (option_map deciding (strict_by_enum f))) (sym (short_circuit_connective-is f))
+        ∙ ap (λ o. by_connective f es o (option_map deciding_truth (strict_by_enum f))) (sym (short_circuit_connective-is f))
         ∙ ap (by_connective f es (short_circuit_connective f)) (sym (strict_connective-is f))
 
   abbrev ns : List ℕ
@@ -151,8 +152,8 @@ module _ (pattern object : Data) where
 
   application : (f : List ℕ) (es : DataList) → (is_constant f (data_list_len es) || (is_function f (data_list_len es) && are_expressions ns es)) ≡ true
       → (are_expressions ns es ≡ true → all_of (map of (xs es)) object ≡ all_values b object es)
-      → ((connective : Connective) → are_expressions ns es ≡ true → strict_of connective (map of (xs es)) object ≡ strict_value b object (deciding connective) es)
-      → ((connective : Connective) → are_expressions ns es ≡ true → short_circuit_of connective (map of (xs es)) object ≡ short_circuit_value b object (deciding connective) es)
+      → ((connective : Connective) → are_expressions ns es ≡ true → strict_of connective (map of (xs es)) object ≡ strict_value b object (deciding_truth connective) es)
+      → ((connective : Connective) → are_expressions ns es ≡ true → short_circuit_of connective (map of (xs es)) object ≡ short_circuit_value b object (deciding_truth connective) es)
       → of (expression_of first (tuple (term (atom f) es))) object ≡ value b object (tuple (term (atom f) es))
   application f no_terms h all joins stops = let p = both-true _ _ h in not_constant f no_terms (all p.1) (λ s. joins s p.1) (λ s. stops s p.1) p.0
   application f (term e (term x es)) h all joins stops =
@@ -189,13 +190,13 @@ module _ (pattern object : Data) where
     all_compiled no_terms h = refl
     all_compiled (term e es) h = let p = both-true _ _ h in rw (compiled e p.0, all_compiled es p.1) refl
 
-    pub strict_compiled : (connective : Connective) (es : DataList) → are_expressions ns es ≡ true → strict_of connective (map of (xs es)) object ≡ strict_value b object (deciding connective) es
+    pub strict_compiled : (connective : Connective) (es : DataList) → are_expressions ns es ≡ true → strict_of connective (map of (xs es)) object ≡ strict_value b object (deciding_truth connective) es
     strict_compiled And no_terms h = refl
     strict_compiled Or no_terms h = refl
     strict_compiled And (term e es) h = let p = both-true _ _ h in rw (compiled e p.0, strict_compiled And es p.1) refl
     strict_compiled Or (term e es) h = let p = both-true _ _ h in rw (compiled e p.0, strict_compiled Or es p.1) refl
 
-    pub short_circuit_compiled : (connective : Connective) (es : DataList) → are_expressions ns es ≡ true → short_circuit_of connective (map of (xs es)) object ≡ short_circuit_value b object (deciding connective) es
+    pub short_circuit_compiled : (connective : Connective) (es : DataList) → are_expressions ns es ≡ true → short_circuit_of connective (map of (xs es)) object ≡ short_circuit_value b object (deciding_truth connective) es
     short_circuit_compiled connective no_terms h = refl
     short_circuit_compiled connective (term e no_terms) h = let p = both-true _ _ h in rw (compiled e p.0) refl
     short_circuit_compiled And (term e (term x es)) h = let p = both-true _ _ h in rw (compiled e p.0, short_circuit_compiled And (term x es) p.1) refl

@@ -1,10 +1,11 @@
 -- Worked examples, which hold of the definitions by computing.
 use Rattle.std.specs.Prelude.{◌≡◌, ℕ, pos, negsuc, ◌-◌, ◌^◌, Bool, true, false, List, [], ◌∷◌, Option, Some, None, codes, refl}
 use Rattle.std.specs.Option.{option_map}
+use Rattle.std.specs.Map.{values_of}
 use Rattle.ets_term.specs.Data.{Data, int, atom, tid, tuple, list, binary, data_list}
 use Rattle.match_spec.specs.BoundKeys.{bound_key, spec_key}
 use Rattle.match_spec.specs.Variables.{variable}
-use Rattle.match_spec.specs.Patterns.{bindings_of, values}
+use Rattle.match_spec.specs.Patterns.{bindings_of}
 use Rattle.match_spec.specs.Specifications.{is_pattern, is_spec, result_of}
 
 abbrev numeral : ℕ → Data
@@ -38,13 +39,13 @@ abbrev any : Data
 any = atom (codes "_")
 
 -- a variable matches the same term at each of its occurrences; bindings are in order of number
-same_twice : option_map values (bindings_of (t (v1 ∷ v1 ∷ [])) (t (atom (codes "x") ∷ atom (codes "x") ∷ []))) ≡ Some (atom (codes "x") ∷ [])
+same_twice : option_map values_of (bindings_of (t (v1 ∷ v1 ∷ [])) (t (atom (codes "x") ∷ atom (codes "x") ∷ []))) ≡ Some (atom (codes "x") ∷ [])
 same_twice = refl
 
-not_twice : option_map values (bindings_of (t (v1 ∷ v1 ∷ [])) (t (atom (codes "y") ∷ atom (codes "z") ∷ []))) ≡ None
+not_twice : option_map values_of (bindings_of (t (v1 ∷ v1 ∷ [])) (t (atom (codes "y") ∷ atom (codes "z") ∷ []))) ≡ None
 not_twice = refl
 
-paths_by_number : option_map values (bindings_of (t (v2 ∷ v0 ∷ [])) (t (atom (codes "y") ∷ atom (codes "z") ∷ []))) ≡ Some (atom (codes "z") ∷ atom (codes "y") ∷ [])
+paths_by_number : option_map values_of (bindings_of (t (v2 ∷ v0 ∷ [])) (t (atom (codes "y") ∷ atom (codes "z") ∷ []))) ≡ Some (atom (codes "z") ∷ atom (codes "y") ∷ [])
 paths_by_number = refl
 
 abbrev clause : Data → List Data → List Data → Data

@@ -3,13 +3,14 @@ use Rattle.std.proofs.Common.{◌≡◌, ℕ, suc, ◌+◌, ◌&&◌, ◌||◌, 
 use Rattle.std.proofs.lemmas.Slice.Eq.{bytes_eq-Decides}
 use Rattle.std.specs.Option.{option_map}
 use Rattle.std.specs.Str.{bytes_eq}
+use Rattle.std.specs.Map.{values_of}
 use Rattle.ets_term.specs.declared.term.Term.{Term}
 use Rattle.ets_term.specs.Data.{Data, int, atom, pid, tid, tuple, list, binary, DataList, no_terms, term}
 use Rattle.ets_term.specs.Trees.{term_of}
 use Rattle.match_spec.specs.declared.pattern.part.Part.{Part, the_lemmas}
 use Rattle.match_spec.specs.declared.pattern.part.Part.TheOpen.{Part-F}
 use Rattle.match_spec.specs.declared.pattern.part.Part.TheVariants.{Wildcard, Repeated, Tuple, List as Terms, Literal}
-use Rattle.match_spec.specs.Patterns.{Bindings, equal_terms, matches, data_list_matches, name_matches, values, occurrences, bindings_of}
+use Rattle.match_spec.specs.Patterns.{Bindings, equal_terms, matches, data_list_matches, name_matches, occurrences, bindings_of}
 use Rattle.match_spec.specs.inside.CompiledExpressions.{subterms_at}
 use Rattle.match_spec.specs.inside.CompiledPatterns.{part_fits, part_step, all_fit, part_of, parts_from, name_part, IsCompiled}
 use Rattle.match_spec.specs.inside.FirstPaths.{FirstPaths, first_path, paths_of, first_paths_of}
@@ -102,26 +103,26 @@ module _ (pattern object : Data) where
   pub fits-pattern : part_fits (part_of first [] pattern) object object ≡ matches b pattern object
   fits-pattern = fit [] pattern object refl
 
-  pub values-occurrences : (ns : List ℕ) → subterms_at (map (variable_path pattern) ns) object ≡ values (map (λ n. (n, value_at pattern object n)) ns)
+  pub values-occurrences : (ns : List ℕ) → subterms_at (map (variable_path pattern) ns) object ≡ values_of (map (λ n. (n, value_at pattern object n)) ns)
   values-occurrences [] = refl
   values-occurrences (n ∷ ns) = ap (λ ds. value_at pattern object n ∷ ds) (values-occurrences ns)
 
   -- the subterms at the paths are the values of the bindings
-  pub subterms_at-first : subterms_at (paths_of first) object ≡ values (occurrences pattern object)
+  pub subterms_at-first : subterms_at (paths_of first) object ≡ values_of (occurrences pattern object)
   subterms_at-first = ap (λ (paths : List Path). subterms_at paths object) (paths_of-first pattern) ∙ values-occurrences (variables pattern)
 
   module _ (part : Part) (paths : List Path) (compiled : IsCompiled pattern part paths) where
     pub matches-part : matches b pattern object ≡ part_fits part object object
     matches-part = sym fits-pattern ∙ ap (λ p. part_fits p object object) (sym compiled.part_compiled)
 
-    pub bindings_of-misfit : part_fits part object object ≡ false → None ≡ option_map values (bindings_of pattern object)
+    pub bindings_of-misfit : part_fits part object object ≡ false → None ≡ option_map values_of (bindings_of pattern object)
     bindings_of-misfit h = rw (matches-part, h) refl
 
-    pub bindings_of-fit : (ds : List Data) → part_fits part object object ≡ true → ds ≡ subterms_at paths object → Some ds ≡ option_map values (bindings_of pattern object)
+    pub bindings_of-fit : (ds : List Data) → part_fits part object object ≡ true → ds ≡ subterms_at paths object → Some ds ≡ option_map values_of (bindings_of pattern object)
     bindings_of-fit ds h e = rw (matches-part, h) (ap Some (e ∙ ap (λ (ps : List Path). subterms_at ps object) compiled.paths_compiled ∙ subterms_at-first))
 
     pub fits-bindings : part_fits part object object ≡ is_some (bindings_of pattern object)
     fits-bindings = sym matches-part ∙ sym (is_some-if (matches (λ n. Some (value_at pattern object n)) pattern object) (occurrences pattern object))
 
-    pub values-fit : is_some (bindings_of pattern object) ≡ true → (ds : List Data) → ds ≡ subterms_at paths object → Some ds ≡ option_map values (bindings_of pattern object)
+    pub values-fit : is_some (bindings_of pattern object) ≡ true → (ds : List Data) → ds ≡ subterms_at paths object → Some ds ≡ option_map values_of (bindings_of pattern object)
     values-fit h ds e = bindings_of-fit ds (fits-bindings ∙ h) e

@@ -4,12 +4,13 @@ use Rattle.std.proofs.lemmas.Slice.Eq.{bytes_eq-Decides}
 use Rattle.std.specs.Option.{option_map, option_map_or, option_or}
 use Rattle.std.specs.Str.{bytes_eq}
 use Rattle.ets_term.specs.Data.{Data, int, atom, pid, tid, tuple, list, binary, DataList, no_terms, term}
-use Rattle.match_spec.specs.Patterns.{Bindings, binding, matches, data_list_matches, name_matches, is_bound_to, occurrences, bindings_of, values}
+use Rattle.match_spec.specs.Patterns.{Bindings, binding, matches, data_list_matches, name_matches, is_bound_to, occurrences, bindings_of}
 use Rattle.match_spec.specs.Matching.{Match, IsBindings}
 use Rattle.match_spec.specs.laws.Bindings.{AreTheBindings}
 use Rattle.match_spec.specs.Paths.{Path, subterm_at, items_of, element_or, path_of, path_from, value_at}
 use Rattle.match_spec.specs.Variables.{variable_numbers, data_list_variable_numbers, variable, variables}
 use Rattle.std.specs.Prelude.{option_to_list}
+use Rattle.std.specs.Map.{values_of}
 use Rattle.match_spec.proofs.BoolLaws.{both-true, or-left, or-right, or-cases, clash, same_Some, None-Some}
 use Rattle.match_spec.proofs.NumberLaws.{has, has-append, has-fold, same_number, itself, Rising, fold-rising, above-apart, above-rising}
 use Rattle.match_spec.proofs.PathLaws.{found}
@@ -209,9 +210,9 @@ are_the_bindings pattern t = by (bindings_of pattern t) refl
     by None q = λ b m. None-Some (sym q ∙ bindings_of-complete pattern t b m)
     by (Some b) q = (bindings_of-sound pattern t b q, λ c m. bindings_of-only pattern t c m ∙ same_Some (sym (bindings_of-complete pattern t c m) ∙ q))
 
-pub is_bindings : (pattern t : Data) (vs : Option (List Data)) → vs ≡ option_map values (bindings_of pattern t) → IsBindings pattern t vs
+pub is_bindings : (pattern t : Data) (vs : Option (List Data)) → vs ≡ option_map values_of (bindings_of pattern t) → IsBindings pattern t vs
 is_bindings pattern t vs e = subst (IsBindings pattern t) (sym e) (by (bindings_of pattern t) refl)
   where
-    by : (o : Option Bindings) → bindings_of pattern t ≡ o → IsBindings pattern t (option_map values o)
+    by : (o : Option Bindings) → bindings_of pattern t ≡ o → IsBindings pattern t (option_map values_of o)
     by None q = subst (AreTheBindings pattern t) q (are_the_bindings pattern t)
     by (Some b) q = let those = subst (AreTheBindings pattern t) q (are_the_bindings pattern t) in (b, those.0, refl, those.1)

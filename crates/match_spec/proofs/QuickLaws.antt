@@ -17,7 +17,7 @@ use Rattle.match_spec.specs.declared.pattern.part.Part.TheVariants.{Tuple}
 use Rattle.match_spec.specs.declared.spec.clause.Clause.{Clause}
 use Rattle.match_spec.specs.declared.spec.quick.QuickTest.{QuickTest}
 use Rattle.match_spec.specs.Functions.{data_list_element, truth}
-use Rattle.match_spec.specs.inside.Functions.{compares}
+use Rattle.match_spec.specs.inside.Functions.{comparison_holds}
 use Rattle.match_spec.specs.Specifications.{result_of}
 use Rattle.match_spec.specs.Paths.{Path, element_or, subterm_at}
 use Rattle.match_spec.specs.inside.CompiledClauses.{applies, all_hold_of, result_of_first}
@@ -78,7 +78,7 @@ module _ (paths : List Path) (object : Data) where
   of-integer a n e = rw e (ap (λ f. f object) (of-Constant paths (Int n)) ∙ ap Some (data_of-Int n))
 
   pub comparison-value : (op : ComparisonOp) (es : List Expression) (a b : Expression) (i : ℕ) (n : ℤ) → length es ≡ 2 → get_or es 0 a ≡ a → get_or es 1 b ≡ b → a ≡ Variable (i ∷ []) → b ≡ Constant (Int n)
-      → expression_value paths (Apply (Compare op) es) object ≡ Some (truth (compares op (data_order (subterm_at (i ∷ []) object) (int n))))
+      → expression_value paths (Apply (Compare op) es) object ≡ Some (truth (comparison_holds op (data_order (subterm_at (i ∷ []) object) (int n))))
   comparison-value op es a b i n two at is va cb = expression_value_of_two paths (Compare op) es a b object two at is ∙ rw (of-index a i va, of-integer b n cb) refl
 
 first_fails : (paths : List Path) (es : List Expression) (e : Expression) (object : Data) (b : Bool) → 0 < length es → get_or es 0 e ≡ e → expression_value paths e object ≡ Some (truth b) → b ≡ false
@@ -116,12 +116,12 @@ module _ (q : QuickTest) (c : Clause) (ps : List Part) (pattern : c.pattern ≡ 
   misfit : (object : Data) → part_fits (Tuple ps) object object ≡ false → applies c object ≡ false
   misfit object h = left-false _ _ (ap (λ p. part_fits p object object) pattern ∙ h)
 
-  fails : (object : Data) → compares q.comparison (data_order (subterm_at (q.index ∷ []) object) (int q.value)) ≡ false → applies c object ≡ false
+  fails : (object : Data) → comparison_holds q.comparison (data_order (subterm_at (q.index ∷ []) object) (int q.value)) ≡ false → applies c object ≡ false
   fails object h = right-false _ _ (need c.paths object h)
 
   fails-element : (ts : DataList) (d : Data) → data_list_element ts q.index ≡ Some d → rejects_element q d ≡ true → applies c (tuple ts) ≡ false
   fails-element ts (int n) i h =
-      fails (tuple ts) (ap (λ d. compares q.comparison (data_order d (int q.value))) (element_or-element ts q.index (tuple ts) (int n) i) ∙ not-true _ h)
+      fails (tuple ts) (ap (λ d. comparison_holds q.comparison (data_order d (int q.value))) (element_or-element ts q.index (tuple ts) (int n) i) ∙ not-true _ h)
   fails-element ts (atom a) i h = cc
   fails-element ts (pid a) i h = cc
   fails-element ts (tid a) i h = cc

@@ -9,12 +9,12 @@ use Rattle.ets_term.specs.laws.Exact.{data_of-List}
 use Rattle.ets_term.specs.Order.{data_list_len}
 use Rattle.match_spec.specs.declared.spec.check.ClauseParts.{ClauseParts}
 use Rattle.match_spec.specs.declared.spec.clause.Clause.{Clause}
-use Rattle.match_spec.specs.inside.CompiledClauses.{raw_clause_of, applies, all_hold_of, last_value_of, body_value_by, result_of_first, clause_of, clause_else, clauses_from, clauses_of}
+use Rattle.match_spec.specs.inside.CompiledClauses.{is_good_by, raw_clause_of, applies, all_hold_of, last_value_of, body_value_by, result_of_first, clause_of, clause_else, clauses_from, clauses_of}
 use Rattle.match_spec.specs.inside.CompiledExpressions.{expression_value, expressions_of}
 use Rattle.match_spec.specs.inside.FirstPaths.{FirstPaths, numbers_of, paths_of, first_paths_of}
 use Rattle.match_spec.specs.Patterns.{matches, occurrences, bindings_of}
 use Rattle.match_spec.specs.Paths.{value_at}
-use Rattle.match_spec.specs.Specifications.{RawClause, clause_parts, is_good, is_good_by, is_clause, are_clauses, is_spec, all_hold, last_value, body_value, clause_result_or, result_or, first_result, result_of}
+use Rattle.match_spec.specs.Specifications.{RawClause, clause_parts, is_good, is_clause, are_clauses, is_spec, all_hold, last_value, body_value, clause_result_or, result_or, first_result, result_of}
 use Rattle.match_spec.specs.Expressions.{are_expressions}
 use Rattle.match_spec.specs.Variables.{variables}
 use Rattle.match_spec.proofs.BoolLaws.{both-true}

@@ -3,10 +3,11 @@ use Rattle.std.specs.Prelude.{ℕ, ◌==◌, ◌&&◌, ◌||◌, not, nat_lt, Bo
 use Rattle.std.specs.List.{list_any}
 use Rattle.std.specs.Option.{option_and_then, option_map_or}
 use Rattle.std.specs.Str.{bytes_eq}
+use Rattle.std.specs.Map.{values_of}
 use Rattle.ets_term.specs.Data.{Data, atom, tuple, list, DataList, no_terms, term, data_list}
 use Rattle.ets_term.specs.Order.{data_list_len}
 use Rattle.match_spec.specs.Functions.{boolean, truth, unary_function_of, binary_function_of, call}
-use Rattle.match_spec.specs.Patterns.{Bindings, binding, values}
+use Rattle.match_spec.specs.Patterns.{Bindings, binding}
 use Rattle.match_spec.specs.Variables.{variable}
 
 -- the value of an atom: of a variable its binding, of `'$_'` the object, of `'$$'` the list of bindings, else itself
@@ -14,7 +15,7 @@ abbrev pub name_value : Bindings → Data → List ℕ → Option ℕ → Option
 name_value b object a (Some n) = binding b n
 name_value b object a None =
     if bytes_eq a (codes "$_") then Some object
-    else if bytes_eq a (codes "$$") then Some (list (data_list (values b)))
+    else if bytes_eq a (codes "$$") then Some (list (data_list (values_of b)))
     else Some (atom a)
 
 -- the truth value that decides `and` or `or`, which evaluate all arguments; None for any other name

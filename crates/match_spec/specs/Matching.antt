@@ -1,8 +1,9 @@
 -- When a term matches a pattern, without a computation: by bindings that exist.
 use Rattle.std.specs.Prelude.{◌≡◌, List, Option, Some, None, map, IsTrue}
+use Rattle.std.specs.Map.{values_of}
 use Rattle.ets_term.specs.Data.{Data}
 use Rattle.match_spec.specs.Variables.{variables}
-use Rattle.match_spec.specs.Patterns.{binding, matches, values, Bindings}
+use Rattle.match_spec.specs.Patterns.{binding, matches, Bindings}
 
 -- the term matches the pattern by these bindings, which bind exactly the pattern's variables
 pub record Match (pattern t : Data) (b : Bindings) : Type 0 where
@@ -13,5 +14,5 @@ pub record Match (pattern t : Data) (b : Bindings) : Type 0 where
 abbrev pub IsBindings : Data → Data → Option (List Data) → Type 0
 IsBindings pattern t None = (b : Bindings) → Match pattern t b → ⊥
 IsBindings pattern t (Some vs) =
-    (b : Bindings) × Match pattern t b × (values b ≡ vs)
+    (b : Bindings) × Match pattern t b × (values_of b ≡ vs)
     × ((c : Bindings) → Match pattern t c → c ≡ b)

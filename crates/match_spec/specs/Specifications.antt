@@ -26,17 +26,12 @@ clause_parts (tuple (term pattern (term (list conditions) (term (list body) no_t
     Some (record { pattern = pattern; conditions = conditions; body = body })
 clause_parts d = None
 
--- whether a clause is valid if these variables may be used: its pattern is an atom or a tuple, its body is not empty,
--- and its conditions and its body are expressions in which no other variables occur
-abbrev pub is_good_by : List ℕ → RawClause → Bool
-is_good_by ns c =
-    (is_pattern c.pattern && nat_lt 0 (data_list_len c.body))
-    && (are_expressions ns c.conditions && are_expressions ns c.body)
-
 -- whether a clause is valid: its pattern is an atom or a tuple, its body is not empty, and its conditions and its body
 -- are expressions in which only variables of the pattern occur
 abbrev pub is_good : RawClause → Bool
-is_good c = is_good_by (variables c.pattern) c
+is_good c =
+    (is_pattern c.pattern && nat_lt 0 (data_list_len c.body))
+    && (are_expressions (variables c.pattern) c.conditions && are_expressions (variables c.pattern) c.body)
 
 -- whether a term is a valid clause
 abbrev pub is_clause : Data → Bool

@@ -9,7 +9,7 @@ use crate::spec::check::clause_parts;
 use crate::variable::variable;
 use ets_term::{Position, Term};
 
-/// Returns the element of the pattern at `keypos`, if it has neither a variable nor `'_'`.
+/// Returns the element of the pattern at `keypos` if it has neither a variable nor `'_'`, else `None`.
 #[tactic(auto, using(crate::proofs::KeyLaws::key_of_element, crate::proofs::KeyLaws::key_of_none))]
 pub(crate) fn bound_part(pattern: &Term, keypos: Position) -> Option<&Term>
     ensures { option_map data_of (option_copied result) ≡ bound_key keypos (data_of pattern.now) }
@@ -20,7 +20,7 @@ pub(crate) fn bound_part(pattern: &Term, keypos: Position) -> Option<&Term>
     }
 }
 
-/// Returns the part if it is ground, that is, has neither a variable nor `'_'`.
+/// Returns the part if it is ground, that is, has neither a variable nor `'_'`, else `None`.
 fn key_if_ground(key: &Term) -> Option<&Term>
     ensures { option_map data_of (option_copied result)
         ≡ (if is_ground (data_of key.now) then Some (data_of key.now) else None) }
@@ -28,7 +28,7 @@ fn key_if_ground(key: &Term) -> Option<&Term>
     if is_ground(key) { Some(key) } else { None }
 }
 
-/// Returns the key that the patterns of all clauses bind, if they bind the same key.
+/// Returns the key that the patterns of all clauses bind, or `None` if they do not all bind the same key.
 #[tactic(auto, using(crate::proofs::KeyLaws::key_of_first, crate::proofs::KeyLaws::key_of_no_first, crate::proofs::KeyLaws::key_of_nothing))]
 pub(crate) fn common_bound_key(clauses: &[Term], keypos: Position) -> Option<&Term>
     ensures { option_map data_of (option_copied result) ≡ spec_key keypos (list (data_list (map data_of clauses.now))) }
@@ -42,7 +42,7 @@ pub(crate) fn common_bound_key(clauses: &[Term], keypos: Position) -> Option<&Te
     }
 }
 
-/// Returns the key of the first clause if all later clauses bind the same key.
+/// Returns `key`, that of the first clause, if all later clauses bind the same key, else `None`.
 fn key_if_all_bind<'a>(clauses: &[Term], keypos: Position, key: &'a Term) -> Option<&'a Term>
     ensures { option_map data_of (option_copied result)
         ≡ (if all_bind keypos (data_of key.now) (data_list (map data_of (drop 1 clauses.now)))
@@ -68,7 +68,8 @@ fn all_bind(clauses: &[Term], keypos: Position, key: &Term) -> bool
     true
 }
 
-/// Returns the key that the pattern of a clause binds.
+/// Returns the key that the pattern of a clause binds. Returns `None` if the pattern binds no key or the term is not a
+/// clause.
 fn clause_key(clause: &Term, keypos: Position) -> Option<&Term>
     ensures { option_map data_of (option_copied result) ≡ clause_key keypos (data_of clause.now) }
 {

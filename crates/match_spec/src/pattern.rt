@@ -2,9 +2,10 @@
 //! which it was compiled.
 ghost use Rattle.std.specs.Prelude.{◌≡◌, ◌↔◌, true, false, Some, is_some, map, option_copied, IfOk, IfSome, IsErrOf};
 ghost use Rattle.std.specs.Option.{option_map};
+ghost use Rattle.std.specs.Map.{values_of};
 ghost use Rattle.ets_term.specs.Data.{data_of};
 ghost use Rattle.match_spec.specs.BoundKeys.{bound_key, IsKeyOfMatches};
-ghost use Rattle.match_spec.specs.Patterns.{bindings_of, values};
+ghost use Rattle.match_spec.specs.Patterns.{bindings_of};
 ghost use Rattle.match_spec.specs.Matching.{IsBindings};
 ghost use Rattle.match_spec.specs.Specifications.{is_pattern};
 
@@ -58,6 +59,7 @@ impl Pattern {
             return Err(SpecFault::Badarg);
         }
         let first = first_paths(alloc, term)?;
+        // The path of the part that is compiled: empty for the whole pattern.
         let mut current_path = Vec::new(alloc);
         Ok(Pattern {
             source: term.try_clone(alloc)?,
@@ -70,7 +72,7 @@ impl Pattern {
     /// does not match. Fails if an allocation fails.
     pub fn bindings(&self, alloc: Global, term: &Term) -> Result<Option<Vec<Term>>, AllocError>
         ensures values { IfOk result (λ found. option_map (λ v. map data_of v.items) found
-            ≡ option_map values (bindings_of (data_of self.now) (data_of term.now))) }
+            ≡ option_map values_of (bindings_of (data_of self.now) (data_of term.now))) }
         ensures matches { IfOk result (λ found. IsBindings (data_of self.now) (data_of term.now)
             (option_map (λ v. map data_of v.items) found)) }
     {
@@ -89,7 +91,7 @@ impl Pattern {
     pub fn values_in(&self, alloc: Global, term: &Term) -> Result<Vec<Term>, AllocError>
         requires { is_some (bindings_of (data_of self.now) (data_of term.now)) ≡ true }
         ensures { IfOk result (λ v. Some (map data_of v.items)
-            ≡ option_map values (bindings_of (data_of self.now) (data_of term.now))) }
+            ≡ option_map values_of (bindings_of (data_of self.now) (data_of term.now))) }
     {
         clone_subterms(alloc, self.paths.as_slice(), term)
     }
@@ -97,7 +99,7 @@ impl Pattern {
     /// Does what `bindings` does, with a weaker contract.
     fn find_bindings(&self, alloc: Global, term: &Term) -> Result<Option<Vec<Term>>, AllocError>
         ensures { IfOk result (λ found. option_map (λ v. map data_of v.items) found
-            ≡ option_map values (bindings_of (data_of self.now) (data_of term.now))) }
+            ≡ option_map values_of (bindings_of (data_of self.now) (data_of term.now))) }
     {
         if !self.fits(term) {
             return Ok(None);
@@ -105,8 +107,8 @@ impl Pattern {
         Ok(Some(self.values_in(alloc, term)?))
     }
 
-    /// Returns the element of the pattern at `keypos`, from 1, if it has neither a variable nor `'_'`. Every object
-    /// that matches has this key.
+    /// Returns the element of the pattern at `keypos`, from 1. Returns `None` if the element has a variable or `'_'`,
+    /// or the pattern has no such element. Every object that matches has the returned key.
     pub fn bound_key(&self, keypos: Position) -> Option<&Term>
         ensures key { option_map data_of (option_copied result) ≡ bound_key keypos (data_of self.now) }
         ensures every { IfSome result (λ key. IsKeyOfMatches keypos (data_of self.now) key.now) }

@@ -26,7 +26,8 @@ use ets_term::{Items, Position, Term};
 use std::alloc::{AllocError, Global};
 use std::marker::Model;
 
-/// A compiled match specification. Contracts see it as its raw term, `source`.
+/// A compiled match specification. Contracts see it as its raw term, `source`. `clauses` is its compiled form. `quick`
+/// is a cheap test that may reject an object before the clauses are tried, or `None`.
 #[derive(Drop)]
 pub struct Spec {
     source: Term,
@@ -64,7 +65,7 @@ impl Spec {
         if terms.is_empty() {
             return Err(SpecFault::Badarg);
         }
-        let clauses = clauses_of(alloc, terms.as_slice())?;
+        let clauses = compile_clauses(alloc, terms.as_slice())?;
         let quick = quick_test(clauses.as_slice());
         Ok(Spec {
             source: term.try_clone(alloc)?,
@@ -95,7 +96,8 @@ impl Spec {
         first_result_is_true(alloc, self.clauses.as_slice(), object)
     }
 
-    /// Checks whether the quick test shows that no clause applies to the object.
+    /// Checks whether the quick test shows that no clause applies to the object. If the result is `false`, the clauses
+    /// must be tried.
     #[inline(always)]
     fn rejects(&self, object: &Term) -> bool
         ensures { result ≡ true → result_of (data_of self.now) (data_of object.now) ≡ None }
@@ -106,8 +108,8 @@ impl Spec {
         }
     }
 
-    /// Returns the element at `keypos`, counted from 1, of the patterns of all clauses, if it is the same in all and
-    /// has neither a variable nor `'_'`. Every object with a result has this key.
+    /// Returns the element at `keypos`, counted from 1, of the patterns of all clauses. It must be the same in all, and
+    /// have neither a variable nor `'_'`. Otherwise returns `None`. Every object with a result has the returned key.
     pub fn bound_key(&self, keypos: Position) -> Option<&Term>
         ensures key { option_map data_of (option_copied result) ≡ spec_key keypos (data_of self.now) }
         ensures every { IfSome result (λ key. IsKeyOfResults keypos (data_of self.now) key.now) }
@@ -120,7 +122,7 @@ impl Spec {
 }
 
 /// Compiles the clauses. Fails with `Badarg` if a term is not a clause.
-fn clauses_of(alloc: Global, terms: &[Term]) -> Result<Items<Clause>, SpecFault>
+fn compile_clauses(alloc: Global, terms: &[Term]) -> Result<Items<Clause>, SpecFault>
     ensures made { IfOk result (λ cs. cs ≡ clauses_from (data_list (map data_of terms.now))) }
     ensures good { OnOk result (are_clauses (data_list (map data_of terms.now)) ≡ true) }
     ensures badarg { IsErrOf result SpecFault.Badarg → are_clauses (data_list (map data_of terms.now)) ≡ false }
@@ -158,6 +160,7 @@ fn compile_clause(
 ) -> Result<Clause, AllocError>
     ensures { IfOk result (λ c. c ≡ clause_with first.now.entries (raw_clause_of parts.entry)) }
 {
+    // The path of the part that is compiled: empty for the whole pattern.
     let mut current_path = Vec::new(alloc);
     Ok(Clause {
         pattern: part_of(alloc, parts.pattern, first, &mut current_path)?,

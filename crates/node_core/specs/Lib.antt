@@ -8,6 +8,7 @@ pub mod Machine
 pub mod Reads
 pub mod Buckets
 pub mod Through
+pub mod Values
 pub mod laws
 pub mod Woven
 pub mod Pending

@@ -21,8 +21,8 @@ is_crowded table =
     && nat_lt (length table.buckets) max_buckets
 
 -- the pending step of a table: to double if it is crowded, else to ready its first bucket that is not ready
-abbrev pub pending_of : ℕ → TableState → Option Step
-pending_of t table =
+abbrev pub pending_step_of : ℕ → TableState → Option Step
+pending_step_of t table =
     if is_crowded table then Some (Grow t)
     else option_map (λ bucket. Ready t bucket) (position not table.buckets)
 
@@ -30,7 +30,7 @@ pending_of t table =
 abbrev pub pending_from : ℕ → Tables → Option Step
 pending_from t [] = None
 pending_from t (table ∷ tables) =
-    option_map_or (λ step. Some step) (option_and_then (λ own. pending_of t own.state) table)
+    option_map_or (λ step. Some step) (option_and_then (λ own. pending_step_of t own.state) table)
     (pending_from (suc t) tables)
 
 -- the pending step of a state, if any

@@ -8,7 +8,8 @@ use Rattle.ets_term.specs.declared.term.Term.{Term}
 use Rattle.ets_term.specs.declared.term.Term.TheVariants.{Atom, Tid}
 use Rattle.ets_term.specs.Atoms.{is_atom}
 use Rattle.fixed_walk.specs.Fixes.{max_fixes, fix_count}
-use Rattle.ownership.specs.Access.{has_access, may_read}
+use Rattle.ownership.specs.Access.{may_read}
+use Rattle.ownership.specs.Lookups.{has_access}
 use Rattle.ownership.specs.World.{table_at, resolve, lives}
 use Rattle.node_core.specs.declared.step.Step.{Step}
 use Rattle.node_core.specs.declared.step.Step.TheVariants.{Enrol, End, Ask, Grow, Ready}

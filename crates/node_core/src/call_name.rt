@@ -24,11 +24,13 @@ pub enum CallName {
     New,
     Next,
     NextLookup,
+    /// `receive`, which is not a function of `ets`: a process empties its mailbox.
     Receive,
     SafeFixtable,
     Select,
     SelectCount,
     SelectDelete,
+    /// `setopts`.
     SetOptions,
     Tab2list,
     Take,

@@ -13,6 +13,9 @@
 //! *Limits.* A node is a single value: sharing it between threads is for the layer above.
 #![tactic(auto)]
 
+// The modules: the `node` with its `limits`, a `step` and its reply, the names of calls (`call_name`), the tables that
+// may have a pending growth step (`pending_tables`), and a traversal among steps of others (`walk`). `position` and
+// `terms` read and compare terms.
 mod call_name;
 pub mod laws;
 mod limits;

@@ -66,21 +66,21 @@ impl PendingTables {
         self.dirty.is_none() && self.queue.len() == 0
     }
 
-    /// Returns the identifier at an index of the queue.
+    /// Returns the identifier at an index of the queue, or `None` past its end.
     pub fn get(&self, index: usize) -> Option<u32>
         ensures { result ≡ slice_get self.now.queue index }
     {
         self.queue.get(index).copied()
     }
 
-    /// Returns the dirty table.
+    /// Returns the identifier of the dirty table, or `None` if no table is dirty.
     pub fn dirty_table(&self) -> Option<u32>
         ensures { result ≡ self.now.dirty }
     {
         self.dirty
     }
 
-    /// Sets the dirty table, and returns the previous one.
+    /// Sets the dirty table, and returns the identifier of the previous one, if any.
     pub fn set_dirty(&mut self, id: u32) -> Option<u32>
         ensures before { result ≡ self.old.dirty }
         ensures rest { self.new ≡ record self.old { dirty = Some id } }
@@ -105,7 +105,7 @@ impl PendingTables {
         self.queue.reserve(len.saturating_sub(self.queue.len()))
     }
 
-    /// Queues an identifier, unless the queue has it.
+    /// Inserts an identifier in order, unless the queue has it. Capacity must have been reserved.
     #[inline(never)]
     pub fn insert(&mut self, id: u32)
         requires { HasRoomFor self.old id }
@@ -124,7 +124,7 @@ impl PendingTables {
         }
     }
 
-    /// Removes the front of the queue.
+    /// Removes the first identifier of the queue, if any.
     pub fn pop_front(&mut self)
         ensures rest { self.new.queue ≡ drop 1 self.old.queue }
         ensures dirty { self.new.dirty ≡ self.old.dirty }

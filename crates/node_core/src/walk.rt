@@ -42,7 +42,7 @@ pub trait Others {
 /// The result of a traversal of the whole table.
 #[derive(Drop)]
 pub struct Walk {
-    /// The keys in the order of the traversal, at most as many as its limit.
+    /// The keys in the order of the traversal, at most as many as the limit that `walk_among` got.
     pub keys: Items<Term>,
 }
 
@@ -102,7 +102,8 @@ pub fn walk_among<H: KeyHash + Copy + Drop, O: Others>(
         return Err(WalkFault::Lost);
     };
     node.fix_table(pid, id)?;
-    let walked = walk_fixed(node, Traversal { pid, id }, limit, others);
+    let walked = walk_fixed_table(node, Traversal { pid, id }, limit, others);
+    // If the process has ended or may no longer read the table, this changes nothing.
     node.unfix_table(pid, id);
     walked
 }
@@ -116,7 +117,7 @@ struct Traversal {
 
 /// Traverses a table that the process has fixed for the traversal. In the contract, `start` is the state before that
 /// fix.
-fn walk_fixed<H: KeyHash + Copy + Drop, O: Others>(
+fn walk_fixed_table<H: KeyHash + Copy + Drop, O: Others>(
     node: &mut Node<H>,
     traversal: Traversal,
     limit: u32,
@@ -130,6 +131,7 @@ fn walk_fixed<H: KeyHash + Copy + Drop, O: Others>(
 {
     let mut keys = Vec::new(node.allocator());
     let mut found = node.next_key(traversal.pid, traversal.id, None)?;
+    // Each round is the turn of one key. `found` is the next key, or `None` at the end of the table.
     for _at in 0..limit {
         let Some(key) = found else {
             return Ok(Walk::from_keys(keys));
@@ -142,8 +144,8 @@ fn walk_fixed<H: KeyHash + Copy + Drop, O: Others>(
     }
 }
 
-/// Does the turn of a key: gives it to the others, runs their steps, and finds the next key. The walk so far led from
-/// some state `start` to this node.
+/// Does the turn of a key: gives the key to the others, runs their steps, and appends the key to `keys`. Returns the
+/// next key, or `None` at the end of the table. In the contract, `start` is the state before the traversal's fix.
 fn walk_turn<H: KeyHash + Copy + Drop, O: Others>(
     node: &mut Node<H>,
     traversal: Traversal,
@@ -162,6 +164,7 @@ fn walk_turn<H: KeyHash + Copy + Drop, O: Others>(
     if keys.reserve(1).is_err() {
         return Err(WalkFault::Memory);
     }
+    // The number of steps that were added in earlier turns.
     let before = others.given().len();
     if others.between(&key).is_err() {
         return Err(WalkFault::Memory);
@@ -172,7 +175,8 @@ fn walk_turn<H: KeyHash + Copy + Drop, O: Others>(
     Ok(found)
 }
 
-/// Runs the steps of the others in order, until one is the process's own.
+/// Runs the steps of the others in order. Stops with `OwnStep` before a step of the traversing process, and with
+/// `Memory` at a step that runs out of memory.
 fn run_steps<H: KeyHash + Copy + Drop>(
     node: &mut Node<H>,
     pid: u32,
@@ -192,7 +196,7 @@ fn run_steps<H: KeyHash + Copy + Drop>(
 }
 
 impl Walk {
-    /// Makes a traversal of the keys that it visited, in order.
+    /// Makes the result of a traversal from the keys that it visited, in order.
     fn from_keys(keys: Vec<Term>) -> Walk
         ensures { result.keys ≡ keys.items }
     {

@@ -8,7 +8,7 @@ use ets_term::{Atom, Items, Term};
 use external_term::{ExternalFault, read_external, read_pair};
 use std::alloc::{AllocError, Global};
 
-/// The call that bytes spell.
+/// The call that bytes spell, or what is wrong with the bytes and where.
 #[derive(Drop)]
 pub enum ParsedCall {
     /// A call: its name and its arguments.
@@ -17,8 +17,8 @@ pub enum ParsedCall {
     Faulty(CallProblem, usize),
 }
 
-/// Reads the bytes of a call: the external format of a tuple of its name, an atom, and the list of its arguments, such
-/// as `{lookup,[t,a]}`.
+/// Reads the bytes of a call: a tuple in the external format, such as `{lookup,[t,a]}`. Its elements are the name, an
+/// atom, and the list of the arguments.
 pub fn read_call(alloc: Global, bytes: &[u8]) -> Result<ParsedCall, AllocError>
     ensures { IfOk result (λ c. c ≡ spec.parse_call bytes.now) }
 {

@@ -1,5 +1,5 @@
 //! The two arrays of nodes, the slab of headers and the array of items: how they grow, and how one element is written.
-//! An element of the second is an item, or a placeholder where there is no item.
+//! An element of the array of items is an item, or a placeholder at a place without an item.
 ghost use Rattle.std.specs.Prelude.{◌≡◌, ◌<◌, ◌≤◌, ◌-◌, ◌^◌, Some, OnOk, vec_capacity};
 ghost use Rattle.slab.specs.Slab.{get, with_value, ContainsKey, HasRoomFor};
 ghost use Rattle.node_list.specs.inside.Slots.{WritesItem};
@@ -10,17 +10,18 @@ use slab::Slab;
 use std::alloc::AllocError;
 use std::mem;
 
-/// Returns the number of nodes by which to grow: at least `additional`, and at least the present number `len`. So the
-/// cost of growth is constant per node, on average, and an empty list takes memory for its one dummy only.
+/// Returns by how many places the slab grows: the greater of `additional` and `len`, the present number of places.
+/// Such a growth at least doubles the capacity, so its cost is constant per place, on average. A new list takes memory
+/// for its one dummy only.
 fn extra_capacity(len: usize, additional: usize) -> usize
     ensures { additional ≤ result }
 {
     additional.max(len)
 }
 
-/// Reserves capacity for one more place in both arrays. If the slab has capacity for fewer than `more` further nodes,
-/// it grows by at least `more`. If the second array is refused memory, the first keeps its new capacity, but no place
-/// is added.
+/// Reserves capacity for one more place in both arrays. If the slab has capacity for fewer than `more` further places,
+/// it grows by at least `more`. Returns an error if memory is refused or a header has no bits for the place number. The
+/// slab may then keep a new capacity, but no place is added.
 pub fn reserve_both(
     nodes: &mut Slab<PackedHeader>,
     items: &mut Vec<Item>,
@@ -38,11 +39,13 @@ pub fn reserve_both(
     if nodes.capacity() - len < more {
         nodes.reserve_exact(extra_capacity(len, more))?;
     }
+    // The place that the slab gives out next.
     let at = nodes.vacant_key();
     if at >= NO_PLACE {
         return Err(AllocError);
     }
     if at >= items.capacity() {
+        // The array of items gets as much capacity as the slab, and enough for the place `at`.
         let end = nodes.capacity().max(at + 1);
         items.reserve_exact(end - items.len())?;
     }
@@ -59,8 +62,8 @@ pub fn replace_at(nodes: &mut Slab<PackedHeader>, at: usize, header: PackedHeade
     mem::replace(&mut nodes[at], header)
 }
 
-/// Writes an item, or a placeholder, at a place. If the place is past the end of the array, placeholders fill the gap. The slab gives out
-/// consecutive places, so there is no gap in fact, but its contract does not promise this.
+/// Writes an item, or a placeholder, at a place. If the place is past the end of the array, placeholders fill the gap.
+/// The slab gives out consecutive places, so there is no gap in fact, but its contract does not promise this.
 #[inline(always)]
 pub fn write_item(items: &mut Vec<Item>, at: usize, slot: Item)
     requires { at < vec_capacity items.old }
@@ -72,6 +75,7 @@ pub fn write_item(items: &mut Vec<Item>, at: usize, slot: Item)
         return;
     }
     let alloc = *items.allocator();
+    // The array has capacity for the place, so `resize_with` takes no memory and does not fail.
     if items.len() < at && items.resize_with(at, || Item::placeholder(alloc)).is_err() {
         unreachable!();
     }

@@ -63,7 +63,8 @@ impl Chain {
         self.terms.len()
     }
 
-    /// Appends a term. If memory is refused, the term is dropped. An empty chain has capacity for one term.
+    /// Appends a term. If memory is refused, returns an error, drops the term and changes nothing. An empty chain has
+    /// capacity for one term, so a push to it succeeds.
     pub fn push(&mut self, term: Term) -> Result<(), AllocError>
         ensures ok { OnOk result (self.new ≡ self.old ++ term ∷ []) }
         ensures err { OnErr result (self.new ≡ self.old) }
@@ -120,7 +121,7 @@ impl Chain {
         old_len - self.len()
     }
 
-    /// Moves the terms to the end of `list`, which must have capacity for them.
+    /// Moves the terms to the end of `list`, in order. `list` must have capacity for them.
     pub fn move_into(self, list: &mut Vec<Term>)
         requires { vec_len list.old + length self ≤ vec_capacity list.old }
         ensures items { list.new.items ≡ list.old.items ++ self }
@@ -149,6 +150,7 @@ fn set_element_in(items: &mut Items<Term>, index: usize, item: Term)
     ensures { items.new ≡ slice_set items.old index item }
 {
     if index < items.len() {
+        // The old element is dropped at the end of the block.
         let _old = items.replace(index, item);
     }
 }

@@ -1,5 +1,5 @@
-//! The search for the item with a split key and a key (a term). It reads nodes through the counting reader only, so it
-//! counts each node that it reads.
+//! The search for the item with a split key and a key (a term). A search reads nodes through the counting reader only,
+//! which counts each node that the search reads.
 ghost use Rattle.std.specs.Prelude.{◌≡◌, Some, length};
 ghost use Rattle.node_list.specs.Cells.{Sorted};
 ghost use Rattle.node_list.specs.Search.{place_of, visited_cells};
@@ -10,8 +10,9 @@ use crate::reader::CountingReader;
 use crate::steps::Steps;
 use ets_term::Term;
 
-/// Returns the place of the first node from `start` on with this split key whose item has the key `term`. Counts each
-/// node that it reads. Ends at the first node with a greater split key.
+/// Returns the place of the first node from `start` on with this split key whose item has the key `term`, or `None` if
+/// no node has both. Adds the number of nodes that it reads to `steps`. Ends at the first node with a greater split
+/// key.
 pub fn find_from(
     nodes: CountingReader<'_>,
     start: usize,
@@ -25,10 +26,12 @@ pub fn find_from(
     ensures ticks { steps.new
         ≡ ticks (length (visited_cells split_key term.now (cells_from nodes.entry.nodes.now (Some start)))) steps.old }
 {
+    // The place of the node to read next, or `None` after the last node.
     let mut at = Some(start);
     while let Some(place) = at {
         let node = nodes.read(place, steps);
         if split_key < node.header.split_key {
+            // Split keys never fall along the list, so no later node has this split key.
             return None;
         }
         if node.header.split_key == split_key && node.holds(term) {

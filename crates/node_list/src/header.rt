@@ -6,6 +6,8 @@ use crate::link::Link;
 /// passes; the items are in another array.
 #[derive(Clone, Copy)]
 pub struct NodeHeader {
+    /// The number by which the list is sorted.
     pub split_key: u64,
+    /// The place of the next node.
     pub next: Link,
 }

@@ -12,12 +12,14 @@ use crate::link::Link;
 use crate::node::{Item, ListNode};
 use crate::nodes::Nodes;
 
-/// Returns the place of the last node from `start` on whose split key is at most `split_key`.
+/// Returns the place of the last node, from `start` on, before the first node whose split key is above `split_key`. The
+/// split key of the node at `start` is at most `split_key`.
 fn last_not_above(nodes: &Nodes, start: usize, split_key: u64) -> usize
     requires linked { IsLinked nodes.now (Some start) }
     requires up_to { NodeHasSplitKeyAtMost nodes.now start split_key }
     ensures { result ≡ last_not_above_in split_key start (cells_from nodes.now (Some start)) }
 {
+    // The place of the last node found so far whose split key is at most `split_key`.
     let mut last = start;
     while let Some(place) = nodes.header(last).next.get() {
         if split_key < nodes.header(place).split_key {
@@ -29,7 +31,8 @@ fn last_not_above(nodes: &Nodes, start: usize, split_key: u64) -> usize
 }
 
 /// Inserts a node with this split key after all nodes whose split keys are at most `split_key`, and returns its place.
-/// `start` is the place of a node whose split key is at most `split_key`.
+/// If `item` is `None`, the node is a dummy. `start` is the place of a node whose split key is at most `split_key`, and
+/// there must be a free place.
 #[inline(always)]
 pub fn insert_from(nodes: &mut Nodes, start: usize, split_key: u64, item: Option<Item>) -> usize
     requires room { HasRoomFor nodes.old 1 }

@@ -14,9 +14,9 @@
 //!
 //! *Mechanism.* The nodes are linked in one direction by place numbers. A slab gives out the places and holds the
 //! headers, 24 bytes each: split key, link and two tag bits. The elements of a second array have 96 bytes: the items,
-//! and placeholders at other places. Nobody reads a placeholder, so an element needs no tag. A search that passes a node
-//! reads only the slab, and compares keys only if split keys are equal. `next_item_at` reads only the slab too: a scan
-//! of all items reads both arrays forward and skips dummies. A place is added to the slab only after there is
+//! and placeholders at other places. Nobody reads a placeholder, so an element needs no tag. A search that passes a
+//! node reads only the slab, and compares keys only if split keys are equal. `next_item_at` reads only the slab too: a
+//! scan of all items reads both arrays forward and skips dummies. A place is added to the slab only after there is
 //! capacity for its item. So a refusal of memory changes no node. Places without a node form a *free list*: each leads
 //! to the next, the first is used next, and no place is returned to the slab.
 //!

@@ -6,10 +6,12 @@ use std::marker::Model;
 /// The place of the next node, or none, in one word; an `Option<usize>` takes two. A contract sees an option.
 #[derive(Clone, Copy)]
 pub struct Link {
+    /// The place, or the greatest `usize` for 'no place'.
     place: usize,
 }
 
 // The value that contracts see of this type (`view`), and what is true of its fields between calls (`invariant`).
+// `inverse` makes the fields from such a value, and `inverse_ok` proves this.
 impl Model for Link {
     ghost use Rattle.std.specs.Prelude.{Option, ℕ, ◌<◌, ◌^◌};
     ghost use Rattle.node_list.specs.inside.Words.{link_in, word_of};
@@ -42,7 +44,7 @@ impl Link {
         Link { place }
     }
 
-    /// Returns the place, or `None`.
+    /// Returns the place of the next node, or `None` if the link leads to no place.
     pub fn get(self) -> Option<usize>
         ensures { result ≡ self }
     {

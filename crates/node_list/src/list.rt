@@ -59,6 +59,7 @@ impl NodeList {
         ensures { IfOk result (λ l. l.cells ≡ new_cell 0 0 None ∷ []) }
     {
         let mut nodes = Nodes::new(alloc);
+        // The first place of the slab is 0, so the dummy is at `HEAD`.
         nodes.add_free_place(1)?;
         nodes.insert_reserved(ListNode {
             split_key: 0,
@@ -107,7 +108,8 @@ impl NodeList {
         self.nodes.len()
     }
 
-    /// Reserves capacity for `additional` insertions, which then take no memory.
+    /// Reserves capacity for `additional` insertions, which then take no memory. If memory is refused, returns an
+    /// error, and no node changes.
     pub fn reserve(&mut self, additional: usize) -> Result<(), AllocError>
         ensures room { OnOk result (HasRoom self.new additional) }
         ensures cells { self.new.cells ≡ self.old.cells }
@@ -118,7 +120,7 @@ impl NodeList {
     }
 
     /// Inserts a dummy with this split key, after all nodes with an equal split key, and returns its place. `start`
-    /// must be the place of a node whose split key is at most `split_key`.
+    /// must be the place of a node whose split key is at most `split_key`. Capacity for the node must be reserved.
     #[inline(always)]
     pub fn insert_dummy(&mut self, start: At, split_key: u64) -> At
         requires room { HasRoom self.old 1 }
@@ -133,7 +135,8 @@ impl NodeList {
     }
 
     /// Inserts an item with this split key, after all nodes with an equal split key, and returns its place. `term` is
-    /// the item's key, and `start` must be the place of a node whose split key is at most `split_key`.
+    /// the item's key, and `start` must be the place of a node whose split key is at most `split_key`. Capacity for the
+    /// node must be reserved.
     #[inline(always)]
     pub fn insert_item(&mut self, start: At, split_key: u64, term: Term, chain: Chain) -> At
         requires room { HasRoom self.old 1 }
@@ -153,9 +156,9 @@ impl NodeList {
         )
     }
 
-    /// Returns the place of the first item from `start` on with this split key and the key `term`. Adds the number of
-    /// nodes that it reads to `steps`. It reads up to the item found or the first node with a greater split key, or
-    /// else to the end.
+    /// Returns the place of the first item from `start` on with this split key and the key `term`, or `None` if no item
+    /// has both. Adds the number of nodes that it reads to `steps`. It reads up to the item found or the first node
+    /// with a greater split key, or else to the end.
     pub fn find(&self, start: At, split_key: u64, term: &Term, steps: &mut Steps) -> Option<At>
         requires { IsPlaceOf start self.now.cells }
         ensures found { result ≡ place_of split_key term.now (from start self.now.cells) }
@@ -166,7 +169,7 @@ impl NodeList {
         find_from(nodes, start, split_key, term, steps)
     }
 
-    /// Removes an item and returns its key and chain. `start` must be the place of a node before it.
+    /// Removes the item at `at` and returns its key and chain. `start` must be the place of a node before the item.
     pub fn unlink(&mut self, start: At, at: At) -> (Term, Chain)
         requires { HasItem at (cells_after start self.old.cells) }
         ensures item { item_at at self.old.cells ≡ Some (new_item result.0 result.1) }
@@ -181,12 +184,13 @@ impl NodeList {
         } = unlink_from(&mut self.nodes, start, at);
         match item {
             Some(Item { term, chain }) => (term, chain),
+            // A dummy has no item, but the node at `at` is an item.
             None => unreachable!(),
         }
     }
 
-    /// Removes an item, drops it without moving it and returns the number of terms in its chain. `start` must be the
-    /// place of a node before it.
+    /// Removes the item at `at`, drops it without moving it and returns the number of terms in its chain. `start` must
+    /// be the place of a node before the item.
     pub fn delete_item(&mut self, start: At, at: At) -> usize
         requires { HasItem at (cells_after start self.old.cells) }
         ensures count { option_map (λ item. length item.chain) (item_at at self.old.cells) ≡ Some result }
@@ -197,7 +201,7 @@ impl NodeList {
         delete_from(&mut self.nodes, start, at)
     }
 
-    /// Returns the place of the next node, or `None` after the last node.
+    /// Returns the place of the node after the node at `at`, or `None` if that node is the last.
     pub fn after(&self, at: At) -> Option<At>
         requires { IsPlaceOf at self.now.cells }
         ensures { result ≡ place_after at self.now.cells }
@@ -213,7 +217,7 @@ impl NodeList {
         self.nodes.header(at).split_key
     }
 
-    /// Returns the key (a term) and the chain of an item, or `None` for a dummy.
+    /// Returns the key (a term) and the chain of the item at a place, or `None` for a dummy.
     #[inline]
     pub fn item(&self, at: At) -> Option<(&Term, &Chain)>
         requires { IsPlaceOf at self.now.cells }
@@ -226,7 +230,8 @@ impl NodeList {
         }
     }
 
-    /// Returns the first place at or after `start` that has an item. The order is that of places, not of split keys.
+    /// Returns the first place at or after `start` that has an item, or `None` if no such place exists. The order is
+    /// that of places, not of split keys.
     #[inline]
     pub fn next_item_at(&self, start: At) -> Option<At>
         ensures { IsNextItem start result self.now.cells }
@@ -234,7 +239,7 @@ impl NodeList {
         self.nodes.next_item_at(start)
     }
 
-    /// Borrows the chain of an item for a change.
+    /// Borrows the chain of the item at a place for a change.
     // `lends`: when the borrow ends, the item has the chain that the borrower wrote, and the rest is as before.
     pub fn chain_mut(&mut self, at: At) -> &mut Chain
         requires { HasItem at self.old.cells }

@@ -8,17 +8,18 @@ use crate::link::Link;
 use ets_term::Term;
 use std::alloc::Global;
 
-/// An item: a key of the table, `term`, and the objects with this key, `chain`.
+/// An item: a key of the table with its objects. The field `term` is the key, and not an object. The objects are in the
+/// field `chain`.
 #[derive(Drop)]
 pub struct Item {
-    /// The key, a term.
+    /// The key of the item. It is a term, but not one of the objects.
     pub term: Term,
     /// The objects with this key.
     pub chain: Chain,
 }
 
 impl Item {
-    /// Returns the placeholder, which fills a place without an item.
+    /// Returns the placeholder, which fills a place without an item. Its key is the integer 0, and its chain is empty.
     pub fn placeholder(alloc: Global) -> Item
         ensures { result ≡ placeholder }
     {
@@ -28,7 +29,7 @@ impl Item {
         }
     }
 
-    /// Returns the item of a node, or a placeholder for a dummy.
+    /// Returns the item of a node, or a placeholder if `item` is `None`, for a dummy.
     #[inline(always)]
     pub fn or_placeholder(item: Option<Item>, alloc: Global) -> Item
         ensures { item_if (is_some item) result ≡ item }
@@ -44,7 +45,10 @@ impl Item {
 /// item; it marks the start of a bucket.
 #[derive(Drop)]
 pub struct ListNode {
+    /// The number by which the list is sorted.
     pub split_key: u64,
+    /// The place of the next node.
     pub next: Link,
+    /// The key with its objects, or `None` for a dummy.
     pub item: Option<Item>,
 }

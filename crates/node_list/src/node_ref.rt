@@ -11,7 +11,9 @@ use ets_term::Term;
 /// A node as a search sees it: its header, and a reference to its item, or to a placeholder.
 #[derive(Clone, Copy)]
 pub struct NodeRef<'a> {
+    /// The split key of the node and the link to the next node.
     pub header: NodeHeader,
+    /// `true` for an item, `false` for a dummy.
     pub has_item: bool,
     /// The item if `has_item`, else a placeholder.
     pub slot: &'a Item,

@@ -23,9 +23,10 @@ use std::marker::Model;
 use std::mem;
 
 /// Nodes by place: a slab of headers and an array of items. A search that passes a node reads only its header. A
-/// contract sees one slab of nodes, whose `vacant_key` is the first free place. A place is added to the slab only after
-/// there is capacity for its item, and is never returned to it. Places without a node form the *free list*: each leads to the
-/// next. A header packs a place with a tag of two bits, so a place has 62 bits at most.
+/// contract sees one slab of nodes. Its `vacant_key` is the place of the next insertion, and its `capacity` the number
+/// of places, free places included. A place is added to the slab of headers only after there is capacity for its item,
+/// and stays in that slab. Places without a node form the *free list*: each leads to the next. A header packs a place
+/// with a tag of two bits, so a place has 62 bits at most.
 #[derive(Drop)]
 pub struct Nodes {
     /// The headers of all places: the split key, the kind (item, dummy or free place) and the link of each.
@@ -79,7 +80,7 @@ impl Nodes {
         }
     }
 
-    /// Reserves capacity for `additional` more nodes.
+    /// Reserves capacity for `additional` more nodes. If memory is refused, returns an error, and no node changes.
     pub fn reserve(&mut self, additional: usize) -> Result<(), AllocError>
         ensures room { OnOk result (HasRoomFor self.new additional) }
         ensures succeeds { HasRoomFor self.old additional → IsOk result }
@@ -87,13 +88,14 @@ impl Nodes {
         ensures values { SameValues self.old self.new }
         ensures len { slab_len self.new ≡ slab_len self.old }
     {
+        // Each round adds one free place. The first round reserves the headers of all of them.
         while self.free_len() < additional {
             self.add_free_place(additional - self.free_len())?;
         }
         Ok(())
     }
 
-    /// Returns the number of free places.
+    /// Returns the number of free places: the places of the slab without a node.
     #[inline]
     fn free_len(&self) -> usize
         ensures { slab_len self.now + result ≡ self.now.capacity }
@@ -102,7 +104,7 @@ impl Nodes {
     }
 
     /// Adds a place to the slab and to the front of the free list. If the slab has capacity for fewer than `more`
-    /// further nodes, it grows by at least `more`.
+    /// further places, it grows by at least `more`. If memory is refused, returns an error and adds no place.
     pub fn add_free_place(&mut self, more: usize) -> Result<(), AllocError>
         requires { 0 < more }
         ensures room { OnOk result (self.new.capacity ≡ self.old.capacity + 1) }
@@ -119,7 +121,7 @@ impl Nodes {
         Ok(())
     }
 
-    /// Inserts a node at the first free place and returns that place.
+    /// Inserts a node at the first free place and returns that place. There must be a free place.
     #[inline(always)]
     pub fn insert_reserved(&mut self, node: ListNode) -> usize
         requires room { HasRoomFor self.old 1 }
@@ -139,9 +141,11 @@ impl Nodes {
         let is_item = item.is_some();
         let slot = Item::or_placeholder(item, *self.items.allocator());
         let Some(at) = self.free_head.get() else {
+            // There is a free place, so the free list is not empty.
             unreachable!()
         };
         let header = PackedHeader::new(NodeHeader { split_key, next }, is_item);
+        // The old header, of the free place: its link leads to the next free place.
         let free = replace_at(&mut self.nodes, at, header);
         self.free_head = free.next();
         self.len += 1;
@@ -150,7 +154,7 @@ impl Nodes {
         at
     }
 
-    /// Removes the node at a place and returns it. The place becomes the first of the free list.
+    /// Removes the node at a place and returns the node. The place becomes the first of the free list.
     pub fn remove(&mut self, at: usize) -> ListNode
         requires { ContainsKey self.old at }
         ensures value { get self.old at ≡ Some result }
@@ -159,10 +163,12 @@ impl Nodes {
         ensures len { slab_len self.new + 1 ≡ slab_len self.old }
         ensures capacity { self.new.capacity ≡ self.old.capacity }
     {
+        // The header of the removed node.
         let packed = replace_at(&mut self.nodes, at, PackedHeader::free(self.free_head));
         self.free_head = Link::to(at);
         self.len -= 1;
         let placeholder = Item::placeholder(*self.items.allocator());
+        // The item of the removed node, or a placeholder if the node is a dummy.
         let slot = mem::replace(&mut self.items[at], placeholder);
         self.first_item_bound = bound_after_remove(
             &self.nodes,
@@ -186,12 +192,14 @@ impl Nodes {
         ensures len { slab_len self.new + 1 ≡ slab_len self.old }
         ensures capacity { self.new.capacity ≡ self.old.capacity }
     {
+        // The header of the removed item, which is not used further.
         let _packed = replace_at(&mut self.nodes, at, PackedHeader::free(self.free_head));
         self.free_head = Link::to(at);
         self.len -= 1;
         let placeholder = Item::placeholder(*self.items.allocator());
         let slot = &mut self.items[at];
         let count = slot.chain.len();
+        // The assignment drops the item where it is.
         *slot = placeholder;
         self.first_item_bound = bound_after_remove(
             &self.nodes,
@@ -201,7 +209,7 @@ impl Nodes {
         count
     }
 
-    /// Returns the header of the node at a place.
+    /// Returns the header of the node at a place: its split key and its link.
     pub fn header(&self, at: usize) -> NodeHeader
         requires { ContainsKey self.now at }
         ensures { HasHeader self.now at result }
@@ -209,7 +217,7 @@ impl Nodes {
         self.nodes[at].header()
     }
 
-    /// Returns a reference to the node at a place. A search reads its item only if split keys are equal.
+    /// Returns a reference to the node at a place. A search reads the node's item only if split keys are equal.
     pub fn node_ref(&self, at: usize) -> NodeRef<'_>
         requires { ContainsKey self.now at }
         ensures { get self.now at ≡ Some (node_of_ref result) }
@@ -222,7 +230,7 @@ impl Nodes {
         }
     }
 
-    /// Returns the item at a place, or `None` for a dummy. For a dummy it reads only the header.
+    /// Returns the item at a place, or `None` for a dummy. Of a dummy, it reads only the header.
     #[inline]
     pub fn item(&self, at: usize) -> Option<&Item>
         requires { ContainsKey self.now at }
@@ -235,8 +243,8 @@ impl Nodes {
         }
     }
 
-    /// Returns the first place at or after `start` that has an item. It reads the headers in order of places, from
-    /// the first-item bound if `start` is below it.
+    /// Returns the first place at or after `start` that has an item, or `None` if no such place exists. It reads the
+    /// headers in order of places, from the first-item bound if `start` is below the bound.
     #[inline]
     pub fn next_item_at(&self, start: usize) -> Option<usize>
         ensures { IsNextItemIn start result self.now }
@@ -249,7 +257,7 @@ impl Nodes {
         None
     }
 
-    /// Returns the number of nodes.
+    /// Returns the number of nodes, items and dummies.
     #[inline]
     pub fn len(&self) -> usize
         ensures value { result ≡ slab_len self.now }
@@ -258,7 +266,7 @@ impl Nodes {
         self.len
     }
 
-    /// Gives a proof the invariant of all nodes. It does nothing at run time.
+    /// Gives a proof the bound of all places of nodes. It does nothing at run time.
     #[inline]
     pub fn reveal_invariant(&self)
         ensures { (at : ℕ) → ContainsKey self.now at → at < 2 ^ 64 - 1 }
@@ -267,7 +275,7 @@ impl Nodes {
         let _places = self.items.len();
     }
 
-    /// Changes the link of the node at a place.
+    /// Sets the link of the node at a place to `next`. Its split key and its item stay.
     pub fn set_next(&mut self, at: usize, next: Link)
         requires has { ContainsKey self.old at }
         requires fits { Fits next }

@@ -8,19 +8,22 @@ use crate::header::NodeHeader;
 use crate::link::Link;
 use crate::node::Item;
 
-/// The place number that encodes 'no place'. A place in a header has 62 bits.
+/// The place number that encodes 'no place': the greatest number of 62 bits. A place in a header has 62 bits, since the
+/// tag takes the other two bits of the word.
 pub const NO_PLACE: usize = usize::MAX / 4;
 
 /// A header as it is stored: the split key, and a word that is four times the place of the next node, plus a tag.
 /// The tag is 1 for an item, 2 for a free place and 0 for a dummy.
 #[derive(Clone, Copy)]
 pub struct PackedHeader {
+    /// The split key of a node; 0 for a free place.
     split_key: u64,
+    /// Four times the place of the next node, or of the next free place, plus the tag.
     word: usize,
 }
 
 impl PackedHeader {
-    /// Packs a header, with the tag of an item or of a dummy.
+    /// Packs a header with the tag of an item, 1, if `has_item`, and else with the tag of a dummy, 0.
     #[inline(always)]
     pub fn new(header: NodeHeader, has_item: bool) -> PackedHeader
         requires { Fits header.next }
@@ -32,7 +35,7 @@ impl PackedHeader {
         PackedHeader::with_tag(header.split_key, header.next, usize::from(has_item))
     }
 
-    /// Packs a free place, with the link to the next free place.
+    /// Packs the header of a free place: the split key 0, the link to the next free place and the tag 2.
     #[inline(always)]
     pub fn free(next: Link) -> PackedHeader
         requires { Fits next }
@@ -43,7 +46,7 @@ impl PackedHeader {
         PackedHeader::with_tag(0, next, 2)
     }
 
-    /// Packs a split key, a link and a tag.
+    /// Packs a split key, a link and a tag. The link `None` becomes the place number `NO_PLACE`.
     #[inline(always)]
     fn with_tag(split_key: u64, next: Link, tag: usize) -> PackedHeader
         requires fits { Fits next }
@@ -62,7 +65,7 @@ impl PackedHeader {
         }
     }
 
-    /// Returns the split key and the link.
+    /// Returns the split key and the link, unpacked.
     #[inline(always)]
     pub fn header(self) -> NodeHeader
         ensures key { result.split_key ≡ self.split_key }
@@ -75,7 +78,7 @@ impl PackedHeader {
         }
     }
 
-    /// Returns the link.
+    /// Returns the link: to the next node, or of a free place, to the next free place.
     #[inline(always)]
     pub fn next(self) -> Link
         ensures next { result ≡ next_in self }
@@ -89,7 +92,7 @@ impl PackedHeader {
         }
     }
 
-    /// Checks whether the node is an item.
+    /// Checks whether the place has an item: its tag, the two low bits of the word, is then 1.
     #[inline(always)]
     pub fn is_item(self) -> bool
         ensures { result ≡ is_item self }
@@ -97,7 +100,8 @@ impl PackedHeader {
         self.word % 4 == 1
     }
 
-    /// Returns the same header with another link. It must be the header of a node: a free place would become a dummy.
+    /// Returns the same header with another link. `self` must be the header of a node: a free place would become a
+    /// dummy.
     pub fn with_next(self, next: Link) -> PackedHeader
         requires { Fits next }
         ensures key { result.split_key ≡ self.split_key }
@@ -114,7 +118,8 @@ impl PackedHeader {
         )
     }
 
-    /// Returns the item of the node, if it has one, from the item or placeholder at its place.
+    /// Returns the item of the node, or `None` for a dummy. `item_or_placeholder` is what the array of items has at the
+    /// node's place.
     pub fn item_of(self, item_or_placeholder: Item) -> Option<Item>
         ensures { result ≡ item_if (is_item self) item_or_placeholder }
     {

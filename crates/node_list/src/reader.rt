@@ -8,9 +8,10 @@ use crate::node_ref::NodeRef;
 use crate::nodes::Nodes;
 use crate::steps::Steps;
 
-/// The nodes of a list, for a search. Its only way to read a node is `read`, which counts it.
+/// The nodes of a list, for a search. The only way to read a node is `read`, which counts the node.
 #[derive(Clone, Copy)]
 pub struct CountingReader<'a> {
+    /// The nodes to read, by place.
     nodes: &'a Nodes,
 }
 

@@ -41,6 +41,7 @@ impl Steps {
     pub fn tick(&mut self)
         ensures { self.new ≡ tick self.old }
     {
+        // `count` is a `&mut u64` into `self`.
         let Steps { count } = self;
         *count = count.saturating_add(1);
     }

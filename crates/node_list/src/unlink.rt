@@ -11,7 +11,8 @@ ghost use Rattle.node_list.specs.inside.Slots.{HasItemIn, HasChainLength};
 use crate::node::ListNode;
 use crate::nodes::Nodes;
 
-/// Returns the place of the predecessor of the node at `at`: the node, from `start` on, whose link leads to it.
+/// Returns the place of the predecessor of the node at `at`: the node, from `start` on, whose link leads to `at`. The
+/// node at `at` must be after the node at `start`.
 fn predecessor(nodes: &Nodes, start: usize, at: usize) -> usize
     requires linked { IsLinked nodes.now (Some start) }
     requires after { HasPlace at (all_but_first (cells_from nodes.now (Some start))) }
@@ -24,10 +25,11 @@ fn predecessor(nodes: &Nodes, start: usize, at: usize) -> usize
         }
         before = place;
     }
+    // The node at `at` is after the node at `start`, so the loop returns before the list ends.
     unreachable!()
 }
 
-/// Removes the node at `at`, which must be after `start`, and returns it.
+/// Removes the node at `at`, which must be after the node at `start`, and returns the removed node.
 pub fn unlink_from(nodes: &mut Nodes, start: usize, at: usize) -> ListNode
     requires linked { IsLinked nodes.old (Some 0) }
     requires after { HasPlace at (cells_after start (cells_from nodes.old (Some 0))) }
@@ -39,12 +41,13 @@ pub fn unlink_from(nodes: &mut Nodes, start: usize, at: usize) -> ListNode
 {
     let before = predecessor(nodes, start, at);
     let node = nodes.remove(at);
+    // The predecessor now leads to the node after the removed node.
     nodes.set_next(before, node.next);
     node
 }
 
-/// Removes the node at `at`, which must be after `start`, and drops its item without moving it. Returns the number of
-/// terms in the item's chain.
+/// Removes the node at `at`, an item after the node at `start`, and drops the item without moving it. Returns the
+/// number of terms in the item's chain.
 pub fn delete_from(nodes: &mut Nodes, start: usize, at: usize) -> usize
     requires linked { IsLinked nodes.old (Some 0) }
     requires after { HasPlace at (cells_after start (cells_from nodes.old (Some 0))) }
@@ -56,6 +59,7 @@ pub fn delete_from(nodes: &mut Nodes, start: usize, at: usize) -> usize
     ensures len { slab_len nodes.new + 1 ≡ slab_len nodes.old }
 {
     let before = predecessor(nodes, start, at);
+    // The link is read first, because `discard` replaces the header.
     let next = nodes.header(at).next;
     let count = nodes.discard(at);
     nodes.set_next(before, next);

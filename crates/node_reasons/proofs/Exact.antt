@@ -27,7 +27,8 @@ use Rattle.node_core.specs.Machine.{step}
 use Rattle.node_core.specs.Observable.{observable}
 use Rattle.node_core.specs.State.{State}
 use Rattle.node_core.specs.rules.Growth.{ok_reply}
-use Rattle.node_core.specs.rules.Replies.{true_reply, is_value}
+use Rattle.node_core.specs.rules.Replies.{true_reply}
+use Rattle.node_core.specs.Values.{is_value}
 use Rattle.node_reasons.specs.declared.reason.Rule.{Rule}
 use Rattle.node_reasons.specs.declared.reason.Rule.TheVariants as rule
 use Rattle.node_reasons.specs.declared.reason.Reason.{Reason}
@@ -35,12 +36,12 @@ use Rattle.node_reasons.specs.Reasons.{refusal_of, argument, about_whole_call}
 use Rattle.node_reasons.specs.Calls.{why_call}
 use Rattle.node_reasons.specs.Why.{limit_of, or_limit, why}
 use Rattle.node_reasons.specs.Laws.{Explains, ReasonsAreExact}
-use Rattle.node_reasons.specs.inside.LastRules.{NamesReason}
-use Rattle.node_reasons.specs.inside.LastRuleOfCalls.{last_rule_of_call, last_rule_of_refused, last_rule, reason_by_reply, reason_for}
+use Rattle.node_reasons.specs.inside.RefusalReasons.{NamesReason}
+use Rattle.node_reasons.specs.inside.RefusalReasonsOfCalls.{refusal_reason_of_call, refusal_reason_of_named_call, refusal_reason, reason_by_reply, reason_for}
 use Rattle.node_reasons.proofs.Explained.{ReasonExplains, ReasonExplainsAll, Either}
 use Rattle.node_reasons.proofs.ExplainedCalls.{changes_world-explained, within-explained, where-explained, call-explained}
 use Rattle.node_reasons.proofs.NamedRules.{last-where}
-use Rattle.node_reasons.proofs.Named.{call-named, last_rule-seen}
+use Rattle.node_reasons.proofs.Named.{call-named, refusal_reason-seen}
 
 -- the wanted reason explains the reply, and is chosen of the last rule and the limit
 abbrev Right : Option Reason → Reason → Reason → Reply → Type 0
@@ -92,19 +93,19 @@ module _ (old : State) where
   abbrev Called : ℕ → List Term → Reply → Option CallName → Type 0
   Called p args reply o =
       Right (option_map_or (λ name. or_limit (limit_of name) (why_call old.world p name args) reply) o (Some (about_whole_call rule.NoCall)))
-      (option_map_or (last_rule_of_refused old.world p args false) o (about_whole_call rule.NoCall)) (option_map_or (last_rule_of_refused old.world p args true) o (about_whole_call rule.NoCall)) reply
+      (option_map_or (refusal_reason_of_named_call old.world p args false) o (about_whole_call rule.NoCall)) (option_map_or (refusal_reason_of_named_call old.world p args true) o (about_whole_call rule.NoCall)) reply
 
   called-right : (p : ℕ) (args : List Term) (reply : Reply) (new : State) (o : Option CallName) → refuse_none old o Badarg (λ name. call old p name args) reply new → Called p args reply o
   called-right p args reply new None h = subst (λ r. Called p args r None) (sym h.0) (refl, refl)
   called-right p args reply new (Some name) h =
-      limit-right (limit_of name) (last_rule_of_call old.world p name args) (why_call old.world p name args) reply (limit-refuses name)
+      limit-right (limit_of name) (refusal_reason_of_call old.world p name args) (why_call old.world p name args) reply (limit-refuses name)
       (call-explained old p name args reply new h) (call-named old.world p name args)
 
   abbrev AskIsRight : ℕ → Call → Reply → Bool → Option ℕ → Type 0
   AskIsRight p asked reply b o =
       Right (if b then option_map_or (λ index. Some (argument (index + 1) rule.TooDeep)) o (option_map_or (λ name. or_limit (limit_of name) (why_call old.world p name asked.args) reply) (call_name asked.name) (Some (about_whole_call rule.NoCall))) else Some (about_whole_call rule.NoProcess))
-      (if b then option_map_or (λ index. argument (index + 1) rule.TooDeep) o (option_map_or (last_rule_of_refused old.world p asked.args false) (call_name asked.name) (about_whole_call rule.NoCall)) else about_whole_call rule.NoProcess)
-      (if b then option_map_or (λ index. argument (index + 1) rule.TooDeep) o (option_map_or (last_rule_of_refused old.world p asked.args true) (call_name asked.name) (about_whole_call rule.NoCall)) else about_whole_call rule.NoProcess) reply
+      (if b then option_map_or (λ index. argument (index + 1) rule.TooDeep) o (option_map_or (refusal_reason_of_named_call old.world p asked.args false) (call_name asked.name) (about_whole_call rule.NoCall)) else about_whole_call rule.NoProcess)
+      (if b then option_map_or (λ index. argument (index + 1) rule.TooDeep) o (option_map_or (refusal_reason_of_named_call old.world p asked.args true) (call_name asked.name) (about_whole_call rule.NoCall)) else about_whole_call rule.NoProcess) reply
 
   ask-right-at : (p : ℕ) (asked : Call) (reply : Reply) (new : State) (o : Option ℕ) (b : Bool) → Deep o b → Either b (gives SystemLimit old) (call_by_text old p asked.name asked.args) reply new → AskIsRight p asked reply true o
   ask-right-at p asked reply new None true d h = absurd (cc)
@@ -137,7 +138,7 @@ module _ (old : State) where
   grown None reply e = subst (λ r. Right (Some (about_whole_call rule.NoTable)) (about_whole_call rule.NoTable) (about_whole_call rule.NoTable) r) (sym e) (refl, refl)
   grown (Some table) reply e = answer-right (about_whole_call rule.NoTable) (about_whole_call rule.NoTable) reply (ap is_value e)
 
-right : (old new : State) (s : Step) (reply : Reply) → step old s reply new → Right (why old s reply) (last_rule old.world s false) (last_rule old.world s true) reply
+right : (old new : State) (s : Step) (reply : Reply) → step old s reply new → Right (why old s reply) (refusal_reason old.world s false) (refusal_reason old.world s true) reply
 right old new (Enrol p) reply h = limit-right rule.TooManyProcesses (about_whole_call rule.AlreadyEnrolled) (if is_some (process_at old.world.processes p) then Some (about_whole_call rule.AlreadyEnrolled) else None) reply refl
     (enrol-explained old p reply new h) (last-where (is_some (process_at old.world.processes p)) (about_whole_call rule.AlreadyEnrolled))
 right old new (End p) reply h = ended old (ends.after_exit old.world (ends.with_ended old.world.processes p) p) h.0 reply new.world (lives old.world.processes p) h.1 h.2
@@ -151,12 +152,12 @@ exact old new s reply h = (right old new s reply h).0
 -- what holds over the tables with their buckets
 pub reason_for-right : (s new : State) (event : Step) (reply : Reply) → step (observable s) event reply new → reason_for s.world event reply ≡ why (observable s) event reply
 reason_for-right s new event reply h =
-    sym (ap (λ (r : Reason). reason_by_reply r (last_rule (observable s).world event true) reply) (last_rule-seen s.world event false) ∙ ap (λ (r : Reason). reason_by_reply (last_rule s.world event false) r reply) (last_rule-seen s.world event true))
+    sym (ap (λ (r : Reason). reason_by_reply r (refusal_reason (observable s).world event true) reply) (refusal_reason-seen s.world event false) ∙ ap (λ (r : Reason). reason_by_reply (refusal_reason s.world event false) r reply) (refusal_reason-seen s.world event true))
     ∙ (right (observable s) new event reply h).1
 
 -- there is a reason exactly for a refusal
 pub reason_for-exact : (w : World) (event : Step) (reply : Reply) → is_some (reason_for w event reply) ≡ not (is_value reply)
-reason_for-exact w event reply = by (last_rule w event false) (last_rule w event true) reply
+reason_for-exact w event reply = by (refusal_reason w event false) (refusal_reason w event true) reply
   where
     by : (other limit : Reason) (reply : Reply) → is_some (reason_by_reply other limit reply) ≡ not (is_value reply)
     by other limit (Value term) = refl

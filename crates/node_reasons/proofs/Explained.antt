@@ -17,7 +17,8 @@ use Rattle.node_core.specs.declared.step.Reply.{Reply}
 use Rattle.node_core.specs.declared.step.Reply.TheVariants.{Badarg, SystemLimit}
 use Rattle.node_core.specs.State.{State}
 use Rattle.node_core.specs.Access.{may_access, table_if_allowed, usable, with_table, CallRule, ChangeResultToReply, WorldResultToReply, reads, changes}
-use Rattle.node_core.specs.rules.Replies.{truth_reply, is_value}
+use Rattle.node_core.specs.rules.Replies.{truth_reply}
+use Rattle.node_core.specs.Values.{is_value}
 use Rattle.node_reasons.specs.declared.reason.Reason.{Reason}
 use Rattle.node_reasons.specs.Reasons.{refusal_of, argument, table_of_term, on_table, rule_of_access}
 

@@ -35,7 +35,8 @@ use Rattle.node_core.specs.rules.Removal.{Take, Delete, DeleteObject, DeleteAllO
 use Rattle.node_core.specs.rules.Searching.{match_reply, match_object_reply, MatchDelete, select_reply, select_count_reply, SelectDelete}
 use Rattle.node_core.specs.rules.Updates.{UpdateCounter, UpdateElement}
 use Rattle.node_core.specs.rules.Owning.{GiveAway, SetOptions, value_or_undefined, Whereis, names_form, info_at, Info}
-use Rattle.node_core.specs.rules.Replies.{true_reply, is_value}
+use Rattle.node_core.specs.rules.Replies.{true_reply}
+use Rattle.node_core.specs.Values.{is_value}
 use Rattle.node_core.specs.rules.Tables.{new_table_of, New, DeleteTable}
 use Rattle.node_core.specs.rules.Walking.{Fixes, Releases, SafeFixtable, first_reply, next_reply, first_lookup_reply, next_lookup_reply}
 use Rattle.node_reasons.specs.declared.reason.Rule.TheVariants as rule

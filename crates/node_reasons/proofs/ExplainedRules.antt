@@ -16,7 +16,8 @@ use Rattle.table_ops.specs.declared.kind.Kind.TheVariants.{Set, Bag, DuplicateBa
 use Rattle.table_ops.specs.Content.{Content, key_of, is_object, objects_under}
 use Rattle.table_ops.specs.Put.{PutsAll, InsertsWithinLimit, is_taken}
 use Rattle.table_ops.specs.Drop.{Which, without_those, equal_to}
-use Rattle.table_ops.specs.Queries.{bound_in, matches, chosen_count, spec_result, is_chosen}
+use Rattle.table_ops.specs.Queries.{bound_in, matches, spec_result, is_chosen}
+use Rattle.table_ops.specs.Results.{chosen_count}
 use Rattle.table_ops.specs.Read.{lookup_element, lookup_element_or, all_objects}
 use Rattle.table_ops.specs.Outcomes.{gives}
 use Rattle.fixed_walk.specs.declared.fault.FixFault.TheVariants as fix
@@ -27,7 +28,8 @@ use Rattle.node_core.specs.declared.step.Reply.{Reply}
 use Rattle.node_core.specs.declared.step.Reply.TheVariants.{Badarg}
 use Rattle.node_core.specs.Access.{ChangeResultToReply}
 use Rattle.ets_term.specs.Views.{as_natural}
-use Rattle.node_core.specs.rules.Replies.{true_reply, truth_reply, list_reply, term_reply, is_value}
+use Rattle.node_core.specs.rules.Replies.{true_reply, truth_reply, list_reply, term_reply}
+use Rattle.node_core.specs.Values.{is_value}
 use Rattle.node_core.specs.rules.Insertion.{objects_in, Insert, InsertNew}
 use Rattle.node_core.specs.rules.Reading.{lookup_element_reply, lookup_element_or_reply}
 use Rattle.node_core.specs.rules.Removal.{DeleteObject}

@@ -27,13 +27,14 @@ use Rattle.ets_term.specs.Views.{as_int}
 use Rattle.table_ops.specs.declared.refusal.Refusal.{Refusal}
 use Rattle.table_ops.specs.declared.refusal.Refusal.TheVariants as refusal
 use Rattle.table_ops.specs.Content.{Content, objects_under}
-use Rattle.table_ops.specs.Update.{is_set, may_update, ops_avoid_key, element_specs_avoid_key, default_is_object, UpdatesCounterOf, InsertsDefault, UpdatesOrInsertsCounter, UpdatesElementOf, with_true, UpdatesOrInsertsElement, UpdatesCounter, UpdatesElement}
+use Rattle.table_ops.specs.Update.{is_set, may_update, ops_avoid_key, element_specs_avoid_key, default_is_object, UpdatesObject, InsertsDefault, UpdatesOrInsertsCounter, with_true, UpdatesOrInsertsElement, UpdatesCounter, UpdatesElement}
 use Rattle.table_ops.specs.Outcomes.{gives}
 use Rattle.fixed_walk.specs.TableState.{TableState, on_content}
 use Rattle.node_core.specs.declared.step.Reply.{Reply}
 use Rattle.node_core.specs.declared.step.Reply.TheVariants.{Value, Badarg}
 use Rattle.node_core.specs.Access.{ChangeResultToReply}
-use Rattle.node_core.specs.rules.Replies.{truth_reply, is_value}
+use Rattle.node_core.specs.rules.Replies.{truth_reply}
+use Rattle.node_core.specs.Values.{is_value}
 use Rattle.node_core.specs.rules.Updates.{UpdateCounter, UpdateElement}
 use Rattle.node_reasons.specs.declared.reason.Rule.{Rule}
 use Rattle.node_reasons.specs.declared.reason.Rule.TheVariants as rule
@@ -183,7 +184,7 @@ module _ {X : Type 0} (answer : X → Reply) (r : Result X Refusal) (reply : Rep
 
 -- ---- counters
 module _ (key given : Term) (default : Option Term) (f g : TableState) (reply : Reply) (r : Result Term Refusal) (is : ChangeResultToReply Value r reply) where
-  counted : (ops : Ops) (result : Result (Term × Term) CounterFault) → UpdatesCounterOf key f.content result r g.content → ReasonExplains (if_badarg rule.NotACounter result) reply
+  counted : (ops : Ops) (result : Result (Term × Term) CounterFault) → UpdatesObject key f.content result r g.content → ReasonExplains (if_badarg rule.NotACounter result) reply
   counted ops (Ok done) h = inl (value-of Value r done.1 reply refl h.0 is)
   counted ops (Err fault.Badarg) h = (badarg-of Value r reply h.0 is, refl)
   counted ops (Err fault.SystemLimit) h = inr (limit-of Value r reply h.0 is)
@@ -211,7 +212,7 @@ counter-explained key given default f g reply h = counts-explained key given def
 
 -- ---- elements
 module _ (key given : Term) (default : Option Term) (f g : TableState) (reply : Reply) (r : Result Bool Refusal) (is : ChangeResultToReply truth_reply r reply) where
-  wrote : (result : Result Term CounterFault) → UpdatesElementOf key f.content result r g.content → ReasonExplains (if_badarg rule.NoElement result) reply
+  wrote : (result : Result Term CounterFault) → UpdatesObject key f.content (with_true result) r g.content → ReasonExplains (if_badarg rule.NoElement result) reply
   wrote (Ok done) h = inl (value-of truth_reply r true reply refl h.0 is)
   wrote (Err fault.Badarg) h = (badarg-of truth_reply r reply h.0 is, refl)
   wrote (Err fault.SystemLimit) h = inr (limit-of truth_reply r reply h.0 is)

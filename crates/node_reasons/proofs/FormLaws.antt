@@ -1,6 +1,7 @@
 -- Forms of options and of updates, without what is read of them.
 use Rattle.std.proofs.Common.{◌≡◌, ℕ, pos, negsuc, Bool, true, false, List, [], ◌∷◌, Option, None, Some, option_map, option_and_then, refl, ap, ◌∙◌, codes}
 use Rattle.std.specs.Prelude.{◌&&◌, ◌||◌, if◌then◌else◌, is_some, nat_le}
+use Rattle.std.specs.Option.{option_map_or}
 use Rattle.std.specs.Str.{bytes_eq}
 use Rattle.std.specs.List.{list_all}
 use Rattle.ets_term.specs.declared.term.Term.{Term, out-Term}
@@ -15,7 +16,7 @@ use Rattle.counters.specs.Ops.{threshold_of, op_from, op_of_parts, op_of, all_op
 use Rattle.counters.specs.Elements.{element_spec_of_parts, all_element_specs}
 use Rattle.ownership.specs.declared.metadata.Heir.{Heir}
 use Rattle.ownership.specs.declared.options.NewOptions.{NewOptions}
-use Rattle.ownership.specs.Options.{default_options, keypos_option, other_word, word_option, parse_heir, is_tuning, pair_option, plain_tuple, heir_or_option, option_form, options_from, options_of}
+use Rattle.ownership.specs.Options.{default_options, keypos_option, word_option, parse_heir, is_tuning, pair_option, option_form, options_from, options_of}
 use Rattle.node_reasons.specs.inside.Forms.{is_other_word, is_word, is_keypos_form, is_option_pair, is_name_and_value, is_option_form, is_option, are_options_form, are_options}
 
 -- ---- options: whether one is read does not rest on what was read before
@@ -36,33 +37,30 @@ some-of-three false true c d p q r rest e = refl
 some-of-three false false true d p q r rest e = refl
 some-of-three false false false d p q r rest e = e
 
-other-word : (word : List ℕ) (o : NewOptions) → is_some (other_word word o) ≡ is_other_word word
-other-word word o =
-    some-of-five (bytes_eq word (codes "public")) (bytes_eq word (codes "protected")) (bytes_eq word (codes "private")) (bytes_eq word (codes "named_table")) (bytes_eq word (codes "compressed")) _ _ _ _ o
-
 word-option : (word : List ℕ) (o : NewOptions) → is_some (word_option word o) ≡ is_word word
 word-option word o =
-    some-of-three (bytes_eq word (codes "set")) (bytes_eq word (codes "bag")) (bytes_eq word (codes "duplicate_bag")) (is_other_word word) _ _ _ (other_word word o) (other-word word o)
+    some-of-three (bytes_eq word (codes "set")) (bytes_eq word (codes "bag")) (bytes_eq word (codes "duplicate_bag")) (is_other_word word) _ _ _ _
+    (some-of-five (bytes_eq word (codes "public")) (bytes_eq word (codes "protected")) (bytes_eq word (codes "private")) (bytes_eq word (codes "named_table")) (bytes_eq word (codes "compressed")) _ _ _ _ o)
 
 keypos-option : (form : Term-F Term) (o : NewOptions) → is_some (option_and_then (λ n. keypos_option n o) (natural_form form)) ≡ is_keypos_form form
 keypos-option (Term-F.Int (pos n)) o = some-if (nat_le 1 n && nat_le n 4294967295) _
 keypos-option (Term-F.Int (negsuc n)) o = refl
 keypos-option _ o = refl
 
-pair-option : (name value : Term) (o : NewOptions) → is_some (pair_option name value o) ≡ is_option_pair name value
+pair-option : (name value : Term) (o : NewOptions) → is_some (pair_option (name ∷ value ∷ []) o) ≡ is_option_pair name value
 pair-option name value o = by (is_atom (codes "keypos") name) (option_and_then (λ n. keypos_option n o) (natural_form (out-Term value))) (is_keypos_form (out-Term value)) (keypos-option (out-Term value) o)
   where
     by : (b : Bool) (read : Option NewOptions) (c : Bool) → is_some read ≡ c → is_some (if b then read else (if is_tuning name value then Some o else None)) ≡ (if b then c else is_tuning name value)
     by true read c e = e
     by false read c e = some-if (is_tuning name value) o
 
-plain-tuple : (es : List Term) (o : NewOptions) → is_some (plain_tuple es o) ≡ is_name_and_value es
+plain-tuple : (es : List Term) (o : NewOptions) → is_some (pair_option es o) ≡ is_name_and_value es
 plain-tuple [] o = refl
 plain-tuple (x ∷ []) o = refl
 plain-tuple (x ∷ y ∷ []) o = pair-option x y o
 plain-tuple (x ∷ y ∷ z ∷ more) o = refl
 
-tuple-saying : (said : Option (Option Heir)) (es : List Term) (o : NewOptions) → is_some (heir_or_option said es o) ≡ (is_some said || is_name_and_value es)
+tuple-saying : (said : Option (Option Heir)) (es : List Term) (o : NewOptions) → is_some (option_map_or (λ heir. Some (record o { heir = heir })) said (pair_option es o)) ≡ (is_some said || is_name_and_value es)
 tuple-saying None es o = plain-tuple es o
 tuple-saying (Some heir) es o = refl
 

@@ -20,12 +20,12 @@ use Rattle.node_reasons.specs.Objects.{why_insert, why_delete_object, why_next, 
 use Rattle.node_reasons.specs.Updates.{why_update_counter, why_update_element}
 use Rattle.node_reasons.specs.Calls.{why_call}
 use Rattle.node_reasons.specs.Why.{limit_of}
-use Rattle.node_reasons.specs.inside.LastRules.{NamesReason, last_rule_of_lookup_element, last_rule_of_update_counter, last_rule_of_update_element}
-use Rattle.node_reasons.specs.inside.LastRuleOfCalls.{state_of, content_in, table_of_first, last_rule_of_known, last_rule_of_call, last_rule_of_refused, last_rule}
+use Rattle.node_reasons.specs.inside.RefusalReasons.{NamesReason, refusal_reason_of_lookup_element, refusal_reason_of_update_counter, refusal_reason_of_update_element}
+use Rattle.node_reasons.specs.inside.RefusalReasonsOfCalls.{state_of, content_in, table_of_first, refusal_reason_by_name, refusal_reason_of_call, refusal_reason_of_named_call, refusal_reason}
 use Rattle.node_reasons.proofs.NamedRules.{last, on-named, content-named, use-named, fixing-named, informing-named, making-named, setting-named, giving-named, element-named, element-or-named, counting-named, counting-or-named, writing-named}
 
 module _ (w : World) (p : ℕ) where
-  pub call-named : (name : CallName) (args : List Term) → NamesReason (why_call w p name args) (last_rule_of_call w p name args)
+  pub call-named : (name : CallName) (args : List Term) → NamesReason (why_call w p name args) (refusal_reason_of_call w p name args)
   call-named name.Receive [] = tt {0}
   call-named name.Tab2list (x ∷ []) = use-named Read p (table_of_term w.tables x)
   call-named name.DeleteAllObjects (x ∷ []) = use-named Write p (table_of_term w.tables x)
@@ -52,13 +52,13 @@ module _ (w : World) (p : ℕ) where
   call-named name.SafeFixtable (x ∷ y ∷ []) = fixing-named p (table_of_term w.tables x) y
   call-named name.SetOptions (x ∷ y ∷ []) = setting-named p (table_of_term w.tables x) y
   call-named name.Info (x ∷ y ∷ []) = informing-named x y
-  call-named name.LookupElement (x ∷ y ∷ z ∷ []) = content-named Read p (why_lookup_element y z) (table_of_term w.tables x) (last_rule_of_lookup_element y z true) (element-named y z)
-  call-named name.UpdateCounter (x ∷ y ∷ z ∷ []) = content-named Write p (why_update_counter y z None) (table_of_term w.tables x) (last_rule_of_update_counter y z None) (counting-named y z)
-  call-named name.UpdateElement (x ∷ y ∷ z ∷ []) = content-named Write p (why_update_element y z None) (table_of_term w.tables x) (last_rule_of_update_element y z None) (writing-named y z None)
+  call-named name.LookupElement (x ∷ y ∷ z ∷ []) = content-named Read p (why_lookup_element y z) (table_of_term w.tables x) (refusal_reason_of_lookup_element y z true) (element-named y z)
+  call-named name.UpdateCounter (x ∷ y ∷ z ∷ []) = content-named Write p (why_update_counter y z None) (table_of_term w.tables x) (refusal_reason_of_update_counter y z None) (counting-named y z)
+  call-named name.UpdateElement (x ∷ y ∷ z ∷ []) = content-named Write p (why_update_element y z None) (table_of_term w.tables x) (refusal_reason_of_update_element y z None) (writing-named y z None)
   call-named name.GiveAway (x ∷ y ∷ z ∷ []) = giving-named w.processes p (table_of_term w.tables x) y
-  call-named name.LookupElement (x ∷ y ∷ z ∷ default ∷ []) = content-named Read p (why_lookup_element_or y z) (table_of_term w.tables x) (last_rule_of_lookup_element y z false) (element-or-named y z)
-  call-named name.UpdateCounter (x ∷ y ∷ z ∷ default ∷ []) = content-named Write p (why_update_counter y z (Some default)) (table_of_term w.tables x) (last_rule_of_update_counter y z (Some default)) (counting-or-named y z default)
-  call-named name.UpdateElement (x ∷ y ∷ z ∷ default ∷ []) = content-named Write p (why_update_element y z (Some default)) (table_of_term w.tables x) (last_rule_of_update_element y z (Some default)) (writing-named y z (Some default))
+  call-named name.LookupElement (x ∷ y ∷ z ∷ default ∷ []) = content-named Read p (why_lookup_element_or y z) (table_of_term w.tables x) (refusal_reason_of_lookup_element y z false) (element-or-named y z)
+  call-named name.UpdateCounter (x ∷ y ∷ z ∷ default ∷ []) = content-named Write p (why_update_counter y z (Some default)) (table_of_term w.tables x) (refusal_reason_of_update_counter y z (Some default)) (counting-or-named y z default)
+  call-named name.UpdateElement (x ∷ y ∷ z ∷ default ∷ []) = content-named Write p (why_update_element y z (Some default)) (table_of_term w.tables x) (refusal_reason_of_update_element y z (Some default)) (writing-named y z (Some default))
   call-named _ _ = refl
 
 -- ---- without the buckets
@@ -73,22 +73,22 @@ named-first : (ts : Tables) (args : List Term) → table_of_first (observable_ta
 named-first ts [] = refl
 named-first ts (x ∷ args) = named-seen ts x
 
-call-seen : (w : World) (p : ℕ) (name : CallName) (args : List Term) → last_rule_of_call (observable_world w) p name args ≡ last_rule_of_call w p name args
-call-seen w p name args = ap (λ o. last_rule_of_known p (metadata_of o) (content_in (state_of o)) name args) (named-first w.tables args) ∙ by (table_of_first w.tables args)
+call-seen : (w : World) (p : ℕ) (name : CallName) (args : List Term) → refusal_reason_of_call (observable_world w) p name args ≡ refusal_reason_of_call w p name args
+call-seen w p name args = ap (λ o. refusal_reason_by_name p (metadata_of o) (content_in (state_of o)) name args) (named-first w.tables args) ∙ by (table_of_first w.tables args)
   where
-    by : (o : Option Table) → last_rule_of_known p (metadata_of (option_map observable_table o)) (content_in (state_of (option_map observable_table o))) name args ≡ last_rule_of_known p (metadata_of o) (content_in (state_of o)) name args
+    by : (o : Option Table) → refusal_reason_by_name p (metadata_of (option_map observable_table o)) (content_in (state_of (option_map observable_table o))) name args ≡ refusal_reason_by_name p (metadata_of o) (content_in (state_of o)) name args
     by None = refl
     by (Some table) = refl
 
-refused-seen : (w : World) (p : ℕ) (args : List Term) (limited : Bool) (o : Option CallName) → option_map_or (last_rule_of_refused (observable_world w) p args limited) o (about_whole_call rule.NoCall) ≡ option_map_or (last_rule_of_refused w p args limited) o (about_whole_call rule.NoCall)
+refused-seen : (w : World) (p : ℕ) (args : List Term) (limited : Bool) (o : Option CallName) → option_map_or (refusal_reason_of_named_call (observable_world w) p args limited) o (about_whole_call rule.NoCall) ≡ option_map_or (refusal_reason_of_named_call w p args limited) o (about_whole_call rule.NoCall)
 refused-seen w p args limited None = refl
 refused-seen w p args limited (Some name) = ap (λ (r : Reason). if limited then about_whole_call (limit_of name) else r) (call-seen w p name args)
 
-pub last_rule-seen : (w : World) (event : Step) (limited : Bool) → last_rule (observable_world w) event limited ≡ last_rule w event limited
-last_rule-seen w (Enrol p) limited = refl
-last_rule-seen w (End p) limited = refl
-last_rule-seen w (Ask p asked) limited =
+pub refusal_reason-seen : (w : World) (event : Step) (limited : Bool) → refusal_reason (observable_world w) event limited ≡ refusal_reason w event limited
+refusal_reason-seen w (Enrol p) limited = refl
+refusal_reason-seen w (End p) limited = refl
+refusal_reason-seen w (Ask p asked) limited =
     ap (λ (r : Reason). if lives w.processes p then option_map_or (λ index. argument (index + 1) rule.TooDeep) (position is_too_deep asked.args) r else about_whole_call rule.NoProcess)
     (refused-seen w p asked.args limited (call_name asked.name))
-last_rule-seen w (Grow t) limited = refl
-last_rule-seen w (Ready t bucket) limited = refl
+refusal_reason-seen w (Grow t) limited = refl
+refusal_reason-seen w (Ready t bucket) limited = refl

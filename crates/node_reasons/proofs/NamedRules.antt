@@ -34,8 +34,8 @@ use Rattle.node_reasons.specs.Objects.{no_further_rule, why_element_of_key, why_
 use Rattle.node_reasons.specs.Updates.{if_badarg, on_set, why_counter_of_key, why_update_counter, why_elements_of_key, why_update_element}
 use Rattle.node_reasons.specs.Tables.{why_new_with, why_new, why_info, why_safe_fixtable, on_owned_table, why_heir, why_setopts, why_receiver, why_give_away_to, why_give_away}
 use Rattle.node_reasons.specs.inside.Forms.{are_options}
-use Rattle.node_reasons.specs.inside.LastRules.{NamesReason, access_reason_or, last_rule_of_use, last_rule_of_content, owner_reason_or, last_rule_of_give_away_to, last_rule_of_give_away, last_rule_of_safe_fixtable, last_rule_of_new, last_rule_of_info, key_reason_or, position_reason_or, last_rule_of_lookup_element, set_reason_or, last_rule_of_update_counter, last_rule_of_update_element}
-use Rattle.node_reasons.specs.inside.LastRuleOfCalls.{state_of, content_in}
+use Rattle.node_reasons.specs.inside.RefusalReasons.{NamesReason, access_reason_or, refusal_reason_of_use, refusal_reason_of_content, owner_reason_or, refusal_reason_of_give_away_to, refusal_reason_of_give_away, refusal_reason_of_safe_fixtable, refusal_reason_of_new, refusal_reason_of_info, key_reason_or, position_reason_or, refusal_reason_of_lookup_element, set_reason_or, refusal_reason_of_update_counter, refusal_reason_of_update_element}
+use Rattle.node_reasons.specs.inside.RefusalReasonsOfCalls.{state_of, content_in}
 use Rattle.node_reasons.proofs.FormLaws.{options-some}
 
 -- the last rule
@@ -57,34 +57,34 @@ module _ (access : Access) (p : ℕ) (rest : Content → Option Reason) where
       by true = named table.state.content
       by false = refl
 
-  pub content-named : (o : Option Table) (last_rule : Content → Reason) → ((content : Content) → NamesReason (rest content) (last_rule content)) → NamesReason (on_table access p o rest) (last_rule_of_content access p (metadata_of o) (content_in (state_of o)) last_rule)
-  content-named None last_rule named = refl
-  content-named (Some table) last_rule named = by (may_access access table.metadata p)
+  pub content-named : (o : Option Table) (refusal_reason : Content → Reason) → ((content : Content) → NamesReason (rest content) (refusal_reason content)) → NamesReason (on_table access p o rest) (refusal_reason_of_content access p (metadata_of o) (content_in (state_of o)) refusal_reason)
+  content-named None refusal_reason named = refl
+  content-named (Some table) refusal_reason named = by (may_access access table.metadata p)
     where
-      by : (b : Bool) → NamesReason (if b then rest table.state.content else Some (argument 1 (rule_of_access access))) (if b then last_rule table.state.content else argument 1 (rule_of_access access))
+      by : (b : Bool) → NamesReason (if b then rest table.state.content else Some (argument 1 (rule_of_access access))) (if b then refusal_reason table.state.content else argument 1 (rule_of_access access))
       by true = named table.state.content
       by false = refl
 
-pub use-named : (access : Access) (p : ℕ) (o : Option Table) → NamesReason (on_table access p o no_further_rule) (last_rule_of_use access p (metadata_of o))
+pub use-named : (access : Access) (p : ℕ) (o : Option Table) → NamesReason (on_table access p o no_further_rule) (refusal_reason_of_use access p (metadata_of o))
 use-named access p o = on-named access p no_further_rule o (argument 1 (rule_of_access access)) (λ content. tt {0})
 
-pub fixing-named : (p : ℕ) (o : Option Table) (flag : Term) → NamesReason (why_safe_fixtable p o flag) (last_rule_of_safe_fixtable p (metadata_of o) flag)
+pub fixing-named : (p : ℕ) (o : Option Table) (flag : Term) → NamesReason (why_safe_fixtable p o flag) (refusal_reason_of_safe_fixtable p (metadata_of o) flag)
 fixing-named p o flag = by (is_atom (codes "true") flag) (is_atom (codes "false") flag)
   where
-    by : (a b : Bool) → NamesReason (if a then on_table Read p o no_further_rule else if b then on_table Read p o no_further_rule else Some (argument 2 rule.NotABoolean)) (if a then last_rule_of_use Read p (metadata_of o) else if b then last_rule_of_use Read p (metadata_of o) else argument 2 rule.NotABoolean)
+    by : (a b : Bool) → NamesReason (if a then on_table Read p o no_further_rule else if b then on_table Read p o no_further_rule else Some (argument 2 rule.NotABoolean)) (if a then refusal_reason_of_use Read p (metadata_of o) else if b then refusal_reason_of_use Read p (metadata_of o) else argument 2 rule.NotABoolean)
     by true b = use-named Read p o
     by false true = use-named Read p o
     by false false = refl
 
 -- ---- tables, owners and names
-pub informing-named : (term item : Term) → NamesReason (why_info term item) (last_rule_of_info item)
+pub informing-named : (term item : Term) → NamesReason (why_info term item) (refusal_reason_of_info item)
 informing-named term item = by (is_some (item_of item))
   where
     by : (b : Bool) → NamesReason (if b then (if names_form (out-Term term) then None else Some (argument 1 rule.NotAnAtom)) else Some (argument 2 rule.NotAnItem)) (if b then argument 1 rule.NotAnAtom else argument 2 rule.NotAnItem)
     by true = last (names_form (out-Term term)) (argument 1 rule.NotAnAtom)
     by false = refl
 
-pub making-named : (ts : Tables) (name options : Term) → NamesReason (why_new ts name options) (last_rule_of_new name options)
+pub making-named : (ts : Tables) (name options : Term) → NamesReason (why_new ts name options) (refusal_reason_of_new name options)
 making-named ts name options = by (as_atom name)
   where
     given : (text : List ℕ) (o : Option NewOptions) (b : Bool) → is_some o ≡ b → NamesReason (why_new_with ts text o) (if b then argument 1 rule.NameIsTaken else argument 2 rule.NotOptions)
@@ -116,11 +116,11 @@ receiving-named processes p q = by (q == p)
     by true = refl
     by false = last (lives processes q) (argument 2 rule.NotAlive)
 
-pub giving-named : (processes : Processes) (p : ℕ) (o : Option Table) (pid : Term) → NamesReason (why_give_away processes p o pid) (last_rule_of_give_away p (metadata_of o) pid)
+pub giving-named : (processes : Processes) (p : ℕ) (o : Option Table) (pid : Term) → NamesReason (why_give_away processes p o pid) (refusal_reason_of_give_away p (metadata_of o) pid)
 giving-named processes p None pid = refl
 giving-named processes p (Some table) pid = by (pid_form (out-Term pid))
   where
-    by : (q : Option ℕ) → NamesReason (why_give_away_to processes p (Some table) q) (last_rule_of_give_away_to p table.metadata q)
+    by : (q : Option ℕ) → NamesReason (why_give_away_to processes p (Some table) q) (refusal_reason_of_give_away_to p table.metadata q)
     by None = refl
     by (Some q) = own-named p (Some table) (λ _. why_receiver processes p q) (if q == p then argument 2 rule.ToSelf else argument 2 rule.NotAlive) (λ _. receiving-named processes p q)
 
@@ -138,14 +138,14 @@ module _ (kind : Kind) (n : ℕ) where
   at-zero v r true named = refl
   at-zero v r false named = named
 
-pub element-named : (key position : Term) (content : Content) → NamesReason (why_lookup_element key position content) (last_rule_of_lookup_element key position true content)
+pub element-named : (key position : Term) (content : Content) → NamesReason (why_lookup_element key position content) (refusal_reason_of_lookup_element key position true content)
 element-named key position content = by (as_natural position)
   where
     by : (o : Option ℕ) → NamesReason (why_element_at (Some (argument 2 rule.NoKey)) (objects_under content.slots key) content.kind o) (position_reason_or o (key_reason_or true (argument 3 rule.NoElement) (objects_under content.slots key)))
     by None = refl
     by (Some n) = at-zero content.kind n _ _ (n == 0) (under-needed content.kind n (objects_under content.slots key))
 
-pub element-or-named : (key position : Term) (content : Content) → NamesReason (why_lookup_element_or key position content) (last_rule_of_lookup_element key position false content)
+pub element-or-named : (key position : Term) (content : Content) → NamesReason (why_lookup_element_or key position content) (refusal_reason_of_lookup_element key position false content)
 element-or-named key position content = by (as_natural position)
   where
     by : (o : Option ℕ) → NamesReason (why_element_at None (objects_under content.slots key) content.kind o) (position_reason_or o (key_reason_or false (argument 3 rule.NoElement) (objects_under content.slots key)))
@@ -172,7 +172,7 @@ formed : {X : Type 0} (o : Option X) (v : X → Option Reason) (r : Reason) → 
 formed None v r named = refl
 formed (Some x) v r named = named x
 
-pub counting-named : (key given : Term) (content : Content) → NamesReason (why_update_counter key given None content) (last_rule_of_update_counter key given None content)
+pub counting-named : (key given : Term) (content : Content) → NamesReason (why_update_counter key given None content) (refusal_reason_of_update_counter key given None content)
 counting-named key given content =
     formed (ops_of content.keypos given) (λ ops. on_set key None content (why_counter_of_key key ops None content (objects_under content.slots key))) _
     (λ ops. set-named key None content _ _ (under ops (objects_under content.slots key)))
@@ -181,7 +181,7 @@ counting-named key given content =
     under ops [] = refl
     under ops (object ∷ objects) = badarg-named rule.NotACounter (apply_ops ops object)
 
-pub counting-or-named : (key given default : Term) (content : Content) → NamesReason (why_update_counter key given (Some default) content) (last_rule_of_update_counter key given (Some default) content)
+pub counting-or-named : (key given default : Term) (content : Content) → NamesReason (why_update_counter key given (Some default) content) (refusal_reason_of_update_counter key given (Some default) content)
 counting-or-named key given default content =
     formed (ops_of content.keypos given) (λ ops. on_set key (Some default) content (why_counter_of_key key ops (Some default) content (objects_under content.slots key))) _
     (λ ops. set-named key (Some default) content _ _ (under ops (objects_under content.slots key)))
@@ -190,7 +190,7 @@ counting-or-named key given default content =
     under ops [] = badarg-named rule.NotACounter (start_counter ops (with_key content.keypos key default))
     under ops (object ∷ objects) = badarg-named rule.NotACounter (apply_ops ops object)
 
-pub writing-named : (key given : Term) (default : Option Term) (content : Content) → NamesReason (why_update_element key given default content) (last_rule_of_update_element key given default content)
+pub writing-named : (key given : Term) (default : Option Term) (content : Content) → NamesReason (why_update_element key given default content) (refusal_reason_of_update_element key given default content)
 writing-named key given default content =
     formed (element_specs_of content.keypos given) (λ specs. on_set key default content (why_elements_of_key key specs default content (objects_under content.slots key))) _
     (λ specs. set-named key default content _ _ (under specs (objects_under content.slots key)))

@@ -4,7 +4,7 @@ use Rattle.node_core.specs.declared.step.Reply.{Reply}
 use Rattle.node_core.specs.declared.step.Step.{Step}
 use Rattle.node_core.specs.State.{State}
 use Rattle.node_core.specs.Machine.{step}
-use Rattle.node_core.specs.rules.Replies.{is_value}
+use Rattle.node_core.specs.Values.{is_value}
 use Rattle.node_reasons.specs.declared.reason.Reason.{Reason}
 use Rattle.node_reasons.specs.Reasons.{refusal_of}
 use Rattle.node_reasons.specs.Why.{why}

@@ -11,7 +11,7 @@ use Rattle.node_core.specs.declared.step.Step.{Step}
 use Rattle.node_core.specs.declared.step.Step.TheVariants.{Enrol, End, Ask, Grow, Ready}
 use Rattle.node_core.specs.State.{State}
 use Rattle.node_core.specs.CallName.{call_name}
-use Rattle.node_core.specs.rules.Replies.{is_value}
+use Rattle.node_core.specs.Values.{is_value}
 use Rattle.node_reasons.specs.declared.reason.Rule.{Rule}
 use Rattle.node_reasons.specs.declared.reason.Rule.TheVariants as rule
 use Rattle.node_reasons.specs.declared.reason.Reason.{Reason}

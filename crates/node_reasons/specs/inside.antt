@@ -1,3 +1,3 @@
 pub mod Forms
-pub mod LastRules
-pub mod LastRuleOfCalls
+pub mod RefusalReasons
+pub mod RefusalReasonsOfCalls

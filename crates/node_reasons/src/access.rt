@@ -1,11 +1,11 @@
 //! The rules with which most calls begin: the table exists, and the process may read it, may write to it, or owns it. A
-//! function `needs_*` returns the reason for such a broken rule, or else the reason that was passed.
+//! function `*_reason_or` returns the reason for such a broken rule, or else the reason that was passed.
 ghost use Rattle.std.specs.Prelude.{◌≡◌, option_copied};
 ghost use Rattle.ownership.specs.World.{metadata_of};
 ghost use Rattle.node_core.specs.declared.node.access.Access.TheVariants.{Read, Write};
 ghost use Rattle.node_reasons.specs.Reasons.{table_of_term};
-ghost use Rattle.node_reasons.specs.inside.LastRules.{access_reason_or, last_rule_of_use, owner_reason_or};
-ghost use Rattle.node_reasons.specs.inside.LastRuleOfCalls.{state_of};
+ghost use Rattle.node_reasons.specs.inside.RefusalReasons.{access_reason_or, refusal_reason_of_use, owner_reason_or};
+ghost use Rattle.node_reasons.specs.inside.RefusalReasonsOfCalls.{state_of};
 
 use crate::reason::{Reason, Rule};
 use bucket_table::Rows;
@@ -16,14 +16,18 @@ use ownership::{Metadata, World};
 /// The table that a term names, if there is one, and the process that uses it.
 #[derive(Drop)]
 pub struct TableUse<'a, R: Rows> {
+    /// The process that makes the call.
     pub pid: u32,
+    /// The first argument of the call.
     pub term: &'a Term,
+    /// The owner, protection and name of the table; `None` if the term names no table.
     pub metadata: Option<&'a Metadata>,
+    /// The table with its objects; `None` if the term names no table.
     pub table: Option<&'a Walked<R>>,
 }
 
 impl<'a, R: Rows> TableUse<'a, R> {
-    /// Finds the table that a term names.
+    /// Finds the table that a term names, for a call of the process `pid`.
     pub fn find(world: &'a World<R>, pid: u32, term: &'a Term) -> TableUse<'a, R>
         ensures pid { result.pid ≡ pid }
         ensures term { result.term.now ≡ term.now }
@@ -69,15 +73,15 @@ impl<'a, R: Rows> TableUse<'a, R> {
     }
 
     /// Returns the reason of a refused call whose last rule is that the process may read the table.
-    pub fn last_rule_of_read(&self) -> Reason
-        ensures { result ≡ last_rule_of_use Read self.now.pid (option_copied self.now.metadata) }
+    pub fn refusal_reason_of_read(&self) -> Reason
+        ensures { result ≡ refusal_reason_of_use Read self.now.pid (option_copied self.now.metadata) }
     {
         self.read_reason_or(Reason::argument(1, Rule::NotReadable))
     }
 
     /// Returns the reason of a refused call whose last rule is that the process may write to the table.
-    pub fn last_rule_of_write(&self) -> Reason
-        ensures { result ≡ last_rule_of_use Write self.now.pid (option_copied self.now.metadata) }
+    pub fn refusal_reason_of_write(&self) -> Reason
+        ensures { result ≡ refusal_reason_of_use Write self.now.pid (option_copied self.now.metadata) }
     {
         self.write_reason_or(Reason::argument(1, Rule::NotWritable))
     }

@@ -88,7 +88,7 @@ fn is_element_spec(keypos: u32, parts: &[Term]) -> bool
     }
 }
 
-/// Returns whether a term is a position of at least 1 that is not the key's.
+/// Checks whether a term is a position that an update may name: an integer of at least 1, and not the key's position.
 fn is_position(keypos: u32, term: &Term) -> bool
     ensures { result ≡ is_some (updatable_position keypos term.now) }
 {

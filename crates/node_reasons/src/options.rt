@@ -55,7 +55,7 @@ fn is_other_word(word: &str) -> bool
         || word == "compressed"
 }
 
-/// Returns whether a tuple is an option about an heir.
+/// Checks whether the elements are those of an option about an heir: `{heir,none}` or `{heir,Pid,Data}`.
 #[tactic(auto, using(crate::proofs::FormLaws::heir_forms))]
 fn is_heir(elements: &[Term]) -> bool
     ensures { result ≡ is_some (parse_heir elements.now) }
@@ -88,7 +88,7 @@ fn is_option_pair(name: &Term, value: &Term) -> bool
     }
 }
 
-/// Returns whether a term is a position that keys can have.
+/// Checks whether a term is a position that keys can have: an integer from 1 to 2^32 - 1.
 fn is_keypos(term: &Term) -> bool
     ensures { result ≡ is_keypos_form (out-Term term.now) }
 {
@@ -98,18 +98,15 @@ fn is_keypos(term: &Term) -> bool
     }
 }
 
-/// Returns whether a pair is a tuning option, which changes nothing.
+/// Checks whether a name and its value are an option that only tunes speed in `ets`, and changes nothing here.
 fn is_tuning(name: &Term, value: &Term) -> bool
     ensures { result ≡ is_tuning name.now value.now }
 {
-    if name.is_atom("read_concurrency") {
-        is_boolean(value)
-    } else if name.is_atom("decentralized_counters") {
-        is_boolean(value)
-    } else if name.is_atom("write_concurrency") {
+    if name.is_atom("write_concurrency") {
         is_boolean(value) || value.is_atom("auto")
     } else {
-        false
+        (name.is_atom("read_concurrency") || name.is_atom("decentralized_counters"))
+            && is_boolean(value)
     }
 }
 

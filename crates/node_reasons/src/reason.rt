@@ -26,8 +26,9 @@ pub enum Rule {
     NotOwner,
     /// The table is a bag, and the call is for sets.
     NotASet,
-    /// The argument is not an object of the table, or is a list that has something else in it. An object is a tuple that
-    /// has the key position, and its key is not `'$end_of_table'`. A Default counts as an object with the key in it.
+    /// The argument is not an object of the table, or is a list that has something else in it. An object is a tuple
+    /// that has the key position, and its key is not `'$end_of_table'`. A Default counts as an object with the key in
+    /// it.
     NotAnObject,
     /// The key has no object; in a traversal, it has no tombstone either.
     NoKey,

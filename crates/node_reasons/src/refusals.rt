@@ -1,15 +1,15 @@
-//! The function `why`, which returns the reason of a refused step. A function `last_rule_*` does not try the last rule
-//! of its call: it is broken if all others hold.
+//! The function `why`, which returns the reason of a refused step: the first rule that the step breaks. A function
+//! `refusal_reason_*` does not check the last rule of its call: that rule is broken if all others hold.
 ghost use Rattle.std.specs.Prelude.{◌≡◌, is_some, not, position};
 ghost use Rattle.ets_term.specs.Depth.{is_too_deep};
 ghost use Rattle.node_core.specs.Machine.{step};
 ghost use Rattle.node_core.specs.Observable.{observable};
 ghost use Rattle.node_core.specs.State.{State};
-ghost use Rattle.node_core.specs.rules.Replies.{is_value};
+ghost use Rattle.node_core.specs.Values.{is_value};
 ghost use Rattle.node_reasons.specs.Why.{why};
-ghost use Rattle.node_reasons.specs.inside.LastRuleOfCalls.{reason_for, last_rule, last_rule_of_ask};
+ghost use Rattle.node_reasons.specs.inside.RefusalReasonsOfCalls.{reason_for, refusal_reason, refusal_reason_of_ask};
 
-use crate::calls::{last_rule_of_call, limit_of};
+use crate::calls::{limit_of, refusal_reason_of_call};
 use crate::reason::{Reason, Rule};
 use bucket_table::Rows;
 use ets_term::{KeyHash, Term};
@@ -27,7 +27,7 @@ pub fn why<H: KeyHash + Copy + Drop>(node: &Node<H>, event: &Step, reply: &Reply
     explain(node, event, reply)
 }
 
-/// Returns the reason, found from the node's processes and tables.
+/// Returns the reason, found from the node's processes and tables, or `None` if the reply is a value.
 fn explain<H: KeyHash + Copy + Drop>(node: &Node<H>, event: &Step, reply: &Reply) -> Option<Reason>
     ensures { result ≡ reason_for node.now.world event.now reply.now }
 {
@@ -40,29 +40,30 @@ fn reason_for<R: Rows>(world: &World<R>, event: &Step, reply: &Reply) -> Option<
 {
     match reply {
         Reply::Value(_) => None,
-        Reply::Badarg => Some(last_rule(world, event, false)),
-        Reply::SystemLimit => Some(last_rule(world, event, true)),
-        Reply::NoProcess => Some(last_rule(world, event, false)),
+        Reply::Badarg => Some(refusal_reason(world, event, false)),
+        Reply::SystemLimit => Some(refusal_reason(world, event, true)),
+        Reply::NoProcess => Some(refusal_reason(world, event, false)),
     }
 }
 
 /// Returns the reason of a refused step. `limited` says whether the reply is `SystemLimit`.
-fn last_rule<R: Rows>(world: &World<R>, event: &Step, limited: bool) -> Reason
-    ensures { result ≡ last_rule world.now event.now limited }
+fn refusal_reason<R: Rows>(world: &World<R>, event: &Step, limited: bool) -> Reason
+    ensures { result ≡ refusal_reason world.now event.now limited }
 {
     match event {
         Step::Enrol(_) if limited => Reason::about_whole_call(Rule::TooManyProcesses),
         Step::Enrol(_) => Reason::about_whole_call(Rule::AlreadyEnrolled),
         Step::End(_) => Reason::about_whole_call(Rule::NoProcess),
-        Step::Ask(pid, call) => last_rule_of_ask(world, *pid, call, limited),
+        Step::Ask(pid, call) => refusal_reason_of_ask(world, *pid, call, limited),
         Step::Grow(_) => Reason::about_whole_call(Rule::NoTable),
         Step::Ready(_, _) => Reason::about_whole_call(Rule::NoTable),
     }
 }
 
-/// Returns the reason of a refused call: first of its process, then of the depth of its arguments, then of the call.
-fn last_rule_of_ask<R: Rows>(world: &World<R>, pid: u32, call: &Call, limited: bool) -> Reason
-    ensures { result ≡ last_rule_of_ask world.now pid call.now limited }
+/// Returns the reason of a refused call. Checks first the process, then the depth of the arguments, then the call's
+/// name. Then, `limited` says whether the call's limit is exceeded or one of its other rules is broken.
+fn refusal_reason_of_ask<R: Rows>(world: &World<R>, pid: u32, call: &Call, limited: bool) -> Reason
+    ensures { result ≡ refusal_reason_of_ask world.now pid call.now limited }
 {
     if !world.lives(pid) {
         return Reason::about_whole_call(Rule::NoProcess);
@@ -74,11 +75,11 @@ fn last_rule_of_ask<R: Rows>(world: &World<R>, pid: u32, call: &Call, limited: b
     match CallName::read(call.name.text()) {
         None => Reason::about_whole_call(Rule::NoCall),
         Some(name) if limited => Reason::about_whole_call(limit_of(name)),
-        Some(name) => last_rule_of_call(world, pid, name, args),
+        Some(name) => refusal_reason_of_call(world, pid, name, args),
     }
 }
 
-/// Returns the index of the first argument that has more than 128 levels.
+/// Returns the index, from 0, of the first argument that has more than 128 levels, if any.
 fn first_too_deep(args: &[Term]) -> Option<usize>
     ensures { result ≡ position is_too_deep args.now }
 {

@@ -13,7 +13,7 @@ use Rattle.node_core.specs.declared.step.Reply.TheVariants.{Value, Badarg, Syste
 use Rattle.node_core.specs.State.{State}
 use Rattle.node_core.specs.Access.{WorldResultToReply}
 use Rattle.node_core.specs.Machine.{step}
-use Rattle.node_core.specs.rules.Replies.{is_value}
+use Rattle.node_core.specs.Values.{is_value}
 use Rattle.node_shared.specs.Running.{IsEnrolRefusal}
 
 -- the result of the world, where a process of this number is known, or where all places are taken

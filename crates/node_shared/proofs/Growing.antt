@@ -13,7 +13,7 @@ use Rattle.node_core.specs.State.{State, empty}
 use Rattle.node_core.specs.Observable.{observable}
 use Rattle.node_core.specs.Woven.{is_step_of}
 use Rattle.node_core.specs.Pending.{due}
-use Rattle.node_core.specs.rules.Replies.{is_value}
+use Rattle.node_core.specs.Values.{is_value}
 use Rattle.node_core.proofs.buckets.Runs.{run-on-buckets-push}
 use Rattle.node_core.proofs.calls.EachCall.{step-remembers}
 use Rattle.node_core.proofs.calls.Enrolling.{enrolled}

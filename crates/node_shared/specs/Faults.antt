@@ -5,7 +5,7 @@ use Rattle.node_core.specs.declared.step.Reply.{Reply}
 use Rattle.node_core.specs.State.{State}
 use Rattle.node_core.specs.Observable.{observable}
 use Rattle.node_core.specs.Machine.{step}
-use Rattle.node_core.specs.rules.Replies.{is_value}
+use Rattle.node_core.specs.Values.{is_value}
 use Rattle.node_shared.specs.declared.book.BookFault.{BookFault}
 use Rattle.node_shared.specs.declared.book.BookFault.TheVariants as book
 use Rattle.node_shared.specs.declared.pids.Drawn.{Drawn}

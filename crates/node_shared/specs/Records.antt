@@ -7,7 +7,7 @@ use Rattle.node_core.specs.declared.step.Step.TheVariants.{Enrol}
 use Rattle.node_core.specs.declared.step.Reply.{Reply}
 use Rattle.node_core.specs.State.{State}
 use Rattle.node_core.specs.Pending.{due}
-use Rattle.node_core.specs.rules.Replies.{is_value}
+use Rattle.node_core.specs.Values.{is_value}
 use Rattle.node_shared.specs.declared.entry.Entry.{Entry}
 use Rattle.node_shared.specs.Journal.{entry, TakesStep}
 

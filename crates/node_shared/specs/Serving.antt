@@ -10,8 +10,8 @@ use Rattle.node_core.specs.declared.step.Reply.{Reply}
 use Rattle.node_core.specs.State.{State}
 use Rattle.node_core.specs.Observable.{observable}
 use Rattle.node_core.specs.Reads.{Reads}
+use Rattle.node_core.specs.Values.{is_value}
 use Rattle.node_core.specs.Pending.{due}
-use Rattle.node_core.specs.rules.Replies.{is_value}
 use Rattle.node_shared.specs.declared.entry.Entry.{Entry}
 use Rattle.node_shared.specs.Journal.{entry, TakesStep, IsRun}
 use Rattle.node_shared.specs.Records.{RecordState, enrolled_record}

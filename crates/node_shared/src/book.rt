@@ -4,7 +4,7 @@ ghost use Rattle.std.specs.Prelude.{◌≡◌, true, ◌+◌, [], IfOk, OnErr, I
 ghost use Rattle.node_core.specs.State.{State, empty};
 ghost use Rattle.node_core.specs.Woven.{is_step_of};
 ghost use Rattle.ets_term.specs.declared.term.Term.TheVariants.{Pid};
-ghost use Rattle.node_core.specs.rules.Replies.{is_value};
+ghost use Rattle.node_core.specs.Values.{is_value};
 ghost use Rattle.node_core.specs.declared.step.Reply.{Reply};
 ghost use Rattle.node_core.specs.declared.step.Reply.TheVariants.{Value};
 ghost use Rattle.node_core.specs.declared.step.Step.TheVariants.{Enrol};
@@ -29,11 +29,14 @@ use std::sync::{Wait, ledger};
 #[derive(Drop)]
 pub struct Book<L: Ledger, H: KeyHash + Copy + Drop> {
     alloc: Global,
+    /// The limits of the node.
     limits: Limits,
     node: Node<H>,
     journal: Vec<SharedEntry>,
+    /// Holds the total. Its type is a book of the kit, not this one.
     ledger: ledger::Book<L>,
-    unissued: ledger::Share<L>,
+    /// Holds the parts of the ledger for processes that are not enrolled yet.
+    unissued_share: ledger::Share<L>,
 }
 
 impl<L: Ledger, H: KeyHash + Copy + Drop> Model for Book<L, H> {
@@ -47,7 +50,7 @@ impl<L: Ledger, H: KeyHash + Copy + Drop> Model for Book<L, H> {
 
     ghost view = { λ b. record { state = b.node; journal = b.journal.items; total = b.ledger.total } };
 
-    ghost invariant = { λ b. BookInvariant b.limits L.parts b.node b.journal.items b.ledger.total b.unissued.parts };
+    ghost invariant = { λ b. BookInvariant b.limits L.parts b.node b.journal.items b.ledger.total b.unissued_share.parts };
 }
 
 /// Why a process is not enrolled. Nothing has changed.
@@ -68,19 +71,19 @@ impl<L: Ledger, H: KeyHash + Copy + Drop> Book<L, H> {
         requires enough { blank.parts ≡ limits.processes + 1 }
         ensures { result ≡ record { state = empty limits; journal = []; total = 0 } }
     {
-        let (ledger, unissued) = blank.open::<L>();
+        let (ledger, unissued_share) = blank.open::<L>();
         Book {
             alloc,
             limits,
             node: Node::new(alloc, limits, hasher),
             journal: Vec::new(alloc),
             ledger,
-            unissued,
+            unissued_share,
         }
     }
 
-    /// Runs a step of the share's own process, and adds its entry to the journal. Running out of memory changes
-    /// nothing.
+    /// Runs a step of the share's own process, adds its entry to the journal, and returns the reply. The total and the
+    /// share's count become greater by 1. Running out of memory changes nothing.
     pub fn step(&mut self, share: &mut Share<L>, event: &Step) -> Result<Reply, AllocError>
         requires { is_step_of share.old.pid event.now ≡ true }
         ensures entry { IfOk result (λ r. Enters self.old event.now r self.new) }
@@ -98,7 +101,8 @@ impl<L: Ledger, H: KeyHash + Copy + Drop> Book<L, H> {
         Ok(reply)
     }
 
-    /// Like `step`, but runs the step of a draft, and returns the entry, which the journal shares.
+    /// Runs the step of `draft`, an entry without its reply yet, and returns the whole entry, which the journal shares.
+    /// The step is of the share's own process, and is counted as by `step`. Running out of memory changes nothing.
     pub(crate) fn enter<R: Wait>(
         &mut self,
         rt: &R,
@@ -120,7 +124,9 @@ impl<L: Ledger, H: KeyHash + Copy + Drop> Book<L, H> {
         Ok(done)
     }
 
-    /// Enrols a process, adds the entry to the journal, and returns its share and the reply. A fault changes nothing.
+    /// Enrols a process, adds the entry to the journal, and returns its share and the reply. The entry is the last one
+    /// of some run of a node (`EndsRun`), whose process limit gives a ledger of `L.parts` parts. A fault changes
+    /// nothing.
     pub fn join(&mut self, pid: u32) -> Result<(Share<L>, Reply), BookFault>
         ensures entry { IfOk result (λ joined. Enters self.old (Enrol pid) joined.1 self.new) }
         ensures value { IfOk result (λ joined. is_value joined.1 ≡ true) }
@@ -145,12 +151,14 @@ impl<L: Ledger, H: KeyHash + Copy + Drop> Book<L, H> {
             return Err(refusal(reply, entry));
         }
         self.journal.push_reserved(entry);
-        let mut tokens = self.unissued.split_off(1, 0);
+        // The new process gets one part of the ledger, which counts 0 entries.
+        let mut tokens = self.unissued_share.split_off(1, 0);
         self.ledger.add(&mut tokens, 1);
         Ok((Share { tokens, pid }, reply))
     }
 
-    /// Runs the pending growth step, if any, and adds its entry to the journal. Returns whether it ran one. Running out
+    /// Runs the node's pending growth step, if there is one, and adds its entry to the journal. The step doubles the
+    /// buckets of a table, or readies one bucket. Returns whether it ran one: `false` if none is pending. Running out
     /// of memory changes nothing.
     pub fn tend(&mut self) -> Result<bool, AllocError>
         ensures growth { IfOk result (Tends self.old self.new) }
@@ -167,7 +175,8 @@ impl<L: Ledger, H: KeyHash + Copy + Drop> Book<L, H> {
         Ok(true)
     }
 
-    /// Runs the pending growth step as `tend` does. Returns false if none is pending or memory runs out.
+    /// Runs the pending growth step as `tend` does. Returns whether it ran one. `false` means that none is pending or
+    /// that memory ran out, and that nothing changed.
     pub(crate) fn try_tend(&mut self) -> bool
         ensures growth { TriesGrowth self.old self.new result }
         ensures total { self.new.total ≡ self.old.total }
@@ -185,7 +194,7 @@ impl<L: Ledger, H: KeyHash + Copy + Drop> Book<L, H> {
         self.journal.as_slice()
     }
 
-    /// Returns the limits of the node.
+    /// Returns the limits of the node. It takes no memory.
     pub(crate) fn limits(&self) -> Limits
         ensures { result ≡ self.now.state.limits }
     {
@@ -203,7 +212,7 @@ impl<L: Ledger, H: KeyHash + Copy + Drop> Book<L, H> {
             node: _,
             journal,
             ledger: _,
-            unissued: _,
+            unissued_share: _,
         } = self;
         journal
     }

@@ -24,7 +24,9 @@ use std::sync::Wait;
 #[derive(Drop)]
 pub struct Caller<B: HistoryId> {
     pid: u32,
+    /// The token that knows, in proofs only, which entries this caller added.
     writer: HistoryWriter<B>,
+    /// The length of the history after the caller's last own step.
     seen: u64,
 }
 
@@ -72,7 +74,8 @@ impl<B: HistoryId> Caller<B> {
 
     /// Makes these calls in order, with no step of another process between them, and returns their replies. `ask` says
     /// what holds of each. Then runs at most `max_growth_steps` pending growth steps, which no call observes, before it
-    /// releases the lock. If memory runs out, it stops and returns the replies so far. It may wait for the lock.
+    /// releases the lock. If memory runs out for a call, it makes no further call, and the fault has the replies so
+    /// far. It may wait for the lock.
     pub fn ask_all<H: KeyHash + Copy + Drop, R: Wait>(
         &mut self,
         rt: &R,
@@ -94,7 +97,8 @@ impl<B: HistoryId> Caller<B> {
         }
     }
 
-    /// Makes calls under one hold of the lock, then runs at most `max_growth_steps` pending growth steps.
+    /// Makes calls on the node, which is under the lock, and returns their replies. Then runs at most
+    /// `max_growth_steps` pending growth steps. If memory runs out for a call, the fault has the replies so far.
     fn ask_and_grow<H: KeyHash + Copy + Drop>(
         &mut self,
         word: &HistoryWord,
@@ -121,7 +125,8 @@ impl<B: HistoryId> Caller<B> {
         Ok(replies)
     }
 
-    /// Makes the calls in order, until one runs out of memory.
+    /// Makes the calls in order, until one runs out of memory: then the fault has the replies so far. `replies` is
+    /// passed empty, with room for all replies, and is returned with them.
     fn ask_each<H: KeyHash + Copy + Drop>(
         &mut self,
         word: &HistoryWord,
@@ -162,7 +167,7 @@ impl<B: HistoryId> Caller<B> {
         self.step(rt, server, event)
     }
 
-    /// Takes the lock, of whichever kind, and runs one step.
+    /// Takes the lock, of whichever kind, runs one step, and returns its reply.
     fn step<H: KeyHash + Copy + Drop, R: Wait>(
         &mut self,
         rt: &R,
@@ -179,7 +184,7 @@ impl<B: HistoryId> Caller<B> {
         }
     }
 
-    /// Runs a step on the node under the lock, and sets `seen` to the new length of the history.
+    /// Runs a step on the node under the lock, sets `seen` to the new length of the history, and returns the reply.
     fn step_locked<H: KeyHash + Copy + Drop>(
         &mut self,
         word: &HistoryWord,

@@ -18,8 +18,8 @@ use std::sync::Wait;
 use std::sync::ledger::Ledger;
 
 /// The client of one process: its share, and a record of its steps, each with its reply. A contract sees the process
-/// and the record, which begins with the enrolment and is as long as the share's count. Each entry is the last of some
-/// run of a node: the machine may give this reply to this step.
+/// and the record, which begins with the enrolment and is as long as the share's count. For each entry, some run of a
+/// node ends with its step and reply.
 #[derive(Drop)]
 pub struct Client<L: Ledger> {
     alloc: Global,
@@ -47,7 +47,7 @@ impl<L: Ledger> Client<L> {
     ghost use Rattle.std.specs.Borrow.{sem};
     ghost use Rattle.node_shared.specs.Asking.{Answers};
 
-    /// Creates the client of a process that was enrolled.
+    /// Creates the client of a process that was enrolled, from its share and its record.
     pub(crate) fn of(alloc: Global, share: Share<L>, entries: Vec<SharedEntry>) -> Self
         requires count { length entries.items ≡ share.amount }
         requires begins { Begins share.pid entries.items }
@@ -61,7 +61,7 @@ impl<L: Ledger> Client<L> {
         }
     }
 
-    /// Returns the process. It takes no memory.
+    /// Returns the number of the process. It takes no memory.
     pub fn pid(&self) -> u32
         ensures { result ≡ self.now.pid }
     {
@@ -107,7 +107,7 @@ impl<L: Ledger> Client<L> {
     }
 
     /// Runs a step of the process, and adds it to the record with its reply. The entry, which the journal shares, is
-    /// allocated before the lock is taken.
+    /// allocated before the lock is taken. Running out of memory changes nothing.
     pub(crate) fn step<H: KeyHash + Copy + Drop, R: Wait>(
         &mut self,
         rt: &R,
@@ -125,7 +125,7 @@ impl<L: Ledger> Client<L> {
         Ok(())
     }
 
-    /// Returns the reply of the last entry.
+    /// Returns the reply of the record's last entry. The record has an entry, because it begins with the enrolment.
     fn last_reply(&self) -> &Reply
         ensures { IsLast self.now.entries result.now }
     {

@@ -6,10 +6,11 @@ ghost use Rattle.node_shared.specs.Journal.{is_entry_of, process_of};
 
 use node_core::{Reply, Step};
 
-/// An entry of a journal: a step that was run, and its reply.
+/// An entry of a journal: a step that was run, and its reply. In a draft the step is not run yet.
 #[derive(Drop)]
 pub struct Entry {
     pub step: Step,
+    /// The reply to the step; in a draft, a placeholder.
     pub reply: Reply,
 }
 
@@ -21,14 +22,14 @@ impl Entry {
         self.step.equals(&other.step) && self.reply.equals(&other.reply)
     }
 
-    /// Returns whether its step is of this process.
+    /// Returns whether the entry's step is a step of this process.
     pub fn is_of(&self, pid: u32) -> bool
         ensures { result ≡ is_entry_of pid self.now }
     {
         self.step.is_of(pid)
     }
 
-    /// Returns the process of its step, if it is a step of a process.
+    /// Returns the process of the entry's step, or `None` for a growth step, which is a step of no process.
     pub fn process(&self) -> Option<u32>
         ensures { result ≡ process_of self.now.step }
     {

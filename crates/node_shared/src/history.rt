@@ -1,5 +1,5 @@
-//! A history that exists only in proofs: its owner knows all of it, and a writer the entries that it added, which are
-//! in it in their order. At run time it is one atomic word, which stays 0.
+//! A history that exists only in proofs. Its owner knows all of it. A writer knows the entries that this writer added,
+//! which are in the history in their order. At run time the history is one atomic word, which stays 0.
 ghost use Rattle.std.specs.Prelude.{◌≡◌, [], ◌∷◌, ◌++◌, IfOk};
 ghost use Rattle.node_shared.specs.Journal.{entry};
 ghost use Rattle.node_shared.specs.History.{IsSubsequence, new_view};
@@ -27,6 +27,7 @@ pub trait HistoryId {
     ghost limits: { Limits };
 }
 
+/// The type that a program passes for `B`. The proof of the call picks its meaning, so these values are placeholders.
 impl HistoryId for Brand {
     ghost use Rattle.node_shared.specs.History.{no_table, no_limits};
 
@@ -43,6 +44,7 @@ pub type HistoryWord = Table<Entry, HistoryView, (), HistoryRule, Global>;
 #[derive(Drop)]
 pub struct NewHistory {
     pub(crate) word: HistoryWord,
+    /// The seat of the owner.
     seat: Seat<Entry, HistoryView>,
     ghost one_word: { word.shared.table_id.words ≡ 1 },
     ghost fits: { seat.table_id ≡ word.shared.table_id },
@@ -124,8 +126,8 @@ impl NewHistory {
 }
 
 impl<B: HistoryId> HistoryOwner<B> {
-    /// Creates a writer, which has added nothing. It takes a part of the owner's token, but the owner knows as much as
-    /// before.
+    /// Creates a writer, which has added nothing. Its seat is split off the owner's seat, but the owner knows as much
+    /// as before.
     pub(crate) fn new_writer(&mut self, word: &HistoryWord) -> HistoryWriter<B>
         requires table { word.now.shared.table_id ≡ B.word }
         requires one { word.now.shared.table_id.words ≡ 1 }
@@ -156,12 +158,15 @@ impl<B: HistoryId> HistoryOwner<B> {
         ensures reply { result ≡ reply }
     {
         let added = Entry { step, reply };
+        // The seat with the writer's own entries is joined to the owner's seat. Meanwhile the writer has `new_seat`.
         let new_seat = word.shared.split_seat::<OwnEntries>(&mut self.seat);
         let own = mem::replace(&mut writer.seat, new_seat);
         word.shared.join_seat::<OwnEntries>(&mut self.seat, own);
+        // The owner adds the entry to the history and to these own entries. The word, at index 0, stays 0.
         let _zero = word
             .shared
             .compare_exchange_with::<AppendEntry>(&mut self.seat, 0, 0, 0, &added);
+        // A new seat takes the own entries from the owner's seat back to the writer.
         let seat = word.shared.split_seat::<OwnEntries>(&mut self.seat);
         writer.seat = seat;
         let Entry { step: _, reply } = added;

@@ -7,7 +7,7 @@ use crate::client::Client;
 use node_core::{Call, Step};
 use std::sync::ledger::Ledger;
 
-/// A job of a client: one step that it is to run.
+/// A job of a client: one step that the client is to run.
 #[derive(Drop)]
 pub enum Job {
     /// Make this call.
@@ -20,12 +20,12 @@ pub enum Job {
 #[derive(Drop)]
 pub struct Worked<L: Ledger> {
     pub client: Client<L>,
-    /// The number of its jobs that were not run; 0 unless memory ran out.
+    /// The number of the client's jobs that were not run; 0 unless memory ran out.
     pub left: usize,
 }
 
 impl Job {
-    /// Returns the job as a step of a process.
+    /// Returns the job as a step of the process `pid`.
     pub(crate) fn into_step(self, pid: u32) -> Step
         ensures step { result ≡ job_step pid self }
         ensures own { is_step_of pid result ≡ true }

@@ -10,13 +10,13 @@
 //! each reply that a caller gets, there is a run that has all of the caller's earlier replies, in order, and ends with
 //! this reply.
 //!
-//! *Weakness.* A call that waits for the lock need not return. No contract speaks of time, of fairness, or of the
-//! order of calls of clients that did not communicate.
+//! *Weakness.* A call that waits for the lock need not return. No contract speaks of time, of fairness, or of the order
+//! of calls of clients that did not communicate.
 //!
 //! *Mechanism.* A step is run, and added to the journal, under one lock. A ledger counts the entries of processes: the
-//! book has the total, and each client's share its own part, so that no other node can reply to a client. `close`
-//! compares the records with the journal. In proofs, tokens of one atomic word know a server's history: the owner,
-//! under the lock, knows all of it, and each caller its own steps.
+//! book has the total, and each client's share its own part. The type parameter `L` names the ledger, so that no other
+//! node can reply to a client. `close` compares the records with the journal. In proofs, tokens of one atomic word know
+//! a server's history: the owner, under the lock, knows all of it, and each caller its own steps.
 //!
 //! *Limits.* At most 4,096 numbers can be drawn. The journal of a `Shared` grows for as long as it is shared.
 #![tactic(auto)]

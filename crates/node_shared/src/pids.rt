@@ -11,13 +11,14 @@ use atomic_table::Table;
 pub use rule::{Numbers, View};
 use std::alloc::{AllocError, Global};
 
-/// The greatest number of process numbers.
+/// The greatest number of process numbers. The rule of the atomic word has the same bound, so numbers fit 32 bits.
 pub const MAX_PIDS: usize = 4_096;
 
 /// Process numbers that threads draw, from 0 on, each once: one atomic word, which has the next number. Drawing never
 /// waits.
 #[derive(Drop)]
 pub struct Pids {
+    /// The kit's table of atomic words, here of one word.
     table: Table<(), View, u64, Numbers, Global>,
     ghost one_word: { table.shared.table_id.words ≡ 1 },
 }
@@ -25,6 +26,7 @@ pub struct Pids {
 /// The right to draw one number.
 #[derive(Drop)]
 pub struct Seat {
+    /// The kit's token for a user of the atomic word.
     seat: atomic_table::Seat<(), View>,
     ghost is_undrawn: { seat.me ≡ (undrawn_view, []) },
 }
@@ -32,6 +34,7 @@ pub struct Seat {
 /// A drawn number, which no other seat has drawn or can draw.
 #[derive(Drop)]
 pub struct Drawn {
+    /// The token that drew the number.
     seat: atomic_table::Seat<(), View>,
     number: u32,
     ghost is_drawn: { seat.me ≡ (drawn_view number, []) },
@@ -68,6 +71,7 @@ impl Pids {
         ensures { result.seat.table_id ≡ self.now.table.shared.table_id }
     {
         let Seat { mut seat } = seat;
+        // Adds 1 to the word, whose index is 0. The number is the word's previous value.
         let number = self.table.shared.fetch_add::<Draws>(&mut seat, 0, 1) as u32;
         Drawn { seat, number }
     }
@@ -91,6 +95,7 @@ fn open_seats(alloc: Global, n: usize) -> Result<(Pids, Vec<Seat>), AllocError>
     ensures numbers { IfOk result (λ opened. opened.0.table.shared.key ≡ n) }
 {
     let mut seats = Vec::with_capacity(alloc, n)?;
+    // `first` is the seat of the new word, off which all other seats are split.
     let (table, mut first) = Table::of_words(alloc, &[0], &(n as u64))?;
     for _ in 0..n {
         let seat = table.shared.split_seat::<SplitsOff>(&mut first);

@@ -5,8 +5,8 @@ ghost use Rattle.ets_term.specs.declared.term.Term.TheVariants.{Pid};
 ghost use Rattle.node_core.specs.declared.step.Reply.TheVariants.{NoProcess, Value};
 ghost use Rattle.node_core.specs.Observable.{observable};
 ghost use Rattle.node_core.specs.Reads.{Reads};
+ghost use Rattle.node_core.specs.Values.{is_value};
 ghost use Rattle.node_core.specs.State.{empty};
-ghost use Rattle.node_core.specs.rules.Replies.{is_value};
 ghost use Rattle.node_core.specs.declared.step.Step.TheVariants.{Enrol};
 ghost use Rattle.node_shared.specs.Journal.{entry, IsRun};
 ghost use Rattle.node_shared.specs.Serving.{AreRead, ContinuesTo, entry_count, RefusesCaller, ServesGrowth, ServesStep, TriesServingGrowth};
@@ -25,7 +25,9 @@ use std::marker::Model;
 #[derive(Drop)]
 pub struct ServedNode<B: HistoryId, H: KeyHash + Copy + Drop> {
     node: Node<H>,
+    /// The token that knows, in proofs only, the whole history.
     owner: HistoryOwner<B>,
+    /// The length of the history, at most the greatest `u64`.
     count: u64,
 }
 
@@ -44,6 +46,8 @@ impl<B: HistoryId, H: KeyHash + Copy + Drop> Model for ServedNode<B, H> {
     ghost invariant = { λ s. IsRun B.limits s.owner s.node × (s.count ≡ entry_count s.owner) };
 }
 
+// The clauses `table` and `one` require that `word` is the history's atomic word: the only one of the table of atomic
+// words with the identifier `B.word`.
 impl<B: HistoryId, H: KeyHash + Copy + Drop> ServedNode<B, H> {
     /// Creates a node without processes and tables, and the owner of an empty history.
     pub fn new(alloc: Global, owner: HistoryOwner<B>, limits: Limits, hasher: H) -> Self
@@ -85,7 +89,8 @@ impl<B: HistoryId, H: KeyHash + Copy + Drop> ServedNode<B, H> {
         self.node.read_into(pid, call, reply)
     }
 
-    /// Replies to several calls, each as `read` does, in order. If memory runs out, it returns no reply.
+    /// Replies to several calls, each as `read` does, in order: `None` for a call that does not only read. If memory
+    /// runs out, it returns no reply.
     pub fn read_all(
         &self,
         alloc: Global,
@@ -95,6 +100,7 @@ impl<B: HistoryId, H: KeyHash + Copy + Drop> ServedNode<B, H> {
         ensures answers { IfOk result (λ replies. AreRead (observable self.now.state) pid calls.now replies.items) }
         ensures run { IsRun B.limits self.now.history self.now.state }
     {
+        // The borrow gives the proof the invariant of `self`.
         let _node = &self.node;
         let mut replies = Vec::with_capacity(alloc, calls.len())?;
         for call in calls {
@@ -103,8 +109,8 @@ impl<B: HistoryId, H: KeyHash + Copy + Drop> ServedNode<B, H> {
         Ok(replies)
     }
 
-    /// Runs a step, and adds its entry to the history and to the writer's entries. Running out of memory changes
-    /// nothing.
+    /// Runs a step, adds its entry to the history and to the writer's entries, and returns the reply. Running out of
+    /// memory changes nothing.
     pub fn step(
         &mut self,
         word: &HistoryWord,
@@ -155,7 +161,8 @@ impl<B: HistoryId, H: KeyHash + Copy + Drop> ServedNode<B, H> {
         Ok((writer, reply))
     }
 
-    /// Runs the pending growth step, if any, and adds its entry to the history. Returns whether it ran one. Running out
+    /// Runs the node's pending growth step, if there is one, and adds its entry to the history. The step doubles the
+    /// buckets of a table, or readies one bucket. Returns whether it ran one: `false` if none is pending. Running out
     /// of memory changes nothing.
     pub fn tend(&mut self, word: &HistoryWord) -> Result<bool, AllocError>
         requires table { word.now.shared.table_id ≡ B.word }
@@ -167,13 +174,15 @@ impl<B: HistoryId, H: KeyHash + Copy + Drop> ServedNode<B, H> {
             return Ok(false);
         };
         let reply = self.node.step(&due)?;
+        // A growth step is a step of no process, so a new writer adds its entry, and is dropped.
         let mut maintenance_writer = self.owner.new_writer(word);
         let _reply = self.owner.enter(word, &mut maintenance_writer, due, reply);
         self.count = self.count.saturating_add(1);
         Ok(true)
     }
 
-    /// Runs the pending growth step as `tend` does. Returns false if none is pending or memory runs out.
+    /// Runs the pending growth step as `tend` does. Returns whether it ran one. `false` means that none is pending or
+    /// that memory ran out, and that nothing changed.
     pub(crate) fn try_tend(&mut self, word: &HistoryWord) -> bool
         requires table { word.now.shared.table_id ≡ B.word }
         requires one { word.now.shared.table_id.words ≡ 1 }

@@ -3,7 +3,7 @@
 ghost use Rattle.std.specs.Prelude.{◌≡◌, ◌≤◌, true, false, IfOk, IfErr};
 ghost use Rattle.ets_term.specs.declared.term.Term.TheVariants.{Pid};
 ghost use Rattle.node_core.specs.declared.step.Reply.TheVariants.{Value};
-ghost use Rattle.node_core.specs.rules.Replies.{is_value};
+ghost use Rattle.node_core.specs.Values.{is_value};
 ghost use Rattle.node_shared.specs.Records.{enrolled_record};
 ghost use Rattle.node_shared.specs.Serving.{IsEnrolledCaller, RefusesCaller};
 ghost use Rattle.node_shared.specs.Faults.{HandsBack, JoinRefusesWith, RefusesWith};
@@ -25,7 +25,9 @@ use std::sync::Wait;
 /// is the hasher of keys.
 #[derive(Drop)]
 pub struct Server<B: HistoryId, H: KeyHash + Copy + Drop> {
+    /// The atomic word of the history.
     pub(crate) word: HistoryWord,
+    /// The lock, with the node and the owner of its history under it.
     pub(crate) lock: ServerLock<B, H>,
     ghost table: { word.shared.table_id ≡ B.word },
     ghost one_word: { word.shared.table_id.words ≡ 1 },
@@ -54,7 +56,8 @@ impl<B: HistoryId, H: KeyHash + Copy + Drop> Server<B, H> {
         })
     }
 
-    /// Enrols the number that was drawn, and returns the caller of that process. It may wait for the lock.
+    /// Enrols the number that was drawn, and returns the caller of that process. A fault gives the number back. It may
+    /// wait for the lock.
     pub fn client<R: Wait>(&self, rt: &R, drawn: Drawn) -> Result<Caller<B>, JoinFault>
         ensures ok { IfOk result (IsEnrolledCaller B.limits drawn.number) }
         ensures start { IfOk result (λ caller. caller.own ≡ enrolled_record drawn.number (Value (Pid drawn.number))) }
@@ -68,7 +71,7 @@ impl<B: HistoryId, H: KeyHash + Copy + Drop> Server<B, H> {
         }
     }
 
-    /// Takes the lock, of whichever kind, and enrols a process.
+    /// Takes the lock, of whichever kind, enrols a process, and returns its caller.
     fn join<R: Wait>(&self, rt: &R, pid: u32) -> Result<Caller<B>, BookFault>
         ensures ok { IfOk result (IsEnrolledCaller B.limits pid) }
         ensures start { IfOk result (λ caller. caller.own ≡ enrolled_record pid (Value (Pid pid))) }
@@ -81,7 +84,7 @@ impl<B: HistoryId, H: KeyHash + Copy + Drop> Server<B, H> {
         }
     }
 
-    /// Enrols a process on a node under the lock, and makes its caller.
+    /// Enrols a process on the node, which is under the lock, and returns its caller.
     fn join_locked(&self, served: &mut ServedNode<B, H>, pid: u32) -> Result<Caller<B>, BookFault>
         ensures ok { IfOk result (IsEnrolledCaller B.limits pid) }
         ensures start { IfOk result (λ caller. caller.own ≡ enrolled_record pid (Value (Pid pid))) }
@@ -92,9 +95,9 @@ impl<B: HistoryId, H: KeyHash + Copy + Drop> Server<B, H> {
         Ok(Caller::new(pid, writer, served.count()))
     }
 
-    /// Runs up to `turns` pending growth steps, and takes the lock anew for each. Such a step doubles the buckets of a
-    /// table, or readies one bucket. Stops earlier if no step is pending, or memory runs out. Returns the number of
-    /// steps that it ran. It may wait for the lock.
+    /// Runs at most `turns` pending growth steps, and takes the lock anew for each. Such a step doubles the buckets of
+    /// a table, or readies one bucket. Stops earlier if no step is pending, or memory runs out. Returns the number of
+    /// growth steps that it ran. It may wait for the lock.
     pub fn keep<R: Wait>(&self, rt: &R, turns: u32) -> u32
         ensures { result ≤ turns }
     {
@@ -108,7 +111,8 @@ impl<B: HistoryId, H: KeyHash + Copy + Drop> Server<B, H> {
         done
     }
 
-    /// Takes the lock and runs the pending growth step. Returns false if none is pending or memory runs out.
+    /// Takes the lock, of whichever kind, and runs the pending growth step. Returns whether it ran one: `false` if none
+    /// is pending, or memory runs out.
     fn try_tend<R: Wait>(&self, rt: &R) -> bool {
         match &self.lock.kind {
             AnyLock::Single(lock) => lock.write(rt).try_tend(&self.word),

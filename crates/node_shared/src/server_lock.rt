@@ -27,8 +27,9 @@ pub struct ServerLock<B: HistoryId, H: KeyHash + Copy + Drop> {
 /// The lock itself, of one kind or the other.
 #[derive(Drop)]
 pub enum AnyLock<B: HistoryId, H: KeyHash + Copy + Drop> {
+    /// One lock for readers and writers.
     Single(RwLock<ServedNode<B, H>>),
-    /// A writer moves the value out of this lock and back, so it is a box.
+    /// A lock of eight shards. A writer moves the value out of this lock and back, so it is a box.
     Sharded(ShardedLock<Box<ServedNode<B, H>>>),
 }
 

@@ -1,15 +1,18 @@
-//! The share of a process: its part of the ledger that counts a journal's entries, and the right to run the steps of
-//! that process.
+//! The share of a process: the right to run its steps, and its part of the ledger, which counts its entries in the
+//! journal.
 ghost use Rattle.std.specs.Prelude.{◌≡◌};
 
 use std::marker::Model;
 use std::sync::ledger;
 use std::sync::ledger::Ledger;
 
-/// The right to run the steps of one process. It counts their entries. A contract sees the process and the count.
+/// The right to run the steps of one process, and the count of its entries in the journal. A contract sees the process
+/// and the count.
 #[derive(Drop)]
 pub struct Share<L: Ledger> {
+    /// The process's part of the ledger: the kit's token, whose amount is the count of the process's entries.
     pub(crate) tokens: ledger::Share<L>,
+    /// The number of the process.
     pub(crate) pid: u32,
 }
 
@@ -25,7 +28,7 @@ impl<L: Ledger> Model for Share<L> {
 }
 
 impl<L: Ledger> Share<L> {
-    /// Returns the process. It takes no memory.
+    /// Returns the number of the process. It takes no memory.
     pub fn pid(&self) -> u32
         ensures { result ≡ self.now.pid }
     {

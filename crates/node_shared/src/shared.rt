@@ -24,11 +24,12 @@ use std::sync::{Mutex, Wait};
 #[derive(Drop)]
 pub struct Shared<L: Ledger, H: KeyHash + Copy + Drop> {
     alloc: Global,
+    /// The limits of the node.
     limits: Limits,
     pub(crate) book: Mutex<Book<L, H>>,
 }
 
-/// Why no client is created. It gives the drawn number back.
+/// Why no client is created. Each case gives the drawn number back.
 #[derive(Drop)]
 pub enum JoinFault {
     /// The node refused to enrol the number: `SystemLimit`, or `Badarg` for a number that was enrolled before.
@@ -52,7 +53,8 @@ impl<L: Ledger, H: KeyHash + Copy + Drop> Shared<L, H> {
         }
     }
 
-    /// Enrols the number that was drawn, and returns the client of that process. It may wait for the lock.
+    /// Enrols the number that was drawn, and returns the client of that process, whose record has only the enrolment. A
+    /// fault gives the number back. It may wait for the lock.
     pub fn client<R: Wait>(&self, rt: &R, drawn: Drawn) -> Result<Client<L>, JoinFault>
         ensures ok { IfOk result (IsEnrolled drawn.number) }
         ensures start { IfOk result (λ client. client ≡ enrolled_record drawn.number (Value (Pid drawn.number))) }
@@ -71,8 +73,9 @@ impl<L: Ledger, H: KeyHash + Copy + Drop> Shared<L, H> {
         }
     }
 
-    /// Takes the book out of the lock. The contract of a lock says nothing of its value, so the limits are checked
-    /// again. No function changes them.
+    /// Takes the book out of the lock. Returns `None` if the limits in the book are not those of this `Shared`, which
+    /// cannot happen, because no function changes them. They are compared because the contract of a lock says nothing
+    /// of its value.
     pub(crate) fn into_book(self) -> Option<Book<L, H>>
         ensures { IfSome result (λ book. book.state.limits ≡ self.limits) }
     {
@@ -90,7 +93,8 @@ impl<L: Ledger, H: KeyHash + Copy + Drop> Shared<L, H> {
     }
 }
 
-/// Allocates the record of a process that is to be enrolled: the enrolment, with the reply if it is not refused.
+/// Allocates the record of a process that is to be enrolled: the enrolment with its reply, which is the pid. The record
+/// is not used if the enrolment is refused.
 fn new_record(alloc: Global, pid: u32) -> Result<Vec<SharedEntry>, AllocError>
     ensures { IfOk result (λ entries. entries.items ≡ entry (Enrol pid) (Value (Pid pid)) ∷ []) }
 {
@@ -100,9 +104,9 @@ fn new_record(alloc: Global, pid: u32) -> Result<Vec<SharedEntry>, AllocError>
     Ok(entries)
 }
 
-/// Runs up to `turns` pending growth steps, and takes the lock anew for each. Such a step doubles the buckets of a
-/// table, or readies one bucket. Stops earlier if no step is pending, or memory runs out. Returns the number of steps
-/// that it ran. It may wait for the lock.
+/// Runs at most `turns` pending growth steps, and takes the lock anew for each. Such a step doubles the buckets of a
+/// table, or readies one bucket. Stops earlier if no step is pending, or memory runs out. Returns the number of growth
+/// steps that it ran. It may wait for the lock.
 pub fn keep<L: Ledger, H: KeyHash + Copy + Drop, R: Wait>(
     rt: &R,
     shared: &Shared<L, H>,
@@ -120,7 +124,7 @@ pub fn keep<L: Ledger, H: KeyHash + Copy + Drop, R: Wait>(
     done
 }
 
-/// Checks whether all limits are equal.
+/// Checks whether `limits` and `own` are equal in every field.
 fn are_same(limits: Limits, own: Limits) -> bool
     ensures { Decides result (limits ≡ own) }
 {

@@ -1,4 +1,4 @@
-//! A shared entry: the journal and a client's record have the same one. It is stored once.
+//! A shared entry: the journal and a client's record refer to the same entry, which is stored once.
 ghost use Rattle.std.specs.Prelude.{◌≡◌, IfOk, OnErr};
 ghost use Rattle.node_core.specs.declared.step.Reply.TheVariants.{NoProcess};
 ghost use Rattle.node_shared.specs.Journal.{entry, TakesStep};
@@ -15,6 +15,7 @@ use std::sync::{Arc, Wait};
 /// entry.
 #[derive(Drop)]
 pub struct SharedEntry {
+    /// A counted reference to the entry.
     stored: Arc<Entry>,
 }
 
@@ -57,14 +58,15 @@ impl SharedEntry {
         ensures err { OnErr result (node.new ≡ node.old) }
     {
         let SharedEntry { mut stored } = self;
-        let Some(own) = Arc::get_mut(&mut stored) else {
+        // A draft has one owner, so `get_mut` returns `Some`.
+        let Some(draft) = Arc::get_mut(&mut stored) else {
             return Err(AllocError);
         };
-        node.step_into(&own.step, &mut own.reply)?;
+        node.step_into(&draft.step, &mut draft.reply)?;
         Ok(SharedEntry { stored })
     }
 
-    /// Like `run`, but returns the reply too.
+    /// Like `run`, but also returns a copy of the reply.
     pub(crate) fn run_and_reply<H: KeyHash + Copy + Drop>(
         self,
         node: &mut Node<H>,
@@ -74,15 +76,17 @@ impl SharedEntry {
         ensures err { OnErr result (node.new ≡ node.old) }
     {
         let SharedEntry { mut stored } = self;
-        let Some(own) = Arc::get_mut(&mut stored) else {
+        // A draft has one owner, so `get_mut` returns `Some`.
+        let Some(draft) = Arc::get_mut(&mut stored) else {
             return Err(AllocError);
         };
-        let (reply, again) = node.step_twice(&own.step)?;
-        own.reply = again;
+        let (reply, copy) = node.step_twice(&draft.step)?;
+        draft.reply = copy;
         Ok((SharedEntry { stored }, reply))
     }
 
-    /// Returns another owner of the entry. It takes no memory. It waits only while the entry has 2^63 - 1 owners.
+    /// Returns another owner of the entry, which is not copied. It takes no memory. It waits only while the entry has
+    /// 2^63 - 1 owners, the greatest number that an `Arc` can count.
     pub(crate) fn share<R: Wait>(&self, rt: &R) -> SharedEntry
         ensures { result ≡ self.now }
     {
@@ -91,6 +95,7 @@ impl SharedEntry {
                 return SharedEntry { stored };
             }
         }
+        // `forever` does not end, so only the `return` leaves the loop.
         unreachable!()
     }
 

@@ -18,6 +18,7 @@ use std::sync::ledger::Ledger;
 /// The journal of a node that is no longer shared.
 #[derive(Drop)]
 pub struct Transcript {
+    /// All entries of the journal, in order.
     pub entries: Vec<SharedEntry>,
 }
 
@@ -34,7 +35,7 @@ pub enum CloseFault {
 }
 
 /// Ends the sharing and returns the journal. The record of each client is its part of the journal, and each process
-/// with entries has a client. It does not wait. After a fault nothing is returned.
+/// with entries has a client. It does not wait. A fault drops the journal and the clients.
 pub fn close<L: Ledger, H: KeyHash + Copy + Drop>(
     shared: Shared<L, H>,
     clients: Vec<Client<L>>,
@@ -59,7 +60,8 @@ impl<L: Ledger, H: KeyHash + Copy + Drop> Book<L, H> {
     }
 }
 
-/// Compares the journal with the records of the clients.
+/// Compares the journal with the records of the clients. Returns the journal if each record is its client's part, and
+/// each process with entries has a client. Otherwise returns `Differs` or `Missing`.
 fn compare<L: Ledger>(
     journal: Vec<SharedEntry>,
     clients: &[Client<L>],
@@ -76,7 +78,7 @@ fn compare<L: Ledger>(
     Ok(Transcript { entries: journal })
 }
 
-/// Returns the process of the first client whose record is not its part of the journal.
+/// Returns the process of the first client whose record is not its part of the journal; `None` if all records are.
 fn first_mismatch<L: Ledger>(journal: &[SharedEntry], clients: &[Client<L>]) -> Option<u32>
     ensures { FindsMismatch journal.now clients.now result }
 {
@@ -88,10 +90,11 @@ fn first_mismatch<L: Ledger>(journal: &[SharedEntry], clients: &[Client<L>]) -> 
     None
 }
 
-/// Returns whether these are the entries of the process, in order.
+/// Returns whether `own` has exactly the journal's entries of the process `pid`, in order.
 fn is_part(journal: &[SharedEntry], pid: u32, own: &[SharedEntry]) -> bool
     ensures { Decides result (entries_of pid journal.now ≡ own.now) }
 {
+    // The number of entries of the process so far. They are equal to the first `at` entries of `own`.
     let mut at = 0;
     for entry in journal {
         if entry.get().is_of(pid) {
@@ -107,7 +110,7 @@ fn is_part(journal: &[SharedEntry], pid: u32, own: &[SharedEntry]) -> bool
     at == own.len()
 }
 
-/// Returns the lowest process that has entries and no client.
+/// Returns the lowest process that has entries and no client; `None` if each has a client.
 fn least_without_client<L: Ledger>(journal: &[SharedEntry], clients: &[Client<L>]) -> Option<u32>
     ensures { FindsMissing journal.now clients.now result }
 {
@@ -118,7 +121,7 @@ fn least_without_client<L: Ledger>(journal: &[SharedEntry], clients: &[Client<L>
     least
 }
 
-/// Returns the lowest process without a client, with one more entry. `least` is the result without this entry.
+/// Returns the lowest process without a client, after one more entry. `least` is the lowest before this entry.
 fn least_after_entry<L: Ledger>(
     least: Option<u32>,
     entry: &Entry,
@@ -146,7 +149,7 @@ fn has_client<L: Ledger>(pid: u32, clients: &[Client<L>]) -> bool
 }
 
 impl Transcript {
-    /// Returns the entries of a process, in order.
+    /// Returns the entries of a process, in order. `Err` is out of memory.
     pub fn of(&self, pid: u32) -> Result<Vec<&Entry>, AllocError>
         ensures { IfOk result (λ own. map (λ e. e.now) own.items ≡ entries_of pid self.now.entries.items) }
     {

@@ -15,9 +15,10 @@ use std::sync::ledger::Ledger;
 use std::thread;
 use std::thread::Threads;
 
-/// Runs the jobs of each client in order, in a thread for each client. The clients are returned in their order. A
-/// client stops when it runs out of memory. `Err` says that there was no memory for the threads or for the list; steps
-/// may have been run. It may wait.
+/// Runs the jobs of each client in order, in a thread for each client. `work` has each client with its jobs. Returns
+/// the clients in the order of `work`, each with the number of its jobs that were not run. A client stops at the first
+/// job that runs out of memory. `Err` says that there was no memory for the threads or for the list; steps may have
+/// been run. It may wait.
 pub fn run_clients<
     L: Ledger + Send + Sync,
     H: KeyHash + Copy + Drop + Send + Sync,
@@ -61,6 +62,7 @@ fn run_from<
     }
     let half = work.len() / 2;
     let back = work.split_off(half)?;
+    // The number of the first client in the back half.
     let next = first.wrapping_add(half);
     let (front_done, back_done) = thread::join(
         rt,
@@ -82,7 +84,8 @@ fn run_from<
 }
 
 /// Runs the jobs of one client in order, until one is refused memory. Calls `gate.before` before each job, and
-/// `gate.after` after each that was run.
+/// `gate.after` after each job that was run. `number` is the number that `gate` gets for the client. Returns the client
+/// with the number of jobs that were not run.
 fn run_one<L: Ledger, H: KeyHash + Copy + Drop, G: Gate, R: Wait>(
     rt: &R,
     shared: &Shared<L, H>,
@@ -94,21 +97,23 @@ fn run_one<L: Ledger, H: KeyHash + Copy + Drop, G: Gate, R: Wait>(
     ensures { HasWorked client jobs.items result }
 {
     let count = jobs.len();
+    // The number of jobs that were not run yet.
     let mut left = count;
     for job in jobs {
-        let call = count - left;
-        gate.before(number, call);
-        let Ok(()) = work(rt, shared, &mut client, job) else {
+        let job_index = count - left;
+        gate.before(number, job_index);
+        let Ok(()) = run_job(rt, shared, &mut client, job) else {
             break;
         };
         left -= 1;
-        gate.after(number, call);
+        gate.after(number, job_index);
     }
     Worked { client, left }
 }
 
-/// Runs one job as a step of the client's process.
-fn work<L: Ledger, H: KeyHash + Copy + Drop, R: Wait>(
+/// Runs one job as a step of the client's process, and adds it to the client's record. `Err` is out of memory, and
+/// changes nothing in the client.
+fn run_job<L: Ledger, H: KeyHash + Copy + Drop, R: Wait>(
     rt: &R,
     shared: &Shared<L, H>,
     client: &mut Client<L>,

@@ -3,7 +3,7 @@ use Rattle.std.specs.Prelude.{◌≡◌, ℕ, ℤ, ◌⊎◌, not, List, Option,
 use Rattle.ets_term.specs.declared.term.Term.{Term}
 use Rattle.node_core.specs.State.{State, empty}
 use Rattle.node_core.specs.Machine.{step}
-use Rattle.node_core.specs.rules.Replies.{is_value}
+use Rattle.node_core.specs.Values.{is_value}
 use Rattle.node_core.specs.declared.limits.Limits.{Limits}
 use Rattle.node_core.specs.declared.step.Step.{Step}
 use Rattle.node_core.specs.declared.step.Step.TheVariants.{Ask}

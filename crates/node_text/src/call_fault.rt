@@ -15,7 +15,7 @@ pub enum CallFault {
 }
 
 impl CallFault {
-    /// Returns the status of the fault. Writes the offset of a syntax error to `len`.
+    /// Returns the status of the fault. Writes the offset of a syntax error to `len`, which otherwise stays 0.
     pub(crate) fn write(self, len: &mut usize) -> i32
         requires { len.old ≡ 0 }
         ensures { WritesFault self result len.new }

@@ -3,7 +3,7 @@ ghost use Rattle.std.specs.Prelude.{◌≡◌, not, is_some, option_map, IfOk, s
 ghost use Rattle.node_core.specs.Machine.{step};
 ghost use Rattle.node_core.specs.Observable.{observable};
 ghost use Rattle.node_core.specs.State.{State};
-ghost use Rattle.node_core.specs.rules.Replies.{is_value};
+ghost use Rattle.node_core.specs.Values.{is_value};
 ghost use Rattle.node_reasons.specs.Why.{why};
 ghost use Rattle.node_text.specs.Answers.{refusal_text};
 ghost use Rattle.node_text.specs.declared.last_refusal.LastRefusal.TheVariants.{Broken};
@@ -30,7 +30,8 @@ pub enum LastRefusal {
 }
 
 impl LastRefusal {
-    /// Returns why a step has this reply. The node gave the reply, and has not changed since. Allocates nothing.
+    /// Returns why a step was refused with this reply, or `None` if the reply is a value. The node gave the reply, and
+    /// has not changed since. Allocates nothing.
     pub(crate) fn of(node: &Node<Fnv>, event: &Step, reply: &Reply) -> Option<LastRefusal>
         ensures exactly { is_some result ≡ not (is_value reply.now) }
         ensures named { (new : State) → step (observable node.now) event.now reply.now new
@@ -50,7 +51,7 @@ impl LastRefusal {
     }
 }
 
-/// Writes `argument 1: no such table`, `unexpected '.'` or `out of memory`.
+/// Writes the reason, such as `argument 1: no such table`, `unexpected '.'` or `out of memory`.
 impl fmt::Display for LastRefusal {
     ghost use Rattle.std.specs.Prelude.{Some};
 

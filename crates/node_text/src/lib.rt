@@ -10,8 +10,8 @@
 //! *Weakness.* The problem that is named at a syntax error is a guess at what the author meant.
 //!
 //! *Mechanism.* A store keeps the last reply, and the reason of the last refusal in a few machine words. It makes the
-//! reason's text on demand. It has two replies in turn: a step writes its reply over the older one, and uses its memory
-//! again.
+//! reason's text on demand. It keeps two replies: a step writes its reply over the older one and uses its memory again,
+//! so the last reply stays if memory runs out.
 //!
 //! *Limits.* The tuple of a call counts as one of the 128 levels that a text may have, so an argument may have 127; in
 //! a term the list of the arguments counts too, so an argument may have 126.

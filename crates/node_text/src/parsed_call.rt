@@ -24,6 +24,7 @@ pub fn read_call(alloc: Global, text: &[u8]) -> Result<ParsedCall, AllocError>
         Ok((_, taken)) => Ok(ParsedCall::Faulty(taken)),
         Err(fault) => match fault.at() {
             Some(at) => Ok(ParsedCall::Faulty(at)),
+            // Only out of memory has no offset.
             None => Err(AllocError),
         },
     }
@@ -40,7 +41,8 @@ fn call_from_term(term: Term) -> ParsedCall
     }
 }
 
-/// Returns the call that a tuple with these elements represents.
+/// Returns the call that a tuple with these elements represents, if the first is an atom. Otherwise the error is at
+/// offset 0.
 fn call_from_elements(mut terms: Vec<Term>) -> ParsedCall
     ensures { result ≡ spec.call_from_elements terms.items }
 {

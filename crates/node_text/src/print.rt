@@ -8,7 +8,8 @@ use node_core::{Call, Reply, Step};
 use std::alloc::{AllocError, Global};
 use term_text::print_term;
 
-/// Returns a step as a script has it, with the pid in place of the process's name: `<0.3.0> insert(t,{a,1})`.
+/// Returns the text of a step as a script has it, with the pid in place of the process's name:
+/// `<0.3.0> insert(t,{a,1})`.
 pub fn step_text(alloc: Global, step: &Step) -> Result<String, AllocError>
     ensures { IfOk result (λ text. string_bytes text ≡ step_text step.now) }
 {
@@ -37,7 +38,7 @@ pub fn step_text(alloc: Global, step: &Step) -> Result<String, AllocError>
     }
 }
 
-/// Returns a call as a script has it: `insert(t,{a,1})`.
+/// Returns the text of a call as a script has it: `insert(t,{a,1})`.
 pub fn call_text(alloc: Global, call: &Call) -> Result<String, AllocError>
     ensures { IfOk result (λ text. string_bytes text ≡ call_text call.now) }
 {
@@ -46,7 +47,7 @@ pub fn call_text(alloc: Global, call: &Call) -> Result<String, AllocError>
     format!(in alloc; "{name}({arguments})")
 }
 
-/// Returns a reply as a script prints it: its term, or `** badarg`.
+/// Returns the text of a reply as a script prints it: that of its term, or a refusal such as `** badarg`.
 pub fn reply_text(alloc: Global, reply: &Reply) -> Result<String, AllocError>
     ensures { IfOk result (λ text. string_bytes text ≡ reply_text reply.now) }
 {
@@ -80,6 +81,7 @@ fn arguments_text(alloc: Global, terms: &[Term]) -> Result<String, AllocError>
     ensures { IfOk result (λ text. string_bytes text ≡ join_with_commas false (map text_of_term terms.now)) }
 {
     let mut text = String::new(alloc);
+    // Whether another term comes before.
     let mut later = false;
     for term in terms {
         append_comma(later, &mut text)?;
@@ -89,7 +91,7 @@ fn arguments_text(alloc: Global, terms: &[Term]) -> Result<String, AllocError>
     Ok(text)
 }
 
-/// Appends a comma if a term comes before.
+/// Appends a comma if `later`, which says that another term comes before.
 fn append_comma(later: bool, text: &mut String) -> Result<(), AllocError>
     ensures { OnOk result (string_bytes text.new ≡ string_bytes text.old ++ comma_if later) }
 {

@@ -14,7 +14,7 @@ pub const SYSTEM_LIMIT: i32 = 2;
 pub const NO_PROCESS: i32 = 3;
 /// Memory ran out, and nothing has changed.
 pub const NO_MEMORY: i32 = 4;
-/// The text is not a call, and nothing has changed.
+/// The text or the bytes are not a call, and nothing has changed.
 pub const SYNTAX: i32 = 5;
 /// The handle has no store.
 pub const CLOSED: i32 = 6;

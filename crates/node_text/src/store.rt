@@ -62,8 +62,8 @@ impl Store {
         }
     }
 
-    /// Runs one step, and returns the status of its reply. Running out of memory changes only the reason of the
-    /// refusal.
+    /// Runs one step, and returns the status of its reply. If memory runs out, returns `NO_MEMORY`, and changes only
+    /// the reason of the last refusal.
     pub fn run_step(&mut self, event: &Step) -> i32
         ensures state { StepReturns event.now result self.old self.new }
         ensures statuses { AreTheStatuses }
@@ -74,9 +74,10 @@ impl Store {
         }
     }
 
-    /// Makes the call that a text spells, and returns its status. If the status is `VALUE`, writes as much of the reply's
-    /// text as fits into `out`, and its full length to `len`. After `SYNTAX`, `len` is the offset of the error. After any
-    /// other status `len` is 0. Only `VALUE` changes `out`. Runs at most two pending growth steps after a call.
+    /// Makes the call that a text spells, and returns its status. If the status is `VALUE`, writes as much of the
+    /// reply's text as fits into `out`, and its full length to `len`. After `SYNTAX`, `len` is the offset of the error.
+    /// After any other status `len` is 0. Only `VALUE` changes `out`. Runs at most two pending growth steps after a
+    /// call.
     pub fn call(
         &mut self,
         alloc: Global,
@@ -94,10 +95,10 @@ impl Store {
         }
     }
 
-    /// Makes the call that a term in the external format spells, and returns its status. If the status is `VALUE`, writes
-    /// as many of the reply's bytes in this format as fit into `out`, and their number to `len`. After `SYNTAX`, `len` is
-    /// the offset of the error. After any other status `len` is 0. Only `VALUE` changes `out`. Runs at most two pending
-    /// growth steps after a call.
+    /// Makes the call that a term in the external format spells, and returns its status. If the status is `VALUE`,
+    /// writes as many of the reply's bytes in this format as fit into `out`, and their number to `len`. After `SYNTAX`,
+    /// `len` is the offset of the error. After any other status `len` is 0. Only `VALUE` changes `out`. Runs at most
+    /// two pending growth steps after a call.
     pub fn call_external(
         &mut self,
         alloc: Global,

@@ -8,7 +8,7 @@ use Rattle.std.proofs.lemmas.Cmp.{ranked}
 use Rattle.std.proofs.lemmas.List.Sorted.{IsNonDecreasingBy-from_default}
 use Rattle.std.proofs.lemmas.List.{drop_all}
 use Rattle.std.proofs.lemmas.Bool.Decides.{nat_tests}
-use Rattle.ownership.specs.inside.Indices.{IsAmong, AscendsBetween, InsertsSorted}
+use Rattle.ownership.specs.inside.Indices.{IsAmong, AscendsBetween, InsertsInOrder}
 
 pub bounds-meet : (low high : ℕ) (ids : List ℕ) → AscendsBetween low high ids → low ≤ high
 bounds-meet low high [] b = b
@@ -83,14 +83,14 @@ between-insert low high (x ∷ ids) (suc at) id l h b before behind =
     (b.0, between-insert (suc x) high ids at id (omega (arith, last)) h b.1 (λ k lt within. before (suc k) (omega (arith, lt)) (omega (arith, within))) (λ k le within. behind (suc k) (omega (arith, le)) (omega (arith, within))))
 
 -- what a search and an insertion at its place give
-pub put-in : (ids : List ℕ) (at id : ℕ) → at ≤ length ids → IsBinarySearchResult (λ t. nat_cmp t id) ids (Err at) → InsertsSorted ids id (insert ids at id)
+pub put-in : (ids : List ℕ) (at id : ℕ) → at ≤ length ids → IsBinarySearchResult (λ t. nat_cmp t id) ids (Err at) → InsertsInOrder ids id (insert ids at id)
 put-in ids at id h parted = record {
   here = among-insert-here ids at id;
   more = λ t. among-insert ids at id t;
   order = λ low high l u b. between-insert low high ids at id l u b (λ k lt within. less-before low high ids b id at h parted k lt) (λ k le within. greater-behind low high ids b id at h parted k le within);
 }
 
-pub put-found : (ids : List ℕ) (at id : ℕ) → at < length ids → IsBinarySearchResult (λ t. nat_cmp t id) ids (Ok at) → InsertsSorted ids id ids
+pub put-found : (ids : List ℕ) (at id : ℕ) → at < length ids → IsBinarySearchResult (λ t. nat_cmp t id) ids (Ok at) → InsertsInOrder ids id ids
 put-found ids at id h equal =
     let same : get_or ids at id ≡ id = ranked _ id _ (sym (equal id)) in
     record { here = among-get ids at id h (sym same); more = λ t a. a; order = λ low high l u b. b }

@@ -2,7 +2,7 @@
 use Rattle.std.proofs.Common.{◌≡◌, ℕ, ◌<◌, ◌⊎◌, zero, suc, List, [], ◌∷◌, None, Some, Result, Ok, Err, OnOk, IsOk, inl, inr, sym, ap, subst, ◌∙◌, length, arith}
 use Rattle.std.proofs.lemmas.Option.{same_Some}
 use Rattle.ownership.specs.World.{Table, Tables, table_at}
-use Rattle.ownership.specs.inside.Indices.{IsAmong, InsertsSorted, IsUnfixed, FixedAreListed}
+use Rattle.ownership.specs.inside.Indices.{IsAmong, InsertsInOrder, IsUnfixed, FixedAreListed}
 
 pub is-there : (tables : Tables) (t : ℕ) (table : Table) → table_at tables t ≡ Some table → t < length tables
 is-there [] t table e = absurd (cc)
@@ -15,7 +15,7 @@ on-ok (Err error) h p = absurd (cc)
 
 module _ (tables : Tables) (ids : List ℕ) (last : ℕ) (table : Table) (at : table_at tables last ≡ Some table) (listed : FixedAreListed ids (Some last) tables) where
   -- the dirty table is inserted
-  pub listed-put : (new : List ℕ) → InsertsSorted ids last new → FixedAreListed new None tables
+  pub listed-put : (new : List ℕ) → InsertsInOrder ids last new → FixedAreListed new None tables
   listed-put new put = record {
     order = put.order 0 (length tables) (omega arith) (is-there tables last table at) listed.order;
     each = λ t own there. by t own there (listed.each t own there);

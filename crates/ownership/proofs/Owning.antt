@@ -8,7 +8,7 @@ use Rattle.ownership.specs.declared.metadata.Heir.{Heir}
 use Rattle.ownership.specs.World.{Table, Tables, Processes, table_at}
 use Rattle.ownership.specs.End.{living_heir}
 use Rattle.ownership.specs.declared.indices.Indices.{Indices}
-use Rattle.ownership.specs.inside.Indices.{IsAmong, AscendsBetween, InsertsSorted, AddsUnderOwners, RemovesOwner, EachAscends, ids_under}
+use Rattle.ownership.specs.inside.Indices.{IsAmong, AscendsBetween, InsertsInOrder, AddsUnderOwners, RemovesOwner, EachAscends, ids_under}
 
 pub same-number : (m n : ℕ) → nat_eq m n ≡ true → m ≡ n
 same-number m n h = grind (arith, nat_tests)
@@ -33,7 +33,7 @@ module _ (before after : ℕ → Option (Vec ℕ Global)) (owner id : ℕ) (ids 
   now-is p true e = ap ids_in (updated p) ∙ ap (λ b. ids_in (cond b (Some ids) (before p))) e
   now-is p false e = ap ids_in (updated p) ∙ ap (λ b. ids_in (cond b (Some ids) (before p))) e
 
-  module _ (put : InsertsSorted (ids_in (before owner)) id ids.items) (below : id < 4294967296) where
+  module _ (put : InsertsInOrder (ids_in (before owner)) id ids.items) (below : id < 4294967296) where
     more-at : (b : Bool) (p t : ℕ) → nat_eq owner p ≡ b → IsAmong t (ids_in (before p)) → IsAmong t (cond b ids.items (ids_in (before p)))
     more-at true p t e a = put.more t (subst (λ q. IsAmong t (ids_in (before q))) (sym (same-number owner p e)) a)
     more-at false p t e a = a
@@ -87,7 +87,7 @@ module _ (owner : ℕ) (old new : Indices) (forgets : RemovesOwner owner old new
   forgets-others p t e a = subst (IsAmong t) (sym (forgets.gone p)) (among-left (nat_eq owner p) t (ids_under old p) (other-number p owner e) a)
 
 -- the first table under an owner
-pub put-first : (id : ℕ) → InsertsSorted [] id (id ∷ [])
+pub put-first : (id : ℕ) → InsertsInOrder [] id (id ∷ [])
 put-first id = record { here = inl refl; more = λ t a. absurd a; order = λ low high l u b. (l, omega (arith, u)) }
 
 pub adds-same : (indices : Indices) → AddsUnderOwners indices indices
@@ -102,7 +102,7 @@ adds-more old mid new first next = record {
 
 -- the result of an insertion, or memory is refused
 pub indexed-either : {E : Type 0} (r : Result (Unit {0}) E) (before after : ℕ → Option (Vec ℕ Global)) (owner id : ℕ) (ids : Vec ℕ Global) → ((q : ℕ) → after q ≡ cond (nat_eq owner q) (Some ids) (before q)) → id < 4294967296
-    → OnOk r (InsertsSorted (ids_in (before owner)) id ids.items) → OnErr r (ids.items ≡ ids_in (before owner)) → AddsUnder (λ p. ids_in (before p)) (λ p. ids_in (after p))
+    → OnOk r (InsertsInOrder (ids_in (before owner)) id ids.items) → OnErr r (ids.items ≡ ids_in (before owner)) → AddsUnder (λ p. ids_in (before p)) (λ p. ids_in (after p))
 indexed-either (Ok done) before after owner id ids updated below put same = indexed before after owner id ids updated put below
 indexed-either (Err error) before after owner id ids updated below put same = indexed-same before after owner id ids updated same
 

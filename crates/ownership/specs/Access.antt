@@ -1,10 +1,8 @@
 -- Access to tables (stdlib manual, module ets, section Table Access Rights).
 use Rattle.std.specs.Prelude.{ℕ, ◌==◌, ◌||◌, Bool, true, false}
-use Rattle.std.specs.Option.{option_map_or}
 use Rattle.ownership.specs.declared.metadata.Protection.{Protection}
 use Rattle.ownership.specs.declared.metadata.Protection.TheVariants.{Public, Protected, Private}
 use Rattle.ownership.specs.declared.metadata.Metadata.{Metadata}
-use Rattle.ownership.specs.World.{Tables, table_at}
 
 -- whether processes other than the owner may read
 abbrev pub others_read : Protection → Bool
@@ -29,7 +27,3 @@ may_read metadata p = is_owner metadata p || others_read metadata.protection
 -- whether a process may write to the table
 abbrev pub may_write : Metadata → ℕ → Bool
 may_write metadata p = is_owner metadata p || others_write metadata.protection
-
--- whether the table exists and a process has this kind of access to it
-abbrev pub has_access : (Metadata → ℕ → Bool) → Tables → ℕ → ℕ → Bool
-has_access access tables p t = option_map_or (λ table. access table.metadata p) (table_at tables t) false

@@ -16,15 +16,6 @@ use Rattle.ownership.specs.declared.info.InfoItem.{InfoItem}
 use Rattle.ownership.specs.declared.info.InfoItem.TheVariants as item
 use Rattle.ownership.specs.World.{Table}
 
--- the item of the table itself that a word names
-abbrev pub table_item : List ℕ → Option InfoItem
-table_item word =
-    if bytes_eq word (codes "size") then Some item.Size
-    else if bytes_eq word (codes "type") then Some item.Kind
-    else if bytes_eq word (codes "keypos") then Some item.Keypos
-    else if bytes_eq word (codes "fixed") then Some item.Fixed
-    else None
-
 -- the item that a word names
 abbrev pub word_item : List ℕ → Option InfoItem
 word_item word =
@@ -34,7 +25,11 @@ word_item word =
     else if bytes_eq word (codes "protection") then Some item.Protection
     else if bytes_eq word (codes "heir") then Some item.Heir
     else if bytes_eq word (codes "id") then Some item.Id
-    else table_item word
+    else if bytes_eq word (codes "size") then Some item.Size
+    else if bytes_eq word (codes "type") then Some item.Kind
+    else if bytes_eq word (codes "keypos") then Some item.Keypos
+    else if bytes_eq word (codes "fixed") then Some item.Fixed
+    else None
 
 -- the item that a term names, None if it is not the atom of an item
 abbrev pub item_of : Term → Option InfoItem

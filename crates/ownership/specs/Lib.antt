@@ -1,6 +1,7 @@
 pub mod World
 pub mod Outcomes
 pub mod Access
+pub mod Lookups
 pub mod Options
 pub mod Messages
 pub mod Tables

@@ -1,7 +1,7 @@
 -- The options of `new`, and the heirs that `setopts` sets (stdlib manual, module ets, new/2 and setopts/2). Options
 -- are read in their order, and a later option overrides an earlier option.
 use Rattle.std.specs.Prelude.{ℕ, nat_le, ◌&&◌, ◌||◌, Bool, true, false, if◌then◌else◌, List, [], ◌∷◌, Option, Some, None, codes, option_map}
-use Rattle.std.specs.Option.{option_and_then}
+use Rattle.std.specs.Option.{option_and_then, option_map_or}
 use Rattle.std.specs.Str.{bytes_eq}
 use Rattle.ets_term.specs.declared.term.Term.{Term, out-Term}
 use Rattle.ets_term.specs.declared.term.Term.TheOpen.{Term-F}
@@ -25,26 +25,18 @@ abbrev pub keypos_option : ℕ → NewOptions → Option NewOptions
 keypos_option n options =
     if nat_le 1 n && nat_le n 4294967295 then Some (record options { keypos = n }) else None
 
--- the options after the word `compressed`, which has no effect; None for any other word
-abbrev pub tuning_word : List ℕ → NewOptions → Option NewOptions
-tuning_word word options = if bytes_eq word (codes "compressed") then Some options else None
-
--- the options after a word that sets the protection or names the table, or is `compressed`; None for any other word
-abbrev pub other_word : List ℕ → NewOptions → Option NewOptions
-other_word word options =
-    if bytes_eq word (codes "public") then Some (record options { protection = Public })
-    else if bytes_eq word (codes "protected") then Some (record options { protection = Protected })
-    else if bytes_eq word (codes "private") then Some (record options { protection = Private })
-    else if bytes_eq word (codes "named_table") then Some (record options { named = true })
-    else tuning_word word options
-
--- the options after an option that is an atom; None if there is no such option
+-- the options after an option that is an atom, of which `compressed` has no effect; None if there is no such option
 abbrev pub word_option : List ℕ → NewOptions → Option NewOptions
 word_option word options =
     if bytes_eq word (codes "set") then Some (record options { kind = Set })
     else if bytes_eq word (codes "bag") then Some (record options { kind = Bag })
     else if bytes_eq word (codes "duplicate_bag") then Some (record options { kind = DuplicateBag })
-    else other_word word options
+    else if bytes_eq word (codes "public") then Some (record options { protection = Public })
+    else if bytes_eq word (codes "protected") then Some (record options { protection = Protected })
+    else if bytes_eq word (codes "private") then Some (record options { protection = Private })
+    else if bytes_eq word (codes "named_table") then Some (record options { named = true })
+    else if bytes_eq word (codes "compressed") then Some options
+    else None
 
 -- the elements of {heir,none}, which name no heir, or of {heir,Pid,Data}, which name an heir; None for any other tuple
 abbrev pub parse_heir : List Term → Option (Option Heir)
@@ -59,34 +51,23 @@ parse_heir _ = None
 -- whether a pair is a tuning option, which has no effect
 abbrev pub is_tuning : Term → Term → Bool
 is_tuning name value =
-    if is_atom (codes "read_concurrency") name then is_boolean value
-    else if is_atom (codes "decentralized_counters") name then is_boolean value
-    else if is_atom (codes "write_concurrency") name
-    then is_boolean value || is_atom (codes "auto") value
-    else false
+    if is_atom (codes "write_concurrency") name then is_boolean value || is_atom (codes "auto") value
+    else (is_atom (codes "read_concurrency") name || is_atom (codes "decentralized_counters") name) && is_boolean value
 
--- the options after a pair: {keypos,N} or a tuning option; None if there is no such option
-abbrev pub pair_option : Term → Term → NewOptions → Option NewOptions
-pair_option name value options =
+-- the options after {keypos,N} or a tuning option; None for any other tuple
+abbrev pub pair_option : List Term → NewOptions → Option NewOptions
+pair_option (name ∷ value ∷ []) options =
     if is_atom (codes "keypos") name
     then option_and_then (λ n. keypos_option n options) (as_natural value)
     else if is_tuning name value then Some options
     else None
+pair_option _ options = None
 
--- the options after an option that is a tuple but does not name an heir; None if there is no such option
-abbrev pub plain_tuple : List Term → NewOptions → Option NewOptions
-plain_tuple (name ∷ value ∷ []) options = pair_option name value options
-plain_tuple _ options = None
-
--- the options after a tuple: if it was read as an heir option, the heir is set or removed; else it must be another
--- option
-abbrev pub heir_or_option : Option (Option Heir) → List Term → NewOptions → Option NewOptions
-heir_or_option (Some heir) elements options = Some (record options { heir = heir })
-heir_or_option None elements options = plain_tuple elements options
-
--- the options after an option that is a tuple; None if there is no such option
+-- the options after an option that is a tuple, which sets or removes the heir, or is another option; None if there is no
+-- such option
 abbrev pub tuple_option : List Term → NewOptions → Option NewOptions
-tuple_option elements options = heir_or_option (parse_heir elements) elements options
+tuple_option elements options =
+    option_map_or (λ heir. Some (record options { heir = heir })) (parse_heir elements) (pair_option elements options)
 
 -- the options after one more option, by the first level of its term; None if there is no such option
 abbrev pub option_form : Term-F Term → NewOptions → Option NewOptions

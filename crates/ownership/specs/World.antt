@@ -47,11 +47,6 @@ lives processes p = option_map_or (λ process. process.lives) (process_at proces
 abbrev pub table_at : Tables → ℕ → Option Table
 table_at tables t = slice_index_or tables t None
 
--- the state (content, ready buckets and fixes) of the table with this identifier, whether or not a process fixes it;
--- None if it does not exist
-abbrev pub state_at : Tables → ℕ → Option TableState
-state_at tables t = option_map (λ table. table.state) (table_at tables t)
-
 -- the metadata of a table, None if it does not exist
 abbrev pub metadata_of : Option Table → Option Metadata
 metadata_of table = option_map (λ t. t.metadata) table

@@ -16,9 +16,11 @@ use bucket_table::Rows;
 use indexmap::IndexMap;
 use std::alloc::{AllocError, Global};
 
-/// Indices of identifiers of tables: `names` by name, `owned` by each process that ever owned the table, and `fixed`
-/// with the tables that may be fixed. The *dirty* table is the table that was borrowed for a change last. It may be
-/// fixed without being in `fixed`. Each method keeps the indices consistent with the tables.
+/// Indices of identifiers of tables: `names` by name, `owned` by process, and `fixed` with those that may be fixed.
+/// Under a process, `owned` has the tables that the process owned, or was about to inherit. After out of memory, it may
+/// also have a table that the process was about to be given or to create. The *dirty* table is the table that was
+/// borrowed for a change, or created, last. It may be fixed without being in `fixed`. Each method keeps the indices
+/// consistent with the tables.
 #[derive(Drop)]
 pub struct Indices {
     names: IndexMap<String, u32>,
@@ -41,7 +43,8 @@ impl Indices {
     }
 
     /// Adds a table, whose identifier is the next one, under its owner and its name, and reserves capacity for it in
-    /// the list of fixed tables. If it is named, no other table may have its name. It becomes the dirty table.
+    /// the list of fixed tables. If the table is named, no other table may have its name. It becomes the dirty table.
+    /// If memory is refused, the indices stay consistent with the tables without the new one.
     pub fn insert<R: Rows>(
         &mut self,
         alloc: Global,

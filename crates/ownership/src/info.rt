@@ -2,7 +2,7 @@
 ghost use Rattle.std.specs.Prelude.{◌≡◌, IfOk};
 ghost use Rattle.ets_term.specs.Character.{IsAtomText};
 ghost use Rattle.ets_term.specs.declared.term.Term.TheVariants as term;
-ghost use Rattle.ownership.specs.Info.{item_of, word_item, table_item, boolean_atom, protection_atom, kind_atom, heir_term};
+ghost use Rattle.ownership.specs.Info.{item_of, word_item, boolean_atom, protection_atom, kind_atom, heir_term};
 
 use crate::metadata::{Heir, Protection};
 use ets_term::{Atom, Term};
@@ -45,7 +45,7 @@ impl InfoItem {
         }
     }
 
-    /// Returns the item that a word names: an item of the metadata, or of the table itself.
+    /// Returns the item that a word names, or `None` if the word names no item.
     fn of_word(word: &str) -> Option<InfoItem>
         ensures { result ≡ word_item word.now }
     {
@@ -61,16 +61,7 @@ impl InfoItem {
             Some(InfoItem::Heir)
         } else if word == "id" {
             Some(InfoItem::Id)
-        } else {
-            InfoItem::of_table_word(word)
-        }
-    }
-
-    /// Returns the item of the table itself that a word names.
-    fn of_table_word(word: &str) -> Option<InfoItem>
-        ensures { result ≡ table_item word.now }
-    {
-        if word == "size" {
+        } else if word == "size" {
             Some(InfoItem::Size)
         } else if word == "type" {
             Some(InfoItem::Kind)

@@ -5,9 +5,9 @@
 //! passes to its heir, which gets the transfer message, or is deleted if no heir lives. No two named tables have the
 //! same name. A call that is refused or runs out of memory changes nothing.
 //!
-//! *Weakness.* The end of a process visits the tables that it ever owned and those that are fixed. To insert an
-//! identifier in a sorted list shifts the larger identifiers. A deleted table leaves `None`, of 16 bytes, in the array
-//! of tables.
+//! *Weakness.* The exit of a process visits the fixed tables, those that it ever owned, and those that it was about to
+//! get when memory ran out. To insert an identifier in a sorted list shifts the larger identifiers. A deleted table
+//! leaves `None`, of 16 bytes, in the array of tables.
 //!
 //! *Mechanism.* Tables are in boxes, which are in an array by identifier. `Indices` has an index by name, an index by
 //! owner, and a list of the tables that may be fixed. A table that is borrowed for a change becomes the *dirty* table.

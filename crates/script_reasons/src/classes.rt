@@ -80,21 +80,22 @@ fn is_blank(byte: u8) -> bool
     byte == b' ' || byte == b'\t' || byte == b'\n' || byte == b'\r'
 }
 
-/// Checks whether a term, or a number of a pid or identifier, can come after this text, by its last sign.
+/// Checks whether a term, or a number of a pid or identifier, can come after this text. Only the text's last byte that
+/// is neither a space nor a tab decides.
 pub fn expects_term(before: &[u8]) -> bool
     ensures { result ≡ spec.expects_term before.now }
 {
     matches!(last_non_blank(before), b',' | b'{' | b'[' | b'<' | b'(')
 }
 
-/// Returns the number of bytes at the front that can be in a name.
+/// Returns the number of bytes at the front of a text that can be in a name.
 pub fn name_len(text: &[u8]) -> usize
     ensures { result ≡ prefix_len is_name text.now }
 {
     text.iter().take_while(|byte| is_name_byte(**byte)).count()
 }
 
-/// Returns the number of digits at the front.
+/// Returns the number of decimal digits at the front of a text.
 pub fn digits_len(text: &[u8]) -> usize
     ensures len { result ≡ prefix_len is_digit text.now }
     ensures within { result ≤ length text.now }
@@ -119,7 +120,7 @@ pub fn last_byte(text: &[u8]) -> u8
     text.last().copied().unwrap_or(0)
 }
 
-/// Returns the last byte that is neither a space nor a tab, or 0.
+/// Returns the last byte of a text that is neither a space nor a tab, or 0 if there is none.
 fn last_non_blank(text: &[u8]) -> u8
     ensures { result ≡ spec.last_non_blank text.now }
 {
@@ -130,7 +131,7 @@ fn last_non_blank(text: &[u8]) -> u8
     last
 }
 
-/// Returns the last sign of a text after one more byte.
+/// Returns the last byte that is neither a space nor a tab, after one more byte. `last` is the result before this byte.
 fn update_last_non_blank(last: u8, byte: u8) -> u8
     ensures { result ≡ (if spec.is_gap byte then last else byte) }
 {

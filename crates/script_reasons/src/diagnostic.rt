@@ -104,7 +104,7 @@ impl fmt::Display for CallSubject<'_> {
     }
 }
 
-/// Returns a process's name as the line has it, or `the name` for bytes that are not UTF-8.
+/// Returns a process's name as it is on the line, or `the name` for bytes that are not UTF-8.
 fn name_text(name: &[u8]) -> &str
     ensures { result.now ≡ name_text name.now }
 {

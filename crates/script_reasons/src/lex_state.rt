@@ -6,10 +6,11 @@ ghost use Rattle.script_reasons.specs.inside.Advance.{advance};
 /// Whether a text ends inside quotes, and in which.
 #[derive(Clone, Copy)]
 pub enum QuoteState {
+    /// Not inside quotes.
     Outside,
-    /// Inside quotes, which this sign closes.
+    /// Inside quotes, which this byte closes: a single or a double quote.
     Inside(u8),
-    /// Inside quotes, which this sign closes, directly after a backslash.
+    /// Inside quotes, which this byte closes, directly after a backslash.
     Escaped(u8),
 }
 
@@ -24,7 +25,7 @@ impl QuoteState {
         }
     }
 
-    /// Returns the state after one more byte.
+    /// Returns the state after one more byte. Inside quotes, the byte after a backslash closes nothing.
     fn next_state(self, byte: u8) -> QuoteState
         ensures { result ≡ spec.next_quote_state self byte }
     {
@@ -42,17 +43,18 @@ impl QuoteState {
 /// The lexical state of a line at an offset.
 #[derive(Clone, Copy)]
 pub struct LexState {
+    /// Whether the offset is inside quotes, and in which.
     pub quotes: QuoteState,
-    /// The number of open brackets of terms.
+    /// The number of open brackets of lists and tuples.
     pub levels: usize,
-    /// Whether the parenthesis before the call's arguments was read.
+    /// Whether `(` was read outside quotes, as before the call's arguments.
     pub has_opened: bool,
-    /// Whether the parenthesis after the call's arguments was read.
+    /// Whether `)` was read outside quotes, as after the call's arguments.
     pub has_closed: bool,
 }
 
 impl LexState {
-    /// Returns the state at the end of a text.
+    /// Returns the state at the end of a text, whose start is outside quotes and brackets.
     pub fn of_text(text: &[u8]) -> LexState
         ensures { result ≡ spec.lex_state_of text.now }
     {
@@ -82,7 +84,8 @@ impl LexState {
     }
 }
 
-/// Returns the number of open brackets after one more byte, which is outside quotes.
+/// Returns the number of open brackets after one more byte, which is outside quotes. The kind of bracket is not
+/// compared.
 fn next_levels(levels: usize, byte: u8) -> usize
     requires { levels + 1 < 2 ^ 64 }
     ensures { result ≡ spec.next_levels levels byte }

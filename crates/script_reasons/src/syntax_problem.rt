@@ -10,7 +10,8 @@ use crate::lex_state::{LexState, QuoteState};
 use ets_term::{MAX_CHARACTERS, MAX_DEPTH};
 use term_text::{is_digit_byte, is_lowercase_byte};
 
-/// A number of ten digits can exceed 2^32 - 1, the greatest number of a pid or table identifier.
+/// The least number of digits of a number that can be out of range. Ten digits can exceed 2^32 - 1, the greatest number
+/// of a pid or table identifier.
 const LONG_NUMBER: usize = 10;
 
 /// The problem at the syntax error of a line.
@@ -24,34 +25,46 @@ pub enum SyntaxProblem {
     EndOfLineInTerm,
     /// A byte that is neither printable ASCII nor a tab.
     NotPrintable(u8),
+    /// A `.`, as at the end of an expression of Erlang.
     FullStop,
+    /// A `%`, which begins a comment. A comment must be on a line of its own.
     Comment,
     /// More text after the parenthesis that ends a call.
     TrailingText,
+    /// A capital letter or `_`, as at the start of a variable of Erlang.
     Variable,
+    /// A `.` between two digits, as in `1.5`.
     Float,
+    /// A map, as `#{a => 1}`.
     Map,
-    /// Text after `#` that is neither a base nor a map.
+    /// A `#` with other text directly after it, as `#Ref<1>`.
     UnsupportedReference,
     /// A character as `$a`.
     Character,
     /// A number as `16#ff`.
     BasedInteger,
+    /// A `|`, as in `[a|b]`.
     ImproperList,
     /// A colon, as between a module and its function.
     Colon,
+    /// A `+`, as in `+1`.
     PlusSign,
-    /// A backslash inside quotes before a byte that is neither this quote nor a backslash.
+    /// A backslash inside quotes before a byte that is neither the quote, which is this byte, nor a backslash.
     Escape(u8),
+    /// An integer, or the number of a pid or table identifier, that is out of range.
     IntegerOutOfRange,
+    /// An atom of more than 255 characters.
     LongName,
+    /// A term of more than 128 levels.
     TooDeep,
     /// A text that begins as a term does, and not as a call.
     NotACall,
+    /// Any other byte that cannot be here.
     Other(u8),
 }
 
-/// Diagnoses a line that is not a command, at the offset of its syntax error.
+/// Diagnoses a line that is not a command, at the offset `at` of its syntax error. An offset past the end counts as the
+/// end of the line.
 pub fn diagnose_at(line: &[u8], at: usize) -> SyntaxProblem
     ensures { result ≡ spec.diagnose_at line.now at }
 {
@@ -62,8 +75,8 @@ pub fn diagnose_at(line: &[u8], at: usize) -> SyntaxProblem
     }
 }
 
-/// Diagnoses a text that is not a call, at the offset of its syntax error. An error at offset 0 usually means that the
-/// text is a term that is not a call, such as the tuple `{lookup,t,a}`.
+/// Diagnoses a text that is not a call, at the offset `at` of its syntax error. An error at offset 0 usually means that
+/// the text is a term that is not a call, such as the tuple `{lookup,t,a}`.
 pub fn diagnose_in_call(text: &[u8], at: usize) -> SyntaxProblem
     ensures { result ≡ spec.diagnose_in_call text.now at }
 {
@@ -73,7 +86,7 @@ pub fn diagnose_in_call(text: &[u8], at: usize) -> SyntaxProblem
     }
 }
 
-/// Diagnoses a line that ends too early.
+/// Diagnoses a line that ends too early, by the lexical state at its end.
 fn diagnose_end(state: &LexState) -> SyntaxProblem
     ensures { result ≡ spec.diagnose_end state.now }
 {
@@ -110,6 +123,7 @@ fn diagnose_in_quotes(state: &LexState, byte: u8) -> SyntaxProblem
 {
     match state.quotes {
         QuoteState::Escaped(quote) => SyntaxProblem::Escape(quote),
+        // A string is a list: its characters are one level deeper than the string.
         _ if state.levels >= MAX_DEPTH - 1 => SyntaxProblem::TooDeep,
         _ => SyntaxProblem::Other(byte),
     }
@@ -126,7 +140,8 @@ fn diagnose_after_call(byte: u8) -> SyntaxProblem
     }
 }
 
-/// Diagnoses a byte where a term must begin.
+/// Diagnoses a byte where a term must begin. An atom that is too long, or an integer out of range, has its syntax error
+/// at its start.
 fn diagnose_term_start(state: &LexState, before: &[u8], byte: u8, after: &[u8]) -> SyntaxProblem
     ensures { result ≡ spec.diagnose_term_start state.now before.now byte after.now }
 {
@@ -187,6 +202,7 @@ fn diagnose_sign(byte: u8, after: &[u8]) -> SyntaxProblem
 fn diagnose_word(byte: u8, after: &[u8]) -> SyntaxProblem
     ensures { result ≡ spec.diagnose_word byte after.now }
 {
+    // `byte` is one more character, or one more digit, than `after` has.
     if is_lowercase_byte(byte) && name_len(after) >= MAX_CHARACTERS {
         SyntaxProblem::LongName
     } else if is_digit_byte(byte) && digits_len(after) + 1 >= LONG_NUMBER {

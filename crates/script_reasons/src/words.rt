@@ -39,8 +39,8 @@ impl SyntaxProblem {
     }
 }
 
-/// Writes `unexpected '.'`; with the byte, `not a printable ASCII character (195)`, `only \' and \\ can be escaped` and
-/// `unexpected ';'`.
+/// Writes what is wrong, such as `unexpected '.'`. Three problems have their byte in the text, as
+/// `not a printable ASCII character (195)`, `only \' and \\ can be escaped` and `unexpected ';'`.
 impl fmt::Display for SyntaxProblem {
     ghost use Rattle.std.specs.Prelude.{Some};
     ghost use Rattle.script_reasons.specs.Words.{problem_text};

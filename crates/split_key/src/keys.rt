@@ -10,14 +10,16 @@ pub fn rev32(number: u32) -> u32
     number.reverse_bits()
 }
 
-/// Returns the split key of an item with this hash, an odd number below 2^33.
+/// Returns the split key of an item with this hash: the reversed bits of the hash, then the bit 1. It is an odd number
+/// below 2^33.
 pub fn item_key(hash: u32) -> u64
     ensures { result ≡ key_of_item hash }
 {
     2 * u64::from(rev32(hash)) + 1
 }
 
-/// Returns the split key of a bucket's dummy, an even number below 2^33.
+/// Returns the split key of a bucket's dummy: the reversed bits of the bucket, then the bit 0. It is an even number
+/// below 2^33.
 pub fn dummy_key(bucket: u32) -> u64
     ensures { result ≡ key_of_dummy bucket }
 {

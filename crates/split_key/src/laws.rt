@@ -8,7 +8,8 @@ pub fn reversal_undoes_itself(number: u32)
     ensures { rev 32 (rev 32 number) ≡ number }
 {}
 
-/// The items of a bucket are those whose split keys are in one interval, which begins at the dummy's split key.
+/// The items of a bucket, one of `size`, are those whose split keys are in one interval. The interval begins at the
+/// dummy's split key.
 pub fn bucket_is_interval(hash: u32, bucket: u32, size: u32)
     requires size { IsPowerOfTwo size }
     requires bucket { bucket < size }
@@ -16,7 +17,7 @@ pub fn bucket_is_interval(hash: u32, bucket: u32, size: u32)
 {}
 
 /// A doubling cuts the interval of a bucket in two: the bucket keeps the first half, and the second half begins
-/// at the dummy of the new bucket.
+/// at the dummy of the new bucket, `bucket + size`. There are 2^33 split keys, so an interval has 2^33 / `size`.
 pub fn doubling_cuts_in_two(bucket: u32, size: u32)
     requires size { IsPowerOfTwo size }
     requires bucket { bucket < size }
@@ -24,7 +25,7 @@ pub fn doubling_cuts_in_two(bucket: u32, size: u32)
     ensures middle { key_of_dummy (bucket + size) ≡ key_of_dummy bucket + 2 ^ 33 / (2 * size) }
 {}
 
-/// A doubling leaves each item in its bucket, or assigns it to the new bucket that is the other half.
+/// A doubling from `size` buckets leaves an item in its bucket, or assigns it to the new bucket `bucket + size`.
 pub fn doubling_splits_bucket(hash: u32, bucket: u32, size: u32)
     requires { bucket < size }
     ensures { (hash % size ≡ bucket) ↔ ((hash % (2 * size) ≡ bucket) ⊎ (hash % (2 * size) ≡ bucket + size)) }

@@ -19,6 +19,9 @@
 //!   of 2        0                   1
 //! ```
 //!
+//! The last two rows show the dummies of 4 and of 2 buckets. Each dummy keeps its place in the list when the number of
+//! buckets is doubled.
+//!
 //! *Limits.* Hashes and buckets are below 2^32, split keys below 2^33.
 //!
 //! O. Shalev and N. Shavit, "Split-ordered lists: lock-free extensible hash tables", J. ACM 53(3), 2006.

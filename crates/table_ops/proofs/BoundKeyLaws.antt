@@ -4,7 +4,7 @@ use Rattle.std.specs.Prelude.{nat_lt, IfSome, filter_map}
 use Rattle.std.proofs.lemmas.List.{append-nil}
 use Rattle.std.proofs.lemmas.Option.{same_Some}
 use Rattle.std.specs.List.{AllByRecursion, IsDistinct, cons_option}
-use Rattle.std.specs.Map.{keys_of}
+use Rattle.std.specs.Map.{keys_of, values_of}
 use Rattle.std.specs.Option.{option_map, option_and_then}
 use Rattle.ets_term.specs.declared.term.Term.{Term}
 use Rattle.ets_term.specs.Atoms.{is_atom}
@@ -14,13 +14,15 @@ use Rattle.ets_term.specs.Order.{same}
 use Rattle.ets_term.specs.laws.Exact.{back, data_of-exact}
 use Rattle.ets_term.specs.Trees.{term_of}
 use Rattle.ets_term.specs.laws.Same.{same-exact, same-refl}
-use Rattle.bucket_table.specs.Slots.{Slot, HasDistinctKeys, objects_of}
+use Rattle.bucket_table.specs.Slots.{Slot, objects_of}
+use Rattle.bucket_table.specs.Rows.{HasDistinctKeys}
 use Rattle.table_ops.specs.declared.kind.Kind.{Kind}
-use Rattle.table_ops.specs.Content.{objects_under, IsObjectOfKey, AreSlots}
+use Rattle.table_ops.specs.Content.{objects_under}
+use Rattle.table_ops.specs.Invariants.{IsObjectOfKey, AreSlots}
 use Rattle.match_spec.specs.BoundKeys.{IsKeyOfMatches}
-use Rattle.match_spec.specs.Patterns.{values, bindings_of}
-use Rattle.table_ops.specs.Queries.{bound_in, chosen_count, matches}
-use Rattle.table_ops.specs.Results.{matched_object}
+use Rattle.match_spec.specs.Patterns.{bindings_of}
+use Rattle.table_ops.specs.Queries.{bound_in, matches}
+use Rattle.table_ops.specs.Results.{chosen_count, matched_object}
 use Rattle.table_ops.specs.Looks.{looks_of}
 use Rattle.table_ops.specs.Read.{all_objects}
 use Rattle.table_ops.specs.inside.DeletePlan.{RequiresKey, MatchesOnlyKey, objects_kept, plan_of_slot, plan_with_slot, plan_of}
@@ -203,7 +205,7 @@ module _ {A : Type 0} (now : A → Term) (keypos : ℕ) where
   bindings-require pattern o h =
       requires-of (λ object. is_some (bound_in pattern object)) o
       (some-weaker (λ k. IsKeyOfMatches keypos (data_of pattern) (now k)) (λ k. (object : Term) → is_some (bound_in pattern object) ≡ true → element_at keypos object ≡ Some (now k)) o
-      (λ k e object t. e object (mapped-some (λ b. list (data_list (values b))) (bindings_of (data_of pattern) (data_of object)) t)) h)
+      (λ k e object t. e object (mapped-some (λ b. list (data_list (values_of b))) (bindings_of (data_of pattern) (data_of object)) t)) h)
 
   pub objects-require : (pattern : Term) (o : Option A) → IfSome o (λ k. IsKeyOfMatches keypos (data_of pattern) (now k)) → RequiresKey keypos (option_map now o) (λ object. is_some (matched_object pattern object))
   objects-require pattern o h =

@@ -8,13 +8,13 @@ use Rattle.std.specs.Map.{keys_of}
 use Rattle.ets_term.specs.declared.term.Term.{Term}
 use Rattle.ets_term.specs.Order.{same}
 use Rattle.ets_term.specs.laws.Same.{same-refl}
-use Rattle.bucket_table.specs.Slots.{Slot, HasDistinctKeys, objects_of, with_objects, has_objects, slots_behind, object_count}
-use Rattle.bucket_table.specs.Rows.{without}
+use Rattle.bucket_table.specs.Slots.{Slot, objects_of, with_objects, has_objects, slots_behind, object_count}
+use Rattle.bucket_table.specs.Rows.{HasDistinctKeys, without}
 use Rattle.bucket_table.specs.Walks.{ComesBefore}
 use Rattle.bucket_table.proofs.slots.Traverse.{before-other, before-without}
 use Rattle.table_ops.specs.declared.delete_plan.SlotDelete.{SlotDelete}
 use Rattle.table_ops.specs.Drop.{after_drop}
-use Rattle.table_ops.specs.Queries.{chosen_count}
+use Rattle.table_ops.specs.Results.{chosen_count}
 use Rattle.table_ops.specs.Read.{all_objects}
 use Rattle.table_ops.specs.inside.DeletePlan.{objects_kept, PlannedSlot, plan_of_slot, plan_with_slot, plan_of, plan_at, with_kept, after_plan, IsBefore, AreInOrder}
 use Rattle.table_ops.proofs.DropLaws.{stays}

@@ -7,11 +7,12 @@ use Rattle.std.specs.Map.{keys_of}
 use Rattle.ets_term.specs.declared.term.Term.{Term}
 use Rattle.ets_term.specs.Order.{same}
 use Rattle.ets_term.specs.laws.Same.{same-exact, same-refl}
-use Rattle.bucket_table.specs.Slots.{Slot, HasDistinctKeys, objects_of, with_objects, has_objects, without_tombstones, object_count}
-use Rattle.bucket_table.specs.Rows.{without, without_objects}
+use Rattle.bucket_table.specs.Slots.{Slot, objects_of, with_objects, has_objects, without_tombstones, object_count}
+use Rattle.bucket_table.specs.Rows.{HasDistinctKeys, without, without_objects}
 use Rattle.table_ops.specs.declared.kind.Kind.{Kind}
 use Rattle.table_ops.specs.declared.kind.Kind.TheVariants.{Set, Bag, DuplicateBag}
-use Rattle.table_ops.specs.Content.{Content, key_of, IsObjectOfKey, FitsKind, IsSlot, AreSlots}
+use Rattle.table_ops.specs.Content.{Content, key_of}
+use Rattle.table_ops.specs.Invariants.{IsObjectOfKey, FitsKind, IsSlot, AreSlots}
 use Rattle.table_ops.specs.Drop.{Which, objects_left, after_drop, has_key, equal_to, every_object, DeletesObject}
 use Rattle.node_list.specs.Chains.{all_but}
 use Rattle.bucket_table.specs.Entries.{objects_in}

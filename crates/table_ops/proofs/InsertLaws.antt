@@ -14,7 +14,8 @@ use Rattle.table_ops.specs.declared.undo.Undo.{Undo}
 use Rattle.table_ops.specs.declared.undo.Undo.TheVariants.{NewSlot, Objects, LastObject, Nothing}
 use Rattle.table_ops.specs.declared.kind.Kind.TheVariants.{Set, Bag, DuplicateBag}
 use Rattle.table_ops.specs.Update.{is_set}
-use Rattle.table_ops.specs.Content.{Content, key_of, is_object, objects_under, AreSlots}
+use Rattle.table_ops.specs.Content.{Content, key_of, is_object, objects_under}
+use Rattle.table_ops.specs.Invariants.{AreSlots}
 use Rattle.table_ops.specs.Put.{add, Puts, PutsAll, InsertsWithinLimit, Inserts, InsertsNew, is_taken}
 use Rattle.table_ops.specs.Refusals.{RefinesChange}
 use Rattle.table_ops.specs.inside.Undo.{ForKey, after_undo, after_roll_back, added_objects, added_to, PutsOne, PutsObject, PutsEach}

@@ -11,7 +11,8 @@ use Rattle.ets_term.specs.laws.Same.{same-exact, same-refl}
 use Rattle.bucket_table.specs.Slots.{Slot, objects_of, with_objects, Enters}
 use Rattle.table_ops.specs.declared.kind.Kind.{Kind}
 use Rattle.table_ops.specs.declared.kind.Kind.TheVariants.{Set, Bag, DuplicateBag}
-use Rattle.table_ops.specs.Content.{key_of, objects_under, IsObjectOfKey, FitsKind, IsSlot, AreSlots}
+use Rattle.table_ops.specs.Content.{key_of, objects_under}
+use Rattle.table_ops.specs.Invariants.{IsObjectOfKey, FitsKind, IsSlot, AreSlots}
 use Rattle.table_ops.specs.Put.{add, Puts, PutsAll}
 
 -- both sides of a false disjunction are false

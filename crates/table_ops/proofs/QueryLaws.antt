@@ -3,12 +3,13 @@ use Rattle.std.proofs.Common.{◌≡◌, ℕ, zero, suc, ◌+◌, ◌<◌, ◌�
 use Rattle.std.proofs.lemmas.Option.{same_Some}
 use Rattle.ets_term.specs.declared.term.Term.{Term}
 use Rattle.ets_term.specs.Data.{Data}
-use Rattle.bucket_table.specs.Slots.{Slot, HasDistinctKeys, objects_of, object_count}
+use Rattle.bucket_table.specs.Slots.{Slot, objects_of, object_count}
+use Rattle.bucket_table.specs.Rows.{HasDistinctKeys}
 use Rattle.bucket_table.specs.Walks.{IsFirstPlace, IsNextPlace, behind_in}
 use Rattle.bucket_table.proofs.slots.Index.{at-place}
 use Rattle.node_list.specs.Ticks.{tick, ticks}
 use Rattle.table_ops.specs.declared.kind.Kind.{Kind}
-use Rattle.table_ops.specs.Queries.{chosen_count}
+use Rattle.table_ops.specs.Results.{chosen_count}
 use Rattle.std.specs.List.{cons_option}
 use Rattle.std.specs.Prelude.{filter_map}
 use Rattle.table_ops.specs.Read.{all_objects}

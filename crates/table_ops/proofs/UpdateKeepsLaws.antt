@@ -12,9 +12,9 @@ use Rattle.ets_term.specs.declared.term.Term.TheVariants.{Tuple, Int}
 use Rattle.ets_term.specs.declared.term.TheConstants.{MAX_DEPTH}
 use Rattle.ets_term.specs.Atoms.{is_atom}
 use Rattle.ets_term.specs.Depth.{depth, is_too_deep, elements, element_at}
-use Rattle.ets_term.specs.Views.{tuple_form}
+use Rattle.ets_term.specs.Views.{tuple_form, as_tuple}
 use Rattle.counters.specs.Counters.{apply_one, apply_all, apply, are_counters, or_limit, apply_to_elements, apply_ops}
-use Rattle.counters.specs.Defaults.{with_key, with_key_form, start_counter, refuse_deep, start_elements}
+use Rattle.counters.specs.Defaults.{with_key, start_counter, refuse_deep, start_elements}
 use Rattle.counters.specs.Elements as elements
 use Rattle.counters.specs.inside.Values as values
 use Rattle.counters.proofs.ValueLaws.{values-at}
@@ -176,17 +176,12 @@ module _ (keypos : ℕ) where
       let own : element_at keypos object ≡ Some key = ap (element_at keypos) (sym is) ∙ ap (at_pos keypos) (elements-Tuple (slice_set ts (keypos - 1) key)) ∙ with_key-own-at (keypos == 0) ts key refl some few in
       ap (option_and_then (λ k. if is_atom (codes "$end_of_table") k then None else Some k)) own ∙ key-at (is_atom (codes "$end_of_table") key) key refl d.1
 
-  with_key-by : (y : Term-F Term) (key object : Term) → with_key_form keypos key y ≡ Some object → key_of keypos object ≡ Some key
-  with_key-by (Term-F.Tuple ts) key object e = with_key-at ((nat_lt 0 keypos && nat_le keypos (length ts)) && not (is_atom (codes "$end_of_table") key)) ts key object refl e
-  with_key-by (Term-F.Int n) key object e = cc
-  with_key-by (Term-F.Atom n) key object e = cc
-  with_key-by (Term-F.Pid n) key object e = cc
-  with_key-by (Term-F.Tid n) key object e = cc
-  with_key-by (Term-F.List n) key object e = cc
-  with_key-by (Term-F.Binary n) key object e = cc
+  with_key-by : (o : Option (List Term)) (key object : Term) → option_and_then (λ ts. if nat_lt 0 keypos && nat_le keypos (length ts) && not (is_atom (codes "$end_of_table") key) then Some (Tuple (slice_set ts (keypos - 1) key)) else None) o ≡ Some object → key_of keypos object ≡ Some key
+  with_key-by None key object e = cc
+  with_key-by (Some ts) key object e = with_key-at ((nat_lt 0 keypos && nat_le keypos (length ts)) && not (is_atom (codes "$end_of_table") key)) ts key object refl e
 
   with_key-key : (key default object : Term) → with_key keypos key default ≡ Some object → key_of keypos object ≡ Some key
-  with_key-key key default object e = with_key-by (out-Term default) key object e
+  with_key-key key default object e = with_key-by (as_tuple default) key object e
 
   shallow-at : (b : Bool) (r : Term × Term) (object answer : Term) → is_too_deep r.0 ≡ b → (if b then Err fault.SystemLimit else Ok r) ≡ Ok (object, answer) → (r ≡ (object, answer)) × (is_too_deep object ≡ false)
   shallow-at true r object answer e h = cc

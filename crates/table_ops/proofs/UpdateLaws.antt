@@ -15,7 +15,8 @@ use Rattle.counters.specs.declared.ops.Ops.{Ops}
 use Rattle.ets_term.specs.Depth.{is_too_deep}
 use Rattle.table_ops.specs.declared.kind.Kind.{Kind}
 use Rattle.table_ops.specs.declared.kind.Kind.TheVariants.{Set, Bag, DuplicateBag}
-use Rattle.table_ops.specs.Content.{Content, key_of, objects_under, AreSlots, IsSlot, IsObjectOfKey, FitsKind}
+use Rattle.table_ops.specs.Content.{Content, key_of, objects_under}
+use Rattle.table_ops.specs.Invariants.{AreSlots, IsSlot, IsObjectOfKey, FitsKind}
 use Rattle.table_ops.specs.Put.{add, SetsObjects, Puts}
 use Rattle.table_ops.specs.declared.refusal.Refusal.{Refusal}
 use Rattle.table_ops.specs.declared.refusal.Refusal.TheVariants.{Badarg, SystemLimit, Memory}

@@ -40,10 +40,6 @@ every_object own object = true
 abbrev pub without_those : Bool → Which → Content → Content
 without_those hold which old = record old { slots = after_drop hold which old.slots }
 
--- the content of a table after a deletion removed the chosen objects, whatever their keys
-abbrev pub without_chosen : Bool → (Term → Bool) → Content → Content
-without_chosen hold choose old = without_those hold (λ own. choose) old
-
 -- the content of a table after all tombstones are removed
 abbrev pub without_held : Content → Content
 without_held old = record old { slots = without_tombstones old.slots }

@@ -1,5 +1,7 @@
 pub mod Content
+pub mod ContentState
 pub mod Drop
+pub mod Invariants
 pub mod Outcomes
 pub mod Put
 pub mod Queries

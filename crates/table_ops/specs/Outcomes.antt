@@ -1,5 +1,5 @@
 -- The outcomes of a call that may be refused.
-use Rattle.std.specs.Prelude.{◌≡◌, Bool, Option, MatchOption, Result, IfOk}
+use Rattle.std.specs.Prelude.{◌≡◌, Bool, Option, MatchOption, Result}
 use Rattle.std.specs.Bool.{MatchBool}
 use Rattle.table_ops.specs.declared.refusal.Refusal.{Refusal}
 
@@ -21,10 +21,6 @@ refuse old test refusal otherwise given new =
 abbrev pub refuse_none : {X R A : Type 0} → A → Option X → R → (X → Outcome R A) → Outcome R A
 refuse_none old found refusal otherwise given new =
     MatchOption found (gives refusal old given new) (λ x. otherwise x given new)
-
--- if the result is Ok, it is this value
-abbrev pub Returns : {X E : Type 0} → Result X E → X → Type 0
-Returns result wanted = IfOk result (λ answer. answer ≡ wanted)
 
 -- a call that may be refused, as an outcome
 abbrev pub Change : Type 0 → Type 0 → Type 1

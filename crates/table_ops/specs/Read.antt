@@ -1,5 +1,5 @@
 -- The results of calls that change nothing (stdlib manual, module ets, lookup_element/3 and /4 and tab2list/1).
-use Rattle.std.specs.Prelude.{ℕ, ◌==◌, if◌then◌else◌, List, [], ◌∷◌, ◌++◌, Option, Some, None, option_map}
+use Rattle.std.specs.Prelude.{ℕ, ◌==◌, if◌then◌else◌, List, [], ◌∷◌, Option, Some, None, option_map, flat_map}
 use Rattle.std.specs.Option.{option_and_then}
 use Rattle.ets_term.specs.declared.term.Term.{Term}
 use Rattle.ets_term.specs.declared.term.Term.TheVariants.{List as list_term}
@@ -10,8 +10,7 @@ use Rattle.table_ops.specs.declared.kind.Kind.TheVariants.{Set, Bag, DuplicateBa
 
 -- all objects, in the order of the slots, and in each slot oldest first
 abbrev pub all_objects : List Slot → List Term
-all_objects [] = []
-all_objects (slot ∷ slots) = slot.1 ++ all_objects slots
+all_objects slots = flat_map (λ slot. slot.1) slots
 
 -- the elements at a position of tuples; None if one of the tuples has no such element
 abbrev pub elements_at : ℕ → List Term → Option (List Term)

@@ -1,6 +1,6 @@
 -- What an update does to the object of a key (stdlib manual, module ets, update_counter/3 and /4, update_element/3 and
 -- /4).
-use Rattle.std.specs.Prelude.{ℕ, ◌==◌, ◌&&◌, not, nat_lt, Bool, true, false, List, [], ◌∷◌, Option, MatchOption, is_some, Result, Ok, Err}
+use Rattle.std.specs.Prelude.{ℕ, ◌==◌, ◌&&◌, not, nat_lt, Bool, true, false, List, [], ◌∷◌, Option, is_some, Result, Ok, Err}
 use Rattle.std.specs.Bool.{MatchBool}
 use Rattle.std.specs.List.{list_all}
 use Rattle.std.specs.Option.{option_map_or}
@@ -15,7 +15,7 @@ use Rattle.counters.specs.declared.fault.CounterFault.TheVariants as fault
 use Rattle.counters.specs.declared.ops.Ops.{Ops}
 use Rattle.counters.specs.declared.ops.Ops.TheVariants.{One, Many}
 use Rattle.table_ops.specs.declared.kind.Kind.{Kind}
-use Rattle.table_ops.specs.declared.kind.Kind.TheVariants.{Set, Bag, DuplicateBag}
+use Rattle.table_ops.specs.declared.kind.Kind.TheVariants.{Set}
 use Rattle.table_ops.specs.declared.refusal.Refusal.{Refusal}
 use Rattle.table_ops.specs.declared.refusal.Refusal.TheVariants.{Badarg, SystemLimit, Memory}
 use Rattle.table_ops.specs.Content.{Content, objects_under}
@@ -25,8 +25,7 @@ use Rattle.table_ops.specs.Outcomes.{Change, gives, refuse, refuse_none}
 -- whether a table of this kind is a set
 abbrev pub is_set : Kind → Bool
 is_set Set = true
-is_set Bag = false
-is_set DuplicateBag = false
+is_set _ = false
 
 -- whether an update may name a position: it is at least 1 and not keypos
 abbrev pub may_update : ℕ → ℕ → Bool
@@ -51,15 +50,14 @@ refusal_of fault.Memory = Memory
 abbrev pub with_object : Term → Term → Content → Content
 with_object key object old = record old { slots = with_objects old.slots key (object ∷ []) }
 
--- the only object of a key is replaced by the updated object, or the update is refused
-abbrev pub UpdatesCounterOf : Term → Content → Result (Term × Term) CounterFault → Change Term Content
-UpdatesCounterOf key old (Ok counted) r new = gives (Ok counted.1) (with_object key counted.0 old) r new
-UpdatesCounterOf key old (Err fault) r new = gives (Err (refusal_of fault)) old r new
+-- the only object of a key is replaced by the updated object, and the answer is returned; or the update is refused
+abbrev pub UpdatesObject : {X : Type 0} → Term → Content → Result (Term × X) CounterFault → Change X Content
+UpdatesObject key old (Ok updated) r new = gives (Ok updated.1) (with_object key updated.0 old) r new
+UpdatesObject key old (Err fault) r new = gives (Err (refusal_of fault)) old r new
 
 -- the object made from a Default is inserted, and the answer is returned; system limit if the table would pass its
 -- limit
-abbrev pub InsertsDefault : {X : Type 0} → Term → Content → Result (Term × X) CounterFault
-    → Change X Content
+abbrev pub InsertsDefault : {X : Type 0} → Term → Content → Result (Term × X) CounterFault → Change X Content
 InsertsDefault key old (Ok made) r new =
     (slots : List Slot) × SetsObjects old.slots key (made.0 ∷ []) slots
     × refuse old (nat_lt old.limit (object_count slots)) (Err SystemLimit) (
@@ -72,7 +70,7 @@ abbrev pub UpdatesOrInsertsCounter : Term → Ops → Option Term → Content �
 UpdatesOrInsertsCounter key ops default old [] =
     refuse_none old default (Err Badarg) (λ d.
     InsertsDefault key old (start_counter ops (with_key old.keypos key d)))
-UpdatesOrInsertsCounter key ops default old (object ∷ objects) = UpdatesCounterOf key old (apply_ops ops object)
+UpdatesOrInsertsCounter key ops default old (object ∷ objects) = UpdatesObject key old (apply_ops ops object)
 
 -- whether the Default is absent, or becomes an object if the key is set at keypos
 abbrev pub default_is_object : ℕ → Term → Option Term → Bool
@@ -92,11 +90,6 @@ UpdatesCounter key ops default old r new =
     (UpdatesOrInsertsCounter key ops default old (objects_under old.slots key) r new)
     (gives (Err Badarg) old r new)
 
--- the only object of a key is replaced by the object with new elements, or the update is refused
-abbrev pub UpdatesElementOf : Term → Content → Result Term CounterFault → Change Bool Content
-UpdatesElementOf key old (Ok object) r new = gives (Ok true) (with_object key object old) r new
-UpdatesElementOf key old (Err fault) r new = gives (Err (refusal_of fault)) old r new
-
 -- the object with the answer `true`, or the fault
 abbrev pub with_true : Result Term CounterFault → Result (Term × Bool) CounterFault
 with_true (Ok object) = Ok (object, true)
@@ -106,12 +99,11 @@ with_true (Err fault) = Err fault
 -- the answer is `false` if there is no Default either
 abbrev pub UpdatesOrInsertsElement : Term → ElementSpecs → Option Term → Content → List Term
     → Change Bool Content
-UpdatesOrInsertsElement key specs default old [] r new =
-    MatchOption default
-    (gives (Ok false) old r new)
-    (λ d. InsertsDefault key old (with_true (start_elements specs (with_key old.keypos key d))) r new)
-UpdatesOrInsertsElement key specs default old (object ∷ objects) r new =
-    UpdatesElementOf key old (apply_elements specs object) r new
+UpdatesOrInsertsElement key specs default old [] =
+    refuse_none old default (Ok false) (λ d.
+    InsertsDefault key old (with_true (start_elements specs (with_key old.keypos key d))))
+UpdatesOrInsertsElement key specs default old (object ∷ objects) =
+    UpdatesObject key old (with_true (apply_elements specs object))
 
 -- whether update_element allows these arguments: the table is a set, no value is for keypos, and the Default is absent
 -- or becomes an object

@@ -1,10 +1,10 @@
 //! What a deletion by a query will change: the slots that lose objects, by their places (indices), with the objects
-//! that stay. `looks` counts the tested objects, and a chain is the list of objects of one slot.
+//! that stay. `trial` wraps the query, and `looks` counts the tested objects. A chain is the list of objects of one
+//! slot.
 ghost use Rattle.std.specs.Prelude.{◌≡◌, ◌≤◌, ◌++◌, [], ℕ, Option, Some, length, OnOk};
 ghost use Rattle.ets_term.specs.declared.term.Term.{Term};
 ghost use Rattle.node_list.specs.Ticks.{ticks};
-ghost use Rattle.table_ops.specs.Outcomes.{Returns};
-ghost use Rattle.table_ops.specs.Queries.{chosen_count};
+ghost use Rattle.table_ops.specs.Results.{Returns, chosen_count};
 ghost use Rattle.table_ops.specs.Looks.{CountsLooks};
 ghost use Rattle.table_ops.specs.inside.DeletePlan.{plan_of_slot, plan_at};
 
@@ -43,8 +43,8 @@ impl DeletePlan {
         }
     }
 
-    /// Tests the objects of a slot and plans to remove the chosen objects. Returns their number. If all objects or none
-    /// are chosen, copies no object.
+    /// Tests the objects of the slot at `place`, plans to remove the chosen objects, and returns their number. If all
+    /// objects or none are chosen, copies no object.
     pub fn plan_slot<P: Predicate>(
         &mut self,
         trial: &Trial<'_, P>,

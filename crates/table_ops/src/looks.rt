@@ -1,12 +1,13 @@
-//! A counter of the objects that searches test. It exists at run time, as one `u64`.
+//! `Looks`, the counter of the objects that a search tests. A search passes the counter as `looks` to the functions
+//! that test objects by a `Trial`. The counter exists at run time, as one `u64`.
 ghost use Rattle.std.specs.Prelude.{◌≡◌};
 ghost use Rattle.node_list.specs.Ticks.{tick};
 
 use std::marker::Model;
 
 /// A counter of tested objects. Each test of an object by a pattern or match specification adds 1, up to the greatest
-/// `u64`. By this count, the contracts of searches bound how many objects a search tests. A search without a counter as
-/// an argument makes one and drops it.
+/// `u64`. The contracts of searches state by this count how many objects a search tests. If memory runs out, they state
+/// only a bound. A search without a `Looks` as an argument makes one and drops it.
 #[derive(Drop)]
 pub struct Looks {
     count: u64,

@@ -1,5 +1,5 @@
-//! The objects of one slot, split by a query into removed and kept objects: a step of a delete plan. `looks` counts the
-//! tested objects, and a chain is the list of objects of one slot.
+//! The objects of one slot, split by a query into removed and kept objects: a step of a delete plan. `trial` wraps the
+//! query, and `looks` counts the tested objects. A chain is the list of objects of one slot.
 ghost use Rattle.std.specs.Prelude.{◌≡◌, ◌≤◌, ◌<◌, ◌^◌, ◌++◌, ◌+◌, [], take, length, OnOk};
 ghost use Rattle.node_list.specs.Ticks.{tick, ticks};
 ghost use Rattle.table_ops.specs.Looks.{CountsLooks};
@@ -22,7 +22,7 @@ pub struct Partition {
 }
 
 impl Partition {
-    /// Returns the partition of a slot before an object is tested.
+    /// Returns an empty partition, for a slot of which no object is tested yet.
     pub fn new(alloc: Global) -> Partition
         ensures removed { result.removed ≡ 0 }
         ensures kept { result.kept ≡ [] }
@@ -34,7 +34,7 @@ impl Partition {
         }
     }
 
-    /// Tests all objects of a slot and adds them to the partition.
+    /// Tests all objects of a slot and adds them to the partition, which must be empty.
     pub fn add_all<P: Predicate>(
         &mut self,
         trial: &Trial<'_, P>,
@@ -74,7 +74,7 @@ impl Partition {
         let object = &objects[i];
         if trial.chooses(self.alloc, object, looks)? {
             if self.removed == 0 {
-                self.copy_kept(&objects[..i])?;
+                self.append_copies(&objects[..i])?;
                 self.removed = 1;
                 return Ok(());
             }
@@ -88,7 +88,7 @@ impl Partition {
     }
 
     /// Appends copies of objects to the kept objects.
-    fn copy_kept(&mut self, objects: &[Term]) -> Result<(), AllocError>
+    fn append_copies(&mut self, objects: &[Term]) -> Result<(), AllocError>
         ensures { OnOk result (self.new.kept ≡ self.old.kept ++ objects.now) }
     {
         for object in objects {

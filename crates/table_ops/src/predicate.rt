@@ -1,7 +1,7 @@
 //! Which objects a query, a pattern or match specification, chooses. The calls that count or delete objects use it.
 ghost use Rattle.std.specs.Prelude.{Bool};
 ghost use Rattle.ets_term.specs.declared.term.Term.{Term};
-ghost use Rattle.table_ops.specs.Outcomes.{Returns};
+ghost use Rattle.table_ops.specs.Results.{Returns};
 
 use ets_term::Term;
 use match_spec::{Pattern, Spec};
@@ -12,7 +12,7 @@ pub trait Predicate {
     /// Whether an object is chosen.
     ghost tests: { Self → Term → Bool };
 
-    /// Returns whether an object is chosen.
+    /// Returns whether an object is chosen. Fails if an allocation fails.
     fn test(&self, alloc: Global, object: &Term) -> Result<bool, AllocError>
         ensures { Returns result (tests self.now object.now) };
 }

@@ -14,7 +14,7 @@ pub trait Projection {
     /// The result for an object, or `None` if the object has no result.
     ghost projects: { Self → Term → Option Data };
 
-    /// Returns the result for an object, or `None` if the object has no result.
+    /// Returns the result for an object, or `None` if the object has no result. Fails if an allocation fails.
     fn project(&self, alloc: Global, object: &Term) -> Result<Option<Term>, AllocError>
         ensures { ReturnsData result (projects self.now object.now) };
 }

@@ -6,11 +6,12 @@ use std::alloc::AllocError;
 /// Why a call is refused. A refused call changes nothing.
 #[derive(Debug, Drop, PartialEq, Eq)]
 pub enum Refusal {
-    /// An argument is not of the form that the call takes, or the key has no object (`lookup_element`).
+    /// An argument is not of the form that the call takes, or the call does not fit the table or the object. Examples:
+    /// an update of a bag, a position that the object does not have, and `lookup_element` of a missing key.
     Badarg,
     /// The table would have more objects than its limit, an object would be too deep, or an integer would overflow.
     SystemLimit,
-    /// An allocation failed: no refusal of the specification and no reply, but the call fails and changes nothing.
+    /// An allocation failed. The call changes nothing and has no reply, because the specification has no such refusal.
     Memory,
 }
 

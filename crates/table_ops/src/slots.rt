@@ -1,5 +1,5 @@
 //! An iterator over the slots of a table, each a key with its objects. It visits the places in ascending order: a place
-//! is the index of a slot in its rows.
+//! locates a slot in its rows, and places may have gaps.
 ghost use Rattle.std.specs.Prelude.{◌≡◌, IfSome, IsSome, option_map};
 ghost use Rattle.std.specs.Iterator.{YieldsFirstBy, item_count};
 ghost use Rattle.table_ops.specs.inside.SlotsLeft.{IsPlaced};
@@ -17,12 +17,12 @@ pub struct PlacedSlot<'a> {
 }
 
 /// An iterator over the slots of rows, in their order. It reads each slot one call ahead: `next_slot` is the slot that
-/// the next call returns, and `passed` the number of slots that it has returned.
+/// the next call returns. `returned_count` is the number of slots returned so far.
 #[derive(Drop)]
 pub struct Slots<'a, R: Rows> {
     rows: &'a R,
     next_slot: Option<PlacedSlot<'a>>,
-    passed: usize,
+    returned_count: usize,
 }
 
 // The value that contracts see of this type (`view`), and what is true of its fields between calls (`invariant`).
@@ -36,9 +36,9 @@ impl<'a, R: Rows> Model for Slots<'a, R> {
 
     ghost coded = { slots_code };
 
-    ghost view = { λ it. drop it.passed (R.slots it.rows.now) };
+    ghost view = { λ it. drop it.returned_count (R.slots it.rows.now) };
 
-    ghost invariant = { λ it. SlotsInvariant (R.key_at it.rows.now) (R.slots it.rows.now) it.passed it.next_slot };
+    ghost invariant = { λ it. SlotsInvariant (R.key_at it.rows.now) (R.slots it.rows.now) it.returned_count it.next_slot };
 }
 
 impl<'a, R: Rows> Iterator for Slots<'a, R> {
@@ -53,7 +53,7 @@ impl<'a, R: Rows> Iterator for Slots<'a, R> {
             return None;
         };
         self.next_slot = slot_at(self.rows, self.rows.next_place(slot.place));
-        self.passed += 1;
+        self.returned_count += 1;
         Some((slot.key, slot.objects))
     }
 }
@@ -84,6 +84,6 @@ pub fn all_of<R: Rows>(rows: &R) -> Slots<'_, R>
     Slots {
         rows,
         next_slot: slot_at(rows, rows.first_place()),
-        passed: 0,
+        returned_count: 0,
     }
 }

@@ -1,9 +1,10 @@
 //! The type of a table: rows (all slots, each a key with its objects) and a count of objects. Here are its settings,
 //! its sizes and the growth of its buckets, apart from the calls on objects.
 ghost use Rattle.std.specs.Prelude.{◌≡◌, ◌<◌, ◌≤◌, ◌^◌, [], length, not, position, IfOk, OnErr};
-ghost use Rattle.bucket_table.specs.Buckets.{IsGrown, IsReadied};
+ghost use Rattle.bucket_table.specs.Buckets.{IsGrown};
+ghost use Rattle.bucket_table.specs.Readying.{IsReadied};
 ghost use Rattle.bucket_table.specs.Slots.{object_count};
-ghost use Rattle.table_ops.specs.Content.{IsContent};
+ghost use Rattle.table_ops.specs.Invariants.{IsContent};
 
 use crate::kind::Kind;
 use crate::table_rows::TableRows;
@@ -18,8 +19,8 @@ mod query;
 mod remove;
 mod update;
 
-/// One table over its rows (stdlib manual, module ets). `count` is the number of objects. A contract sees its
-/// `content`, and for each of its `buckets` whether it is ready.
+/// One table over its rows (stdlib manual, module ets). `inner` has the rows and the settings, and `count` is the
+/// number of objects. A contract sees its `content`, and for each of its `buckets` whether it is ready.
 #[derive(Drop)]
 pub struct Table<R: Rows> {
     inner: TableRows<R>,
@@ -28,7 +29,7 @@ pub struct Table<R: Rows> {
 
 // The value that contracts see of this type (`view`), and what is true of its fields between calls (`invariant`).
 impl<R: Rows> Model for Table<R> {
-    ghost use Rattle.table_ops.specs.Content.{ContentState};
+    ghost use Rattle.table_ops.specs.ContentState.{ContentState};
     ghost use Rattle.table_ops.specs.inside.Codes.{content_state_code};
     ghost use Rattle.table_ops.specs.inside.TableRows.{content_of, TableRowsInvariant};
 
@@ -115,7 +116,8 @@ impl<R: Rows> Table<R> {
         self.inner.rows.first_unready()
     }
 
-    /// Doubles the number of buckets, unless it is already the greatest. The result says which.
+    /// Doubles the number of buckets and returns `Grown`. If the number is already the greatest, returns `AtMost` and
+    /// changes nothing.
     pub fn grow(&mut self) -> Result<Growth, AllocError>
         ensures content { self.new.content ≡ self.old.content }
         ensures ok { IfOk result (λ growth.
@@ -125,7 +127,8 @@ impl<R: Rows> Table<R> {
         self.inner.rows.grow()
     }
 
-    /// Makes a bucket ready. The result says whether the bucket was ready before or does not exist.
+    /// Makes a bucket ready and returns `Ready`. Changes nothing if the bucket is ready already (`AlreadyReady`) or
+    /// does not exist (`NotABucket`).
     pub fn ready(&mut self, bucket: u32) -> Result<Readying, AllocError>
         ensures content { self.new.content ≡ self.old.content }
         ensures ok { IfOk result (λ readying.

@@ -1,9 +1,8 @@
-//! The wrapper of a query, by which scans test objects. Each test adds 1 to `looks`, the counter of tested objects, up
-//! to the greatest `u64`.
+//! `Trial`, the wrapper of a query, a pattern or match specification, by which scans test objects. Each test adds 1 to
+//! `looks`, the counter of tested objects, up to the greatest `u64`.
 ghost use Rattle.std.specs.Prelude.{◌≡◌};
 ghost use Rattle.node_list.specs.Ticks.{tick};
-ghost use Rattle.table_ops.specs.Outcomes.{Returns};
-ghost use Rattle.table_ops.specs.Results.{ReturnsData};
+ghost use Rattle.table_ops.specs.Results.{Returns, ReturnsData};
 
 use crate::looks::Looks;
 use crate::predicate::Predicate;
@@ -11,8 +10,8 @@ use crate::projection::Projection;
 use ets_term::Term;
 use std::alloc::{AllocError, Global};
 
-/// A wrapper of a query, a pattern or a match specification. A scan can test an object only by its methods, and each
-/// call of these counts one object.
+/// A wrapper of a query, a pattern or a match specification. A scan gets the `Trial` as `trial` instead of the query.
+/// So the scan can test an object only by `result_of` and `chooses`, each of which counts the object.
 #[derive(Drop)]
 pub struct Trial<'a, Q> {
     query: &'a Q,
@@ -28,7 +27,8 @@ impl<'a, Q> Trial<'a, Q> {
 }
 
 impl<'a, P: Projection> Trial<'a, P> {
-    /// Returns the result of the query for an object, if there is one, and counts the object.
+    /// Returns the result of the query for an object, or `None` if it has no result, and counts the object. Fails if an
+    /// allocation fails.
     #[inline(always)]
     pub fn result_of(
         &self,
@@ -45,7 +45,7 @@ impl<'a, P: Projection> Trial<'a, P> {
 }
 
 impl<'a, P: Predicate> Trial<'a, P> {
-    /// Returns whether the query chooses an object, and counts the object.
+    /// Returns whether the query chooses an object, and counts the object. Fails if an allocation fails.
     #[inline(always)]
     pub fn chooses(
         &self,

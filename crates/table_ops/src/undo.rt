@@ -1,5 +1,5 @@
-//! How to undo one insertion; the undo log of a list of objects has one part for each. A chain is the list of objects
-//! of one slot.
+//! How to undo one insertion. The undo log of a list of objects has one `Undo` for each inserted object. A chain is the
+//! list of objects of one slot.
 ghost use Rattle.std.specs.Prelude.{◌≡◌};
 ghost use Rattle.table_ops.specs.inside.Undo.{added_objects};
 
@@ -10,7 +10,7 @@ use node_list::Chain;
 pub enum Undo {
     /// The key had no slot: remove its slot.
     NewSlot,
-    /// The slot of the key had these objects: restore them.
+    /// The object was put in a set's slot, which had these objects, or no object if it was a tombstone: restore them.
     Objects(Chain),
     /// The object was appended to the slot of the key: remove its last object.
     LastObject,
@@ -25,6 +25,7 @@ impl Undo {
     {
         match self {
             Undo::NewSlot => 1,
+            // An empty chain means that the slot was a tombstone, so the insertion added an object.
             Undo::Objects(objects) => { if objects.len() == 0 { 1 } else { 0 } }
             Undo::LastObject => 1,
             Undo::Nothing => 0,

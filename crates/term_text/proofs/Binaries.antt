@@ -2,7 +2,7 @@
 use Rattle.std.proofs.Common.{◌≡◌, refl, ap, sym, ◌∙◌, ◌+◌, ◌<◌, ◌==◌, ℕ, List, [], ◌∷◌, length, drop, get_or, Bool, true, false}
 use Rattle.ets_term.specs.declared.term.Term.TheVariants.{Binary}
 use Rattle.term_text.specs.declared.quote_form.QuoteForm.TheVariants as form
-use Rattle.term_text.specs.inside.Reader.{OpenBracket, byte, whole, digit, quoted, after_byte, after_string, opened_binary, wants_byte, Reading, reads_on, expect, read_from}
+use Rattle.term_text.specs.inside.Reader.{OpenBracket, byte, whole, digit, in_quotes, after_byte, after_string, opened_binary, wants_byte, Reading, reads_on, expect, read_from}
 use Rattle.term_text.specs.inside.Parts.{Reaches}
 use Rattle.term_text.specs.Text.{is_blank, is_digit, begins}
 use Rattle.term_text.proofs.Offsets.{if-true, if-false, read-at, begins_at, begins_in}
@@ -57,7 +57,7 @@ pub opened_digit : (text : List ℕ) (offset : ℕ) (os : List OpenBracket) → 
 opened_digit text offset os h k d = opened-digit-here offset os (drop offset text) h k d
 
 pub opened_quote : (text : List ℕ) (offset : ℕ) (os : List OpenBracket) → begins is_blank (drop offset text) ≡ false → begins (λ b. b == 34) (drop offset text) ≡ true
-    → Reaches text offset (reads_on opened_binary os) (offset + 1) (reads_on (quoted form.Binary []) os)
+    → Reaches text offset (reads_on opened_binary os) (offset + 1) (reads_on (in_quotes form.Binary []) os)
 opened_quote text offset os e k =
     let h = begins_in (λ b. b == 34) text offset k in
     read-at text offset _ _ h (if-false _ _ _ (here is_blank false text offset h e) ∙ if-true _ _ _ (here (λ b. b == 34) true text offset h k))

@@ -7,7 +7,7 @@ use Rattle.ets_term.specs.declared.term.Term.{Term}
 use Rattle.ets_term.specs.declared.term.Term.TheVariants.{Int, Atom}
 use Rattle.term_text.specs.declared.fault.TextFault.{TextFault}
 use Rattle.term_text.specs.declared.fault.TextFault.TheVariants.{Unexpected, Unclosed, OutOfRange, TooDeep, AtomTooLong, Memory}
-use Rattle.term_text.specs.inside.Reader.{OpenBracket, integer, Mode, number, name, wants, Reading, reads_on, found, fails, with_sign, put, next, take_byte, ending, end_after_term, read_from, reading}
+use Rattle.term_text.specs.inside.Reader.{OpenBracket, integer, Mode, number, name, wants, Reading, reads_on, found, fails, with_sign, put, next, take_byte, end_in_mode, end_after_term, read_from, reading}
 use Rattle.term_text.specs.Prefixes.{state, so_far, HasNoFault, CanReachTerm}
 use Rattle.term_text.specs.Faults.{FaultMeans, IsFaultAt, CanBeCompleted, EndsEarly, IsFault, IsFaultOrMemory}
 use Rattle.term_text.specs.Reading.{ReaderReturns}
@@ -46,7 +46,7 @@ end_after_term-fault : (at : ℕ) (os : List OpenBracket) (t : Term) (f : TextFa
 end_after_term-fault at [] t f e = absurd (not-found t at f e)
 end_after_term-fault at (o ∷ os) t f e = sym (same-fault (Unclosed at) f e)
 
-end-fault : (at : ℕ) (mode : Mode) (os : List OpenBracket) (f : TextFault) → ending at mode os ≡ fails f → f ≡ Unclosed at
+end-fault : (at : ℕ) (mode : Mode) (os : List OpenBracket) (f : TextFault) → end_in_mode at mode os ≡ fails f → f ≡ Unclosed at
 end-fault at (number (integer below) start n) os f e = end_after_term-fault at os (Int (with_sign below n)) f e
 end-fault at (name start cs) os f e = end_after_term-fault at os (Atom cs) f e
 end-fault at mode os f e = sym (same-fault (Unclosed at) f e)
@@ -211,21 +211,21 @@ end_after_term-not-reading : (at : ℕ) (os : List OpenBracket) (t : Term) (m2 :
 end_after_term-not-reading at [] t m2 os2 e = not-reading-found t at m2 os2 e
 end_after_term-not-reading at (o ∷ os) t m2 os2 e = not-reading-fails (Unclosed at) m2 os2 e
 
-end-not-reading : (at : ℕ) (mode : Mode) (os : List OpenBracket) (m2 : Mode) (os2 : List OpenBracket) → ending at mode os ≡ reads_on m2 os2 → ⊥
+end-not-reading : (at : ℕ) (mode : Mode) (os : List OpenBracket) (m2 : Mode) (os2 : List OpenBracket) → end_in_mode at mode os ≡ reads_on m2 os2 → ⊥
 end-not-reading at (number (integer below) start n) os m2 os2 e = end_after_term-not-reading at os (Int (with_sign below n)) m2 os2 e
 end-not-reading at (name start cs) os m2 os2 e = end_after_term-not-reading at os (Atom cs) m2 os2 e
 end-not-reading at mode os m2 os2 e = not-reading-fails (Unclosed at) m2 os2 e
 
-end-reported : (z : Reading) (text : List ℕ) (mode : Mode) (os : List OpenBracket) → ending (length text) mode os ≡ z → reading text ≡ z → ((t : Term) (n : ℕ) → Front text t n → ⊥) → reading text ≡ fails (Unclosed (length text))
+end-reported : (z : Reading) (text : List ℕ) (mode : Mode) (os : List OpenBracket) → end_in_mode (length text) mode os ≡ z → reading text ≡ z → ((t : Term) (n : ℕ) → Front text t n → ⊥) → reading text ≡ fails (Unclosed (length text))
 end-reported (reads_on m2 os2) text mode os e r none = absurd (end-not-reading (length text) mode os m2 os2 e)
 end-reported (found t n) text mode os e r none = absurd (none t n (sound text t n r))
 end-reported (fails f) text mode os e r none = r ∙ ap fails (end-fault (length text) mode os f e)
 
-reading-end : (text : List ℕ) (mode : Mode) (os : List OpenBracket) → so_far text ≡ reads_on mode os → reading text ≡ ending (length text) mode os
+reading-end : (text : List ℕ) (mode : Mode) (os : List OpenBracket) → so_far text ≡ reads_on mode os → reading text ≡ end_in_mode (length text) mode os
 reading-end text mode os e = ap reading (sym (append-nil text)) ∙ reading-from text [] mode os e
 
 unclosed-reported : (z : Reading) (text : List ℕ) → so_far text ≡ z → CanBeCompleted text → ((t : Term) (n : ℕ) → Front text t n → ⊥) → reading text ≡ fails (Unclosed (length text))
-unclosed-reported (reads_on mode os) text e before none = end-reported (ending (length text) mode os) text mode os refl (reading-end text mode os e) none
+unclosed-reported (reads_on mode os) text e before none = end-reported (end_in_mode (length text) mode os) text mode os refl (reading-end text mode os e) none
 unclosed-reported (found t n) text e before none =
     absurd (none t n (sound text t n (ap reading (sym (append-nil text)) ∙ read-append 0 (reads_on (wants false) []) text [] ∙ ap (λ (s : Reading). read_from (0 + length text) s []) e)))
 unclosed-reported (fails f) text e before none = absurd (not-stuck text f e before)

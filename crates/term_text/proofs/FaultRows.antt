@@ -9,7 +9,7 @@ use Rattle.term_text.specs.declared.fault.TextFault.TheVariants.{OutOfRange, Too
 use Rattle.term_text.specs.declared.quote_form.QuoteForm.{QuoteForm}
 use Rattle.term_text.specs.declared.quote_form.QuoteForm.TheVariants as form
 use Rattle.term_text.specs.Text.{is_blank, is_digit, is_lowercase, is_name, begins, value_of_digits}
-use Rattle.term_text.specs.inside.Reader.{OpenBracket, Number, integer, pid, identifier, byte, digits, wants, digit, name, quoted, signs, angle, opened_binary, wants_byte, after_byte, after, Reading, reads_on, fails, opening, quote, admits, take_byte, read_from, reading}
+use Rattle.term_text.specs.inside.Reader.{OpenBracket, Number, integer, pid, identifier, byte, digits, wants, digit, name, in_quotes, signs, angle, opened_binary, wants_byte, after_byte, after, Reading, reads_on, fails, open_bracket, quote, admits, take_byte, read_from, reading}
 use Rattle.term_text.specs.Faults.{AwaitsItem, fresh, further, AwaitsTerm, AwaitsByte, opened, comma, LeadsNumber, number_start, PastRange, PastAtom, plain_form, quoted_form, PastDepth, a_term, a_character}
 use Rattle.term_text.specs.Grammar.{opening_sign}
 use Rattle.term_text.proofs.FirstBytes.{begin-out-of-levels, begin-minus, begin-quoted, begin-string, begin-angle, begin-identifier, begin-name}
@@ -35,16 +35,16 @@ pub record Arrives (os : List OpenBracket) (lead rest : List ℕ) : Type 0 where
   pub runs : read_from 0 start_state (lead ++ rest) ≡ read_from (length lead) (reads_on (wants opened) os) rest
 
 abbrev ArrivesInside : Bool → List Term → List OpenBracket → List ℕ → List ℕ → ℕ → Type 0
-ArrivesInside square ts os inner rest p = (opened : Bool) × (read_from p (reads_on (wants true) (opening square ∷ os)) (inner ++ rest) ≡ read_from (p + length inner) (reads_on (wants opened) (holding square ts ∷ os)) rest)
+ArrivesInside square ts os inner rest p = (opened : Bool) × (read_from p (reads_on (wants true) (open_bracket square ∷ os)) (inner ++ rest) ≡ read_from (p + length inner) (reads_on (wants opened) (holding square ts ∷ os)) rest)
 
 inside-run : (k : ℕ) (square : Bool) (ts : List Term) (os : List OpenBracket) (inner rest : List ℕ) (p : ℕ) → AwaitsItem k ts inner → length os + 1 + k ≤ 128 → ArrivesInside square ts os inner rest p
-inside-run k square ts os inner rest p (fresh blanks h) room = (true, blanks-stay p (reads_on (wants true) (opening square ∷ os)) blanks rest (wants-ignores true (opening square ∷ os)) h)
+inside-run k square ts os inner rest p (fresh blanks h) room = (true, blanks-stay p (reads_on (wants true) (open_bracket square ∷ os)) blanks rest (wants-ignores true (open_bracket square ∷ os)) h)
 inside-run k square ts os inner rest p (further us row before behind r h i) room =
     let tail : List ℕ = behind ++ rest in
     let p1 : ℕ = p + length row in
     let p2 : ℕ = p1 + length before in (
       false,
-      ap (λ (w : List ℕ). read_from p (reads_on (wants true) (opening square ∷ os)) w) (append_assoc row (before ++ 44 ∷ behind) rest ∙ ap (λ (w : List ℕ). row ++ w) (append_assoc before (44 ∷ behind) rest))
+      ap (λ (w : List ℕ). read_from p (reads_on (wants true) (open_bracket square ∷ os)) w) (append_assoc row (before ++ 44 ∷ behind) rest ∙ ap (λ (w : List ℕ). row ++ w) (append_assoc before (44 ∷ behind) rest))
           ∙ comma_separated k row ts r p square os (before ++ 44 ∷ tail) p1 room (blanks-then is_name before 44 tail h blank-no-name comma-no-name) refl
           ∙ blanks-stay p1 (reads_on after (holding square ts ∷ os)) before (44 ∷ tail) (after-ignores (holding square ts) os) h
           ∙ byte-taken p2 (reads_on after (holding square ts ∷ os)) (reads_on (wants false) (holding square ts ∷ os)) 44 tail (if-false _ _ _ (comma-no-close square) ∙ if-false _ _ _ comma-no-blank)
@@ -74,7 +74,7 @@ byte-fails : (at : ℕ) (s : Reading) (b : ℕ) (rest : List ℕ) (f : TextFault
 byte-fails at s b rest f e = byte-taken at s (fails f) b rest e ∙ read-fails (at + 1) f rest
 
 -- a character in quotes that is refused
-character-fails : (at : ℕ) (q : QuoteForm) (cs : List ℕ) (os : List OpenBracket) (b : ℕ) (f : TextFault) → (b == quote q) ≡ false → is_character b ≡ true → ((s : Reading) → admits at q (length cs) os s ≡ fails f) → take_byte at (reads_on (quoted q cs) os) b ≡ fails f
+character-fails : (at : ℕ) (q : QuoteForm) (cs : List ℕ) (os : List OpenBracket) (b : ℕ) (f : TextFault) → (b == quote q) ≡ false → is_character b ≡ true → ((s : Reading) → admits at q (length cs) os s ≡ fails f) → take_byte at (reads_on (in_quotes q cs) os) b ≡ fails f
 character-fails at q cs os b f other char no_room = by-test (b == 92)
     (λ e. if-false _ _ _ other ∙ if-true _ _ _ e ∙ no_room _)
     (λ e. if-false _ _ _ other ∙ if-false _ _ _ e ∙ if-true _ _ _ char ∙ no_room _)
@@ -94,8 +94,8 @@ depth-reported pre b rest (a_character os lead e h char other) =
     ap (λ (w : List ℕ). reading (w ++ b ∷ rest)) e
     ∙ ap reading (append_assoc lead (34 ∷ []) (b ∷ rest))
     ∙ arrived.runs
-    ∙ wants-first (length lead) arrived.opened os 34 (reads_on (quoted form.String []) os) (b ∷ rest) string-begins (begin-string (length lead) os (omega (arith, levels)))
-    ∙ byte-fails at (reads_on (quoted form.String []) os) b rest (TooDeep at) (character-fails at form.String [] os b (TooDeep at) other char (λ s. if-true _ _ _ (nat-le-true 127 (length os) (omega (arith, levels)))))
+    ∙ wants-first (length lead) arrived.opened os 34 (reads_on (in_quotes form.String []) os) (b ∷ rest) string-begins (begin-string (length lead) os (omega (arith, levels)))
+    ∙ byte-fails at (reads_on (in_quotes form.String []) os) b rest (TooDeep at) (character-fails at form.String [] os b (TooDeep at) other char (λ s. if-true _ _ _ (nat-le-true 127 (length os) (omega (arith, levels)))))
     ∙ ap (λ (m : ℕ). fails (TooDeep m)) (omega (arith, ap length e, length-append lead (34 ∷ [])))
 
 count-more : (p : ℕ → Bool) (s t : List ℕ) → list_all p s ≡ true → prefix_len p (s ++ t) ≡ length s + prefix_len p t
@@ -127,9 +127,9 @@ atom-reported pre b start rest (quoted_form os k lead s cs e h st sp long char o
     ap (λ (w : List ℕ). reading (w ++ b ∷ rest)) e
     ∙ ap reading (append_assoc lead (39 ∷ s) (b ∷ rest))
     ∙ arrived.runs
-    ∙ wants-first at arrived.opened os 39 (reads_on (quoted (form.Atom at) []) os) (s ++ b ∷ rest) quote-begins (begin-quoted at os (omega (arith, levels)))
+    ∙ wants-first at arrived.opened os 39 (reads_on (in_quotes (form.Atom at) []) os) (s ++ b ∷ rest) quote-begins (begin-quoted at os (omega (arith, levels)))
     ∙ quoted-text (at + 1) (form.Atom at) os s cs (b ∷ rest) p sp (omega (arith, long)) refl
-    ∙ byte-fails p (reads_on (quoted (form.Atom at) cs) os) b rest (AtomTooLong at) (character-fails p (form.Atom at) cs os b (AtomTooLong at) other char (λ s. if-true _ _ _ (same-test (length cs) long)))
+    ∙ byte-fails p (reads_on (in_quotes (form.Atom at) cs) os) b rest (AtomTooLong at) (character-fails p (form.Atom at) cs os b (AtomTooLong at) other char (λ s. if-true _ _ _ (same-test (length cs) long)))
     ∙ ap (λ (m : ℕ). fails (AtomTooLong m)) (sym st)
 
 -- one digit after another

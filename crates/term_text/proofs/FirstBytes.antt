@@ -6,7 +6,7 @@ use Rattle.ets_term.specs.declared.term.Term.{Term}
 use Rattle.term_text.specs.declared.fault.TextFault.{TextFault}
 use Rattle.term_text.specs.declared.fault.TextFault.TheVariants.{Unexpected, Unclosed, TooDeep}
 use Rattle.term_text.specs.declared.quote_form.QuoteForm.TheVariants as form
-use Rattle.term_text.specs.inside.Reader.{OpenBracket, integer, identifier, digits, wants, digit, number, name, quoted, signs, angle, after, Reading, reads_on, fails, opening, bracket, put, begin, read_from}
+use Rattle.term_text.specs.inside.Reader.{OpenBracket, integer, identifier, digits, wants, digit, number, name, in_quotes, signs, angle, after, Reading, reads_on, fails, open_bracket, bracket, put, begin, read_from}
 use Rattle.term_text.specs.inside.Parts.{Reaches, ReadsTerm}
 use Rattle.term_text.specs.Text.{is_blank, is_digit, is_lowercase, begins, begins_term, closes}
 use Rattle.term_text.proofs.Offsets.{if-true, if-false, read-fails, read-at, fails-at, ends-at, begins_at, nat-le-true}
@@ -19,11 +19,11 @@ pub begin-out-of-levels : (at : ℕ) (os : List OpenBracket) (b : ℕ) → begin
 unfolding begin
 begin-out-of-levels at os b h k = if-true _ _ _ h ∙ if-true _ _ _ (nat-le-true 128 (length os) k)
 
-pub begin-brace : (at : ℕ) (os : List OpenBracket) → length os < 128 → begin at os 123 ≡ reads_on (wants true) (opening false ∷ os)
+pub begin-brace : (at : ℕ) (os : List OpenBracket) → length os < 128 → begin at os 123 ≡ reads_on (wants true) (open_bracket false ∷ os)
 unfolding begin begins_term is_lowercase is_digit
 begin-brace at os h = rw (lt-leb 128 (length os) h) refl
 
-pub begin-square : (at : ℕ) (os : List OpenBracket) → length os < 128 → begin at os 91 ≡ reads_on (wants true) (opening true ∷ os)
+pub begin-square : (at : ℕ) (os : List OpenBracket) → length os < 128 → begin at os 91 ≡ reads_on (wants true) (open_bracket true ∷ os)
 unfolding begin begins_term is_lowercase is_digit
 begin-square at os h = rw (lt-leb 128 (length os) h) refl
 
@@ -31,11 +31,11 @@ pub begin-minus : (at : ℕ) (os : List OpenBracket) → length os < 128 → beg
 unfolding begin begins_term is_lowercase is_digit
 begin-minus at os h = rw (lt-leb 128 (length os) h) refl
 
-pub begin-quoted : (at : ℕ) (os : List OpenBracket) → length os < 128 → begin at os 39 ≡ reads_on (quoted (form.Atom at) []) os
+pub begin-quoted : (at : ℕ) (os : List OpenBracket) → length os < 128 → begin at os 39 ≡ reads_on (in_quotes (form.Atom at) []) os
 unfolding begin begins_term is_lowercase is_digit
 begin-quoted at os h = rw (lt-leb 128 (length os) h) refl
 
-pub begin-string : (at : ℕ) (os : List OpenBracket) → length os < 128 → begin at os 34 ≡ reads_on (quoted form.String []) os
+pub begin-string : (at : ℕ) (os : List OpenBracket) → length os < 128 → begin at os 34 ≡ reads_on (in_quotes form.String []) os
 unfolding begin begins_term is_lowercase is_digit
 begin-string at os h = rw (lt-leb 128 (length os) h) refl
 

@@ -7,7 +7,7 @@ use Rattle.term_text.specs.declared.fault.TextFault.{TextFault}
 use Rattle.term_text.specs.declared.quote_form.QuoteForm.{QuoteForm}
 use Rattle.term_text.specs.declared.quote_form.QuoteForm.TheVariants as form
 use Rattle.term_text.specs.Text.{is_blank, is_digit, is_lowercase, is_name, begins}
-use Rattle.term_text.specs.inside.Reader.{OpenBracket, Number, integer, Expect, whole, digits, Mode, wants, digit, number, name, quoted, escaped, signs, angle, opened_binary, wants_byte, after_byte, after_string, after, Reading, reads_on, found, fails, quote}
+use Rattle.term_text.specs.inside.Reader.{OpenBracket, Number, integer, Expect, whole, digits, Mode, wants, digit, number, name, in_quotes, after_backslash, signs, angle, opened_binary, wants_byte, after_byte, after_string, after, Reading, reads_on, found, fails, quote}
 use Rattle.term_text.specs.Faults.{AwaitsTerm, AwaitsByte, LeadsNumber, number_start, FaultMeans}
 use Rattle.term_text.specs.Grammar.{AreBlanks, SpellsNumber, SpellsQuoted, SpellsBytes, opening_sign, Spells, SpellsTerms, Front}
 
@@ -68,8 +68,8 @@ MeansIn pre (wants false) os = (k : ℕ) × AwaitsTerm k os pre
 MeansIn pre (digit kind start) os = (s : List ℕ) × LeadsNumber kind s × (a : At os pre s) × (start ≡ number_start kind (length a.p) (length a.p + length s))
 MeansIn pre (number kind start n) os = (s ds : List ℕ) × LeadsNumber kind s × (a : At os pre (s ++ ds)) × SpellsNumber kind ds n × (start ≡ number_start kind (length a.p) (length a.p + length s))
 MeansIn pre (name start cs) os = (a : At os pre cs) × IsTrue (begins is_lowercase cs) × IsTrue (list_all is_name cs) × (length cs ≤ 255) × (start ≡ length a.p)
-MeansIn pre (quoted q cs) os = (s body : List ℕ) × Lead q s × (a : At os pre (s ++ (quote q ∷ body))) × SpellsQuoted (quote q) body cs × Admitted q (length cs) os × QuoteStarts q a.p
-MeansIn pre (escaped q cs) os = (s body : List ℕ) × Lead q s × (a : At os pre (s ++ (quote q ∷ (body ++ 92 ∷ [])))) × SpellsQuoted (quote q) body cs × Admitted q (length cs + 1) os × QuoteStarts q a.p
+MeansIn pre (in_quotes q cs) os = (s body : List ℕ) × Lead q s × (a : At os pre (s ++ (quote q ∷ body))) × SpellsQuoted (quote q) body cs × Admitted q (length cs) os × QuoteStarts q a.p
+MeansIn pre (after_backslash q cs) os = (s body : List ℕ) × Lead q s × (a : At os pre (s ++ (quote q ∷ (body ++ 92 ∷ [])))) × SpellsQuoted (quote q) body cs × Admitted q (length cs + 1) os × QuoteStarts q a.p
 MeansIn pre (signs cs goal) os = (s : List ℕ) × At os pre s × Leads (s ++ cs) goal × Closed s
 MeansIn pre angle os = At os pre (60 ∷ [])
 MeansIn pre opened_binary os = (blanks : List ℕ) × At os pre ((60 ∷ 60 ∷ []) ++ blanks) × AreBlanks blanks

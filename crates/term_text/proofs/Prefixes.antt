@@ -6,7 +6,7 @@ use Rattle.term_text.specs.declared.fault.TextFault.{TextFault}
 use Rattle.term_text.specs.declared.quote_form.QuoteForm.{QuoteForm}
 use Rattle.term_text.specs.declared.quote_form.QuoteForm.TheVariants as form
 use Rattle.term_text.specs.Text.{is_blank, is_digit, is_lowercase, is_name, closes}
-use Rattle.term_text.specs.inside.Reader.{OpenBracket, Number, integer, pid, identifier, byte, Expect, whole, digits, Mode, wants, digit, number, name, quoted, escaped, signs, angle, opened_binary, wants_byte, after_byte, after_string, after, Reading, reads_on, found, fails, with_sign, with_term, bracket, put, expect, next_sign, begin, next_after, next_unless_found, next_in_bracket, next_after_byte, next_after_number, next_digit, quote, after_quote, admits, next, take_byte, read_from, reading}
+use Rattle.term_text.specs.inside.Reader.{OpenBracket, Number, integer, pid, identifier, byte, Expect, whole, digits, Mode, wants, digit, number, name, in_quotes, after_backslash, signs, angle, opened_binary, wants_byte, after_byte, after_string, after, Reading, reads_on, found, fails, with_sign, with_term, bracket, put, expect, next_sign, begin, next_after, next_unless_found, next_in_bracket, next_after_byte, next_after_number, next_digit, quote, after_quote, admits, next, take_byte, read_from, reading}
 use Rattle.term_text.specs.Prefixes.{state, so_far, HasNoFault, CanReachTerm}
 use Rattle.term_text.proofs.Offsets.{if-true, if-false, read-fails}
 use Rattle.term_text.proofs.FirstBytes.{begin-digit}
@@ -84,8 +84,8 @@ next-in at (wants false) os b h = search (arith, rules, levels-if, begin-in) dep
 next-in at (digit kind start) os b h = digit_in at kind start os b h
 next-in at (number kind start n) os b h = search (arith, rules, levels-if, number-in) depth 9
 next-in at (name start cs) os b h = search (arith, rules, levels-if, unless-found-in) depth 9
-next-in at (quoted q cs) os b h = search (arith, rules, levels-if, after_quote-in, admits-in) depth 9
-next-in at (escaped q cs) os b h = search (arith, rules, levels-if) depth 9
+next-in at (in_quotes q cs) os b h = search (arith, rules, levels-if, after_quote-in, admits-in) depth 9
+next-in at (after_backslash q cs) os b h = search (arith, rules, levels-if) depth 9
 next-in at (signs [] goal) os b h = absurd h
 next-in at (signs (c ∷ cs) goal) os b h = sign-in at (c ∷ cs) goal os b h
 next-in at angle os b h = search (arith, rules, levels-if) depth 9
@@ -200,8 +200,8 @@ after_quote-ends at n (form.Atom start) cs os = finish os (Atom cs) at n
 after_quote-ends at n form.String cs os = finish os _ at n
 after_quote-ends at n form.Binary cs os = string_ends at cs os
 
-quoted-ends : (at : ℕ) (q : QuoteForm) (cs : List ℕ) (os : List OpenBracket) → CanEnd at (reads_on (quoted q cs) os)
-quoted-ends at q cs os = ends-by at (reads_on (quoted q cs) os) (after_quote (at + 1) q cs os) (quote q) (if-true _ _ _ (same (quote q))) (after_quote-ends (at + 1) (at + 1) q cs os)
+quoted-ends : (at : ℕ) (q : QuoteForm) (cs : List ℕ) (os : List OpenBracket) → CanEnd at (reads_on (in_quotes q cs) os)
+quoted-ends at q cs os = ends-by at (reads_on (in_quotes q cs) os) (after_quote (at + 1) q cs os) (quote q) (if-true _ _ _ (same (quote q))) (after_quote-ends (at + 1) (at + 1) q cs os)
 
 or-true : (a : Bool) → (a || true) ≡ true
 or-true true = refl
@@ -217,8 +217,8 @@ mode-ends at (wants false) os h = ends-by at (reads_on (wants false) os) (reads_
 mode-ends at (digit kind start) os h = digit-ends at start kind os
 mode-ends at (number kind start n) os h = number-ends at start kind n os
 mode-ends at (name start cs) os h = name-ends at start cs os
-mode-ends at (quoted q cs) os h = quoted-ends at q cs os
-mode-ends at (escaped q cs) os h = ends-by at (reads_on (escaped q cs) os) (reads_on (quoted q (cs ++ 92 ∷ [])) os) 92 (if-true _ _ _ (or-true (92 == quote q))) (quoted-ends (at + 1) q (cs ++ 92 ∷ []) os)
+mode-ends at (in_quotes q cs) os h = quoted-ends at q cs os
+mode-ends at (after_backslash q cs) os h = ends-by at (reads_on (after_backslash q cs) os) (reads_on (in_quotes q (cs ++ 92 ∷ [])) os) 92 (if-true _ _ _ (or-true (92 == quote q))) (quoted-ends (at + 1) q (cs ++ 92 ∷ []) os)
 mode-ends at (signs [] goal) os h = absurd h
 mode-ends at (signs (c ∷ cs) goal) os h = goal-ends at (c ∷ cs) goal os
 mode-ends at angle os h = ends-by at (reads_on angle os) (reads_on opened_binary os) 60 refl (ends-by (at + 1) (reads_on opened_binary os) (expect (at + 1 + 1) (62 ∷ []) (whole (Binary [])) os) 62 (if-false _ _ _ angle-blank ∙ if-false _ _ _ angle-digit) (signs-end (at + 1 + 1) (62 ∷ []) (Binary []) os))

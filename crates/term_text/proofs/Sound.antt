@@ -7,7 +7,7 @@ use Rattle.ets_term.specs.declared.term.Term.TheVariants.{Int, Atom}
 use Rattle.term_text.specs.declared.fault.TextFault.{TextFault}
 use Rattle.term_text.specs.declared.fault.TextFault.TheVariants.{OutOfRange, AtomTooLong}
 use Rattle.term_text.specs.Text.{is_blank, is_digit, is_lowercase, is_name, begins}
-use Rattle.term_text.specs.inside.Reader.{OpenBracket, integer, byte, Mode, wants, digit, number, name, quoted, escaped, signs, angle, opened_binary, wants_byte, after_byte, after_string, after, Reading, reads_on, found, fails, with_sign, max_magnitude, next, end, read_from, reading}
+use Rattle.term_text.specs.inside.Reader.{OpenBracket, integer, byte, Mode, wants, digit, number, name, in_quotes, after_backslash, signs, angle, opened_binary, wants_byte, after_byte, after_string, after, Reading, reads_on, found, fails, with_sign, max_magnitude, next, end, read_from, reading}
 use Rattle.term_text.specs.Faults.{plain_form}
 use Rattle.term_text.specs.Grammar.{Spells, Ends, Front, plain_atom}
 use Rattle.term_text.proofs.Offsets.{read-fails}
@@ -46,8 +46,8 @@ next-holds at (name start cs) os pre b len (a, small, names, few, st) = holds-if
     (λ d. holds-if (length cs == 255) _ _ (λ e. noticed pre b (AtomTooLong start) (plain_form os a.k a.p cs a.cut a.here st small names (is-byte (length cs) 255 e) d))
     (λ e. record { meaning = (at_more os pre cs (cs ++ b ∷ []) b a refl, begins-more is_lowercase cs (b ∷ []) small, all-more is_name cs b names d, name-room cs b few e, st) }))
     (λ d. unless-found-holds at os pre cs (Atom cs) b a len (plain_atom a.k cs small names few) (λ rest. name-ends cs b rest small d))
-next-holds at (quoted q cs) os pre b len (s, body, lead, a, sp, ok, starts) = quoted-holds at q cs os pre s body b len lead a sp ok starts
-next-holds at (escaped q cs) os pre b len (s, body, lead, a, sp, ok, starts) = escaped-holds at q cs os pre s body b len lead a sp ok starts
+next-holds at (in_quotes q cs) os pre b len (s, body, lead, a, sp, ok, starts) = quoted-holds at q cs os pre s body b len lead a sp ok starts
+next-holds at (after_backslash q cs) os pre b len (s, body, lead, a, sp, ok, starts) = escaped-holds at q cs os pre s body b len lead a sp ok starts
 next-holds at (signs cs goal) os pre b len (s, a, l, c) = sign-holds at cs goal os pre s b len a l c
 next-holds at angle os pre b len a = angle-second at os pre b len a
 next-holds at opened_binary os pre b len (blanks, a, bl) = first-byte at os pre blanks b len a bl

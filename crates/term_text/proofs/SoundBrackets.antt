@@ -6,7 +6,7 @@ use Rattle.std.proofs.lemmas.Bool.{leb-true}
 use Rattle.ets_term.specs.declared.term.Term.{Term}
 use Rattle.term_text.specs.declared.fault.TextFault.TheVariants.{Unexpected, TooDeep}
 use Rattle.term_text.specs.Text.{is_blank, is_digit, closes, begins_term}
-use Rattle.term_text.specs.inside.Reader.{OpenBracket, integer, wants, reads_on, bracket, opening, begin, next_in_bracket}
+use Rattle.term_text.specs.inside.Reader.{OpenBracket, integer, wants, reads_on, bracket, open_bracket, begin, next_in_bracket}
 use Rattle.term_text.specs.Faults.{AwaitsItem, fresh, further, AwaitsTerm, a_term}
 use Rattle.term_text.specs.Grammar.{AreBlanks, opening_sign, closing_sign, Spells, SpellsTerms, none, empty_bracket, first_term, more_terms}
 use Rattle.term_text.proofs.FirstBytes.{begins-small}
@@ -24,7 +24,7 @@ none-left (suc j) os pre h few = (j, refl)
 abbrev at_here : (j : ℕ) (os : List OpenBracket) (pre : List ℕ) (b : ℕ) → AwaitsTerm (suc j) os pre → At os (pre ++ b ∷ []) (b ∷ [])
 at_here j os pre b h = record { k = j; p = pre; cut = refl; here = h }
 
-opens : (j : ℕ) (square : Bool) (os : List OpenBracket) (pre : List ℕ) (b : ℕ) → AwaitsTerm (suc j) os pre → b ≡ opening_sign square → Holds (pre ++ b ∷ []) (reads_on (wants true) (opening square ∷ os))
+opens : (j : ℕ) (square : Bool) (os : List OpenBracket) (pre : List ℕ) (b : ℕ) → AwaitsTerm (suc j) os pre → b ≡ opening_sign square → Holds (pre ++ b ∷ []) (reads_on (wants true) (open_bracket square ∷ os))
 opens j square os pre b h e = record { meaning = (j, (pre, [], ap (λ (x : ℕ). pre ++ x ∷ []) e, h, fresh [] refl), refl) }
 
 abbrev at_as : (os : List OpenBracket) (pre : List ℕ) (b c : ℕ) → b ≡ c → At os pre (b ∷ []) → At os pre (c ∷ [])

@@ -6,7 +6,7 @@ use Rattle.ets_term.specs.declared.term.Term.TheVariants.{Atom, List as ListOf}
 use Rattle.term_text.specs.declared.fault.TextFault.TheVariants.{Unexpected, TooDeep, AtomTooLong}
 use Rattle.term_text.specs.declared.quote_form.QuoteForm.{QuoteForm}
 use Rattle.term_text.specs.declared.quote_form.QuoteForm.TheVariants as form
-use Rattle.term_text.specs.inside.Reader.{OpenBracket, quoted, escaped, Reading, reads_on, code, quote, after_quote, admits, next_in_quotes, next}
+use Rattle.term_text.specs.inside.Reader.{OpenBracket, in_quotes, after_backslash, Reading, reads_on, code, quote, after_quote, admits, next_in_quotes, next}
 use Rattle.term_text.specs.Faults.{AwaitsTerm, PastAtom, quoted_form, PastDepth, a_character}
 use Rattle.term_text.specs.Grammar.{SpellsQuoted, Spells, none, plain, escaped as escaped_form, quoted_atom, empty_string, string}
 use Rattle.term_text.proofs.Meaning.{Admitted, At, Holds, Lead, QuoteStarts, at_more, here-len, holds-if, more-len, noticed}
@@ -41,8 +41,8 @@ after_quote-holds n form.Binary cs os pre s body len (blanks, e, bl) a sp ok =
 escape-more : (q : QuoteForm) (body cs : List ℕ) (b : ℕ) → SpellsQuoted (quote q) body cs → ((b == quote q) || (b == 92)) ≡ true → SpellsQuoted (quote q) ((body ++ 92 ∷ []) ++ b ∷ []) (cs ++ b ∷ [])
 escape-more q body cs b sp h = let P : List ℕ → Type 0 = λ w. SpellsQuoted (quote q) w (cs ++ b ∷ []) in subst P (sym (append_assoc body (92 ∷ []) (b ∷ []))) (escaped_form body cs b sp h)
 
-abbrev quoted_at : (os : List OpenBracket) (pre s body z : List ℕ) (q : QuoteForm) (b : ℕ) → At os pre (s ++ (quote q ∷ body)) → body ++ b ∷ [] ≡ z → At os (pre ++ b ∷ []) (s ++ (quote q ∷ z))
-quoted_at os pre s body z q b a e = at_more os pre (s ++ (quote q ∷ body)) (s ++ (quote q ∷ z)) b a (append_assoc s (quote q ∷ body) (b ∷ []) ∙ ap (λ (w : List ℕ). s ++ (quote q ∷ w)) e)
+abbrev characters_at : (os : List OpenBracket) (pre s body z : List ℕ) (q : QuoteForm) (b : ℕ) → At os pre (s ++ (quote q ∷ body)) → body ++ b ∷ [] ≡ z → At os (pre ++ b ∷ []) (s ++ (quote q ∷ z))
+characters_at os pre s body z q b a e = at_more os pre (s ++ (quote q ∷ body)) (s ++ (quote q ∷ z)) b a (append_assoc s (quote q ∷ body) (b ∷ []) ∙ ap (λ (w : List ℕ). s ++ (quote q ∷ w)) e)
 
 -- the fault of one more character
 abbrev RefusedBy : QuoteForm → ℕ → List ℕ → ℕ → ℕ → List OpenBracket → Type 0
@@ -89,18 +89,18 @@ admitted-as q m n os e h = let P : ℕ → Type 0 = λ k. Admitted q k os in sub
 pub quoted-holds : (at : ℕ) (q : QuoteForm) (cs : List ℕ) (os : List OpenBracket) (pre s body : List ℕ) (b : ℕ) → at ≡ length pre → Lead q s → (a : At os pre (s ++ (quote q ∷ body))) → SpellsQuoted (quote q) body cs → Admitted q (length cs) os → QuoteStarts q a.p
     → Holds (pre ++ b ∷ []) (next_in_quotes at q cs os b)
 quoted-holds at q cs os pre s body b len lead a sp ok starts = holds-if (b == quote q) _ _
-    (λ e. after_quote-holds (at + 1) q cs os (pre ++ b ∷ []) s body (more-len at pre b len) lead (quoted_at os pre s body (body ++ quote q ∷ []) q b a (ap (λ (x : ℕ). body ++ x ∷ []) (is-byte b (quote q) e))) sp ok)
+    (λ e. after_quote-holds (at + 1) q cs os (pre ++ b ∷ []) s body (more-len at pre b len) lead (characters_at os pre s body (body ++ quote q ∷ []) q b a (ap (λ (x : ℕ). body ++ x ∷ []) (is-byte b (quote q) e))) sp ok)
     (λ e. holds-if (b == 92) _ _
     (λ f. let P : ℕ → Type 0 = λ c. is_character c ≡ true in
-    admits-holds at q (length cs) os pre b (reads_on (escaped q cs) os) ok (refused q at pre b cs os s body a len lead sp ok starts (subst P (sym (is-byte b 92 f)) sign-is-character) e)
-    (λ room. record { meaning = (s, body, lead, quoted_at os pre s body (body ++ 92 ∷ []) q b a (ap (λ (x : ℕ). body ++ x ∷ []) (is-byte b 92 f)), sp, room, starts) }))
+    admits-holds at q (length cs) os pre b (reads_on (after_backslash q cs) os) ok (refused q at pre b cs os s body a len lead sp ok starts (subst P (sym (is-byte b 92 f)) sign-is-character) e)
+    (λ room. record { meaning = (s, body, lead, characters_at os pre s body (body ++ 92 ∷ []) q b a (ap (λ (x : ℕ). body ++ x ∷ []) (is-byte b 92 f)), sp, room, starts) }))
     (λ f. holds-if (is_character b) _ _
-    (λ c. admits-holds at q (length cs) os pre b (reads_on (quoted q (cs ++ b ∷ [])) os) ok (refused q at pre b cs os s body a len lead sp ok starts c e) (λ room.
-    record { meaning = (s, body ++ b ∷ [], lead, quoted_at os pre s body (body ++ b ∷ []) q b a refl, plain body cs b sp c e f, admitted-as q (length cs + 1) (length (cs ++ b ∷ [])) os (length-one cs b) room, starts) }))
+    (λ c. admits-holds at q (length cs) os pre b (reads_on (in_quotes q (cs ++ b ∷ [])) os) ok (refused q at pre b cs os s body a len lead sp ok starts c e) (λ room.
+    record { meaning = (s, body ++ b ∷ [], lead, characters_at os pre s body (body ++ b ∷ []) q b a refl, plain body cs b sp c e f, admitted-as q (length cs + 1) (length (cs ++ b ∷ [])) os (length-one cs b) room, starts) }))
     (λ c. noticed pre b (Unexpected at) len)))
 
 pub escaped-holds : (at : ℕ) (q : QuoteForm) (cs : List ℕ) (os : List OpenBracket) (pre s body : List ℕ) (b : ℕ) → at ≡ length pre → Lead q s → (a : At os pre (s ++ (quote q ∷ (body ++ 92 ∷ [])))) → SpellsQuoted (quote q) body cs → Admitted q (length cs + 1) os → QuoteStarts q a.p
-    → Holds (pre ++ b ∷ []) (next at (escaped q cs) os b)
+    → Holds (pre ++ b ∷ []) (next at (after_backslash q cs) os b)
 escaped-holds at q cs os pre s body b len lead a sp ok starts = holds-if ((b == quote q) || (b == 92)) _ _
-    (λ e. record { meaning = (s, (body ++ 92 ∷ []) ++ b ∷ [], lead, quoted_at os pre s (body ++ 92 ∷ []) ((body ++ 92 ∷ []) ++ b ∷ []) q b a refl, escape-more q body cs b sp e, admitted-as q (length cs + 1) (length (cs ++ b ∷ [])) os (length-one cs b) ok, starts) })
+    (λ e. record { meaning = (s, (body ++ 92 ∷ []) ++ b ∷ [], lead, characters_at os pre s (body ++ 92 ∷ []) ((body ++ 92 ∷ []) ++ b ∷ []) q b a refl, escape-more q body cs b sp e, admitted-as q (length cs + 1) (length (cs ++ b ∷ [])) os (length-one cs b) ok, starts) })
     (λ e. noticed pre b (Unexpected at) len)

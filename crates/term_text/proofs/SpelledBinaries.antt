@@ -3,7 +3,7 @@ use Rattle.std.proofs.Common.{ℕ, ◌≡◌, refl, ap, ◌∙◌, ◌+◌, ◌+
 use Rattle.ets_term.specs.declared.term.Term.TheVariants.{Binary}
 use Rattle.term_text.specs.declared.quote_form.QuoteForm.TheVariants as form
 use Rattle.term_text.specs.Text.{is_blank, is_digit, begins}
-use Rattle.term_text.specs.inside.Reader.{OpenBracket, byte, whole, quoted, opened_binary, wants_byte, after_byte, after_string, reads_on, put, expect, read_from}
+use Rattle.term_text.specs.inside.Reader.{OpenBracket, byte, whole, in_quotes, opened_binary, wants_byte, after_byte, after_string, reads_on, put, expect, read_from}
 use Rattle.term_text.specs.Grammar.{AreBlanks, SpellsQuoted, SpellsBytes, first, more}
 use Rattle.term_text.proofs.Binaries.{opened-digit-here, opened-ends-here, bytes-end-here, wants-digit-here, string-ends-here}
 use Rattle.term_text.proofs.Blanks.{opened_binary_ignores, wants_byte_ignores, after_byte_ignores, after_string_ignores}
@@ -68,9 +68,9 @@ byte-string-text at os before s behind bs rest fin h sp i e =
     ap (λ (w : List ℕ). read_from at (reads_on opened_binary os) w)
     (append_assoc before (34 ∷ (s ++ 34 ∷ (behind ++ 62 ∷ 62 ∷ []))) rest ∙ ap (λ (w : List ℕ). before ++ 34 ∷ w) (append_assoc s (34 ∷ (behind ++ 62 ∷ 62 ∷ [])) rest ∙ ap (λ (w : List ℕ). s ++ 34 ∷ w) (append_assoc behind (62 ∷ 62 ∷ []) rest)))
     ∙ blanks-stay at (reads_on opened_binary os) before (34 ∷ (s ++ 34 ∷ tail)) (opened_binary_ignores os) h
-    ∙ byte-taken p1 (reads_on opened_binary os) (reads_on (quoted form.Binary []) os) 34 (s ++ 34 ∷ tail) (if-false _ _ _ quote-no-blank)
+    ∙ byte-taken p1 (reads_on opened_binary os) (reads_on (in_quotes form.Binary []) os) 34 (s ++ 34 ∷ tail) (if-false _ _ _ quote-no-blank)
     ∙ quoted-text (p1 + 1) form.Binary os s bs (34 ∷ tail) p2 sp tt refl
-    ∙ byte-taken p2 (reads_on (quoted form.Binary bs) os) (reads_on (after_string bs) os) 34 tail refl
+    ∙ byte-taken p2 (reads_on (in_quotes form.Binary bs) os) (reads_on (after_string bs) os) 34 tail refl
     ∙ blanks-stay (p2 + 1) (reads_on (after_string bs) os) behind (62 ∷ 62 ∷ rest) (after_string_ignores bs os) i
     ∙ string-ends-here p3 bs os (62 ∷ 62 ∷ rest) angle-no-blank
     ∙ binary-end p3 bs os rest fin (omega (arith, e, length-append before (34 ∷ (s ++ 34 ∷ (behind ++ 62 ∷ 62 ∷ []))), length-append s (34 ∷ (behind ++ 62 ∷ 62 ∷ [])), length-append behind (62 ∷ 62 ∷ [])))

@@ -3,7 +3,7 @@ use Rattle.std.proofs.Common.{ℕ, ◌≡◌, refl, ap, ◌∙◌, ◌+◌, ◌�
 use Rattle.std.proofs.lemmas.Bool.{lt-leb}
 use Rattle.term_text.specs.declared.quote_form.QuoteForm.{QuoteForm}
 use Rattle.term_text.specs.declared.quote_form.QuoteForm.TheVariants as form
-use Rattle.term_text.specs.inside.Reader.{OpenBracket, quoted, escaped, Reading, reads_on, quote, admits, read_from}
+use Rattle.term_text.specs.inside.Reader.{OpenBracket, in_quotes, after_backslash, Reading, reads_on, quote, admits, read_from}
 use Rattle.term_text.specs.Grammar.{SpellsQuoted, none, plain, escaped as escaped_form}
 use Rattle.term_text.proofs.Offsets.{if-true, if-false}
 use Rattle.term_text.proofs.Meaning.{Admitted}
@@ -29,18 +29,18 @@ escape-no-quote form.String = refl
 escape-no-quote form.Binary = refl
 
 pub quoted-text : (at : ℕ) (q : QuoteForm) (os : List OpenBracket) (s cs rest : List ℕ) (fin : ℕ) → SpellsQuoted (quote q) s cs → Admitted q (length cs) os → fin ≡ at + length s
-    → read_from at (reads_on (quoted q []) os) (s ++ rest) ≡ read_from fin (reads_on (quoted q cs) os) rest
-quoted-text at q os s cs rest fin none ok e = ap (λ (m : ℕ). read_from m (reads_on (quoted q []) os) rest) (omega (arith, e))
+    → read_from at (reads_on (in_quotes q []) os) (s ++ rest) ≡ read_from fin (reads_on (in_quotes q cs) os) rest
+quoted-text at q os s cs rest fin none ok e = ap (λ (m : ℕ). read_from m (reads_on (in_quotes q []) os) rest) (omega (arith, e))
 quoted-text at q os s cs rest fin (plain t ds c sp ch no_quote no-escape) ok e =
-    ap (λ (w : List ℕ). read_from at (reads_on (quoted q []) os) w) (append_assoc t (c ∷ []) rest)
+    ap (λ (w : List ℕ). read_from at (reads_on (in_quotes q []) os) w) (append_assoc t (c ∷ []) rest)
     ∙ quoted-text at q os t ds (c ∷ rest) (at + length t) sp (admitted-less q (length ds) (length (ds ++ c ∷ [])) os (omega (arith, length-append ds (c ∷ []))) ok) refl
-    ∙ byte-taken (at + length t) (reads_on (quoted q ds) os) (reads_on (quoted q (ds ++ c ∷ [])) os) c rest
+    ∙ byte-taken (at + length t) (reads_on (in_quotes q ds) os) (reads_on (in_quotes q (ds ++ c ∷ [])) os) c rest
     (if-false _ _ _ no_quote ∙ if-false _ _ _ no-escape ∙ if-true _ _ _ ch ∙ admits-text (at + length t) q (length ds) os _ (admitted-less q (length ds + 1) (length (ds ++ c ∷ [])) os (omega (arith, length-append ds (c ∷ []))) ok))
-    ∙ ap (λ (m : ℕ). read_from m (reads_on (quoted q (ds ++ c ∷ [])) os) rest) (omega (arith, e, length-append t (c ∷ [])))
+    ∙ ap (λ (m : ℕ). read_from m (reads_on (in_quotes q (ds ++ c ∷ [])) os) rest) (omega (arith, e, length-append t (c ∷ [])))
 quoted-text at q os s cs rest fin (escaped_form t ds c sp h) ok e =
-    ap (λ (w : List ℕ). read_from at (reads_on (quoted q []) os) w) (append_assoc t (92 ∷ c ∷ []) rest)
+    ap (λ (w : List ℕ). read_from at (reads_on (in_quotes q []) os) w) (append_assoc t (92 ∷ c ∷ []) rest)
     ∙ quoted-text at q os t ds (92 ∷ c ∷ rest) (at + length t) sp (admitted-less q (length ds) (length (ds ++ c ∷ [])) os (omega (arith, length-append ds (c ∷ []))) ok) refl
-    ∙ byte-taken (at + length t) (reads_on (quoted q ds) os) (reads_on (escaped q ds) os) 92 (c ∷ rest)
+    ∙ byte-taken (at + length t) (reads_on (in_quotes q ds) os) (reads_on (after_backslash q ds) os) 92 (c ∷ rest)
     (if-false _ _ _ (escape-no-quote q) ∙ admits-text (at + length t) q (length ds) os _ (admitted-less q (length ds + 1) (length (ds ++ c ∷ [])) os (omega (arith, length-append ds (c ∷ []))) ok))
-    ∙ byte-taken (at + length t + 1) (reads_on (escaped q ds) os) (reads_on (quoted q (ds ++ c ∷ [])) os) c rest (if-true _ _ _ h)
-    ∙ ap (λ (m : ℕ). read_from m (reads_on (quoted q (ds ++ c ∷ [])) os) rest) (omega (arith, e, length-append t (92 ∷ c ∷ [])))
+    ∙ byte-taken (at + length t + 1) (reads_on (after_backslash q ds) os) (reads_on (in_quotes q (ds ++ c ∷ [])) os) c rest (if-true _ _ _ h)
+    ∙ ap (λ (m : ℕ). read_from m (reads_on (in_quotes q (ds ++ c ∷ [])) os) rest) (omega (arith, e, length-append t (92 ∷ c ∷ [])))

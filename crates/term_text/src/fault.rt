@@ -4,12 +4,12 @@ ghost use Rattle.term_text.specs.Faults.{offset};
 
 use std::alloc::{AllocError, AllocFailed};
 
-/// Why no term is read at the beginning of a text: a syntax error, or memory that ran out. Offsets are in bytes, from 0.
+/// Why no term is read at the start of a text: a syntax error, or memory that ran out. Offsets are in bytes, from 0.
 #[derive(Debug, Clone, Copy, PartialEq, Eq)]
 pub enum TextFault {
     /// No text of a term continues with the byte at this offset.
     Unexpected(usize),
-    /// The text ends inside the term; the value is the length of the text.
+    /// The text ends before the term is complete, or has only blanks. The value is the length of the text.
     Unclosed(usize),
     /// A number is out of its range. It begins at this offset, with its minus sign if it has one.
     OutOfRange(usize),

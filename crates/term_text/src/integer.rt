@@ -7,11 +7,12 @@ use crate::fault::TextFault;
 use crate::number::{Magnitude, number_at};
 use ets_term::{Integer, Term};
 
-/// Returns the greatest magnitude of a negative integer, or of an integer that is not negative.
+/// Returns the greatest magnitude of a negative integer if `negative` is true, else of an integer that is not negative.
 fn max_magnitude(negative: bool) -> Magnitude
     ensures { result ≡ max_magnitude (integer negative) }
 {
     let size = Integer::MAX as Magnitude;
+    // The least integer, `MIN`, is `-MAX - 1`.
     if negative { size + 1 } else { size }
 }
 
@@ -24,13 +25,16 @@ fn signed_value(negative: bool, n: Magnitude) -> Integer
     if !negative {
         n as Integer
     } else if n == max_magnitude(true) {
+        // This magnitude is greater than `Integer::MAX`, so it cannot be cast and then negated.
         Integer::MIN
     } else {
         -(n as Integer)
     }
 }
 
-/// Reads the integer whose digits begin at `at`. The integer begins at `start`: with its minus sign, if it has one.
+/// Reads the integer whose digits must begin at `at`. Returns the integer and the offset after its digits. `start` is
+/// the offset of its minus sign if `negative` is true, else of its first digit. The fault for an integer out of range
+/// has the offset `start`.
 pub(crate) fn integer_at(
     text: &[u8],
     at: usize,

@@ -37,8 +37,7 @@ mod sink;
 pub use bytes::{is_character_byte, is_digit_byte, is_lowercase_byte, is_name_byte};
 pub use fault::TextFault;
 pub use laws::{
-    faults_are_noticed_first, faults_say_why, printed_text_reads_as_itself,
-    reader_finds_spelled_terms,
+    faults_are_noticed_first, faults_say_why, printed_term_reads_back, reader_finds_spelled_terms,
 };
 pub use number::{Magnitude, digits_at};
 pub use print::{append_term, print_term, write_term};

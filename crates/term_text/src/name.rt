@@ -9,7 +9,8 @@ use crate::fault::TextFault;
 use ets_term::{Atom, MAX_CHARACTERS, Term};
 use std::alloc::Global;
 
-/// Reads the atom without quotes that begins with a lowercase letter at this offset.
+/// Reads the atom without quotes that begins with a lowercase letter at the offset `at`. Returns the atom and the
+/// offset after it. The fault of an atom of more than `MAX_CHARACTERS` has the offset `at`.
 #[inline(always)]
 pub(crate) fn name_at(alloc: Global, text: &[u8], at: usize) -> Result<(Term, usize), TextFault>
     requires within { at < length text.now }

@@ -9,10 +9,11 @@ use crate::fault::TextFault;
 /// The magnitude of a number: its value without the sign.
 pub type Magnitude = u128;
 
-/// If a number is below this bound, it still fits in 64 bits after one more digit.
+/// If a number is below this bound, it still fits in 64 bits after one more digit. Digits are read without a check for
+/// overflow while the number is below it.
 const SHORT_BOUND: u64 = u64::MAX / 10;
 
-/// Returns the value of a digit.
+/// Returns the value of the digit whose ASCII code is `b`.
 #[tactic(auto, unfolding(crate::specs::Text::is_digit))]
 fn digit_of(b: u8) -> u64
     requires { is_digit b ≡ true }
@@ -34,8 +35,8 @@ fn with_digit(n: Magnitude, digit: Magnitude, limit: Magnitude) -> Option<Magnit
     Some(n * 10 + digit)
 }
 
-/// Reads decimal digits from this offset on, until the number is at least `SHORT_BOUND`; it then still fits in 64 bits.
-/// Returns the number and the offset after the digits that were read.
+/// Reads decimal digits from this offset on, until a byte is not a digit or the number is at least `SHORT_BOUND`. The
+/// number then still fits in 64 bits. Returns the number and the offset after the digits that were read.
 fn short_digits_at(text: &[u8], at: usize) -> (u64, usize)
     requires { at ≤ length text.now }
     ensures value { value_of_digits result.0 (drop result.1 text.now) ≡ value_of_digits 0 (drop at text.now) }
@@ -61,11 +62,13 @@ pub fn digits_at(text: &[u8], at: usize, limit: Magnitude) -> Option<(Magnitude,
         (x.0 ≡ value_of_digits 0 (drop at text.now)) × (x.0 ≤ limit)
         × (x.1 ≡ digits_end text.now at) × (x.1 ≤ length text.now)) }
 {
+    // `short` is the number that the first digits write. It fits in 64 bits, and its digits end at `end`.
     let (short, end) = short_digits_at(text, at);
     let mut n = short as Magnitude;
     if n > limit {
         return None;
     }
+    // Further digits follow only if the number is at least `SHORT_BOUND`. `with_digit` checks the limit.
     let mut offset = end;
     while offset < text.len() && is_digit_byte(text[offset]) {
         match with_digit(n, digit_of(text[offset]) as Magnitude, limit) {
@@ -78,7 +81,7 @@ pub fn digits_at(text: &[u8], at: usize, limit: Magnitude) -> Option<(Magnitude,
 }
 
 /// Reads the number whose digits must begin at `at`, and returns it with the offset after its digits. `start` is the
-/// offset of its minus sign, or of its first digit, for the fault if it is out of range.
+/// offset of its minus sign, or of its first digit. The fault for a number above the limit has the offset `start`.
 pub(crate) fn number_at(
     text: &[u8],
     at: usize,
@@ -91,6 +94,7 @@ pub(crate) fn number_at(
     ensures reads { ReadsNumber text.now at start limit result }
 {
     if at >= text.len() {
+        // The text ends where the first digit must be, so its term is not complete.
         return Err(TextFault::Unclosed(at));
     }
     if !is_digit_byte(text[at]) {
@@ -102,7 +106,8 @@ pub(crate) fn number_at(
     }
 }
 
-/// Checks that the text has these characters at the offset, and returns the offset after them.
+/// Checks that the text has the characters `signs` at the offset, and returns the offset after them. Otherwise returns
+/// the fault of the first byte that differs, or of the end of the text.
 pub(crate) fn literal_at(text: &[u8], at: usize, signs: &[u8]) -> Result<usize, TextFault>
     requires { at ≤ length text.now }
     ensures within { IfOk result (λ n. (at ≤ n) × (n ≤ length text.now)) }

@@ -17,6 +17,7 @@ pub fn print_term(alloc: Global, term: &Term, out: &mut String) -> Result<(), Al
     ensures err { OnErr result (string_bytes out.new ≡ string_bytes out.old) }
 {
     let len = out.len();
+    // The sink owns the string while the term is printed. An empty string is in `out` meanwhile.
     let mut buffer = StringSink {
         text: mem::replace(out, String::new(alloc)),
     };
@@ -36,6 +37,7 @@ pub fn append_term(term: &Term, out: &mut Vec<u8>) -> Result<(), AllocError>
 {
     let len = out.len();
     let alloc = *out.allocator();
+    // The sink owns the bytes while the term is printed. An empty vector is in `out` meanwhile.
     let mut buffer = BytesSink {
         bytes: mem::replace(out, Vec::new(alloc)),
     };

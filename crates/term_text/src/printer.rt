@@ -13,7 +13,7 @@ use crate::sink::Sink;
 use ets_term::{Atom, Integer, Term};
 use itoa::Buffer;
 
-/// Appends the text of a term to a sink.
+/// Appends the text of a term to a sink. If the sink fails, a prefix of the text is appended.
 #[cycle(append)]
 pub(crate) fn append<S: Sink>(term: &Term, out: &mut S) -> Result<(), S::Fault>
     ensures { AppendsOrPrefix (S.contents out.old) (S.contents out.new) (text_of_term term.now) result }
@@ -41,6 +41,7 @@ fn append_items<S: Sink>(
         (front.now ++ (join_with_commas false (map text_of_term items.now) ++ back.now)) result }
 {
     out.write_str(front)?;
+    // Whether an item comes before, so that a comma must separate the two.
     let mut later = false;
     for item in items {
         append_comma(later, out)?;
@@ -56,6 +57,7 @@ fn append_bytes<S: Sink>(front: &str, bytes: &[u8], back: &str, out: &mut S) -> 
         (front.now ++ (join_with_commas false (map decimal bytes.now) ++ back.now)) result }
 {
     out.write_str(front)?;
+    // Whether an item comes before, so that a comma must separate the two.
     let mut later = false;
     for b in bytes {
         append_comma(later, out)?;
@@ -65,7 +67,7 @@ fn append_bytes<S: Sink>(front: &str, bytes: &[u8], back: &str, out: &mut S) -> 
     out.write_str(back)
 }
 
-/// Appends a comma before an item that has an earlier one: if `later` is true.
+/// Appends a comma if `later` is true: if the item that follows is not the first.
 fn append_comma<S: Sink>(later: bool, out: &mut S) -> Result<(), S::Fault>
     ensures { AppendsOrPrefix (S.contents out.old) (S.contents out.new) (comma_if later) result }
 {
@@ -105,7 +107,7 @@ fn append_atom<S: Sink>(name: &Atom, out: &mut S) -> Result<(), S::Fault>
     if is_plain_text(text.as_bytes()) {
         return out.write_str(text);
     }
-    append_quoted(text, out)
+    append_in_quotes(text, out)
 }
 
 /// Returns whether an atom of these characters needs no quotes.
@@ -126,18 +128,18 @@ fn are_name_bytes(bytes: &[u8]) -> bool
 }
 
 /// Appends characters between single quotes, as the text of an atom.
-fn append_quoted<S: Sink>(text: &str, out: &mut S) -> Result<(), S::Fault>
+fn append_in_quotes<S: Sink>(text: &str, out: &mut S) -> Result<(), S::Fault>
     requires { list_all is_character text.now ≡ true }
     ensures { AppendsOrPrefix (S.contents out.old) (S.contents out.new)
         (codes "'" ++ (flat_map escape text.now ++ codes "'")) result }
 {
     out.write_str("'")?;
-    append_escaped(text, out)?;
+    append_with_escapes(text, out)?;
     out.write_str("'")
 }
 
 /// Appends characters, with a `\` before each single quote and each `\`.
-fn append_escaped<S: Sink>(text: &str, out: &mut S) -> Result<(), S::Fault>
+fn append_with_escapes<S: Sink>(text: &str, out: &mut S) -> Result<(), S::Fault>
     requires { list_all is_character text.now ≡ true }
     ensures { AppendsOrPrefix (S.contents out.old) (S.contents out.new) (flat_map escape text.now) result }
 {
@@ -145,6 +147,7 @@ fn append_escaped<S: Sink>(text: &str, out: &mut S) -> Result<(), S::Fault>
     for (i, b) in text.as_bytes().iter().enumerate() {
         if needs_escape(*b) {
             append_piece(text, start, i, out)?;
+            // The next piece begins with the character whose `\` is now appended.
             start = i;
         }
     }
@@ -153,6 +156,7 @@ fn append_escaped<S: Sink>(text: &str, out: &mut S) -> Result<(), S::Fault>
 
 /// Returns whether a `\` must precede the character between single quotes.
 fn needs_escape(b: u8) -> bool
+    // 39 is the ASCII code of `'`, and 92 that of `\`.
     ensures { result ≡ ((b == 39) || (b == 92)) }
 {
     b == b'\'' || b == b'\\'
@@ -162,6 +166,7 @@ fn needs_escape(b: u8) -> bool
 fn append_piece<S: Sink>(text: &str, start: usize, end: usize, out: &mut S) -> Result<(), S::Fault>
     requires ascii { list_all is_character text.now ≡ true }
     requires within { (start ≤ end) × (end ≤ length text.now) }
+    // 92 is the ASCII code of `\`.
     ensures { AppendsOrPrefix (S.contents out.old) (S.contents out.new)
         (take (end - start) (drop start text.now) ++ 92 ∷ []) result }
 {
@@ -177,5 +182,6 @@ fn append_slice<S: Sink>(text: &str, start: usize, end: usize, out: &mut S) -> R
     ensures { AppendsOrPrefix (S.contents out.old) (S.contents out.new)
         (take (end - start) (drop start text.now)) result }
 {
+    // The text is ASCII, so every offset in it is a boundary of characters and the slice cannot panic.
     out.write_str(&text[start..end])
 }

@@ -38,6 +38,7 @@ impl QuoteForm {
         match self {
             QuoteForm::Atom(start) if n == MAX_CHARACTERS => Some(TextFault::AtomTooLong(start)),
             QuoteForm::String if out_of_levels => Some(TextFault::TooDeep(at)),
+            // A string in a binary has no limit on characters.
             _ => None,
         }
     }

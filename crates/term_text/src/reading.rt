@@ -1,6 +1,6 @@
 //! Reads terms by recursive descent. `levels_left` is the number of levels that may still be opened.
 ghost use Rattle.std.specs.Prelude.{◌≡◌, ◌+◌, ◌≤◌, ◌<◌, ◌∷◌, List, true, false, length, IfOk, IfErr, slice_index};
-ghost use Rattle.term_text.specs.inside.Reader.{OpenBracket, wants, reads_on, opening, begin, reading};
+ghost use Rattle.term_text.specs.inside.Reader.{OpenBracket, wants, reads_on, open_bracket, begin, reading};
 ghost use Rattle.term_text.specs.Faults.{IsFaultOrMemory};
 ghost use Rattle.term_text.specs.Grammar.{Front};
 ghost use Rattle.term_text.specs.Reading.{ReaderReturns};
@@ -39,7 +39,8 @@ pub fn read_term_bytes(alloc: Global, text: &[u8]) -> Result<(Term, usize), Text
     term_at(alloc, text, 0, MAX_DEPTH)
 }
 
-/// Reads the term that must begin at `at` or after blanks there. It may have at most `levels_left` levels.
+/// Reads the term that must begin at `at` or after blanks there. It may have at most `levels_left` levels. Returns the
+/// term and the offset after it.
 #[inline(always)]
 #[cycle(term)]
 fn term_at(
@@ -60,8 +61,8 @@ fn term_at(
     form_at(alloc, text, start, levels_left)
 }
 
-/// Reads the term whose first byte is at `at`. First tests for an atom without quotes or an integer, because most terms
-/// are such.
+/// Reads the term whose first byte is at `at`. Returns the term and the offset after it. First tests for an atom
+/// without quotes or an integer without a sign, because most terms are such.
 #[inline(always)]
 #[cycle(term)]
 fn form_at(
@@ -86,7 +87,8 @@ fn form_at(
     any_form_at(alloc, text, at, levels_left)
 }
 
-/// Reads the term, of any kind, whose first byte is at `at`.
+/// Reads the term, of any kind, whose first byte is at `at`. Returns the term and the offset after it. It is a fault if
+/// no term can begin with this byte, or if `levels_left` is 0.
 #[inline(never)]
 #[cycle(term)]
 fn any_form_at(
@@ -110,6 +112,7 @@ fn any_form_at(
     match b {
         b'{' => bracket_at(alloc, text, at + 1, Bracket::Brace, levels_left - 1),
         b'[' => bracket_at(alloc, text, at + 1, Bracket::Square, levels_left - 1),
+        // The digits begin after the minus sign; a fault for the range has the offset of the sign.
         b'-' => integer_at(text, at + 1, at, true),
         b'\'' => quoted_atom_at(alloc, text, at),
         // A string is a list of integers, so it must be empty if only one level is left.
@@ -126,7 +129,8 @@ fn any_form_at(
     }
 }
 
-/// Reads a tuple or list after its opening bracket. Its elements may have at most `levels_left` levels.
+/// Reads a tuple or list after its opening bracket. Its elements may have at most `levels_left` levels. Returns the
+/// term and the offset after its closing bracket.
 #[cycle(term)]
 fn bracket_at(
     alloc: Global,
@@ -138,7 +142,7 @@ fn bracket_at(
     requires { at ≤ length text.now }
     ensures within { EndsWithin text.now at result }
     ensures reads { (os : List OpenBracket) → length os + 1 + levels_left ≡ MAX_DEPTH
-        → ReadsTerm text.now at (reads_on (wants true) (opening (is_square bracket) ∷ os)) os result }
+        → ReadsTerm text.now at (reads_on (wants true) (open_bracket (is_square bracket) ∷ os)) os result }
 {
     let mut items = Items::new(alloc);
     let mut offset = past_blanks(text, at);
@@ -161,6 +165,7 @@ fn bracket_at(
         if text[next] != b',' {
             return Err(TextFault::Unexpected(next));
         }
+        // After a comma an element must follow: `term_at` skips blanks, and a closing bracket is a fault.
         offset = next + 1;
     }
 }

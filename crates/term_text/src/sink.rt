@@ -7,8 +7,10 @@ use std::io::{Error, Write};
 
 /// A destination of a text, which takes it piece by piece.
 pub(crate) trait Sink {
+    /// Why a piece was not appended completely.
     type Fault: Drop;
 
+    /// The bytes that the sink has, as contracts see them; `None` if those of a writer are not known.
     ghost contents: { Self → Option (List ℕ) };
 
     /// Appends a piece. If this fails, a prefix of the piece is appended.
@@ -76,6 +78,7 @@ impl<W: Write> Sink for W {
 pub fn write_bytes<W: Write>(bytes: &[u8], out: &mut W) -> Result<(), WriteFault>
     ensures { AppendsOrPrefix (W.contents out.old) (W.contents out.new) bytes.now result }
 {
+    // The number of bytes that the writer has taken.
     let mut done = 0;
     while done < bytes.len() {
         match out.write(&bytes[done..]) {

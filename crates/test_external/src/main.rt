@@ -23,6 +23,7 @@ fn main(rt: HostRuntime) -> io::Result<()> {
 /// Appends an answer for each line of the input that ends with a newline.
 fn reply_to_lines(alloc: Global, input: &[u8], output: &mut Vec<u8>) -> Result<(), AllocError> {
     let mut rest = input;
+    // An input has at most as many lines as bytes, which bounds the loop.
     for _ in 0..input.len() {
         let Some(end) = rest.iter().position(|b| *b == b'\n') else {
             return Ok(());
@@ -45,17 +46,17 @@ fn reply_to_line(alloc: Global, line: &[u8], output: &mut Vec<u8>) -> Result<(),
 fn reply_to(alloc: Global, bytes: &[u8], output: &mut Vec<u8>) -> Result<(), AllocError> {
     match read_external(alloc, bytes) {
         Ok((term, _size)) => {
-            let done = append_term(alloc, &term, output);
+            let outcome = append_term(alloc, &term, output);
             drop(term);
-            done
+            outcome
         }
         Err(ExternalFault::Memory) => Err(AllocError),
         Err(fault) => append_fault(alloc, fault, output),
     }
 }
 
-/// Writes a term into a buffer and sends it to a writer. Appends its bytes in digits, or `Differ` if the writer gets
-/// others.
+/// Writes a term into a buffer, and also sends it to a writer. Appends the bytes of the buffer in digits, or `Differ`
+/// if the writer gets other bytes.
 fn append_term(alloc: Global, term: &Term, output: &mut Vec<u8>) -> Result<(), AllocError> {
     let mut written = Vec::new(alloc);
     let mut sent = Vec::new(alloc);
@@ -92,7 +93,7 @@ fn bytes_of(alloc: Global, line: &[u8]) -> Result<Vec<u8>, AllocError> {
     Ok(bytes)
 }
 
-/// Returns the value of a hexadecimal digit, and 0 for any other byte.
+/// Returns the value of a hexadecimal digit in upper case, and 0 for any other byte.
 fn hex_value(digit: u8) -> u8
     ensures { result < 16 }
 {
@@ -103,7 +104,7 @@ fn hex_value(digit: u8) -> u8
     }
 }
 
-/// Appends two hexadecimal digits for each byte.
+/// Appends two hexadecimal digits for each byte, in upper case.
 fn append_digits(bytes: &[u8], output: &mut Vec<u8>) -> Result<(), AllocError> {
     for byte in bytes {
         output.push(hex_digit(*byte / 16))?;

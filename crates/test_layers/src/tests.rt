@@ -19,9 +19,10 @@ mod text;
 // Updates of counters and elements.
 mod updates;
 
-/// Returns the value if the operation on it succeeded, else drops the value and returns the error.
-fn keep_if_ok<T: Drop, E>(done: Result<(), E>, value: T) -> Result<T, E> {
-    match done {
+/// Returns the value if the operation on the value succeeded, else drops the value and returns the error. Tests
+/// build a value by pushes that may run out of memory.
+fn keep_if_ok<T: Drop, E>(outcome: Result<(), E>, value: T) -> Result<T, E> {
+    match outcome {
         Ok(()) => Ok(value),
         Err(error) => {
             drop(value);
@@ -30,9 +31,9 @@ fn keep_if_ok<T: Drop, E>(done: Result<(), E>, value: T) -> Result<T, E> {
     }
 }
 
-/// Returns the value if the operation on it succeeded (`Some`), else drops the value.
-fn keep_if_some<T: Drop>(done: Option<()>, value: T) -> Option<T> {
-    match done {
+/// Returns the value if the operation on the value succeeded (`Some`), else drops the value and returns `None`.
+fn keep_if_some<T: Drop>(outcome: Option<()>, value: T) -> Option<T> {
+    match outcome {
         Some(()) => Some(value),
         None => {
             drop(value);

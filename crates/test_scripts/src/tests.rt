@@ -52,8 +52,8 @@ fn usual_run() -> Run {
 }
 
 /// Returns how a script ended.
-fn end_of<H: KeyHash + Copy + Drop>(done: Result<Node<H>, ScriptFault>) -> End {
-    match done {
+fn end_of<H: KeyHash + Copy + Drop>(outcome: Result<Node<H>, ScriptFault>) -> End {
+    match outcome {
         Ok(_) => End::Whole,
         Err(fault) => end_by_fault(&fault),
     }
@@ -72,13 +72,13 @@ fn end_by_fault(fault: &ScriptFault) -> End {
 /// Runs a script twice: with a hash that spreads keys, and with one hash for all keys. Returns whether both runs have
 /// this end and wrote exactly these answers.
 fn ends_with_answers(alloc: Global, run: &Run, script: &[u8], answers: &[u8], end: End) -> bool {
-    ends_with_answers_by_hash(alloc, run, Fnv, script, answers, end)
-        && ends_with_answers_by_hash(alloc, run, AllSame, script, answers, end)
+    ends_with_answers_with_hasher(alloc, run, Fnv, script, answers, end)
+        && ends_with_answers_with_hasher(alloc, run, AllSame, script, answers, end)
 }
 
 /// Runs a script with this hasher. Returns whether it has this end and wrote exactly these answers. All answers must be
 /// flushed before each read and at the end, unless a write fails.
-fn ends_with_answers_by_hash<H: KeyHash + Copy + Drop>(
+fn ends_with_answers_with_hasher<H: KeyHash + Copy + Drop>(
     alloc: Global,
     run: &Run,
     hasher: H,
@@ -106,18 +106,18 @@ fn ends_with_answers_by_hash<H: KeyHash + Copy + Drop>(
         limits: run.limits,
         hasher,
     };
-    let done = run_within(alloc, &mut streams, settings, run.max_reads);
+    let outcome = run_within(alloc, &mut streams, settings, run.max_reads);
     streams.output.taken.as_slice() == answers
-        && end_of(done) == end
+        && end_of(outcome) == end
         && (end == End::Write || log.is_all_flushed(answers.len()))
 }
 
-/// Runs rows of a script and its answers. Returns the index of the first script that has other answers or does not run
-/// to its end, or the number of rows if all are right.
-fn count_answered_scripts(alloc: Global, run: &Run, rows: &[(&[u8], &[u8])]) -> usize {
-    for (count, (script, answers)) in rows.iter().enumerate() {
+/// Runs each row's script. Returns the index of the first script that has other answers than its row or does not run to
+/// its end. If all scripts are right, returns the number of rows.
+fn first_wrong_script(alloc: Global, run: &Run, rows: &[(&[u8], &[u8])]) -> usize {
+    for (index, (script, answers)) in rows.iter().enumerate() {
         if !ends_with_answers(alloc, run, *script, *answers, End::Whole) {
-            return count;
+            return index;
         }
     }
     rows.len()

@@ -3,7 +3,8 @@
 // an unused ledger, and `L` is its name in types. A ledger has a part for each process and one more: for two processes
 // a test passes `Blank::new(3)`. A `Server` has callers, and no journal; in types, `B` names its history and limits. A
 // test passes `Brand` for `L` or `B`. To join a client or a caller means to enrol its process in the node. `rt` is the
-// runtime: its type has `Wait` to wait for locks, and `Threads` to start threads.
+// runtime: its type has `Wait` to wait for locks, and `Threads` to start threads. A helper returns `None` if memory ran
+// out or an enrolment was refused; other reasons are in its comment.
 ghost use Rattle.std.specs.Prelude.{◌≡◌, ◌<◌};
 
 use ets_term::{Fnv, KeyHash};
@@ -51,7 +52,7 @@ fn draw(alloc: Global, count: usize) -> Option<Vec<Drawn>>
     Some(numbers)
 }
 
-/// Joins the clients of the processes below `count`.
+/// Enrols the processes below `count` in the node, and returns the client of each.
 fn join_clients<L: Ledger, H: KeyHash + Copy + Drop, R: Wait>(
     rt: &R,
     alloc: Global,
@@ -67,7 +68,7 @@ fn join_clients<L: Ledger, H: KeyHash + Copy + Drop, R: Wait>(
     Some(clients)
 }
 
-/// Joins the callers of the processes below `count`.
+/// Enrols the processes below `count` in the node, and returns the caller of each.
 fn join_callers<B: HistoryId, R: Wait>(
     rt: &R,
     alloc: Global,
@@ -89,7 +90,7 @@ trait Plan {
     fn jobs(&self, alloc: Global, pid: u32) -> Option<Vec<Job>>;
 }
 
-/// Joins `count` clients, and returns each with its jobs.
+/// Enrols the processes below `count`, and returns the client of each with its jobs.
 fn join_with_jobs<L: Ledger, H: KeyHash + Copy + Drop, P: Plan, R: Wait>(
     rt: &R,
     alloc: Global,
@@ -107,7 +108,7 @@ fn join_with_jobs<L: Ledger, H: KeyHash + Copy + Drop, P: Plan, R: Wait>(
     Some(work)
 }
 
-/// Returns the clients of finished workers, or `None` if one of them has jobs left.
+/// Returns the clients of finished workers, or `None` if one of them has jobs left: it ran out of memory.
 fn clients_of_workers<L: Ledger>(alloc: Global, workers: Vec<Worked<L>>) -> Option<Vec<Client<L>>> {
     let mut clients = Vec::with_capacity(alloc, workers.len()).ok()?;
     for worker in workers {
@@ -124,8 +125,9 @@ fn client_of_worker<L: Ledger>(worker: Worked<L>) -> Option<Client<L>> {
     Some(worker.client)
 }
 
-/// Closes a `Shared` with the clients of a run. Returns the transcript, which has the journal. `clients` is `None` if the
-/// run failed; then drops the `Shared` and returns `None`.
+/// Closes a `Shared` with the clients of a run. Returns the transcript, which has the journal, or `None` if the journal
+/// and the records of the clients differ. `clients` is `None` if the run failed; then drops the `Shared` and returns
+/// `None`.
 fn close_all<L: Ledger, H: KeyHash + Copy + Drop>(
     shared: Shared<L, H>,
     clients: Option<Vec<Client<L>>>,

@@ -15,7 +15,8 @@ use Rattle.node_list.specs.Places.{IsFresh}
 use Rattle.node_list.specs.Changes.{put_cell, without}
 use Rattle.node_list.specs.Changes.{cells_with}
 use Rattle.node_list.proofs.CallerLaws.{put-from_new}
-use Rattle.bucket_table.specs.Slots.{Slot, Enters, HasDistinctKeys}
+use Rattle.bucket_table.specs.Slots.{Slot, Enters}
+use Rattle.bucket_table.specs.Rows.{HasDistinctKeys}
 use Rattle.bucket_table.specs.inside.Nodes.{slots_of}
 use Rattle.bucket_table.specs.inside.Directory.{IsInDirectory, IsDummyOf, DummiesAreListed, DirectoryInvariant}
 use Rattle.bucket_table.specs.inside.Search.{IsFound}

@@ -13,7 +13,8 @@ use Rattle.node_list.specs.Search.{holds}
 use Rattle.node_list.specs.Changes.{item_with}
 use Rattle.node_list.specs.Changes.{cells_with}
 use Rattle.node_list.proofs.CellLaws.{from-here, from-on}
-use Rattle.bucket_table.specs.Slots.{Slot, HasDistinctKeys}
+use Rattle.bucket_table.specs.Slots.{Slot}
+use Rattle.bucket_table.specs.Rows.{HasDistinctKeys}
 use Rattle.bucket_table.specs.Entries.{objects_in}
 use Rattle.bucket_table.specs.SplitRowsState.{key_of_place}
 use Rattle.bucket_table.specs.inside.Nodes.{slots_of, with_slot, places_of, with_place}

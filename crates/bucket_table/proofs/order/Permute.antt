@@ -14,7 +14,8 @@ use Rattle.node_list.specs.Search.{holds}
 use Rattle.node_list.specs.Changes as changes
 use Rattle.node_list.specs.Changes.{item_with, cells_with}
 use Rattle.node_list.proofs.CellLaws.{from-here}
-use Rattle.bucket_table.specs.Slots.{Slot, Enters, HasDistinctKeys, objects_of, slots_behind}
+use Rattle.bucket_table.specs.Slots.{Slot, Enters, objects_of, slots_behind}
+use Rattle.bucket_table.specs.Rows.{HasDistinctKeys}
 use Rattle.bucket_table.specs.inside.Nodes.{slots_of, with_slot}
 use Rattle.bucket_table.specs.inside.Search.{IsFound}
 use Rattle.bucket_table.specs.inside.Order.{slots_from, above, content_of}

@@ -8,7 +8,8 @@ use Rattle.node_list.specs.declared.node.Item.{Item}
 use Rattle.node_list.specs.Cells.{Cell, new_cell, new_item}
 use Rattle.node_list.specs.Places.{from, item_at, first_item, IsFresh, HasDistinctPlaces, HasItem, IsNextItem}
 use Rattle.node_list.specs.Changes.{put_cell, cells_with}
-use Rattle.bucket_table.specs.Slots.{Enters, HasDistinctKeys, objects_of}
+use Rattle.bucket_table.specs.Slots.{Enters, objects_of}
+use Rattle.bucket_table.specs.Rows.{HasDistinctKeys}
 use Rattle.bucket_table.specs.Entries.{objects_in, with_objects_in}
 use Rattle.bucket_table.specs.Visits.{HasLooked, hash_keys, bucket_keys}
 use Rattle.bucket_table.specs.Walks.{IsFirstPlace, IsNextPlace, behind_in}

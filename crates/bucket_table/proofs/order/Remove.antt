@@ -4,8 +4,7 @@ use Rattle.ets_term.specs.declared.term.Term.{Term}
 use Rattle.node_list.specs.Cells.{Cell}
 use Rattle.node_list.specs.Changes as changes
 use Rattle.node_list.specs.Places.{HasDistinctPlaces}
-use Rattle.bucket_table.specs.Slots.{HasDistinctKeys}
-use Rattle.bucket_table.specs.Rows.{without}
+use Rattle.bucket_table.specs.Rows.{HasDistinctKeys, without}
 use Rattle.bucket_table.specs.Walks.{ComesBefore}
 use Rattle.bucket_table.specs.SplitRowsState.{key_of_place}
 use Rattle.bucket_table.specs.inside.Nodes.{slots_of, places_of}

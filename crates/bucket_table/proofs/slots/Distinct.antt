@@ -10,7 +10,8 @@ use Rattle.node_list.specs.declared.node.Item.{Item}
 use Rattle.node_list.specs.Cells.{Cell, new_cell, new_item}
 use Rattle.node_list.specs.Changes.{put_cell}
 use Rattle.node_list.proofs.CellLaws.{put-past, put-on}
-use Rattle.bucket_table.specs.Slots.{Slot, Enters, HasDistinctKeys}
+use Rattle.bucket_table.specs.Slots.{Slot, Enters}
+use Rattle.bucket_table.specs.Rows.{HasDistinctKeys}
 use Rattle.bucket_table.specs.inside.Nodes.{slots_of, with_slot}
 use Rattle.bucket_table.proofs.list.Content.{same-sym}
 

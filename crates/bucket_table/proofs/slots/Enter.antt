@@ -4,8 +4,8 @@ use Rattle.std.specs.List.{IsDistinct, AllByRecursion}
 use Rattle.std.specs.Map.{lookup, keys_of}
 use Rattle.ets_term.specs.declared.term.Term.{Term}
 use Rattle.ets_term.specs.Order.{same}
-use Rattle.bucket_table.specs.Slots.{Slot, Enters, HasDistinctKeys, objects_of}
-use Rattle.bucket_table.specs.Rows.{AreNew}
+use Rattle.bucket_table.specs.Slots.{Slot, Enters, objects_of}
+use Rattle.bucket_table.specs.Rows.{HasDistinctKeys, AreNew}
 use Rattle.bucket_table.proofs.list.Content.{same-sym}
 use Rattle.bucket_table.proofs.slots.Distinct.{first-missed}
 

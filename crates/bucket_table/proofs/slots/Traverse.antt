@@ -5,8 +5,8 @@ use Rattle.std.specs.Map.{keys_of}
 use Rattle.ets_term.specs.declared.term.Term.{Term}
 use Rattle.ets_term.specs.Order.{same}
 use Rattle.ets_term.specs.laws.Same.{same-exact, same-refl}
-use Rattle.bucket_table.specs.Slots.{Slot, HasDistinctKeys, objects_of, with_objects, slots_behind}
-use Rattle.bucket_table.specs.Rows.{without}
+use Rattle.bucket_table.specs.Slots.{Slot, objects_of, with_objects, slots_behind}
+use Rattle.bucket_table.specs.Rows.{HasDistinctKeys, without}
 use Rattle.bucket_table.specs.Walks.{ComesBefore}
 
 -- Slots of other keys are not the slot of a key.

@@ -5,7 +5,7 @@ use Rattle.split_key.specs.Keys.{key_of_item, key_of_dummy}
 use Rattle.node_list.specs.declared.node.Item.{Item}
 use Rattle.node_list.specs.Cells.{Cell, new_cell}
 use Rattle.node_list.specs.Places.{from}
-use Rattle.bucket_table.specs.Slots.{HasDistinctKeys}
+use Rattle.bucket_table.specs.Rows.{HasDistinctKeys}
 use Rattle.bucket_table.specs.inside.Nodes.{slots_of}
 
 -- The dummy of this bucket is at this place.

@@ -52,6 +52,7 @@ impl<H: KeyHash + Copy + Drop> SplitRows<H> {
     {
         self.index.list.reveal_invariant();
         let before = self.index.list.len();
+        // This removes only slots, no dummies, so the difference in nodes is the number of slots removed.
         self.index.sweep_all(mode);
         self.slots -= before - self.index.list.len();
         self.log.reset_after(mode);

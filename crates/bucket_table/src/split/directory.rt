@@ -65,6 +65,7 @@ impl Directory {
         if bucket < MAX_LINKS_PER_SEGMENT {
             return link_at(self.first_segment.as_slice(), bucket);
         }
+        // `later_segments` begins with the second segment.
         let segment = bucket / MAX_LINKS_PER_SEGMENT - 1;
         let index = bucket % MAX_LINKS_PER_SEGMENT;
         if segment < self.later_segments.len() {
@@ -83,6 +84,7 @@ impl Directory {
         if bucket < MAX_LINKS_PER_SEGMENT {
             set_link(&mut self.first_segment, bucket, at);
         } else {
+            // `later_segments` begins with the second segment.
             let segment = bucket / MAX_LINKS_PER_SEGMENT - 1;
             let index = bucket % MAX_LINKS_PER_SEGMENT;
             set_link(&mut self.later_segments[segment], index, at);
@@ -97,8 +99,10 @@ impl Directory {
     {
         let buckets = 2 * self.buckets;
         let in_first_segment = buckets.min(MAX_LINKS_PER_SEGMENT);
+        // The number of links that may still be written to the first segment.
         let missing = in_first_segment.saturating_sub(self.first_segment.len());
         self.first_segment.reserve(missing)?;
+        // The number of later segments that these buckets need.
         let later = buckets.saturating_sub(1) / MAX_LINKS_PER_SEGMENT;
         add_segments(&mut self.later_segments, later)?;
         self.buckets = buckets;
@@ -125,13 +129,14 @@ fn set_link(segment: &mut Vec<Link>, index: usize, at: At)
     ensures capacity { vec_capacity segment.old ≤ vec_capacity segment.new }
 {
     if index >= segment.len() {
-        // `double` reserved the memory.
+        // The segment has capacity for the link, so this takes no memory.
         let _outcome = segment.resize(index + 1, Link::none());
     }
     segment[index] = Link::to(at);
 }
 
-/// Adds empty segments, with capacity for all their links, up to `count` segments.
+/// Adds empty segments, with capacity for all their links, until there are `count` segments. If memory runs out, the
+/// segments added so far stay.
 fn add_segments(segments: &mut Vec<Vec<Link>>, count: usize) -> Result<(), AllocError>
     ensures adds { AddsSegments segments.old.items segments.new.items }
     ensures ok { OnOk result (count ≤ length segments.new.items) }

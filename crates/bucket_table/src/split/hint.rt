@@ -4,14 +4,15 @@ ghost use Rattle.std.specs.Prelude.{◌≡◌, ◌⊎◌, Some, None};
 
 use std::marker::Model;
 
-/// A hint about the first item of an interval, in a word of 32 bits: unknown (the greatest number), empty (the greatest
-/// but one), or the place of the item.
+/// A hint about the first item of an interval, in a word of 32 bits. The greatest number is unknown, and the greatest
+/// but one is empty. Any other number is the place of the item.
 #[derive(Clone, Copy)]
 pub struct Hint {
     word: u32,
 }
 
 // The value that contracts see of this type (`view`), and what is true of its fields between calls (`invariant`).
+// `inverse` goes back from such a value to the fields. `inverse_ok` proves that `inverse` undoes `view`.
 impl Model for Hint {
     ghost use Rattle.std.specs.Prelude.{Option, ℕ, ◌<◌, ◌^◌};
 
@@ -47,6 +48,7 @@ impl Hint {
     pub fn at(place: usize) -> Hint
         ensures { (result ≡ None) ⊎ (result ≡ Some (Some place)) }
     {
+        // 4294967294 is `u32::MAX - 1`, the word of the empty hint.
         if place < 4294967294 {
             Hint { word: place as u32 }
         } else {

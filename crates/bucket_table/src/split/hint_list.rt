@@ -87,7 +87,7 @@ impl HintList {
         }
     }
 
-    /// Returns the hint of an interval.
+    /// Returns the hint of an interval: `None` is unknown, and `Some(None)` is empty.
     pub fn get(&self, interval: usize) -> Option<Option<At>>
         ensures { result ≡ get_or self.now interval None }
     {
@@ -98,7 +98,7 @@ impl HintList {
         }
     }
 
-    /// Sets the hint of an interval, if the list has one.
+    /// Sets the hint of an interval. Past the end of the list it does nothing.
     pub fn set(&mut self, interval: usize, hint: Hint)
         ensures { SetsHint interval hint self.old self.new }
     {
@@ -107,7 +107,7 @@ impl HintList {
         }
     }
 
-    /// Sets the hint of an interval, if the list has one and it is unknown.
+    /// Sets the hint of an interval if it is unknown. Past the end of the list it does nothing.
     pub fn set_if_unknown(&mut self, interval: usize, hint: Hint)
         ensures { SetsIfUnknown interval hint self.old self.new }
     {
@@ -116,7 +116,7 @@ impl HintList {
         }
     }
 
-    /// If `is_first` is true, sets the hint of an interval to a place.
+    /// If `is_first` is true, sets the hint of an interval to the place `at`. Past the end of the list it does nothing.
     pub fn set_first(&mut self, is_first: bool, interval: usize, at: At)
         ensures { SetsFirst is_first interval at self.old self.new }
     {
@@ -125,7 +125,7 @@ impl HintList {
         }
     }
 
-    /// Replaces the hint of an interval by `hint` if it is the place `at`.
+    /// Replaces the hint of an interval by `hint`, if the old hint is the place `at`.
     pub fn replace_first(&mut self, interval: usize, at: At, hint: Hint)
         ensures { ReplacesFirst interval at hint self.old self.new }
     {
@@ -136,7 +136,7 @@ impl HintList {
         }
     }
 
-    /// Sets the hints of the intervals from `low` up to `high` to empty, as far as the list has them.
+    /// Sets the hints of the intervals from `low` to `high - 1` to empty, as far as the list has them.
     pub fn set_empty(&mut self, low: usize, high: usize)
         ensures { SetsEmpty low high self.old self.new }
     {

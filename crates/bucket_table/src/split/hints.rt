@@ -18,14 +18,16 @@ use std::alloc::{AllocError, Global};
 /// The number of intervals of a bucket.
 pub const INTERVALS_PER_BUCKET: usize = 8;
 
-/// The number of bits of a split key.
+/// The number of bits of a split key: 32 bits of the hash, reversed, and a last bit. The last bit is 1 for an item and
+/// 0 for a dummy.
 const SPLIT_KEY_BITS: u32 = 33;
 
-/// The greatest number of intervals whose hints `nearest_below` reads.
+/// The greatest number of intervals whose hints `nearest_below` reads. It bounds the time of that call.
 const MAX_INTERVALS_SCANNED: usize = 64;
 
-/// A cache of the first item of each interval of split keys, and the cache from before the last doubling, of which
-/// the hint at `rehash_index` is to be rehashed next. The interval of a split key is `split_key >> interval_bits`.
+/// The hints of all intervals of split keys: those of the present number of buckets (`current`), and those from before
+/// the last doubling (`previous`). The previous hint at `rehash_index` is rehashed next. The interval of a split key is
+/// `split_key >> interval_bits`.
 #[derive(Drop)]
 pub struct Hints {
     pub current: HintList,
@@ -46,11 +48,12 @@ impl Hints {
             current,
             previous: HintList::new(alloc),
             rehash_index: 0,
+            // Two buckets have 16 = 2^4 intervals, so the highest four bits of a split key number its interval.
             interval_bits: SPLIT_KEY_BITS - 4,
         })
     }
 
-    /// Returns the interval of a split key.
+    /// Returns the number of the interval of a split key.
     pub fn interval_of(&self, split_key: u64) -> usize
         requires { self.now.interval_bits < 64 }
         ensures { result ≡ split_key / 2 ^ self.now.interval_bits }
@@ -58,8 +61,9 @@ impl Hints {
         (split_key >> self.interval_bits) as usize
     }
 
-    /// Returns the place of the first item of the nearest lower interval whose hint has a place. Reads the current and
-    /// previous hints of at most `MAX_INTERVALS_SCANNED` intervals, down to the interval `floor`.
+    /// Returns the place of the first item of the nearest interval below `interval` whose hint has a place. Reads the
+    /// current and previous hints of at most `MAX_INTERVALS_SCANNED` intervals, down to the interval `floor`. Returns
+    /// `None` if none of these hints has a place.
     pub fn nearest_below(&self, floor: usize, interval: usize) -> Option<At>
         ensures { IfSome result (λ at. IsNearestBelow floor interval at self.now.current
             ⊎ IsNearestBelow (floor / 2) (interval / 2) at self.now.previous) }
@@ -70,6 +74,8 @@ impl Hints {
             if let Some(Some(first)) = self.current.get(lower) {
                 return Some(first);
             }
+            // A previous interval is two current ones. Its hint is read after both current hints, and only if both
+            // current intervals are below `interval`.
             if lower % 2 == 0 && lower / 2 < interval / 2 {
                 if let Some(Some(first)) = self.previous.get(lower / 2) {
                     return Some(first);
@@ -79,13 +85,14 @@ impl Hints {
         None
     }
 
-    /// Returns the place of the first item of the nearest lower interval of the same bucket whose current hint has a
-    /// place.
+    /// Reads the current hints of the lower intervals of the same bucket, the nearest first. Returns the first place
+    /// that such a hint has: the place of the first item of its interval. Returns `None` if no such hint has a place.
     #[inline(always)]
     pub fn bucket_hint_below(&self, interval: usize) -> Option<At>
         ensures { IfSome result (λ at. IsNearestBelow 0 interval at self.now.current) }
     {
         let mut below = interval;
+        // The first interval of a bucket has a multiple of `INTERVALS_PER_BUCKET` as its number.
         while below % INTERVALS_PER_BUCKET != 0 {
             below -= 1;
             if let Some(Some(first)) = self.current.get(below) {

@@ -15,8 +15,8 @@ use split_key::dummy_key;
 use std::alloc::AllocError;
 use std::mem;
 
-// The trait `Rows` documents these methods. The place of a slot is that of its item in the list of nodes. For a
-// tombstone, `get` returns an empty slice.
+// The trait `Rows` documents these values and methods. The place of a slot is that of its item in the list of nodes. A
+// method that takes a place requires a slot there, so its `None` is unreachable.
 impl<H: KeyHash + Copy + Drop> Rows for SplitRows<H> {
     ghost slots = { λ s. s.slots };
 
@@ -28,6 +28,7 @@ impl<H: KeyHash + Copy + Drop> Rows for SplitRows<H> {
 
     ghost readiness = { λ s. s.ready };
 
+    // This is `MAX_BUCKETS`.
     ghost most_buckets = { 1048576 };
 
     #[inline(always)]
@@ -72,6 +73,7 @@ impl<H: KeyHash + Copy + Drop> Rows for SplitRows<H> {
         }
         self.index.list.reveal_invariant();
         let before = self.index.list.len();
+        // This removes only slots, no dummies, so the difference in nodes is the number of slots removed.
         self.index.purge_hashes(&mut self.log.hashes);
         self.slots -= before - self.index.list.len();
     }
@@ -144,7 +146,7 @@ impl<H: KeyHash + Copy + Drop> Rows for SplitRows<H> {
     fn replace_at(&mut self, place: Place, objects: Chain) -> Chain {
         self.index.list.reveal_invariant();
         let hash = item_hash(self.index.list.split_key(place));
-        // A slot without objects is a tombstone, which the next purge finds by its hash.
+        // Without objects, the slot becomes a tombstone, which the next purge finds by its hash.
         self.log.log_hash(objects.len() == 0, hash);
         let chain = self.index.list.chain_mut(place);
         mem::replace(chain, objects)
@@ -170,9 +172,9 @@ impl<H: KeyHash + Copy + Drop> Rows for SplitRows<H> {
 
     fn delete_at(&mut self, place: Place) -> usize {
         self.index.list.reveal_invariant();
-        let count = self.index.delete(place);
+        let dropped_objects = self.index.delete(place);
         self.slots -= 1;
-        count
+        dropped_objects
     }
 
     fn reserve(&mut self, additional: usize) -> Result<(), AllocError> {
@@ -191,7 +193,8 @@ impl<H: KeyHash + Copy + Drop> Rows for SplitRows<H> {
             return Ok(Growth::AtMost);
         }
         // Both steps that may run out of memory come first. The new hints are put in `previous`; the swap makes them
-        // the current hints. There are twice as many intervals, so a split key is shifted by one bit less.
+        // the current hints, and the old current hints the previous ones. None of those is rehashed yet. There are
+        // twice as many intervals, so a split key is shifted by one bit less.
         self.index
             .hints
             .start_generation(2 * INTERVALS_PER_BUCKET * buckets)?;

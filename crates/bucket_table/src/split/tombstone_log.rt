@@ -37,12 +37,14 @@ impl TombstoneLog {
         let room = self.hashes.capacity();
         if room < nodes / NODES_PER_HASH {
             let more = nodes.saturating_sub(self.hashes.len());
+            // This reserves about twice the room tested above, so few calls reserve. If memory is refused, the log may
+            // overflow later.
             let _outcome = self.hashes.reserve(more / 8);
         }
     }
 
-    /// Adds the hash of a slot to the log if the slot is a tombstone. It allocates no memory: if there is no room, the
-    /// log overflows.
+    /// Adds the hash of a slot to the log if the slot is a tombstone. Allocates no memory: if the log has no room, sets
+    /// `overflowed`.
     pub fn log_hash(&mut self, is_tombstone: bool, hash: u32)
         ensures { LogsHash is_tombstone hash self.old.overflowed self.old.hashes.items
             self.new.overflowed self.new.hashes.items }
@@ -57,8 +59,8 @@ impl TombstoneLog {
         }
     }
 
-    /// Empties the log after a sweep of all slots. The empty log is complete only if the sweep removed the tombstones;
-    /// otherwise it counts as overflowed.
+    /// Empties the log after a sweep of all slots. The empty log is complete if the sweep removed the tombstones. After
+    /// any other sweep, tombstones may remain, so the log counts as overflowed.
     pub fn reset_after(&mut self, mode: SweepMode)
         ensures { self.new.overflowed ≡ false → mode ≡ RemoveTombstones }
     {

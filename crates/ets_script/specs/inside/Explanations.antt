@@ -5,7 +5,7 @@ use Rattle.node_core.specs.Machine.{step}
 use Rattle.node_core.specs.declared.step.Reply.{Reply}
 use Rattle.node_core.specs.declared.step.Step.{Step}
 use Rattle.node_core.specs.declared.step.Step.TheVariants.{Enrol, End, Ask, Grow, Ready}
-use Rattle.node_core.specs.rules.Replies.{is_value}
+use Rattle.node_core.specs.Values.{is_value}
 use Rattle.node_reasons.specs.Why.{why}
 use Rattle.script_reasons.specs.declared.diagnostic.Diagnostic.{Diagnostic}
 use Rattle.script_reasons.specs.declared.diagnostic.Diagnostic.TheVariants as diagnostic

@@ -12,7 +12,8 @@ use node_core::{Call, Step};
 use std::alloc::Global;
 
 impl<H: KeyHash + Copy + Drop> Script<H> {
-    /// Makes a call for the process with this name.
+    /// Makes a call for the process with this name, and then runs at most two pending growth steps. Answers `NoProcess`
+    /// if the name was not spawned.
     #[inline(always)]
     pub(super) fn ask(&mut self, name: &[u8], call: Call, answer: &mut Answer)
         ensures { Executes (spec.ask name.now call.name call.args) self.old answer.new self.new
@@ -72,7 +73,7 @@ impl<H: KeyHash + Copy + Drop> Script<H> {
         ensures pid { result ≡ pid_of self.old name.now }
         ensures same { self.new ≡ self.old }
     {
-        if let Some(pid) = self.last_caller_named(name) {
+        if let Some(pid) = self.last_caller_with_name(name) {
             return Some(pid);
         }
         let pid = self.pid(name);
@@ -82,9 +83,9 @@ impl<H: KeyHash + Copy + Drop> Script<H> {
         pid
     }
 
-    /// Returns the process in `last_caller`, if this is its name.
+    /// Returns the process in `last_caller` if this is its name, and `None` if not.
     #[inline(always)]
-    fn last_caller_named(&self, name: &[u8]) -> Option<u32>
+    fn last_caller_with_name(&self, name: &[u8]) -> Option<u32>
         ensures { IfSome result (λ p. pid_of self.now name.now ≡ Some p) }
     {
         // The contract of `len` gives the proof that all names are different.
@@ -95,21 +96,21 @@ impl<H: KeyHash + Copy + Drop> Script<H> {
         }
     }
 
-    /// Runs a step of the node. The reply uses the memory of the previous reply. A single object that is inserted moves
-    /// out of the step.
+    /// Runs a step of the node, and writes the answer. The reply uses the memory of the previous reply. A single object
+    /// that is inserted moves out of the step into its table.
     #[inline(always)]
     pub(super) fn step(&mut self, step: &mut Step, answer: &mut Answer)
         ensures { Steps self.old step.old answer.new self.new
             ⊎ KeepsState self.old NoMemory answer.new self.new }
     {
-        let done = match answer {
+        let step_result = match answer {
             Answer::Replied(reply) => self.node.drain_step(step, reply),
             _ => {
                 *answer = self.step_anew(step);
                 return;
             }
         };
-        if done.is_err() {
+        if step_result.is_err() {
             *answer = Answer::NoMemory;
         }
     }

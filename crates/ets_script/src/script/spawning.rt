@@ -16,8 +16,8 @@ use node_core::{Node, Reply, Step};
 use std::alloc::Global;
 
 impl<H: KeyHash + Copy + Drop> Script<H> {
-    /// Enrols a process with the next number, under this name. Replies `Badarg` if the name was spawned before. Reserves
-    /// capacity for the name first.
+    /// Enrols a process with the next number, under this name. Answers `Badarg` if the name was spawned before.
+    /// Reserves capacity for the name first, so that after the node has enrolled the process, its name can be added.
     #[inline(never)]
     pub(super) fn spawn(&mut self, alloc: Global, name: &[u8]) -> Answer
         ensures { Spawns (pid_of self.old name.now) self.old name.now result self.new
@@ -42,7 +42,8 @@ impl<H: KeyHash + Copy + Drop> Script<H> {
     }
 }
 
-/// Enrols a process with this number, under a new name, for which there is capacity.
+/// Enrols a process with this number, under a new name, for which there is capacity. Adds the name only if the node
+/// enrols the process.
 fn enrol<H: KeyHash + Copy + Drop>(
     names: &mut IndexSet<Vec<u8>>,
     node: &mut Node<H>,

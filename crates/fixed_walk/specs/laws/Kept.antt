@@ -2,7 +2,7 @@
 use Rattle.std.specs.Prelude.{◌≡◌, ◌⊎◌, Bool, true, List, [], ◌∷◌, Result}
 use Rattle.std.specs.Map.{keys_of}
 use Rattle.ets_term.specs.declared.term.Term.{Term}
-use Rattle.bucket_table.specs.Slots.{HasDistinctKeys}
+use Rattle.bucket_table.specs.Rows.{HasDistinctKeys}
 use Rattle.table_ops.specs.declared.refusal.Refusal.{Refusal}
 use Rattle.table_ops.specs.Content.{Content}
 use Rattle.table_ops.specs.Refusals.{RefinesChange}

@@ -5,7 +5,7 @@ ghost use Rattle.counters.specs.declared.ops.Ops.TheVariants.{One};
 ghost use Rattle.counters.specs.declared.elements.ElementSpecs.TheVariants as elements;
 ghost use Rattle.table_ops.specs.Content.{objects_under, is_present};
 ghost use Rattle.table_ops.specs.Drop.{has_key, every_object, DeletesObject};
-ghost use Rattle.table_ops.specs.Outcomes.{Returns};
+ghost use Rattle.table_ops.specs.Results.{Returns};
 ghost use Rattle.table_ops.specs.Put.{Inserts, InsertsNew};
 ghost use Rattle.table_ops.specs.Read.{all_objects, lookup_element, lookup_element_or};
 ghost use Rattle.table_ops.specs.Refusals.{RefinesChange, ReturnsOrBadarg};
@@ -180,6 +180,7 @@ impl<R: Rows> Walked<R> {
     pub fn delete_key(&mut self, key: &Term)
         ensures { self.new ≡ after_delete (has_key key.now) self.old }
     {
+        // In a fixed table, a slot that loses its last object stays as a tombstone.
         let hold = self.fixes.is_fixed();
         self.table.delete_key(key, hold);
     }
@@ -191,6 +192,7 @@ impl<R: Rows> Walked<R> {
         ensures ok { OnOk result (self.new ≡ after_delete (has_key key.now) self.old) }
         ensures err { OnErr result (self.new ≡ self.old) }
     {
+        // In a fixed table, a slot that loses its last object stays as a tombstone.
         let hold = self.fixes.is_fixed();
         self.table.take(key, hold)
     }
@@ -202,6 +204,7 @@ impl<R: Rows> Walked<R> {
         ensures { on_content (DeletesObject (is_fixed self.old.fixes) object.now)
             self.old result self.new }
     {
+        // In a fixed table, a slot that loses its last object stays as a tombstone.
         let hold = self.fixes.is_fixed();
         self.table.delete_object(object, hold)
     }
@@ -211,6 +214,7 @@ impl<R: Rows> Walked<R> {
     pub fn delete_all(&mut self)
         ensures { self.new ≡ after_delete every_object self.old }
     {
+        // In a fixed table, a slot that loses its last object stays as a tombstone.
         let hold = self.fixes.is_fixed();
         self.table.delete_all(hold);
     }

@@ -35,6 +35,7 @@ impl<R: Rows> Walked<R> {
         ensures { self.new ≡ after_release pid self.old }
     {
         if !self.fixes.is_fixed() {
+            // There is no fix to remove, and there are no tombstones.
             return;
         }
         self.fixes.decrement(pid);
@@ -50,6 +51,7 @@ impl<R: Rows> Walked<R> {
         ensures { self.new ≡ after_release_all pid self.old }
     {
         if !self.fixes.is_fixed() {
+            // There is no fix to remove, and there are no tombstones.
             return;
         }
         self.fixes.clear(pid);

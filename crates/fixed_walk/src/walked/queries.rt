@@ -1,9 +1,8 @@
 //! The calls with patterns and match specifications on a table with fixes. Those that delete leave tombstones, slots
 //! without objects, if the table is fixed.
 ghost use Rattle.std.specs.Prelude.{◌≡◌, ◌<◌, ◌^◌, IfOk, OnOk, OnErr};
-ghost use Rattle.table_ops.specs.Outcomes.{Returns};
+ghost use Rattle.table_ops.specs.Results.{Returns, matching_in, ReturnsAllData};
 ghost use Rattle.table_ops.specs.Queries.{bound_in, matches, spec_result, is_chosen, answers_in, chosen_in};
-ghost use Rattle.table_ops.specs.Results.{matching_in, ReturnsAllData};
 ghost use Rattle.fixed_walk.specs.TableState.{after_delete};
 
 use super::Walked;
@@ -53,6 +52,7 @@ impl<R: Rows> Walked<R> {
         ensures ok { OnOk result (self.new ≡ after_delete (λ own. matches pattern.now) self.old) }
         ensures err { OnErr result (self.new ≡ self.old) }
     {
+        // In a fixed table, a slot that loses its last object stays as a tombstone.
         let hold = self.fixes.is_fixed();
         self.table.match_delete(pattern, hold)
     }
@@ -66,6 +66,7 @@ impl<R: Rows> Walked<R> {
         ensures ok { OnOk result (self.new ≡ after_delete (λ own. is_chosen spec.now) self.old) }
         ensures err { OnErr result (self.new ≡ self.old) }
     {
+        // In a fixed table, a slot that loses its last object stays as a tombstone.
         let hold = self.fixes.is_fixed();
         self.table.select_delete(spec, hold)
     }

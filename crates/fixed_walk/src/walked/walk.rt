@@ -57,7 +57,7 @@ impl<R: Rows> Walked<R> {
     }
 }
 
-/// Returns the key of a slot, if there is one.
+/// Returns the key of a slot, or `None` if there is no slot.
 fn key_of<'a>(slot: Option<(&'a Term, &'a [Term])>) -> Option<&'a Term>
     ensures { option_copied result
         ≡ option_map (λ slot. slot.0) (option_map deref_pair slot.entry) }
@@ -75,6 +75,7 @@ fn first_nonempty<R: Rows>(rows: &R, start: Option<Place>) -> Option<(&Term, &[T
         ≡ first_slot (slots_from (R.key_at rows.now) (R.slots rows.now) start) }
 {
     rows.reveal_invariant();
+    // Each round visits another slot, so there are at most as many rounds as slots.
     let mut at = start;
     for _ in 0..rows.len() {
         let place = at?;

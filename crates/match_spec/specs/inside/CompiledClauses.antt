@@ -1,13 +1,21 @@
 -- Compiled match specifications. They do not define what a match specification means.
-use Rattle.std.specs.Prelude.{◌&&◌, Bool, true, false, if◌then◌else◌, List, [], ◌∷◌, Option, Some, None, map, unwrap_or, codes}
+use Rattle.std.specs.Prelude.{ℕ, ◌&&◌, nat_lt, Bool, true, false, if◌then◌else◌, List, [], ◌∷◌, Option, Some, None, map, unwrap_or, codes}
 use Rattle.std.specs.Option.{option_map_or, option_and_then}
 use Rattle.ets_term.specs.Data.{Data, atom, list, DataList, no_terms, term, data_list, data_of}
 use Rattle.match_spec.specs.declared.spec.check.ClauseParts.{ClauseParts}
 use Rattle.match_spec.specs.declared.spec.clause.Clause.{Clause}
-use Rattle.match_spec.specs.Specifications.{is_true, RawClause, clause_parts}
+use Rattle.ets_term.specs.Order.{data_list_len}
+use Rattle.match_spec.specs.Expressions.{are_expressions}
+use Rattle.match_spec.specs.Specifications.{is_pattern, is_true, RawClause, clause_parts}
 use Rattle.match_spec.specs.inside.CompiledExpressions.{expression_value, expressions_of}
 use Rattle.match_spec.specs.inside.CompiledPatterns.{part_fits, part_of}
 use Rattle.match_spec.specs.inside.FirstPaths.{FirstPaths, paths_of, first_paths_of}
+
+-- whether a clause is valid if these are the variables of its pattern
+abbrev pub is_good_by : List ℕ → RawClause → Bool
+is_good_by ns c =
+    (is_pattern c.pattern && nat_lt 0 (data_list_len c.body))
+    && (are_expressions ns c.conditions && are_expressions ns c.body)
 
 abbrev pub all_hold_of : List (Data → Option Data) → Data → Bool
 all_hold_of [] object = true

@@ -123,13 +123,13 @@ abbrev pub eval_arithmetic : ArithmeticOp → Data → Data → Option Data
 eval_arithmetic op = on_integers (calculate op)
 
 -- whether a comparison holds for two terms of this order
-abbrev pub compares : ComparisonOp → Ordering → Bool
-compares Greater o = is_gt o
-compares GreaterOrEqual o = is_ge o
-compares Less o = is_lt o
-compares LessOrEqual o = is_le o
-compares Equal o = is_eq o
-compares NotEqual o = is_ne o
+abbrev pub comparison_holds : ComparisonOp → Ordering → Bool
+comparison_holds Greater o = is_gt o
+comparison_holds GreaterOrEqual o = is_ge o
+comparison_holds Less o = is_lt o
+comparison_holds LessOrEqual o = is_le o
+comparison_holds Equal o = is_eq o
+comparison_holds NotEqual o = is_ne o
 
 -- the value of a function at the values of its arguments
 abbrev pub apply : Function → List Data → Option Data
@@ -143,13 +143,13 @@ apply Size (d ∷ []) = size d
 apply Xor (d ∷ e ∷ []) = option_map truth (exclusive (boolean d) (boolean e))
 apply Element (d ∷ e ∷ []) = element d e
 apply (Calculate op) (d ∷ e ∷ []) = eval_arithmetic op d e
-apply (Compare c) (d ∷ e ∷ []) = Some (truth (compares c (data_order d e)))
+apply (Compare c) (d ∷ e ∷ []) = Some (truth (comparison_holds c (data_order d e)))
 apply f ds = None
 
 -- the truth that decides a connective
-abbrev pub deciding : Connective → Bool
-deciding And = false
-deciding Or = true
+abbrev pub deciding_truth : Connective → Bool
+deciding_truth And = false
+deciding_truth Or = true
 
 -- whether a connective is decided by one argument of this truth: `and` by false, `or` by true
 abbrev pub decides : Connective → Bool → Bool

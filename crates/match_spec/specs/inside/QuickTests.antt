@@ -11,11 +11,11 @@ use Rattle.match_spec.specs.Paths.{Path, subterm_at}
 use Rattle.match_spec.specs.Specifications.{is_spec}
 use Rattle.match_spec.specs.inside.CompiledClauses.{all_hold_of, applies, result_of_first, clauses_of}
 use Rattle.match_spec.specs.inside.CompiledExpressions.{expression_value}
-use Rattle.match_spec.specs.inside.Functions.{compares}
+use Rattle.match_spec.specs.inside.Functions.{comparison_holds}
 
 -- an element that is not an integer is not rejected
 abbrev pub rejects_element : QuickTest → Data → Bool
-rejects_element q (int n) = not (compares q.comparison (data_order (int n) (int q.value)))
+rejects_element q (int n) = not (comparison_holds q.comparison (data_order (int n) (int q.value)))
 rejects_element q d = false
 
 abbrev pub rejects : QuickTest → Data → Bool
@@ -26,13 +26,13 @@ rejects q d = true
 abbrev pub IsComparison : QuickTest → Expression → Type 0
 IsComparison q e =
     (paths : List Path) → (object : Data) → expression_value paths e object
-    ≡ Some (truth (compares q.comparison (data_order (subterm_at (q.index ∷ []) object) (int q.value))))
+    ≡ Some (truth (comparison_holds q.comparison (data_order (subterm_at (q.index ∷ []) object) (int q.value))))
 
 -- the conditions do not hold if the element does not compare with the integer
 abbrev pub IsNecessary : QuickTest → List Expression → Type 0
 IsNecessary q es =
     (paths : List Path) → (object : Data)
-    → compares q.comparison (data_order (subterm_at (q.index ∷ []) object) (int q.value)) ≡ false
+    → comparison_holds q.comparison (data_order (subterm_at (q.index ∷ []) object) (int q.value)) ≡ false
     → all_hold_of (map (expression_value paths) es) object ≡ false
 
 -- the clause applies to no object that the test rejects

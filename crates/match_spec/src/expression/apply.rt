@@ -1,5 +1,5 @@
-//! The value of a call whose arguments have values already. It computes `hd` and `element` apart from the other
-//! functions: an element of a borrowed list or tuple is borrowed too.
+//! The value of a call whose arguments have values already. `hd` and `element` are computed apart from the other
+//! functions, because an element of a borrowed list or tuple is borrowed too.
 ghost use Rattle.std.specs.Prelude.{◌≡◌, [], ◌∷◌, IfOk};
 ghost use Rattle.std.specs.Option.{option_map};
 ghost use Rattle.ets_term.specs.Data.{data_of};
@@ -13,7 +13,7 @@ use crate::expression::lists::{element, head};
 use ets_term::Term;
 use std::alloc::{AllocError, Global};
 
-/// Returns a term as an owned value.
+/// Returns, as an owned value, the term that a call made, or `None` if the call failed.
 fn owned_value<'a>(term: Option<Term>) -> Option<ExprValue<'a>>
     ensures { option_map value_data result ≡ option_map data_of term }
 {
@@ -53,7 +53,8 @@ pub(crate) fn apply_to_two<'a>(
     Ok(owned_value(eval_binary(alloc, function, x.term(), y.term())?))
 }
 
-/// Computes `hd`: the first element of a list, or `None` if there is none. An element of a borrowed list is borrowed.
+/// Computes `hd`: the first element of a list, or `None` if `x` is not a list or is empty. An element of a borrowed
+/// list is borrowed, and one of an owned list is copied.
 fn eval_hd<'a>(alloc: Global, x: ExprValue<'a>) -> Result<Option<ExprValue<'a>>, AllocError>
     ensures { IfOk result (λ v. option_map value_data v ≡ head (value_data x.entry)) }
 {
@@ -69,8 +70,8 @@ fn eval_hd<'a>(alloc: Global, x: ExprValue<'a>) -> Result<Option<ExprValue<'a>>,
     }
 }
 
-/// Computes `element`: element `n` of a tuple, counted from 1, or `None` if there is none. An element of a borrowed
-/// tuple is borrowed.
+/// Computes `element`: element `n` of the tuple `x`, counted from 1, or `None` if `x` has no such element. An element
+/// of a borrowed tuple is borrowed, and one of an owned tuple is copied.
 fn eval_element<'a>(
     alloc: Global,
     n: ExprValue<'a>,

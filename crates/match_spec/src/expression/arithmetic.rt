@@ -1,5 +1,5 @@
-//! The operators `+`, `-`, `*`, `div` and `rem`, and `abs`. They return `None` where the call fails: also if the result
-//! does not fit 128 bits, as integers of this store are bounded.
+//! The operators `+`, `-`, `*`, `div` and `rem`, and `abs`. The Rust functions here return `None` where the call fails.
+//! A call also fails if the result does not fit 128 bits, because integers of this store are bounded.
 ghost use Rattle.std.specs.Prelude.{◌≡◌};
 ghost use Rattle.std.specs.Option.{option_map};
 ghost use Rattle.ets_term.specs.Data.{int, data_of};
@@ -14,11 +14,13 @@ pub(crate) enum ArithmeticOp {
     Add,
     Subtract,
     Multiply,
+    /// `div`, which rounds toward 0.
     Divide,
+    /// `rem`, which has the sign of the dividend.
     Remainder,
 }
 
-/// Returns the operator of this name.
+/// Returns the operator of this name, or `None` if no operator has it.
 pub(crate) fn arithmetic_op_of(name: &str) -> Option<ArithmeticOp>
     ensures { result ≡ arithmetic_op_of name.now }
 {
@@ -37,7 +39,8 @@ pub(crate) fn arithmetic_op_of(name: &str) -> Option<ArithmeticOp>
     }
 }
 
-/// Applies the operator to two integers. Returns `None` for other terms, or if the result is out of range.
+/// Applies the operator to two integers. Returns `None` if a term is not an integer, the divisor is 0, or the result is
+/// out of range.
 pub(crate) fn eval_arithmetic(operation: ArithmeticOp, x: &Term, y: &Term) -> Option<Term>
     ensures { option_map data_of result ≡ eval_arithmetic operation (data_of x.now) (data_of y.now) }
 {
@@ -71,7 +74,8 @@ fn remainder(m: Integer, n: Integer) -> Option<Integer>
     m.checked_rem(n)
 }
 
-/// Returns the absolute value of an integer, or `None` if it is out of range.
+/// Returns the absolute value of an integer. Returns `None` if the term is not an integer, or the value is out of
+/// range.
 pub(crate) fn absolute_value(x: &Term) -> Option<Term>
     ensures { option_map data_of result ≡ absolute (data_of x.now) }
 {
@@ -81,8 +85,8 @@ pub(crate) fn absolute_value(x: &Term) -> Option<Term>
     }
 }
 
-/// Returns a count as an integer term.
-pub(crate) fn count(n: usize) -> Option<Term>
+/// Returns a count as an integer term. It would be `None` if the count did not fit 128 bits, but a `usize` always fits.
+pub(crate) fn count_term(n: usize) -> Option<Term>
     ensures { option_map data_of result ≡ count n }
 {
     match Integer::try_from(n) {
@@ -91,7 +95,7 @@ pub(crate) fn count(n: usize) -> Option<Term>
     }
 }
 
-/// Returns the integer as a term, if there is one.
+/// Returns the integer as a term, or `None` if the computation of the integer failed.
 fn number(n: Option<Integer>) -> Option<Term>
     ensures { option_map data_of result ≡ option_map int n }
 {

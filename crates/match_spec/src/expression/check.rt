@@ -11,7 +11,8 @@ use crate::pattern::path::FirstPaths;
 use crate::variable::variable;
 use ets_term::Term;
 
-/// Checks whether the term is an expression. It may use these variables, which the pattern of the clause binds.
+/// Checks whether the term is an expression. It may use only the variables in `bound_variables`, which the pattern of
+/// the clause binds.
 #[cycle(checked)]
 pub(crate) fn is_expression(term: &Term, bound_variables: &FirstPaths) -> bool
     ensures { result ≡ is_expression (numbers_of bound_variables.now.entries) (data_of term.now) }
@@ -24,7 +25,8 @@ pub(crate) fn is_expression(term: &Term, bound_variables: &FirstPaths) -> bool
     }
 }
 
-/// Checks whether the pattern of the clause binds this variable. `None` means that the name is not a variable.
+/// Checks whether the pattern of the clause binds this variable. `None` means that the name is not a variable; the
+/// result is then `true`.
 #[tactic(auto, using(crate::proofs::PathLaws::is_bound_lookup))]
 fn is_bound(number: Option<u32>, bound_variables: &FirstPaths) -> bool
     ensures { result ≡ is_bound (numbers_of bound_variables.now.entries) number }
@@ -48,8 +50,8 @@ pub(crate) fn are_expressions(terms: &[Term], start: usize, bound_variables: &Fi
     true
 }
 
-/// Checks whether a tuple of these elements is an expression: `{{..}}`, `{const,T}` or a call. It may use the variables
-/// of the clause's pattern.
+/// Checks whether a tuple of these elements is an expression: `{{..}}`, `{const,T}` or a call. It may use only the
+/// variables of the clause's pattern.
 #[cycle(checked)]
 fn is_tuple_expression(terms: &[Term], bound_variables: &FirstPaths) -> bool
     ensures { result ≡ is_expression (numbers_of bound_variables.now.entries) (tuple (data_list (map data_of terms.now))) }
@@ -89,7 +91,8 @@ fn is_constant(name: &str, count: usize) -> bool
     count == 1 && name == "const"
 }
 
-/// Checks whether there is a function or connective of this name with `count` arguments.
+/// Checks whether there is a function or connective of this name with `count` arguments. A connective takes one
+/// argument or more.
 fn is_function(name: &str, count: usize) -> bool
     ensures { result ≡ is_function name.now count }
 {

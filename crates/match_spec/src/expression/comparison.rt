@@ -3,7 +3,7 @@
 ghost use Rattle.std.specs.Prelude.{◌≡◌};
 ghost use Rattle.ets_term.specs.Data.{int, data_of};
 ghost use Rattle.ets_term.specs.Order.{data_order};
-ghost use Rattle.match_spec.specs.inside.Functions.{comparison_op_of, compares};
+ghost use Rattle.match_spec.specs.inside.Functions.{comparison_op_of, comparison_holds};
 
 use ets_term::{Integer, Term};
 use std::cmp::Ordering;
@@ -19,7 +19,7 @@ pub(crate) enum ComparisonOp {
     NotEqual,
 }
 
-/// Returns the comparison operator of this name.
+/// Returns the comparison operator of this name, or `None` if no operator has it.
 pub(crate) fn comparison_op_of(name: &str) -> Option<ComparisonOp>
     ensures { result ≡ comparison_op_of name.now }
 {
@@ -41,24 +41,24 @@ pub(crate) fn comparison_op_of(name: &str) -> Option<ComparisonOp>
 }
 
 /// Checks whether the comparison holds of two terms.
-pub(crate) fn compares(comparison: ComparisonOp, x: &Term, y: &Term) -> bool
-    ensures { result ≡ compares comparison (data_order (data_of x.now) (data_of y.now)) }
+pub(crate) fn comparison_holds(comparison: ComparisonOp, x: &Term, y: &Term) -> bool
+    ensures { result ≡ comparison_holds comparison (data_order (data_of x.now) (data_of y.now)) }
 {
     order_satisfies(comparison, x.cmp_terms(y))
 }
 
-/// Checks whether the comparison holds of two integers. Unlike `compares`, it needs no terms.
+/// Checks whether the comparison holds of two integers. Unlike `comparison_holds`, it needs no terms.
 #[inline(always)]
-pub(crate) fn compares_integers(comparison: ComparisonOp, m: Integer, n: Integer) -> bool
-    ensures { result ≡ compares comparison (data_order (int m) (int n)) }
+pub(crate) fn integer_comparison_holds(comparison: ComparisonOp, m: Integer, n: Integer) -> bool
+    ensures { result ≡ comparison_holds comparison (data_order (int m) (int n)) }
 {
     order_satisfies(comparison, m.cmp(&n))
 }
 
-/// Checks whether an order of two terms satisfies the comparison.
+/// Checks whether the order of two terms, or of two integers, satisfies the comparison.
 #[inline(always)]
 fn order_satisfies(comparison: ComparisonOp, order: Ordering) -> bool
-    ensures { result ≡ compares comparison order }
+    ensures { result ≡ comparison_holds comparison order }
 {
     match comparison {
         ComparisonOp::Greater => order.is_gt(),

@@ -12,7 +12,8 @@ use crate::variable::variable;
 use ets_term::{Atom, Items, Term};
 use std::alloc::{AllocError, Global};
 
-/// Compiles an expression, which was checked. `first` has the first paths of the variables of the clause's pattern.
+/// Compiles the raw term of an expression, which the caller has checked. `first` has the first paths of the variables
+/// of the clause's pattern.
 #[cycle(expression)]
 #[tactic(auto, using(ets_term::specs::laws::Exact::back))]
 pub(crate) fn expression_of(
@@ -38,7 +39,7 @@ pub(crate) fn expression_of(
     }
 }
 
-/// Compiles the expressions from index `start` on.
+/// Compiles the terms from index `start` on.
 #[cycle(expression)]
 pub(crate) fn expressions_of(
     alloc: Global,
@@ -102,7 +103,8 @@ fn name_expression(alloc: Global, name: &Atom, first: &FirstPaths) -> Result<Exp
     Ok(Expression::Constant(Term::Atom(name.try_clone(alloc)?)))
 }
 
-/// Compiles a call. The value of `const` is its raw argument; other calls use the compiled arguments.
+/// Compiles a call. `arguments` are its raw arguments, and `compiled` the compiled ones. The value of `const` is its
+/// raw argument; other calls use the compiled arguments.
 fn application(
     alloc: Global,
     name: &str,
@@ -119,7 +121,8 @@ fn application(
     Ok(call_expression(name, arguments.len(), compiled))
 }
 
-/// Returns the call of a function or connective. `count` is the number of its arguments.
+/// Returns the call of the function or connective with this name. `count` is the number of its arguments, and
+/// `compiled` has their compiled forms.
 fn call_expression(name: &str, count: usize, compiled: Items<Expression>) -> Expression
     ensures { result ≡ call_expression name.now count compiled }
 {
@@ -131,7 +134,7 @@ fn call_expression(name: &str, count: usize, compiled: Items<Expression>) -> Exp
     }
     match function_of(name, count) {
         Some(function) => Expression::Apply(function, compiled),
-        // The result is never evaluated, as that of `tuple_expression` for a tuple that is not an expression.
+        // The call is not an expression. As in `tuple_expression`, the result is never evaluated.
         None => Expression::Object,
     }
 }

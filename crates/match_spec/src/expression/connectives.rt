@@ -15,7 +15,7 @@ pub(crate) fn identity_of(connective: Connective) -> bool
     }
 }
 
-/// Combines the truth value of the arguments so far with that of the next argument.
+/// Combines `x`, the truth value of the arguments so far, with `y`, that of the next argument.
 pub(crate) fn combine(connective: Connective, x: bool, y: bool) -> bool
     ensures { result ≡ combine connective x y }
 {
@@ -25,7 +25,8 @@ pub(crate) fn combine(connective: Connective, x: bool, y: bool) -> bool
     }
 }
 
-/// Checks whether an argument with this truth value decides the value of `andalso` or `orelse`.
+/// Checks whether an argument with this truth value decides the value of `andalso` (`And`) or `orelse` (`Or`), so that
+/// the later arguments are not evaluated.
 pub(crate) fn decides(connective: Connective, truth: bool) -> bool
     ensures { result ≡ decides connective truth }
 {

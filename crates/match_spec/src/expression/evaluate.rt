@@ -16,7 +16,7 @@ use ets_term::{Items, Term};
 use std::alloc::{AllocError, Global};
 
 /// The environment in which expressions are evaluated: the object, and the first paths of the variables of the clause's
-/// pattern.
+/// pattern. `paths` is in the order of the variables' numbers, and `alloc` is the allocator of new terms.
 #[derive(Clone, Copy)]
 pub(crate) struct Env<'a> {
     pub(crate) alloc: Global,
@@ -32,7 +32,7 @@ pub(crate) enum ExprValue<'a> {
 }
 
 impl<'a> ExprValue<'a> {
-    /// Returns the value.
+    /// Returns the value as a term.
     pub(crate) fn term(&self) -> &Term
         ensures { data_of result.now ≡ value_data self.now }
     {
@@ -42,7 +42,7 @@ impl<'a> ExprValue<'a> {
         }
     }
 
-    /// Returns the value as an owned term, which is a copy if it is borrowed.
+    /// Returns the value as an owned term. If the value is borrowed, the term is a copy.
     pub(crate) fn into_term(self, alloc: Global) -> Result<Term, AllocError>
         ensures { IfOk result (λ t. data_of t ≡ value_data self.entry) }
     {
@@ -142,7 +142,7 @@ fn evaluate_all(env: Env, expressions: &[Expression]) -> Result<Option<Items<Ter
     Ok(Some(Items::from_vec(terms)))
 }
 
-/// Evaluates a call of a function of one or two arguments.
+/// Evaluates a call of a function of one or two arguments. Returns `None` if an argument or the call fails.
 #[cycle(evaluate)]
 fn eval_call<'a>(
     env: Env<'a>,
@@ -168,12 +168,13 @@ fn eval_call<'a>(
             };
             apply_to_two(env.alloc, function, x, y)
         }
+        // No function has another number of arguments.
         _ => Ok(None),
     }
 }
 
-/// Evaluates `and` or `or`: evaluates the arguments from the left, also after one that decides. Stops with `None` at
-/// the first that fails or is not a boolean.
+/// Evaluates `and` or `or`: evaluates the arguments from the left, also after one that decides. Returns `None` at the
+/// first argument that fails or whose value is not a boolean.
 #[cycle(evaluate)]
 fn eval_strict(
     env: Env,
@@ -184,6 +185,7 @@ fn eval_strict(
         ≡ strict_of connective (map (expression_value env.entry.paths.now) arguments.now)
         (data_of env.entry.object.now)) }
 {
+    // The truth value of the arguments so far.
     let mut all = identity_of(connective);
     for argument in arguments {
         match truth_of(evaluate(env, argument)?) {
@@ -207,8 +209,8 @@ fn truth_of(value: Option<ExprValue>) -> Option<bool>
     }
 }
 
-/// Evaluates `andalso` or `orelse`: evaluates arguments from the left, up to the first boolean that decides. Returns
-/// `None` if one of these is not a boolean.
+/// Evaluates `andalso` or `orelse`: evaluates arguments from the left, up to the first that decides. Returns the value
+/// of the last evaluated argument. Returns `None` if an evaluated argument fails or its value is not a boolean.
 #[cycle(evaluate)]
 fn eval_short_circuit<'a>(
     env: Env<'a>,
@@ -231,5 +233,6 @@ fn eval_short_circuit<'a>(
         }
         discard(x);
     }
+    // There are no arguments, which the check of the expression refuses.
     Ok(None)
 }

@@ -9,7 +9,7 @@ use crate::expression::Connective;
 use crate::expression::arithmetic::{
     ArithmeticOp, absolute_value, arithmetic_op_of, eval_arithmetic,
 };
-use crate::expression::comparison::{ComparisonOp, compares, comparison_op_of};
+use crate::expression::comparison::{ComparisonOp, comparison_holds, comparison_op_of};
 use crate::expression::guards::{GuardKind, boolean, guard_kind_of, is_kind, truth, xor};
 use crate::expression::lists::{list_length, size, tail};
 use ets_term::Term;
@@ -18,6 +18,7 @@ use std::alloc::{AllocError, Global};
 /// A function that is computed from the values of its arguments. `and`, `or`, `andalso` and `orelse` are connectives.
 #[derive(Clone, Copy)]
 pub(crate) enum Function {
+    /// A guard that tests the kind of a term, such as `is_atom`.
     TypeTest(GuardKind),
     Not,
     Abs,
@@ -27,11 +28,13 @@ pub(crate) enum Function {
     Size,
     Xor,
     Element,
+    /// An arithmetic operator, such as `+`.
     Calculate(ArithmeticOp),
+    /// A comparison operator, such as `=<`.
     Compare(ComparisonOp),
 }
 
-/// Returns the function of this name and number of arguments.
+/// Returns the function of this name and number of arguments, or `None` if no function has them.
 pub(crate) fn function_of(name: &str, count: usize) -> Option<Function>
     ensures { result ≡ function_of name.now count }
 {
@@ -42,7 +45,7 @@ pub(crate) fn function_of(name: &str, count: usize) -> Option<Function>
     }
 }
 
-/// Returns the function of one argument with this name.
+/// Returns the function of one argument with this name, or `None` if no such function has this name.
 fn unary_function_of(name: &str) -> Option<Function>
     ensures { result ≡ unary_function_of name.now }
 {
@@ -65,7 +68,7 @@ fn unary_function_of(name: &str) -> Option<Function>
     }
 }
 
-/// Returns the function of two arguments with this name.
+/// Returns the function of two arguments with this name, or `None` if no such function has this name.
 fn binary_function_of(name: &str) -> Option<Function>
     ensures { result ≡ binary_function_of name.now }
 {
@@ -82,7 +85,8 @@ fn binary_function_of(name: &str) -> Option<Function>
     }
 }
 
-/// Returns the connective with this name, if it evaluates arguments also after one that decides.
+/// Returns the connective of `and` or `or`, which evaluate arguments also after one that decides. Returns `None` for
+/// any other name.
 pub(crate) fn strict_connective(name: &str) -> Option<Connective>
     ensures { result ≡ strict_connective name.now }
 {
@@ -95,7 +99,8 @@ pub(crate) fn strict_connective(name: &str) -> Option<Connective>
     }
 }
 
-/// Returns the connective with this name, if it stops at the first argument that decides.
+/// Returns the connective of `andalso` or `orelse`, which stop at the first argument that decides. Returns `None` for
+/// any other name.
 pub(crate) fn short_circuit_connective(name: &str) -> Option<Connective>
     ensures { result ≡ short_circuit_connective name.now }
 {
@@ -149,7 +154,10 @@ pub(crate) fn eval_binary(
             None => Ok(None),
         },
         Function::Calculate(operation) => Ok(eval_arithmetic(operation, x, y)),
-        Function::Compare(comparison) => Ok(Some(truth(alloc, compares(comparison, x, y))?)),
+        Function::Compare(comparison) => Ok(Some(truth(
+            alloc,
+            comparison_holds(comparison, x, y),
+        )?)),
         _ => Ok(None),
     }
 }

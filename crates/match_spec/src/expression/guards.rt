@@ -1,5 +1,5 @@
-//! The guard functions that test the type of a term, the conversions between `bool` and the atoms `true` and `false`,
-//! and `xor`.
+//! The guard functions that test the kind of a term, such as `is_atom`, the conversions between `bool` and the atoms
+//! `true` and `false`, and `xor`.
 ghost use Rattle.std.specs.Prelude.{◌≡◌, IfOk};
 ghost use Rattle.ets_term.specs.Data.{data_of};
 ghost use Rattle.match_spec.specs.Functions.{truth, boolean, exclusive};
@@ -8,7 +8,7 @@ ghost use Rattle.match_spec.specs.inside.Functions.{guard_kind_of, is_kind};
 use ets_term::{Atom, Term};
 use std::alloc::{AllocError, Global};
 
-/// The kind of terms that a type test accepts. A table identifier is a reference.
+/// The kind of term that a guard such as `is_atom` tests for. A table identifier is a `Reference`.
 #[derive(Clone, Copy)]
 pub(crate) enum GuardKind {
     Atom,
@@ -20,7 +20,8 @@ pub(crate) enum GuardKind {
     Reference,
 }
 
-/// Returns the kind that the type test with this name accepts.
+/// Returns the kind of term that the guard with this name tests for, or `None` if no such guard has this name.
+/// `is_number` tests for integers, because the store has no floats.
 pub(crate) fn guard_kind_of(name: &str) -> Option<GuardKind>
     ensures { result ≡ guard_kind_of name.now }
 {
@@ -59,7 +60,7 @@ pub(crate) fn is_kind(kind: GuardKind, term: &Term) -> bool
     }
 }
 
-/// Makes the atom `true` or `false`.
+/// Returns `b` as a term: the atom `true` or `false`.
 pub(crate) fn truth(alloc: Global, b: bool) -> Result<Term, AllocError>
     ensures { IfOk result (λ t. data_of t ≡ truth b) }
 {
@@ -86,7 +87,7 @@ pub(crate) fn boolean(term: &Term) -> Option<bool>
     }
 }
 
-/// Computes `xor` of two booleans, or returns `None` if one is missing.
+/// Computes `xor` of two booleans. `None` is the value of an argument that is not a boolean, and then also the result.
 pub(crate) fn xor(x: Option<bool>, y: Option<bool>) -> Option<bool>
     ensures { result ≡ exclusive x y }
 {

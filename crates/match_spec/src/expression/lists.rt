@@ -1,14 +1,15 @@
-//! The functions `hd`, `tl`, `length`, `size` and `element` on terms. They return `None` where the call fails.
+//! The functions `hd`, `tl`, `length`, `size` and `element` on terms. The Rust functions here return `None` where the
+//! call fails.
 ghost use Rattle.std.specs.Prelude.{◌≡◌, drop, map, IfOk, option_copied};
 ghost use Rattle.std.specs.Option.{option_map};
 ghost use Rattle.ets_term.specs.Data.{int, list, data_of, data_list};
 ghost use Rattle.match_spec.specs.Functions.{head, tail, element, list_length, size};
 
-use crate::expression::arithmetic::count;
+use crate::expression::arithmetic::count_term;
 use ets_term::{Integer, Items, Position, Term};
 use std::alloc::{AllocError, Global};
 
-/// Returns the first element of a list, or `None` if there is none.
+/// Returns the first element of a list, or `None` if the term is not a list or is empty.
 pub(crate) fn head(term: &Term) -> Option<&Term>
     ensures { option_map data_of (option_copied result) ≡ head (data_of term.now) }
 {
@@ -28,7 +29,7 @@ pub(crate) fn tail(alloc: Global, term: &Term) -> Result<Option<Term>, AllocErro
     }
 }
 
-/// Makes the list of the items after the first, or returns `None` if there is none.
+/// Makes the list of the items after the first, or returns `None` if `items` is empty.
 #[tactic(auto, using(crate::proofs::ListLaws::tail_of))]
 fn tail_items(alloc: Global, items: &[Term]) -> Result<Option<Term>, AllocError>
     ensures { IfOk result (λ t. option_map data_of t ≡ tail (list (data_list (map data_of items.now)))) }
@@ -56,7 +57,7 @@ pub(crate) fn list_length(term: &Term) -> Option<Term>
     ensures { option_map data_of result ≡ list_length (data_of term.now) }
 {
     match term {
-        Term::List(items) => count(items.len()),
+        Term::List(items) => count_term(items.len()),
         _ => None,
     }
 }
@@ -67,13 +68,13 @@ pub(crate) fn size(term: &Term) -> Option<Term>
     ensures { option_map data_of result ≡ size (data_of term.now) }
 {
     match term {
-        Term::Tuple(items) => count(items.len()),
-        Term::Binary(bytes) => count(bytes.len()),
+        Term::Tuple(items) => count_term(items.len()),
+        Term::Binary(bytes) => count_term(bytes.len()),
         _ => None,
     }
 }
 
-/// Returns element `n` of a tuple, counted from 1, or `None` if `n` is not an integer or there is no such element.
+/// Returns element `n` of a tuple, counted from 1, or `None` if `n` is not an integer or `tuple` has no such element.
 pub(crate) fn element<'a>(n: &Term, tuple: &'a Term) -> Option<&'a Term>
     ensures { option_map data_of (option_copied result) ≡ element (data_of n.now) (data_of tuple.now) }
 {
@@ -83,7 +84,7 @@ pub(crate) fn element<'a>(n: &Term, tuple: &'a Term) -> Option<&'a Term>
     }
 }
 
-/// Returns element `n` of a tuple, counted from 1, or `None` if there is no such element.
+/// Returns element `n` of a tuple, counted from 1, or `None` if `tuple` is not a tuple or has no such element.
 #[tactic(auto, using(crate::proofs::ListLaws::element_at_tree))]
 fn nth_element(n: Integer, tuple: &Term) -> Option<&Term>
     ensures { option_map data_of (option_copied result) ≡ element (int n) (data_of tuple.now) }

@@ -11,7 +11,8 @@ use crate::variable::variable;
 use ets_term::{Atom, Items, Term};
 use std::alloc::{AllocError, Global};
 
-/// Compiles the part of the pattern at the current path. `first` has the first paths of the pattern's variables.
+/// Compiles the part of the pattern at the current path, which is unchanged afterwards. `first` has the first paths of
+/// the pattern's variables.
 #[cycle(compile)]
 #[tactic(auto, using(ets_term::specs::laws::Exact::back))]
 pub(crate) fn part_of(

@@ -11,14 +11,19 @@ use ets_term::{Items, Term};
 /// the path of its first occurrence, at later ones.
 #[derive(Drop)]
 pub(crate) enum Part {
+    /// Fits any term.
     Wildcard,
+    /// Fits a term that equals the subterm of the object at this path.
     Repeated(Items<usize>),
+    /// Fits a tuple of the same length, each element of which fits its part.
     Tuple(Items<Part>),
+    /// Fits a list of the same length, each element of which fits its part.
     List(Items<Part>),
+    /// Fits an equal term.
     Literal(Term),
 }
 
-/// Checks whether `term`, a subterm of the object, fits the part.
+/// Checks whether `term`, a subterm of `object`, fits the part. The value of a repeated variable is read in `object`.
 #[cycle(fits)]
 pub(crate) fn fits(part: &Part, object: &Term, term: &Term) -> bool
     ensures { result ≡ part_fits part.now (data_of object.now) (data_of term.now) }
@@ -57,7 +62,7 @@ fn all_fit(parts: &[Part], object: &Term, terms: &[Term]) -> bool
     true
 }
 
-/// Does what `fits` does. A wildcard takes no further call.
+/// Does what `fits` does, but without a call of `fits` for a wildcard.
 #[inline(always)]
 #[cycle(fits)]
 fn element_fits(part: &Part, object: &Term, term: &Term) -> bool

@@ -25,7 +25,7 @@ pub(crate) fn subterm_at<'a>(path: &[usize], term: &'a Term) -> &'a Term
     part
 }
 
-/// Returns the element of a term at an index, counted from 0, or the term itself if there is none.
+/// Returns the element of a term at an index, counted from 0, or the term itself if it has no such element.
 fn element_or(term: &Term, i: usize) -> &Term
     ensures { data_of result.now ≡ subterm_at (i ∷ []) (data_of term.now) }
 {
@@ -36,7 +36,7 @@ fn element_or(term: &Term, i: usize) -> &Term
     }
 }
 
-/// Returns the item at an index, counted from 0, or `term` if there is none.
+/// Returns the item at an index, counted from 0, or `term` if `items` is too short.
 fn item_or<'a>(items: &'a [Term], i: usize, term: &'a Term) -> &'a Term
     ensures { data_of result.now ≡ element_or (data_list (map data_of items.now)) i (data_of term.now) }
 {
@@ -58,7 +58,7 @@ pub(crate) fn clone_subterms(
     Ok(parts)
 }
 
-/// Returns the first paths of the pattern's variables.
+/// Returns the first path of each variable of the pattern.
 pub(crate) fn first_paths(alloc: Global, pattern: &Term) -> Result<FirstPaths, AllocError>
     ensures { IfOk result (λ first. first.entries ≡ first_paths_of (data_of pattern.now)) }
 {
@@ -68,7 +68,7 @@ pub(crate) fn first_paths(alloc: Global, pattern: &Term) -> Result<FirstPaths, A
     Ok(first)
 }
 
-/// Adds the first paths of the variables in the part at the current path.
+/// Adds to `first` the first paths of the variables in the part at the current path.
 #[cycle(add_first_paths)]
 fn add_first_paths(
     alloc: Global,
@@ -91,8 +91,8 @@ fn add_first_paths(
     }
 }
 
-/// Adds the first paths of the variables in all parts. While it reads a part, the current path ends with the part's
-/// index.
+/// Adds to `first` the first paths of the variables in all parts of a tuple or list. While it reads a part, the current
+/// path ends with the part's index.
 #[cycle(add_first_paths)]
 fn add_first_paths_from(
     alloc: Global,
@@ -112,7 +112,7 @@ fn add_first_paths_from(
     Ok(())
 }
 
-/// Adds the current path of a variable, unless the variable has an earlier path.
+/// Adds to `first` the current path of a variable, unless `first` already has a path of this variable.
 fn record_path(
     alloc: Global,
     number: u32,

@@ -4,8 +4,8 @@ ghost use Rattle.std.specs.Prelude.{◌≡◌, nat_lt, map};
 ghost use Rattle.std.specs.Option.{option_map};
 ghost use Rattle.ets_term.specs.Data.{tuple, data_of, data_list};
 ghost use Rattle.ets_term.specs.Order.{data_list_len};
-ghost use Rattle.match_spec.specs.Specifications.{clause_parts, is_good_by};
-ghost use Rattle.match_spec.specs.inside.CompiledClauses.{raw_clause_of};
+ghost use Rattle.match_spec.specs.Specifications.{clause_parts};
+ghost use Rattle.match_spec.specs.inside.CompiledClauses.{is_good_by, raw_clause_of};
 ghost use Rattle.match_spec.specs.inside.FirstPaths.{numbers_of};
 
 use crate::expression::check::are_expressions;
@@ -31,7 +31,8 @@ pub(crate) fn clause_parts(term: &Term) -> Option<ClauseParts>
     }
 }
 
-/// Returns the pattern, conditions and body of a clause, if there are three elements and the last two are lists.
+/// Returns the pattern, conditions and body of a clause, or `None` if there are not three elements or the last two are
+/// not lists.
 fn three_parts(parts: &[Term]) -> Option<ClauseParts>
     ensures { option_map raw_clause_of result ≡ clause_parts (tuple (data_list (map data_of parts.now))) }
 {
@@ -61,7 +62,7 @@ pub(crate) fn is_good(parts: ClauseParts, first: &FirstPaths) -> bool
     (is_pattern(parts.pattern) && is_nonempty(parts.body)) && (conditions && body)
 }
 
-/// Checks whether the slice has a term.
+/// Checks whether the slice has a term or more.
 #[tactic(auto, using(crate::proofs::ExpressionLaws::data_list_len_of))]
 pub(crate) fn is_nonempty(terms: &[Term]) -> bool
     ensures { result ≡ nat_lt 0 (data_list_len (data_list (map data_of terms.now))) }

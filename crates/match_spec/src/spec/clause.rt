@@ -33,7 +33,7 @@ pub(crate) fn result_of_first(
 ) -> Result<Option<Term>, AllocError>
     ensures { IfOk result (λ t. option_map data_of t ≡ result_of_first clauses.now (data_of object.now)) }
 {
-    match first_matching(alloc, clauses, object)? {
+    match first_matching_clause(alloc, clauses, object)? {
         Some(clause) => Ok(Some(body_value(alloc, clause, object)?)),
         None => Ok(None),
     }
@@ -47,7 +47,7 @@ pub(crate) fn first_result_is_true(
 ) -> Result<bool, AllocError>
     ensures { IfOk result (λ b. b ≡ option_map_or is_true (result_of_first clauses.now (data_of object.now)) false) }
 {
-    match first_matching(alloc, clauses, object)? {
+    match first_matching_clause(alloc, clauses, object)? {
         Some(clause) => Ok(body_is_true(alloc, clause, object)?),
         None => Ok(false),
     }
@@ -55,7 +55,7 @@ pub(crate) fn first_result_is_true(
 
 /// Returns the first clause that applies to the object, or `None` if none applies.
 #[inline(always)]
-fn first_matching<'a>(
+fn first_matching_clause<'a>(
     alloc: Global,
     clauses: &'a [Clause],
     object: &Term,
@@ -113,7 +113,8 @@ fn body_is_true(alloc: Global, clause: &Clause, object: &Term) -> Result<bool, A
     Ok(is_true(value))
 }
 
-/// Evaluates all expressions of a body and returns the value of the last. Returns `None` if one fails or there is none.
+/// Evaluates all expressions of a body and returns the value of the last. Returns `None` if one fails or the body is
+/// empty.
 fn last_value<'a>(env: Env<'a>, body: &'a [Expression]) -> Result<Option<ExprValue<'a>>, AllocError>
     ensures { IfOk result (λ v. option_map value_data v
         ≡ last_value_of (map (expression_value env.entry.paths.now) body.now) (data_of env.entry.object.now)) }

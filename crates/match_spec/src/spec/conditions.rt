@@ -1,5 +1,5 @@
-//! The test of a clause's conditions (guards) on an object. It is apart from evaluation, because a comparison in a
-//! condition needs no atom for its truth value.
+//! The test of a clause's conditions (guards) on an object. This test is apart from `evaluate`, because a comparison in
+//! a condition needs no atom for its truth value.
 ghost use Rattle.std.specs.Prelude.{◌≡◌, [], ◌∷◌, false, map, IfOk};
 ghost use Rattle.std.specs.Option.{option_map, option_map_or};
 ghost use Rattle.ets_term.specs.Data.{data_of};
@@ -10,7 +10,7 @@ ghost use Rattle.match_spec.specs.inside.CompiledExpressions.{value_data, apply_
 
 use crate::expression::Expression;
 use crate::expression::apply::apply_to_two;
-use crate::expression::comparison::compares;
+use crate::expression::comparison::comparison_holds;
 use crate::expression::evaluate::{Env, ExprValue, borrowed_value, evaluate, value_of};
 use crate::expression::function::Function;
 use ets_term::Term;
@@ -29,7 +29,7 @@ pub(crate) fn all_hold(env: Env, conditions: &[Expression]) -> Result<bool, Allo
     Ok(true)
 }
 
-/// Checks whether the value of a condition is `true`. For a comparison it makes no atom.
+/// Checks whether the value of a condition is `true`. For a comparison, makes no atom.
 #[tactic(auto, using(crate::proofs::ValueLaws::expression_value_of_two))]
 fn condition_holds(env: Env, condition: &Expression) -> Result<bool, AllocError>
     ensures { IfOk result (λ b. b
@@ -44,7 +44,8 @@ fn condition_holds(env: Env, condition: &Expression) -> Result<bool, AllocError>
     general_condition_holds(env, condition)
 }
 
-/// Checks a condition of any other form. It is not inlined, so that the path of a comparison has no value to drop.
+/// Checks a condition of any form, by its evaluation. The function is not inlined, so that the code for a comparison
+/// has no value to drop.
 #[inline(never)]
 fn general_condition_holds(env: Env, condition: &Expression) -> Result<bool, AllocError>
     ensures { IfOk result (λ b. b
@@ -69,16 +70,16 @@ fn binary_condition_holds(
 {
     if let Function::Compare(comparison) = function {
         if let (Some(x), Some(y)) = (borrowed_value(env, first), borrowed_value(env, second)) {
-            return Ok(compares(comparison, x, y));
+            return Ok(comparison_holds(comparison, x, y));
         }
     }
-    owned_operands_hold(env, function, first, second)
+    owned_condition_holds(env, function, first, second)
 }
 
-/// Checks a condition with an operand that may be a new term. It is not inlined, so that the path of borrowed operands
-/// has no value to drop.
+/// Checks a condition with an operand that may be a new term. The function is not inlined, so that the code for
+/// borrowed operands has no value to drop.
 #[inline(never)]
-fn owned_operands_hold(
+fn owned_condition_holds(
     env: Env,
     function: Function,
     first: &Expression,
@@ -95,12 +96,12 @@ fn owned_operands_hold(
     let Some(y) = value_of(env, second)? else {
         return Ok(false);
     };
-    values_hold(env.alloc, function, x, y)
+    condition_of_values_holds(env.alloc, function, x, y)
 }
 
 /// Checks whether the value of a function of these two values is `true`.
 #[tactic(auto, using(crate::proofs::ValueLaws::is_true_truth))]
-fn values_hold(
+fn condition_of_values_holds(
     alloc: Global,
     function: Function,
     x: ExprValue,
@@ -110,12 +111,12 @@ fn values_hold(
         ≡ option_map_or is_true (apply function (value_data x.entry ∷ value_data y.entry ∷ [])) false) }
 {
     if let Function::Compare(comparison) = function {
-        return Ok(compares(comparison, x.term(), y.term()));
+        return Ok(comparison_holds(comparison, x.term(), y.term()));
     }
     Ok(is_true(apply_to_two(alloc, function, x, y)?))
 }
 
-/// Checks whether the value is the atom `true`.
+/// Checks whether the value is the atom `true`. `None` is the value of an expression that failed.
 pub(crate) fn is_true(value: Option<ExprValue>) -> bool
     ensures { result ≡ option_map_or is_true (option_map value_data value.entry) false }
 {

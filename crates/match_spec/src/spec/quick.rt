@@ -5,14 +5,14 @@ ghost use Rattle.ets_term.specs.Data.{tuple, data_of, data_list};
 ghost use Rattle.match_spec.specs.inside.QuickTests.{rejects, rejects_element, IsComparison, IsNecessary, RejectsClause, RejectsAll};
 
 use crate::expression::Expression;
-use crate::expression::comparison::{ComparisonOp, compares_integers};
+use crate::expression::comparison::{ComparisonOp, integer_comparison_holds};
 use crate::expression::function::Function;
 use crate::pattern::part::Part;
 use crate::spec::clause::Clause;
 use ets_term::{Integer, Term};
 
-/// A necessary condition of a clause: the object is a tuple of `len` elements, and its element at `index`, counted from
-/// 0, is not an integer or satisfies the comparison with `value`.
+/// A necessary condition of a clause. The object is a tuple of `len` elements. Its element at `index`, counted from 0,
+/// satisfies the comparison with `value`, or is not an integer.
 #[derive(Clone, Copy)]
 pub(crate) struct QuickTest {
     pub(crate) len: usize,
@@ -22,7 +22,7 @@ pub(crate) struct QuickTest {
 }
 
 impl QuickTest {
-    /// Checks whether the object fails the test.
+    /// Checks whether the object fails the test. The clause then does not apply to it.
     #[inline(always)]
     pub(crate) fn rejects(&self, object: &Term) -> bool
         ensures { result ≡ rejects self.now (data_of object.now) }
@@ -42,6 +42,7 @@ impl QuickTest {
         if items.len() != self.len {
             return true;
         }
+        // A tuple without this element cannot fail the comparison.
         if self.index >= items.len() {
             return false;
         }
@@ -54,7 +55,7 @@ impl QuickTest {
         ensures { result ≡ rejects_element self.now (data_of element.now) }
     {
         match element {
-            Term::Int(n) => !compares_integers(self.comparison, *n, self.value),
+            Term::Int(n) => !integer_comparison_holds(self.comparison, *n, self.value),
             _ => false,
         }
     }
@@ -71,28 +72,31 @@ pub(crate) fn quick_test(clauses: &[Clause]) -> Option<QuickTest>
     }
 }
 
-/// Returns a quick test for a clause, if its pattern is a tuple and its first condition is such a comparison.
+/// Returns a quick test for a clause, if its pattern is a tuple and its first condition compares an element with an
+/// integer.
 fn clause_test(clause: &Clause) -> Option<QuickTest>
     ensures { IfSome result (λ q. RejectsClause q clause.now) }
 {
     match &clause.pattern {
-        Part::Tuple(parts) => conditions_test(parts.len(), clause.conditions.as_slice()),
+        Part::Tuple(parts) => test_of_first_condition(parts.len(), clause.conditions.as_slice()),
         _ => None,
     }
 }
 
-/// Returns a quick test from the first condition of a clause whose pattern is a tuple of `len` parts.
-fn conditions_test(len: usize, conditions: &[Expression]) -> Option<QuickTest>
+/// Returns a quick test from the first condition of a clause whose pattern is a tuple of `len` parts. Returns `None` if
+/// the condition gives no test.
+fn test_of_first_condition(len: usize, conditions: &[Expression]) -> Option<QuickTest>
     ensures { IfSome result (λ q. (q.len ≡ len) × IsNecessary q conditions.now) }
 {
     match conditions {
-        [condition, ..] => condition_test(len, condition),
+        [condition, ..] => test_of_comparison(len, condition),
         _ => None,
     }
 }
 
-/// Returns a quick test from a condition that compares an element with an integer.
-fn condition_test(len: usize, condition: &Expression) -> Option<QuickTest>
+/// Returns a quick test from a condition that compares an element, its first operand, with an integer, its second.
+/// Returns `None` for any other condition.
+fn test_of_comparison(len: usize, condition: &Expression) -> Option<QuickTest>
     ensures { IfSome result (λ q. (q.len ≡ len) × IsComparison q condition.now) }
 {
     let Expression::Apply(function, arguments) = condition else {
@@ -118,7 +122,8 @@ fn condition_test(len: usize, condition: &Expression) -> Option<QuickTest>
     })
 }
 
-/// Returns the index of an element, if the expression is a variable whose value is an element of the object itself.
+/// Returns the index of an element, counted from 0, if the expression is a variable whose value is an element of the
+/// object itself.
 fn element_index(expression: &Expression) -> Option<usize>
     ensures { IfSome result (λ i. expression.now ≡ Expression.Variable (i ∷ [])) }
 {
@@ -128,7 +133,7 @@ fn element_index(expression: &Expression) -> Option<usize>
     }
 }
 
-/// Returns the index in a path of length 1.
+/// Returns the only index in a path of length 1, or `None` for a path of another length.
 #[tactic(auto, using(crate::proofs::QuickLaws::single))]
 fn single_index(path: &[usize]) -> Option<usize>
     ensures { IfSome result (λ i. path.now ≡ i ∷ []) }
@@ -139,7 +144,7 @@ fn single_index(path: &[usize]) -> Option<usize>
     Some(path[0])
 }
 
-/// Returns the value of an expression that is an integer constant.
+/// Returns the value of an expression that is an integer constant, or `None` for any other expression.
 fn integer_constant(expression: &Expression) -> Option<Integer>
     ensures { IfSome result (λ n. expression.now ≡ Expression.Constant (Term.Int n)) }
 {

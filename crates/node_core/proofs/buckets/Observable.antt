@@ -52,4 +52,4 @@ pub grown-observable : (old new : State) (reply : Reply) (t : ℕ) → in_table 
 grown-observable old new reply t = unobservable old new reply t Grows (λ f g h. (h.0, ap observable_table_state h.3))
 
 pub readied-observable : (old new : State) (reply : Reply) (t bucket : ℕ) → in_table old t (Readies bucket) reply new → step (observable old) (Ready t bucket) reply (observable new)
-readied-observable old new reply t bucket = unobservable old new reply t (Readies bucket) (λ f g h. (h.0, ap observable_table_state h.3))
+readied-observable old new reply t bucket = unobservable old new reply t (Readies bucket) (λ f g h. (h.0, ap observable_table_state h.1))

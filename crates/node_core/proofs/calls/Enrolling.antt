@@ -16,7 +16,7 @@ use Rattle.node_core.specs.Access.{WorldResultToReply}
 use Rattle.node_core.specs.Observable.{observable}
 use Rattle.node_core.specs.Machine.{step}
 use Rattle.node_core.specs.rules.Growth.{step_on_buckets}
-use Rattle.node_core.specs.rules.Replies.{is_value}
+use Rattle.node_core.specs.Values.{is_value}
 use Rattle.node_core.proofs.buckets.Unobservable.{unobservable-same}
 
 -- the result of an enrolment: refused if the number was enrolled before, or if the limit of processes is reached

@@ -14,7 +14,8 @@ use Rattle.table_ops.specs.Refusals.{RefinesChange}
 use Rattle.table_ops.specs.Outcomes.{Change, gives}
 use Rattle.table_ops.specs.Drop.{Which, has_key, every_object, equal_to, without_those, DeletesObject}
 use Rattle.table_ops.specs.Put.{Inserts, InsertsNew}
-use Rattle.table_ops.specs.Queries.{chosen_count, matches, is_chosen}
+use Rattle.table_ops.specs.Queries.{matches, is_chosen}
+use Rattle.table_ops.specs.Results.{chosen_count}
 use Rattle.table_ops.specs.Read.{all_objects}
 use Rattle.table_ops.specs.Update.{UpdatesCounter, UpdatesElement}
 use Rattle.fixed_walk.specs.declared.fault.FixFault.{FixFault}

@@ -4,7 +4,7 @@ use Rattle.std.specs.List.{IsDistinct}
 use Rattle.std.specs.Str.{bytes_eq}
 use Rattle.std.proofs.lemmas.Slice.Eq.{bytes_eq-Decides}
 use Rattle.ets_term.specs.Order.{same}
-use Rattle.bucket_table.specs.Slots.{HasDistinctKeys}
+use Rattle.bucket_table.specs.Rows.{HasDistinctKeys}
 use Rattle.ownership.specs.World.{Table, Tables, table_at, metadata_of, all_metadata, is_named, whereis}
 use Rattle.ownership.specs.inside.Names.{metadata_at}
 use Rattle.ownership.proofs.MetadataLaws.{metadata-there}

@@ -17,21 +17,21 @@ use Rattle.ownership.specs.Tables.{with_owner}
 use Rattle.ownership.specs.End.{table_after_exit, living_heir, without_fixes}
 use Rattle.node_core.specs.declared.step.Step.TheVariants.{Grow, Ready}
 use Rattle.node_core.specs.rules.Growth.{max_buckets}
-use Rattle.node_core.specs.Pending.{max_slots_per_bucket, is_crowded, pending_of}
+use Rattle.node_core.specs.Pending.{max_slots_per_bucket, is_crowded, pending_step_of}
 use Rattle.node_core.specs.inside.PendingTables.{PendingTablesState, IsAmong, IsIn, AreBelow}
-use Rattle.node_core.specs.inside.Due.{pending_at, TracksPending}
+use Rattle.node_core.specs.inside.Due.{pending_step_at, TracksPending}
 use Rattle.node_core.proofs.pending.Due.{same-some}
 
 module _ (index : PendingTablesState) where
   -- tables without a new pending step, except for those in the queue
-  pub kept : (old new : Tables) → TracksPending old index → length new ≡ length old → ((t : ℕ) → IsSome (pending_at new t) → IsSome (pending_at old t) ⊎ IsIn index t) → TracksPending new index
+  pub kept : (old new : Tables) → TracksPending old index → length new ≡ length old → ((t : ℕ) → IsSome (pending_step_at new t) → IsSome (pending_step_at old t) ⊎ IsIn index t) → TracksPending new index
   kept old new is same moved = record {
     below = subst (AreBelow index.queue) (sym same) is.below;
     room = omega (arith, is.room, same);
     due = λ t some. by t (moved t some);
   }
     where
-      by : (t : ℕ) → IsSome (pending_at old t) ⊎ IsIn index t → IsIn index t
+      by : (t : ℕ) → IsSome (pending_step_at old t) ⊎ IsIn index t → IsIn index t
       by t (inl was) = is.due t was
       by t (inr own) = own
 
@@ -40,16 +40,16 @@ pub none : (tables : Tables) (index : PendingTablesState) → tables ≡ [] → 
 none tables index e f = record {
   below = subst (λ ids. AreBelow ids (length tables)) (sym f) (λ i h. absurd (omega (arith, h)));
   room = omega (arith, ap (λ ts. length ts) e);
-  due = λ t some. absurd (true≢false (sym some ∙ ap (λ ts. is_some (pending_at ts t)) e));
+  due = λ t some. absurd (true≢false (sym some ∙ ap (λ ts. is_some (pending_step_at ts t)) e));
 }
 
 -- the pending step of a table that may not be there
 abbrev pub due_in : ℕ → Option Table → Bool
-due_in t own = is_some (option_and_then (λ table. pending_of t table.state) own)
+due_in t own = is_some (option_and_then (λ table. pending_step_of t table.state) own)
 
 -- the pending step when another place is written
-other-due : (tables : Tables) (t : ℕ) (own : Option Table) (other : ℕ) → (other ≡ t → ⊥) → pending_at (set tables t own) other ≡ pending_at tables other
-other-due tables t own other ne = ap (option_and_then (λ table. pending_of other table.state)) (get_or-set_other tables t other own None ne)
+other-due : (tables : Tables) (t : ℕ) (own : Option Table) (other : ℕ) → (other ≡ t → ⊥) → pending_step_at (set tables t own) other ≡ pending_step_at tables other
+other-due tables t own other ne = ap (option_and_then (λ table. pending_step_of other table.state)) (get_or-set_other tables t other own None ne)
 
 -- the pending step of the place that is written
 due-set : (n : ℕ) (tables : Tables) (t : ℕ) (own : Option Table) → due_in n (get_or (set tables t own) t None) ≡ true → due_in n own ≡ true
@@ -67,10 +67,10 @@ module _ (tables : Tables) (index : PendingTablesState) (t : ℕ) (own : Option 
       ])
 
   -- a change of a table after which it has no new pending step
-  pub replaced : (due_in t own ≡ true → IsSome (pending_at tables t)) → TracksPending (set tables t own) index
+  pub replaced : (due_in t own ≡ true → IsSome (pending_step_at tables t)) → TracksPending (set tables t own) index
   replaced less = kept index tables (set tables t own) is (length-set tables t own) (λ other some.
       elim (cases_eq other t) [
-        | inl e ↦ inl (subst (λ q. IsSome (pending_at tables q)) (sym e) (less (due-set t tables t own (subst (λ q. IsSome (pending_at (set tables t own) q)) e some))))
+        | inl e ↦ inl (subst (λ q. IsSome (pending_step_at tables q)) (sym e) (less (due-set t tables t own (subst (λ q. IsSome (pending_step_at (set tables t own) q)) e some))))
         | inr ne ↦ inl (subst (λ o. IsSome o) (other-due tables t own other ne) some)
       ])
 
@@ -84,7 +84,7 @@ rehead tables index t change same is = replaced tables index t (option_map chang
   where
     by : (o : Option Table) → due_in t (option_map change o) ≡ true → due_in t o ≡ true
     by None h = h
-    by (Some table) h = subst (λ f. is_some (pending_of t f) ≡ true) (same table) h
+    by (Some table) h = subst (λ f. is_some (pending_step_of t f) ≡ true) (same table) h
 
 -- the same identifiers, in more room
 pub roomier : (tables : Tables) (old new : PendingTablesState) → TracksPending tables old → new.queue ≡ old.queue → new.dirty ≡ old.dirty → old.capacity ≤ new.capacity → TracksPending tables new
@@ -103,8 +103,8 @@ dirty-queued tables old new last is dirty-last below more among here = record {
 }
 
 -- the pending step of one more table
-due-push : (tables : Tables) (x : Option Table) (t : ℕ) → t < length tables → pending_at (tables ++ x ∷ []) t ≡ pending_at tables t
-due-push tables x t h = ap (option_and_then (λ table. pending_of t table.state)) (get_or_append_left tables (x ∷ []) None t h)
+due-push : (tables : Tables) (x : Option Table) (t : ℕ) → t < length tables → pending_step_at (tables ++ x ∷ []) t ≡ pending_step_at tables t
+due-push tables x t h = ap (option_and_then (λ table. pending_step_of t table.state)) (get_or_append_left tables (x ∷ []) None t h)
 
 past-push : (n : ℕ) (tables : Tables) (x : Option Table) (t : ℕ) → length tables < t → due_in n (get_or (tables ++ x ∷ []) t None) ≡ true → ⊥
 past-push n [] x zero h e = omega (arith, h)
@@ -140,7 +140,7 @@ due-less t false false None le h = h
 grows-less : (b fewer slots : ℕ) (small : Bool) → fewer ≤ slots → (nat_lt b fewer && small) ≡ true → (nat_lt b slots && small) ≡ true
 grows-less b fewer slots small h e = grind (arith, nat_tests)
 
-fewer-due : (t : ℕ) (table : TableState) (slots : List Slot) → length slots ≤ length table.content.slots → is_some (pending_of t (record table { content = record table.content { slots = slots } })) ≡ true → is_some (pending_of t table) ≡ true
+fewer-due : (t : ℕ) (table : TableState) (slots : List Slot) → length slots ≤ length table.content.slots → is_some (pending_step_of t (record table { content = record table.content { slots = slots } })) ≡ true → is_some (pending_step_of t table) ≡ true
 fewer-due t table slots h =
     due-less t (is_crowded (record table { content = record table.content { slots = slots } })) (is_crowded table)
     (position not table.buckets) (grows-less (max_slots_per_bucket * length table.buckets) (length slots) (length table.content.slots) (nat_lt (length table.buckets) max_buckets) h)
@@ -148,10 +148,10 @@ fewer-due t table slots h =
 without_tombstones-short : (slots : List Slot) → length (without_tombstones slots) ≤ length slots
 without_tombstones-short slots = omega (arith, length-filter (λ (slot : Slot). has_objects slot.1) slots, count_by-le-length (λ (slot : Slot). has_objects slot.1) slots)
 
-without_tombstones-due : (t : ℕ) (table : TableState) → is_some (pending_of t (without_tombstones_if_unfixed table)) ≡ true → is_some (pending_of t table) ≡ true
+without_tombstones-due : (t : ℕ) (table : TableState) → is_some (pending_step_of t (without_tombstones_if_unfixed table)) ≡ true → is_some (pending_step_of t table) ≡ true
 without_tombstones-due t table = by (is_fixed table.fixes)
   where
-    by : (fixed : Bool) → is_some (pending_of t (if fixed then table else record table { content = record table.content { slots = without_tombstones table.content.slots } })) ≡ true → is_some (pending_of t table) ≡ true
+    by : (fixed : Bool) → is_some (pending_step_of t (if fixed then table else record table { content = record table.content { slots = without_tombstones table.content.slots } })) ≡ true → is_some (pending_step_of t table) ≡ true
     by true h = h
     by false h = fewer-due t table (without_tombstones table.content.slots) (without_tombstones-short table.content.slots) h
 
@@ -159,7 +159,7 @@ after-due : (processes : Processes) (p t : ℕ) (o : Option Table) → due_in t 
 after-due processes p t None h = h
 after-due processes p t (Some table) h = by (is_owner table.metadata p) (living_heir processes table.metadata) h
   where
-    by : (own : Bool) (heir : Option Heir) → due_in t (if own then option_map (λ heir. with_owner heir.pid (without_fixes p table)) heir else Some (without_fixes p table)) ≡ true → is_some (pending_of t table.state) ≡ true
+    by : (own : Bool) (heir : Option Heir) → due_in t (if own then option_map (λ heir. with_owner heir.pid (without_fixes p table)) heir else Some (without_fixes p table)) ≡ true → is_some (pending_step_of t table.state) ≡ true
     by true None e = cc
     by true (Some heir) e = without_tombstones-due t (record table.state { fixes = with_count table.state.fixes p 0 }) e
     by false heir e = without_tombstones-due t (record table.state { fixes = with_count table.state.fixes p 0 }) e

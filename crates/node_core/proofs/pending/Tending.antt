@@ -10,14 +10,14 @@ use Rattle.node_core.specs.declared.step.Reply.{Reply}
 use Rattle.node_core.specs.State.{State}
 use Rattle.node_core.specs.Observable.{observable}
 use Rattle.node_core.specs.Machine.{step}
-use Rattle.node_core.specs.Pending.{is_crowded, pending_of, pending_from, due}
+use Rattle.node_core.specs.Pending.{is_crowded, pending_step_of, pending_from, due}
 
 module _ (Q : Step → Type 0) (grows : (t : ℕ) → Q (Grow t)) (readies : (t bucket : ℕ) → Q (Ready t bucket)) where
   abbrev Where : Option Step → Type 0
   Where None = Unit {0}
   Where (Some s) = Q s
 
-  of-table : (t : ℕ) (f : TableState) → Where (pending_of t f)
+  of-table : (t : ℕ) (f : TableState) → Where (pending_step_of t f)
   of-table t f = by (is_crowded f) (position not f.buckets)
     where
       by : (crowded : Bool) (bucket : Option ℕ) → Where (if crowded then Some (Grow t) else option_map (λ place. Ready t place) bucket)
@@ -32,7 +32,7 @@ module _ (Q : Step → Type 0) (grows : (t : ℕ) → Q (Grow t)) (readies : (t 
   of-tables : (t : ℕ) (tables : Tables) → Where (pending_from t tables)
   of-tables t [] = tt
   of-tables t (None ∷ tables) = of-tables (suc t) tables
-  of-tables t (Some own ∷ tables) = first (pending_of t own.state) (pending_from (suc t) tables) (of-table t own.state) (of-tables (suc t) tables)
+  of-tables t (Some own ∷ tables) = first (pending_step_of t own.state) (pending_from (suc t) tables) (of-table t own.state) (of-tables (suc t) tables)
 
   -- so what holds of these steps holds of the pending step
   pub due-tends : (s : State) (event : Step) → due s ≡ Some event → Q event

@@ -176,7 +176,7 @@ module _ (key updates : Term) (default : Option Term) (x : Term) where
       by true g = let bad : Ok x ≡ Err refusal.SystemLimit = g.0 in absurd (cc)
       by false g = let is : x ≡ counted.1 = let e = g.0 in cc in subst (CountsAs ops) (sym is) (so counted refl)
 
-  object-as : (ops : Ops) (old new : Content) (c : Result (Term × Term) CounterFault) → ((r : Term × Term) → c ≡ Ok r → CountsAs ops r.1) → update.UpdatesCounterOf key old c (Ok x) new → CountsAs ops x
+  object-as : (ops : Ops) (old new : Content) (c : Result (Term × Term) CounterFault) → ((r : Term × Term) → c ≡ Ok r → CountsAs ops r.1) → update.UpdatesObject key old c (Ok x) new → CountsAs ops x
   object-as ops old new (Err why) so h = let bad : Ok x ≡ Err (update.refusal_of why) = h.0 in absurd (cc)
   object-as ops old new (Ok counted) so h = let is : x ≡ counted.1 = let e = h.0 in cc in subst (CountsAs ops) (sym is) (so counted refl)
 

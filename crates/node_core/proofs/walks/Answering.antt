@@ -6,7 +6,8 @@ use Rattle.std.specs.Option.{option_map_or}
 use Rattle.std.proofs.lemmas.Bool.Decides.{nat_tests}
 use Rattle.ets_term.specs.declared.term.Term.{Term, out-Term}
 use Rattle.ets_term.specs.declared.term.Term.TheVariants.{Tid}
-use Rattle.ownership.specs.Access.{has_access, may_read}
+use Rattle.ownership.specs.Access.{may_read}
+use Rattle.ownership.specs.Lookups.{has_access}
 use Rattle.ownership.specs.World.{Table, table_at, lives}
 use Rattle.node_core.specs.declared.step.Reply.{Reply}
 use Rattle.node_core.specs.declared.step.Reply.TheVariants.{Value}

@@ -15,9 +15,10 @@ use Rattle.ets_term.specs.Depth.{depth, is_too_deep, element_at}
 use Rattle.ets_term.specs.Views.{tuple_form}
 use Rattle.ets_term.specs.Order.{same}
 use Rattle.ets_term.specs.laws.Same.{same-refl}
-use Rattle.bucket_table.specs.Slots.{Slot, HasDistinctKeys, has_objects, slots_behind}
+use Rattle.bucket_table.specs.Slots.{Slot, has_objects, slots_behind}
+use Rattle.bucket_table.specs.Rows.{HasDistinctKeys}
 use Rattle.table_ops.specs.declared.kind.Kind.{Kind}
-use Rattle.table_ops.specs.Content.{IsContent, IsSlot, AreSlots}
+use Rattle.table_ops.specs.Invariants.{IsContent, IsSlot, AreSlots}
 use Rattle.table_ops.proofs.TupleLaws.{fit-of}
 use Rattle.table_ops.specs.Outcomes.{gives}
 use Rattle.fixed_walk.specs.Fixes.{max_fixes, fix_count, with_count}
@@ -26,7 +27,8 @@ use Rattle.fixed_walk.specs.declared.fault.FixFault.{FixFault}
 use Rattle.fixed_walk.specs.declared.fault.FixFault.TheVariants as fixing
 use Rattle.fixed_walk.specs.Walk.{first_key, next_key}
 use Rattle.fixed_walk.specs.laws.Walks.{walk_answer}
-use Rattle.ownership.specs.Access.{has_access, may_read}
+use Rattle.ownership.specs.Access.{may_read}
+use Rattle.ownership.specs.Lookups.{has_access}
 use Rattle.ownership.specs.World.{Table, Tables, table_at, lives}
 use Rattle.ownership.specs.inside.States.{table_with_state}
 use Rattle.ownership.proofs.MetadataLaws.{fixed-same}

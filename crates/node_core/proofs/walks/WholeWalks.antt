@@ -5,7 +5,8 @@ use Rattle.std.specs.List.{AllByRecursion}
 use Rattle.std.specs.Map.{keys_of}
 use Rattle.std.specs.Option.{option_map_or}
 use Rattle.ets_term.specs.declared.term.Term.{Term}
-use Rattle.bucket_table.specs.Slots.{Slot, HasDistinctKeys}
+use Rattle.bucket_table.specs.Slots.{Slot}
+use Rattle.bucket_table.specs.Rows.{HasDistinctKeys}
 use Rattle.table_ops.specs.Content.{is_present}
 use Rattle.fixed_walk.specs.Fixes.{is_fixed}
 use Rattle.fixed_walk.specs.laws.Kept.{IsSubsequence}

@@ -3,7 +3,8 @@ use Rattle.std.specs.Prelude.{◌≡◌, ℕ, true, false, List, Some, codes}
 use Rattle.std.specs.List.{AllByRecursion}
 use Rattle.std.specs.Map.{keys_of}
 use Rattle.ets_term.specs.Atoms.{is_atom}
-use Rattle.bucket_table.specs.Slots.{Slot, HasDistinctKeys}
+use Rattle.bucket_table.specs.Slots.{Slot}
+use Rattle.bucket_table.specs.Rows.{HasDistinctKeys}
 use Rattle.ownership.specs.World.{Table, table_at}
 use Rattle.node_core.specs.declared.limits.Limits.{Limits}
 use Rattle.node_core.specs.declared.step.Reply.{Reply}

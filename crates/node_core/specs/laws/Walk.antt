@@ -5,7 +5,7 @@ use Rattle.std.specs.List.{AllByRecursion, IsDistinct, Contains}
 use Rattle.std.specs.Option.{option_and_then, option_map_or}
 use Rattle.ets_term.specs.declared.term.Term.{Term}
 use Rattle.ets_term.specs.Order.{same}
-use Rattle.bucket_table.specs.Slots.{HasDistinctKeys}
+use Rattle.bucket_table.specs.Rows.{HasDistinctKeys}
 use Rattle.table_ops.specs.Content.{is_present}
 use Rattle.ownership.specs.World.{resolve}
 use Rattle.node_core.specs.declared.call_name.CallName.{CallName}

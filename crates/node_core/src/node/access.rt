@@ -3,7 +3,7 @@ ghost use Rattle.std.specs.Prelude.{◌≡◌, option_copied, option_map};
 ghost use Rattle.std.specs.Option.{option_copied_mut};
 ghost use Rattle.std.specs.Borrow.{sem};
 ghost use Rattle.node_core.specs.declared.node.access.Access.TheVariants.{Read};
-ghost use Rattle.ownership.specs.World.{state_at};
+ghost use Rattle.ownership.specs.Lookups.{state_at};
 ghost use Rattle.node_core.specs.Access.{may_access, usable};
 ghost use Rattle.node_core.specs.inside.Lending.{usable_state};
 
@@ -24,7 +24,7 @@ pub enum Access {
 impl<H: KeyHash + Copy + Drop> Node<H> {
     ghost use Rattle.node_core.specs.inside.Lending.{LendsTable, LendsUsable};
 
-    /// Returns the table that a term names, if the process may read it.
+    /// Returns the table that a term names, or `None` if there is no such table or the process may not read it.
     #[inline(always)]
     pub(crate) fn readable_table(&self, pid: u32, term: &Term) -> Option<&Walked<SplitRows<H>>>
         ensures { option_copied result ≡ usable_state Read self.now.world.tables pid term.now }
@@ -37,7 +37,8 @@ impl<H: KeyHash + Copy + Drop> Node<H> {
         self.world.table(id)
     }
 
-    /// Borrows the table that a term names for a change, if the process has this access to it.
+    /// Borrows the table that a term names for a change. Returns `None` if there is no such table, or the process does
+    /// not have this access to it.
     // `lends`: when the borrow ends, this table has what the borrower wrote, and the rest of the node's state is as
     // before. If the result is `None`, all of it is as before.
     #[inline(always)]
@@ -61,7 +62,8 @@ impl<H: KeyHash + Copy + Drop> Node<H> {
         self.table_mut(id)
     }
 
-    /// Borrows the table with this identifier for a change. Marks it dirty, as it may have a pending growth step later.
+    /// Borrows the table with this identifier for a change, or returns `None` if there is no such table. Marks the
+    /// table dirty, because the change may leave it with a pending growth step.
     #[inline(always)]
     pub(crate) fn table_mut(&mut self, id: u32) -> Option<&mut Walked<SplitRows<H>>>
         ensures* lends { sem 𝓛
@@ -72,7 +74,8 @@ impl<H: KeyHash + Copy + Drop> Node<H> {
         self.world.table_mut(id)
     }
 
-    /// Returns the identifier of the table that a term names, if the process has this access to it.
+    /// Returns the identifier of the table that a term names. Returns `None` if there is no such table, or the process
+    /// does not have this access to it.
     pub(crate) fn usable_id(&self, access: Access, pid: u32, term: &Term) -> Option<u32>
         ensures { result
             ≡ option_map (λ found. found.0) (usable access self.now.world.tables pid term.now) }

@@ -56,6 +56,7 @@ impl<H: KeyHash + Copy + Drop> Node<H> {
             return Ok(true);
         }
         let Some(result) = self.read_call(pid, name, args, reply) else {
+            // This does not happen, because `read_call` makes each call that only reads.
             return Ok(false);
         };
         match write_refusal(result, reply) {
@@ -155,13 +156,13 @@ pub(super) fn write_refusal(call: Result<(), Refusal>, reply: &mut Reply) -> Res
 {
     match call {
         Ok(()) => Ok(()),
-        Err(refusal) => write_refused(refusal, reply),
+        Err(refusal) => write_rare_refusal(refusal, reply),
     }
 }
 
 /// Writes a refusal as the reply. The rare case of `write_refusal`, not inlined, because few calls are refused.
 #[inline(never)]
-fn write_refused(refusal: Refusal, reply: &mut Reply) -> Result<(), AllocError>
+fn write_rare_refusal(refusal: Refusal, reply: &mut Reply) -> Result<(), AllocError>
     ensures { RefusalToReply (Err refusal) (to_reply (λ _. reply.new) result) }
 {
     match refusal {

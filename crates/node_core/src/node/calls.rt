@@ -15,8 +15,8 @@ use ets_term::{KeyHash, Term};
 use table_ops::Refusal;
 
 impl<H: KeyHash + Copy + Drop> Node<H> {
-    /// Makes a call, and writes its reply. The six frequent calls come first. The others are out of their way, in
-    /// `make_rare_call`, which is not inlined.
+    /// Makes a call, and writes its reply. The six frequent calls come first. All others are in `make_rare_call`, which
+    /// is not inlined, so that the code for the frequent calls stays short.
     #[inline(always)]
     pub(crate) fn make_call(
         &mut self,
@@ -197,7 +197,7 @@ impl<H: KeyHash + Copy + Drop> Node<H> {
         }
     }
 
-    /// Makes a call of one argument that may change the node.
+    /// Makes a call of one argument that may change the node. Refuses a name without such a call with `Badarg`.
     #[inline(never)]
     fn change_call_of_one(
         &mut self,
@@ -219,7 +219,7 @@ impl<H: KeyHash + Copy + Drop> Node<H> {
         }
     }
 
-    /// Makes a call of two arguments that may change the node.
+    /// Makes a call of two arguments that may change the node. Refuses a name without such a call with `Badarg`.
     #[inline(never)]
     fn change_call_of_two(
         &mut self,

@@ -1,5 +1,5 @@
 //! The two steps of growth of a table. One doubles the number of buckets; the other readies a bucket: it inserts the
-//! bucket's dummy, the node at its start.
+//! bucket's dummy, the list node at its start.
 ghost use Rattle.std.specs.Prelude.{◌≡◌, IfOk, OnErr};
 ghost use Rattle.node_core.specs.rules.Growth.{in_table, Grows, Readies};
 
@@ -10,8 +10,8 @@ use ets_term::KeyHash;
 use std::alloc::AllocError;
 
 impl<H: KeyHash + Copy + Drop> Node<H> {
-    /// Doubles the number of buckets of a table, unless it is the greatest. Its reply is `badarg` if there is no such
-    /// table.
+    /// Doubles the number of buckets of a table, unless the number is the greatest. The reply is `ok` in both cases,
+    /// and `badarg` if there is no such table.
     pub(crate) fn grow(&mut self, id: u32) -> Result<Reply, AllocError>
         ensures ok { IfOk result (λ r. in_table self.old id Grows r self.new) }
         ensures err { OnErr result (self.new ≡ self.old) }
@@ -24,8 +24,8 @@ impl<H: KeyHash + Copy + Drop> Node<H> {
         Ok(atom_reply(alloc, b"ok"))
     }
 
-    /// Readies a bucket of a table, if the table has one of this number. Its reply is `badarg` if there is no such
-    /// table.
+    /// Readies a bucket of a table. The reply is `ok`, also if the bucket was ready before or the table has no such
+    /// bucket. It is `badarg` if there is no such table.
     pub(crate) fn ready(&mut self, id: u32, bucket: u32) -> Result<Reply, AllocError>
         ensures ok { IfOk result (λ r. in_table self.old id (Readies bucket) r self.new) }
         ensures err { OnErr result (self.new ≡ self.old) }

@@ -37,7 +37,7 @@ impl<H: KeyHash + Copy + Drop> Node<H> {
     }
 
     /// Like `step_own`, but borrows the step, whose memory can be used again. Moves an inserted single object out of
-    /// the call into its table instead of copying it.
+    /// the call into its table instead of copying it. The step cannot be run again, since its object may be gone.
     pub fn drain_step(&mut self, event: &mut Step, reply: &mut Reply) -> Result<(), AllocError>
         ensures ok { OnOk result
             (step (observable self.old) event.old reply.new (observable self.new)) }
@@ -67,8 +67,8 @@ impl<H: KeyHash + Copy + Drop> Node<H> {
         ensures buckets { OnOk result (step_on_buckets self.old (Ask pid call.old) reply.new self.new) }
         ensures err { OnErr result ((self.new ≡ self.old) × (reply.new ≡ NoProcess)) }
     {
-        let done = self.ask_own(pid, call, reply);
-        self.prune_pending();
+        let done = self.insert_from_call(pid, call, reply);
+        self.prune_pending_tables();
         if let Err(error) = done {
             write_no_process(reply);
             return Err(error);
@@ -76,9 +76,14 @@ impl<H: KeyHash + Copy + Drop> Node<H> {
         Ok(())
     }
 
-    /// Inserts a single object as `ask` does, but moves the object into the table.
+    /// Inserts a single object as `ask` does, but moves the object out of the call into the table.
     #[inline(always)]
-    fn ask_own(&mut self, pid: u32, call: &mut Call, reply: &mut Reply) -> Result<(), AllocError>
+    fn insert_from_call(
+        &mut self,
+        pid: u32,
+        call: &mut Call,
+        reply: &mut Reply,
+    ) -> Result<(), AllocError>
         requires { InsertsOne call.old }
         ensures ok { OnOk result (step self.old (Ask pid call.old) reply.new self.new) }
         ensures err { OnErr result (self.new ≡ self.old) }
@@ -86,13 +91,13 @@ impl<H: KeyHash + Copy + Drop> Node<H> {
         if self.refuse_early(pid, call.args.as_slice(), reply) {
             return Ok(());
         }
-        let result = self.insert_last(pid, &mut call.args, reply);
+        let result = self.insert_last_argument(pid, &mut call.args, reply);
         write_refusal(result, reply)
     }
 
     /// Moves the last argument of an insertion into the table that the first argument names. Writes the reply.
     #[inline(always)]
-    fn insert_last(
+    fn insert_last_argument(
         &mut self,
         pid: u32,
         args: &mut Items<Term>,
@@ -104,6 +109,7 @@ impl<H: KeyHash + Copy + Drop> Node<H> {
         let Some(object) = args.pop() else {
             unreachable!()
         };
+        // Only the argument that names the table is left.
         let rest = args.as_slice();
         let result = self.insert_own(pid, &rest[0], object);
         write_true(self.alloc, result, reply)

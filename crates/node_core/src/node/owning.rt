@@ -58,7 +58,7 @@ impl<H: KeyHash + Copy + Drop> Node<H> {
         Ok(Reply::Value(Term::List(self.world.receive(pid))))
     }
 
-    /// Finds the table that has a name. Its reply is the identifier, or `undefined`.
+    /// Finds the named table with this name. The reply is its identifier, or `undefined` if there is no such table.
     pub(crate) fn whereis(&self, name: &Term) -> Result<Reply, Refusal>
         ensures { RefinesReply (Whereis self.now name.now) self.now result self.now }
     {
@@ -71,7 +71,8 @@ impl<H: KeyHash + Copy + Drop> Node<H> {
         }
     }
 
-    /// Reads one item of the table that a term names. Its reply is `undefined` if there is no such table.
+    /// Reads one item of information on the table that a term names. The reply is `undefined` if there is no such
+    /// table. Refuses an `item` that does not exist, and a `table` that is neither an atom nor an identifier.
     pub(crate) fn info(&self, table: &Term, item: &Term) -> Result<Reply, Refusal>
         ensures { RefinesReply (Info self.now table.now item.now) self.now result self.now }
     {
@@ -87,7 +88,7 @@ impl<H: KeyHash + Copy + Drop> Node<H> {
     }
 }
 
-/// Returns whether a term can name a table.
+/// Returns whether a term can name a table: an atom or an identifier.
 fn can_name(term: &Term) -> bool
     ensures { result ≡ names_form (out-Term term.now) }
 {

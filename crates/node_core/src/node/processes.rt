@@ -11,7 +11,7 @@ use ets_term::{KeyHash, Term};
 use std::alloc::AllocError;
 
 impl<H: KeyHash + Copy + Drop> Node<H> {
-    /// Enrols (starts) a process. The reply is its pid.
+    /// Enrols (starts) a process. The reply is its pid, or a refusal.
     pub(crate) fn enrol(&mut self, pid: u32) -> Result<Reply, AllocError>
         ensures ok { IfOk result (λ r. step self.old (Enrol pid) r self.new) }
         ensures err { OnErr result (self.new ≡ self.old) }
@@ -22,7 +22,8 @@ impl<H: KeyHash + Copy + Drop> Node<H> {
         }
     }
 
-    /// Ends a process. Its tables pass to their heirs or are deleted.
+    /// Ends a process. Its tables pass to their heirs or are deleted. The reply is `true`, or `NoProcess` if the
+    /// process does not live.
     pub(crate) fn end(&mut self, pid: u32) -> Result<Reply, AllocError>
         ensures ok { IfOk result (λ r. step self.old (End pid) r self.new) }
         ensures err { OnErr result (self.new ≡ self.old) }

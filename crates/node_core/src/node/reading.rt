@@ -55,7 +55,8 @@ impl<H: KeyHash + Copy + Drop> Node<H> {
         Ok(table.member(key))
     }
 
-    /// Returns the element at a position of a key's objects. Refuses a key without objects.
+    /// Returns the element at a position of a key's object, or in a bag the list of these elements of all its objects.
+    /// Refuses a key without objects.
     pub(crate) fn lookup_element(
         &self,
         pid: u32,
@@ -72,7 +73,7 @@ impl<H: KeyHash + Copy + Drop> Node<H> {
         Ok(element)
     }
 
-    /// Returns the element at a position of a key's objects, or the default for a key without objects.
+    /// Returns what `lookup_element` returns, but the default for a key without objects.
     pub(crate) fn lookup_element_or(
         &self,
         pid: u32,

@@ -59,7 +59,8 @@ fn write_new_atom(alloc: Global, text: &str, reply: &mut Reply)
     *reply = atom_reply(alloc, text.as_bytes());
 }
 
-/// Writes the reply that there is no such process. Like the next two, it is not inlined, because it is rare.
+/// Writes the reply that there is no such process. Like `write_badarg` and `write_system_limit`, this function is not
+/// inlined, because such replies are rare.
 #[inline(never)]
 pub fn write_no_process(reply: &mut Reply)
     ensures { reply.new ≡ NoProcess }
@@ -96,9 +97,9 @@ pub fn list_reply(alloc: Global, objects: &[Term]) -> Result<Reply, AllocError>
 pub fn write_list(alloc: Global, objects: &[Term], reply: &mut Reply) -> Result<(), AllocError>
     ensures { OnOk result (reply.new ≡ list_reply objects.now) }
 {
-    if let Reply::Value(Term::List(own)) = reply {
-        if own.len() == objects.len() {
-            return own.write_copies(alloc, objects);
+    if let Reply::Value(Term::List(old_items)) = reply {
+        if old_items.len() == objects.len() {
+            return old_items.write_copies(alloc, objects);
         }
     }
     *reply = list_reply(alloc, objects)?;

@@ -87,16 +87,17 @@ impl<H: KeyHash + Copy + Drop> Node<H> {
     {
         match name {
             CallName::Take => {
-                let copy = self.predicted_take(pid, x, y)?;
+                let copy = self.predict_take(pid, x, y)?;
                 Ok(ReplyReserve::Predicted(copy))
             }
-            CallName::New => predicted_name(self.alloc, x),
+            CallName::New => predict_name(self.alloc, x),
             _ => Ok(ReplyReserve::Nothing),
         }
     }
 
-    /// Predicts the reply of `take`: the objects of the key. A process that may write to a table may read it.
-    fn predicted_take(&self, pid: u32, table: &Term, key: &Term) -> Result<Reply, AllocError>
+    /// Predicts the reply of `take`: the objects of the key. A process that may not read a table may not write to it
+    /// either, so `take` is refused then.
+    fn predict_take(&self, pid: u32, table: &Term, key: &Term) -> Result<Reply, AllocError>
         ensures { IfOk result (Predicts (writes self.now pid table.now (Take key.now))) }
     {
         match self.readable_table(pid, table) {
@@ -125,8 +126,9 @@ fn reserve_for_updates(
     }
 }
 
-/// Predicts the reply of `new` for a named table, which is the name.
-fn predicted_name(alloc: Global, name: &Term) -> Result<ReplyReserve, AllocError>
+/// Predicts the reply of `new` for a named table, which is the name. The reply for any other table is an identifier,
+/// whose copy takes no memory.
+fn predict_name(alloc: Global, name: &Term) -> Result<ReplyReserve, AllocError>
     ensures { (old : State) → (pid : ℕ) → (options : Term)
         → IfOk result (Suffices old (New old pid name.now options)) }
 {
@@ -194,7 +196,8 @@ fn flat_term(alloc: Global, term: &Term) -> Option<Term>
     }
 }
 
-/// Reserves capacity for one term per update of a list.
+/// Reserves capacity for one term per update of a list. Reserves nothing for a single update, whose reply is not a
+/// list.
 fn capacity_for(alloc: Global, updates: &Term) -> Result<Vec<Term>, AllocError>
     ensures { IfOk result (λ room.
         (length (list_terms updates.now) ≤ vec_capacity room) × (room.items ≡ [])) }

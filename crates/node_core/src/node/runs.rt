@@ -31,6 +31,7 @@ impl<H: KeyHash + Copy + Drop> Node<H> {
         for event in steps {
             match self.step(event) {
                 Ok(reply) => {
+                    // This does not fail, because capacity is reserved.
                     if replies.push(reply).is_err() {
                         return Err(RunFault::with_replies(replies));
                     }
@@ -61,7 +62,7 @@ impl<H: KeyHash + Copy + Drop> Node<H> {
         Ok(answers)
     }
 
-    /// Returns the reply to a step, or `None` if it ran out of memory.
+    /// Runs a step. Returns its reply, or `None` if it ran out of memory and changed nothing.
     fn try_step(&mut self, event: &Step) -> Option<Reply>
         ensures { StepsOrUnchanged self.old event.now result self.new }
     {

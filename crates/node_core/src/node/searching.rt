@@ -115,7 +115,7 @@ impl<H: KeyHash + Copy + Drop> Node<H> {
     }
 }
 
-/// Compiles the pattern of an argument.
+/// Compiles an argument that must be a pattern. Refuses any other term with `Badarg`.
 fn compile_pattern(alloc: Global, argument: &Term) -> Result<Pattern, Refusal>
     ensures same { IfOk result (λ pattern. pattern ≡ argument.now) }
     ensures good { OnOk result (is_pattern (data_of argument.now) ≡ true) }
@@ -126,7 +126,7 @@ fn compile_pattern(alloc: Global, argument: &Term) -> Result<Pattern, Refusal>
     Ok(pattern)
 }
 
-/// Compiles the match specification of an argument.
+/// Compiles an argument that must be a match specification. Refuses any other term with `Badarg`.
 fn compile_spec(alloc: Global, argument: &Term) -> Result<Spec, Refusal>
     ensures same { IfOk result (λ spec. spec ≡ argument.now) }
     ensures good { OnOk result (is_spec (data_of argument.now) ≡ true) }

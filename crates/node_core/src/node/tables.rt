@@ -20,7 +20,7 @@ use std::alloc::AllocError;
 use table_ops::{Refusal, Table};
 
 impl<H: KeyHash + Copy + Drop> Node<H> {
-    /// Creates a table with the options that a term lists.
+    /// Creates a table with the options that a term lists. The reply is the name of a named table, else the identifier.
     pub(crate) fn new_call(
         &mut self,
         pid: u32,
@@ -92,8 +92,8 @@ impl<H: KeyHash + Copy + Drop> Node<H> {
     }
 }
 
-/// Adds the table to the world. The queue of pending tables gets capacity for it first, so that no later step needs
-/// memory for it.
+/// Adds the table to the world and to the queue of pending tables, and returns its name or identifier. The queue gets
+/// capacity for the table first, so that no later step needs memory for that.
 fn add_table<H: KeyHash + Copy + Drop>(
     world: &mut World<SplitRows<H>>,
     pending: &mut PendingTables,

@@ -43,8 +43,8 @@ impl<H: KeyHash + Copy + Drop> Node<H> {
             (UpdateCounter update.entry.key.now update.entry.changes.now (option_copied update.entry.default)))
             self.old result reply.new self.new }
     {
-        let counted = self.update_counter(pid, table, update);
-        write_value(counted, reply)
+        let result = self.update_counter(pid, table, update);
+        write_value(result, reply)
     }
 
     /// Sets elements of a key's object, and writes whether it wrote an object as the reply.
@@ -61,8 +61,8 @@ impl<H: KeyHash + Copy + Drop> Node<H> {
             (UpdateElement update.entry.key.now update.entry.changes.now (option_copied update.entry.default)))
             self.old result reply.new self.new }
     {
-        let is_written = self.update_element(pid, table, update);
-        write_truth(self.alloc, is_written, reply)
+        let result = self.update_element(pid, table, update);
+        write_truth(self.alloc, result, reply)
     }
 
     /// Updates counters of a key's object and returns the new values.
@@ -177,7 +177,7 @@ fn write_any_elements<R: Rows>(
         table.old result table.new }
 {
     let specs = read_element_specs(alloc, update.changes, table.keypos())?;
-    let is_written = table.update_element(update.key, &specs, update.default);
+    let result = table.update_element(update.key, &specs, update.default);
     drop(specs);
-    is_written
+    result
 }

@@ -3,7 +3,7 @@
 ghost use Rattle.std.specs.Prelude.{◌≡◌, Some, option_copied, IsTrue};
 ghost use Rattle.fixed_walk.specs.TableState.{IncrementsFix};
 ghost use Rattle.fixed_walk.specs.laws.Walks.{walk_answer};
-ghost use Rattle.table_ops.specs.Content.{IsContent};
+ghost use Rattle.table_ops.specs.Invariants.{IsContent};
 ghost use Rattle.ownership.specs.World as model;
 ghost use Rattle.node_core.specs.Observable.{observable};
 ghost use Rattle.node_core.specs.Woven.{can_read};
@@ -43,7 +43,8 @@ impl<H: KeyHash + Copy + Drop> Node<H> {
         Ok(())
     }
 
-    /// Releases one fix if the process may read the table, and returns whether it may. It takes no memory.
+    /// Releases one fix of the process and returns `true`, if the process lives and may read the table. Otherwise
+    /// changes nothing and returns `false`. It takes no memory.
     pub(crate) fn unfix_table(&mut self, pid: u32, id: u32) -> bool
         ensures release { UnfixesTable pid id (observable self.old) result (observable self.new) }
         ensures buckets { UnfixOnBuckets pid id self.old result self.new }
@@ -58,7 +59,8 @@ impl<H: KeyHash + Copy + Drop> Node<H> {
         true
     }
 
-    /// Returns the first key, or the key after `last` if there is one. Returns `None` at the end of the table.
+    /// Returns a copy of the key after `last`, or of the first key if `last` is `None`. Returns `None` at the end of
+    /// the table, and `Lost` if the process does not live or may not read the table.
     pub(crate) fn next_key(
         &self,
         pid: u32,
@@ -79,6 +81,7 @@ impl<H: KeyHash + Copy + Drop> Node<H> {
             None => table.first(),
             Some(key) => match table.next(key) {
                 Ok(found) => found,
+                // `last` has a slot, because the table was fixed when `last` was found, and has been since.
                 Err(_) => unreachable!(),
             },
         };

@@ -48,7 +48,7 @@ impl<H: KeyHash + Copy + Drop> Node<H> {
         Ok(true_reply(alloc))
     }
 
-    /// Releases one fix of the process on a table that it may read.
+    /// Releases one fix of the process, if it has one, on a table that it may read.
     fn release(&mut self, pid: u32, table: &Term) -> Result<Reply, Refusal>
         ensures { RefinesReply (changes self.old pid Read table.now (Releases pid))
             self.old result self.new }
@@ -69,7 +69,7 @@ impl<H: KeyHash + Copy + Drop> Node<H> {
         Ok(key_reply(self.alloc, table.first())?)
     }
 
-    /// Returns the key after this one, or `'$end_of_table'`.
+    /// Returns the key after this one, or `'$end_of_table'`. Refuses a key that has no slot.
     pub(crate) fn next(&self, pid: u32, table: &Term, key: &Term) -> Result<Reply, Refusal>
         ensures { RefinesReply (reads self.now pid table.now (next_reply key.now)) self.now result self.now }
     {
@@ -86,7 +86,7 @@ impl<H: KeyHash + Copy + Drop> Node<H> {
         Ok(slot_reply(self.alloc, table.first_lookup())?)
     }
 
-    /// Returns the key after this one with its objects, or `'$end_of_table'`.
+    /// Returns the key after this one with its objects, or `'$end_of_table'`. Refuses a key that has no slot.
     pub(crate) fn next_lookup(&self, pid: u32, table: &Term, key: &Term) -> Result<Reply, Refusal>
         ensures { RefinesReply (reads self.now pid table.now (next_lookup_reply key.now))
             self.now result self.now }

@@ -17,8 +17,8 @@ use std::sync::Wait;
 impl<B: HistoryId> Caller<B> {
     /// Replies to a call that only reads, in parallel with other readers. Returns `None` for any other call. Some run
     /// of a node with these limits leads to the state that it reads. That run has at least as many entries as the
-    /// history had after this caller's last own step. It may wait for the lock. `Err` is out of memory, or a shorter
-    /// history, which the caller's own server never has.
+    /// history had after this caller's last own step. It may wait for the lock. `Err` is out of memory, or a server
+    /// whose history is shorter than that. The caller's own server never has such a history.
     pub fn read<H: KeyHash + Copy + Drop, R: Wait>(
         &self,
         rt: &R,
@@ -33,7 +33,7 @@ impl<B: HistoryId> Caller<B> {
         }
     }
 
-    /// Replies to a call that only reads, from the node under the lock.
+    /// Replies to a call that only reads, from the node under the lock. Returns `None` for any other call.
     fn read_locked<H: KeyHash + Copy + Drop>(
         &self,
         served: &ServedNode<B, H>,
@@ -67,7 +67,8 @@ impl<B: HistoryId> Caller<B> {
         }
     }
 
-    /// Writes the reply to a call that only reads, from the node under the lock. Returns whether it did.
+    /// Writes the reply to a call that only reads, from the node under the lock, over `reply`. Returns `false` for any
+    /// other call, and then leaves `reply` as it is. After an error, `reply` is `NoProcess`.
     fn read_into_locked<H: KeyHash + Copy + Drop>(
         &self,
         served: &ServedNode<B, H>,
@@ -105,7 +106,8 @@ impl<B: HistoryId> Caller<B> {
         }
     }
 
-    /// Replies to each call that only reads, from one state of the node under the lock.
+    /// Replies to each call that only reads, from one state of the node under the lock. For any other call the result
+    /// has `None`.
     fn read_all_locked<H: KeyHash + Copy + Drop>(
         &self,
         alloc: Global,

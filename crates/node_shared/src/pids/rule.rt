@@ -14,7 +14,8 @@ pub enum View {
 }
 
 /// The rule of the word, which holds after each atomic step. The numbers that seats drew are distinct, and they are all
-/// numbers below the word. The word and the numbers that can still be drawn add up to a fixed total of at most 4,096.
+/// numbers below the word. The word plus how many numbers can still be drawn is a fixed total of at most 4,096. The
+/// parameter `u64` is this total.
 pub struct Numbers;
 
 impl TableRule<(), View, u64> for Numbers {
@@ -25,7 +26,8 @@ impl TableRule<(), View, u64> for Numbers {
     ghost first = { opening_view };
 }
 
-/// A seat is split off: the word stays, and the new seat has no number.
+/// A seat is split off the opening seat. The word stays, the new seat has no number, and one seat fewer can be split
+/// off.
 pub struct SplitsOff;
 
 impl Split<View> for SplitsOff {

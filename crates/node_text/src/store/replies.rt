@@ -14,7 +14,8 @@ use node_core::Reply;
 use std::alloc::Global;
 use term_text::print_term;
 
-/// The vector for a reply's bytes is kept for the next reply if its capacity is at most this.
+/// The vector for a reply's bytes is kept for the next reply if its capacity is at most this. The memory of a longer
+/// reply is freed.
 const MAX_KEPT: usize = 65536;
 
 impl Store {
@@ -32,8 +33,8 @@ impl Store {
         self.refusal
     }
 
-    /// Returns the status of the last reply. If it is `VALUE`, writes as much of the reply's text as fits into `out`, and
-    /// its full length to `len`. Otherwise `len` is 0.
+    /// Returns the status of the last reply. If it is `VALUE`, writes as much of the reply's text as fits into `out`,
+    /// and its full length to `len`. Otherwise `len` is 0. Returns `UNTOLD` if memory runs out for the text.
     pub fn write_reply(&self, alloc: Global, out: &mut [u8], len: &mut usize) -> i32
         ensures { WritesReply text_of_term self.now.reply (written_reply result len.new out.old out.new) }
     {
@@ -50,8 +51,9 @@ impl Store {
         VALUE
     }
 
-    /// Returns the status of the last reply. If it is `VALUE`, writes as many of the reply's bytes in the external format
-    /// as fit into `out`, and their number to `len`. Otherwise `len` is 0. Changes nothing else that a contract sees.
+    /// Returns the status of the last reply. If it is `VALUE`, writes as many of the reply's bytes in the external
+    /// format as fit into `out`, and their number to `len`. Otherwise `len` is 0. Returns `UNTOLD` if memory runs out
+    /// for the bytes. Changes nothing else that a contract sees.
     pub fn write_reply_external(&mut self, out: &mut [u8], len: &mut usize) -> i32
         ensures same { self.new ≡ self.old }
         ensures writes { WritesReply encode_with_version self.old.reply (written_reply result len.new out.old out.new) }
@@ -69,7 +71,7 @@ impl Store {
     }
 
     /// Writes why the last call was refused: as much of the text as fits into `out`, and its full length to `len`. The
-    /// length is 0 if the call was not refused.
+    /// length is 0 if the call was not refused. Returns `VALUE`, or `UNTOLD` if memory runs out for the text.
     pub fn write_reason(&self, alloc: Global, out: &mut [u8], len: &mut usize) -> i32
         ensures { WritesReason self.now.refusal (written_reply result len.new out.old out.new) }
     {
@@ -86,8 +88,8 @@ impl Store {
     }
 }
 
-/// Writes as many of a term's bytes in the external format as fit into `out`, and their number to `len`. Makes the bytes
-/// in the vector, in place of what it has. Returns `VALUE`, or `UNTOLD` if memory runs out for the bytes.
+/// Writes as many of a term's bytes in the external format as fit into `out`, and their number to `len`. Makes the
+/// bytes in the vector, in place of what it has. Returns `VALUE`, or `UNTOLD` if memory runs out for the bytes.
 fn write_term_external(term: &Term, bytes: &mut Vec<u8>, out: &mut [u8], len: &mut usize) -> i32
     requires { len.old ≡ 0 }
     ensures { WritesText (encode_with_version term.now) (written_reply result len.new out.old out.new) }

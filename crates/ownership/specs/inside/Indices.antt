@@ -23,7 +23,7 @@ AscendsBetween low high [] = low ≤ high
 AscendsBetween low high (id ∷ ids) = (low ≤ id) × AscendsBetween (suc id) high ids
 
 -- an identifier is inserted in ascending order
-pub record InsertsSorted (old : List ℕ) (id : ℕ) (new : List ℕ) : Type 0 where
+pub record InsertsInOrder (old : List ℕ) (id : ℕ) (new : List ℕ) : Type 0 where
   pub here : IsAmong id new
   pub more : (t : ℕ) → IsAmong t old → IsAmong t new
   pub order : (low high : ℕ) → low ≤ id → id < high → AscendsBetween low high old → AscendsBetween low high new

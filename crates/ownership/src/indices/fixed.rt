@@ -5,13 +5,13 @@ ghost use Rattle.std.specs.Prelude.{◌≡◌, ◌≤◌, ℕ, Some, None, OnOk,
 ghost use Rattle.ownership.specs.inside.Indices.{IndicesInvariant, ids_under, is_fixed_at};
 
 use super::Indices;
-use super::identifiers::insert_sorted;
+use super::identifiers::insert_in_order;
 use crate::table::OwnedTable;
 use bucket_table::Rows;
 use std::alloc::AllocError;
 
 impl Indices {
-    /// Reserves capacity for `tables` identifiers in the list of fixed tables.
+    /// Reserves capacity for `tables` identifiers in all in the list of fixed tables.
     pub(super) fn reserve(&mut self, tables: usize) -> Result<(), AllocError>
         ensures rest { self.new ≡ record self.old { fixed = self.new.fixed } }
         ensures items { self.new.fixed.items ≡ self.old.fixed.items }
@@ -29,6 +29,7 @@ impl Indices {
     {
         if let Some(last) = self.dirty {
             if last == id {
+                // Several changes of one table in a row leave the list as it is.
                 return;
             }
         }
@@ -49,17 +50,19 @@ impl Indices {
         };
         self.dirty = None;
         let Some(Some(owned)) = tables.get(last as usize) else {
+            // The table was deleted, or never created: memory ran out, or no table ever had this identifier.
             return;
         };
         let table = owned.table();
         table.reveal_invariant();
         if table.is_fixed() {
-            let _ = insert_sorted(&mut self.fixed, last);
+            // This does not fail, because `insert` reserved capacity for each table.
+            let _ = insert_in_order(&mut self.fixed, last);
         }
     }
 
     /// Removes the tables that no process fixes from the list.
-    pub(super) fn retain_fixed<R: Rows>(&mut self, tables: &[Option<OwnedTable<R>>])
+    pub(super) fn retain_fixed_tables<R: Rows>(&mut self, tables: &[Option<OwnedTable<R>>])
         ensures rest { self.new ≡ record self.old { fixed = self.new.fixed } }
         ensures items { self.new.fixed.items
             ≡ filter (is_fixed_at tables.now) self.old.fixed.items }

@@ -1,10 +1,11 @@
-//! The index by owner: for each process, the tables that it owns or once owned. The exit of the process visits these
-//! tables, and removes the entry.
+//! The index by owner: for each process, the tables that it owned, or was about to inherit. After out of memory, it may
+//! also have a table that the process was about to be given or to create. The exit of the process visits these tables,
+//! and removes the entry.
 ghost use Rattle.std.specs.Prelude.{◌≡◌, OnOk, IfOk};
 ghost use Rattle.ownership.specs.inside.Indices.{IsAmong, AddsUnderOwners, RemovesOwner, HeirsAreIndexed, HeirIsIndexed, ids_under};
 
 use super::Indices;
-use super::identifiers::insert_sorted;
+use super::identifiers::insert_in_order;
 use crate::process::Process;
 use crate::table::OwnedTable;
 use crate::world::end::living_heir;
@@ -19,7 +20,7 @@ impl Indices {
         ensures ok { OnOk result (IsAmong id (ids_under self.new owner)) }
     {
         if let Some(ids) = self.owned.get_mut(&owner) {
-            return insert_sorted(ids, id);
+            return insert_in_order(ids, id);
         }
         let mut ids = Vec::new(alloc);
         ids.push(id)?;
@@ -27,13 +28,13 @@ impl Indices {
         Ok(())
     }
 
-    /// Returns a copy of the identifiers under an owner.
+    /// Returns a copy of the identifiers under an owner, in ascending order.
     pub fn tables_of(&self, alloc: Global, owner: u32) -> Result<Vec<u32>, AllocError>
         ensures { IfOk result (λ ids. ids.items ≡ ids_under self.now owner) }
     {
         let mut ids = Vec::new(alloc);
-        if let Some(own) = self.owned.get(&owner) {
-            ids.extend_from_slice(own.as_slice())?;
+        if let Some(stored_ids) = self.owned.get(&owner) {
+            ids.extend_from_slice(stored_ids.as_slice())?;
         }
         Ok(ids)
     }
@@ -45,7 +46,8 @@ impl Indices {
         let _ = self.owned.swap_remove(&owner);
     }
 
-    /// Adds each of these tables under its heir if the heir lives, before the owner ends.
+    /// Adds each of these tables under its living heir, if any, while refused memory can still leave all tables
+    /// unchanged.
     pub fn index_heirs<R: Rows>(
         &mut self,
         alloc: Global,

@@ -15,8 +15,8 @@ use std::mem;
 
 impl Indices {
     /// Releases the fixes of a process that ended. Passes each of its tables to its heir, or deletes it if no heir
-    /// lives. `own` must contain all tables of the process, and each must be in the index under its heir, if that
-    /// lives. Only these and the fixed tables are visited. This takes no memory.
+    /// lives. `own` must contain all tables of the process. Each of them must be in the index under its heir, if the
+    /// heir lives. Only the tables in `own` and the fixed tables are visited. This takes no memory.
     pub fn reassign_tables<R: Rows>(
         &mut self,
         tables: &mut Vec<Option<OwnedTable<R>>>,
@@ -36,16 +36,17 @@ impl Indices {
         for id in own {
             self.reassign_table(tables, processes, pid, *id);
         }
+        // The number of tables in the list. A table that was visited above does not change here.
         let fixed = self.fixed.len();
         for i in 0..fixed {
             let id = self.fixed[i];
             self.reassign_table(tables, processes, pid, id);
         }
-        self.retain_fixed(tables.as_slice());
+        self.retain_fixed_tables(tables.as_slice());
         self.remove_owner(pid);
     }
 
-    /// Does what `reassign_tables` does, for one table.
+    /// Does what `reassign_tables` does, for one table. Does nothing if the table does not exist.
     fn reassign_table<R: Rows>(
         &mut self,
         tables: &mut Vec<Option<OwnedTable<R>>>,
@@ -65,12 +66,14 @@ impl Indices {
         if index >= tables.len() {
             return;
         }
+        // The table leaves the array for a moment, because `table_after_exit` consumes it and returns it changed.
         let table = mem::replace(&mut tables[index], None);
         tables[index] = self.table_after_exit(processes, pid, table);
     }
 
     /// Returns a table as it is after the end of a process. The fixes of the process are released. If the process owned
-    /// the table, the table passes to its heir, or is deleted if no heir lives.
+    /// the table, the table passes to its heir. If no heir lives, the table is deleted with its name: the result is
+    /// `None`. It is also `None` if there was no table.
     fn table_after_exit<R: Rows>(
         &mut self,
         processes: &IndexMap<u32, Process>,

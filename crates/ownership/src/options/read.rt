@@ -1,8 +1,8 @@
 //! How the list of options of `ets:new/2` is read. It begins with the defaults, and each option overwrites a part of
 //! them.
-ghost use Rattle.std.specs.Prelude.{◌≡◌, ◌≤◌, IfOk};
+ghost use Rattle.std.specs.Prelude.{◌≡◌, ◌≤◌, [], ◌∷◌, IfOk};
 ghost use Rattle.ets_term.specs.declared.term.Term.{out-Term};
-ghost use Rattle.ownership.specs.Options.{default_options, option_form, options_from, word_option, other_word, tuning_word, tuple_option, plain_tuple, pair_option, keypos_option, is_tuning, is_boolean};
+ghost use Rattle.ownership.specs.Options.{default_options, option_form, options_from, word_option, tuple_option, pair_option, keypos_option, is_tuning, is_boolean};
 ghost use Rattle.ownership.specs.Outcomes.{Reads};
 ghost use Rattle.ownership.specs.inside.Reading.{ReadsOption, SetsOption};
 
@@ -40,14 +40,11 @@ fn is_boolean(term: &Term) -> bool
 fn is_tuning(name: &Term, value: &Term) -> bool
     ensures { result ≡ is_tuning name.now value.now }
 {
-    if name.is_atom("read_concurrency") {
-        is_boolean(value)
-    } else if name.is_atom("decentralized_counters") {
-        is_boolean(value)
-    } else if name.is_atom("write_concurrency") {
+    if name.is_atom("write_concurrency") {
         is_boolean(value) || value.is_atom("auto")
     } else {
-        false
+        (name.is_atom("read_concurrency") || name.is_atom("decentralized_counters"))
+            && is_boolean(value)
     }
 }
 
@@ -84,7 +81,7 @@ impl NewOptions {
         Ok(())
     }
 
-    /// Applies an option that is an atom. Returns whether the word is an option.
+    /// Applies an option that is an atom. Returns whether the word is an option. `compressed` is one without effect.
     fn set_word(&mut self, word: &str) -> bool
         requires { 1 ≤ self.old.keypos }
         ensures value { SetsOption (word_option word.now self.old) result self.new }
@@ -96,20 +93,7 @@ impl NewOptions {
             self.kind = Kind::Bag;
         } else if word == "duplicate_bag" {
             self.kind = Kind::DuplicateBag;
-        } else {
-            return self.set_other_word(word);
-        }
-        true
-    }
-
-    /// Applies an option that is an atom, but no kind of table: a protection, `named_table`, or `compressed`, which has
-    /// no effect. Returns whether the word is one of these.
-    fn set_other_word(&mut self, word: &str) -> bool
-        requires { 1 ≤ self.old.keypos }
-        ensures value { SetsOption (other_word word.now self.old) result self.new }
-        ensures keypos { 1 ≤ self.new.keypos }
-    {
-        if word == "public" {
+        } else if word == "public" {
             self.protection = Protection::Public;
         } else if word == "protected" {
             self.protection = Protection::Protected;
@@ -142,7 +126,7 @@ impl NewOptions {
     /// Applies an option that is a pair. Returns whether the tuple is such an option.
     fn set_tuple(&mut self, elements: &[Term]) -> bool
         requires { 1 ≤ self.old.keypos }
-        ensures value { SetsOption (plain_tuple elements.now self.old) result self.new }
+        ensures value { SetsOption (pair_option elements.now self.old) result self.new }
         ensures keypos { 1 ≤ self.new.keypos }
     {
         match elements {
@@ -154,13 +138,14 @@ impl NewOptions {
     /// Applies `{keypos,Pos}`, or accepts a tuning option, which has no effect. Returns whether the pair is an option.
     fn set_pair(&mut self, name: &Term, value: &Term) -> bool
         requires { 1 ≤ self.old.keypos }
-        ensures value { SetsOption (pair_option name.now value.now self.old) result self.new }
+        ensures value { SetsOption (pair_option (name.now ∷ value.now ∷ []) self.old) result self.new }
         ensures keypos { 1 ≤ self.new.keypos }
     {
         if !name.is_atom("keypos") {
             return is_tuning(name, value);
         }
         match value {
+            // The upper bound is the greatest `u32`.
             Term::Int(position) if *position >= 1 && *position <= 4_294_967_295 => {
                 self.keypos = *position as u32;
                 true

@@ -1,6 +1,7 @@
 //! Whether a process may read a table, may write to it, or owns it, by the identifier of the table.
 ghost use Rattle.std.specs.Prelude.{◌≡◌};
-ghost use Rattle.ownership.specs.Access.{has_access, is_owner, may_read, may_write};
+ghost use Rattle.ownership.specs.Access.{is_owner, may_read, may_write};
+ghost use Rattle.ownership.specs.Lookups.{has_access};
 
 use super::World;
 use bucket_table::Rows;

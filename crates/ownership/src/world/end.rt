@@ -23,48 +23,48 @@ use std::mem;
 impl<R: Rows> World<R> {
     /// Ends a process (stdlib manual, module ets). Its messages are dropped and its fixes released. Each of its tables,
     /// in order of creation, passes to its heir, which gets the transfer message, or is deleted if no heir lives.
-    /// Returns `NoProcess` if the process does not live.
+    /// Returns `NoProcess` if the process does not live. If memory runs out, the process lives on, and nothing changes.
     pub fn end(&mut self, pid: u32) -> Result<(), WorldFault>
         ensures { RefinesWorld (End self.old pid) self.old result self.new }
     {
         if !self.lives(pid) {
             return Err(WorldFault::NoProcess);
         }
-        match self.terminate(pid) {
+        match self.end_living(pid) {
             Ok(()) => Ok(()),
             Err(_) => Err(WorldFault::Memory),
         }
     }
 
-    /// Ends a process that lives.
-    fn terminate(&mut self, pid: u32) -> Result<(), AllocError>
+    /// Ends a process that lives. If memory is refused, processes and tables stay as they are. The index by owner may
+    /// then keep tables under heirs that did not get them.
+    fn end_living(&mut self, pid: u32) -> Result<(), AllocError>
         requires { lives self.old.processes pid ≡ true }
         ensures ok { OnOk result
             (self.new ≡ after_exit self.old (with_ended self.old.processes pid) pid) }
         ensures err { OnErr result (self.new ≡ self.old) }
     {
-        let own = self.indices.tables_of(self.alloc, pid)?;
+        let table_ids = self.indices.tables_of(self.alloc, pid)?;
         self.indices.index_heirs(
             self.alloc,
             &self.processes,
             self.tables.as_slice(),
-            own.as_slice(),
+            table_ids.as_slice(),
         )?;
         post_transfers(
             self.alloc,
             &mut self.processes,
             self.tables.as_slice(),
-            own.as_slice(),
+            table_ids.as_slice(),
             pid,
         )?;
-        self.indices
-            .reassign_tables(&mut self.tables, &self.processes, own.as_slice(), pid);
+        self.indices.reassign_tables(&mut self.tables, &self.processes, table_ids.as_slice(), pid);
         Ok(())
     }
 }
 
-/// Marks the process as ended and posts the transfer messages to the heirs of its tables. If memory is refused,
-/// nothing changes.
+/// Marks the process as ended and empties its mailbox. Then posts the transfer messages to the heirs of the tables in
+/// `ids` that the process owns. If memory is refused, the process lives again, and nothing changes.
 fn post_transfers<R: Rows>(
     alloc: Global,
     processes: &mut IndexMap<u32, Process>,
@@ -77,11 +77,12 @@ fn post_transfers<R: Rows>(
         (processes.new.entries ≡ after_transfers (with_ended processes.old.entries pid) pid tables.now ids.now) }
     ensures err { OnErr result (processes.new.entries ≡ processes.old.entries) }
 {
-    let none = Process {
+    let ended_process = Process {
         lives: false,
         mailbox: Items::new(alloc),
     };
-    let process = replace_process(processes, pid, none);
+    // The process ends before the messages are posted, so that it gets none as its own heir.
+    let process = replace_process(processes, pid, ended_process);
     if let Err(error) = post_all(alloc, processes, tables, ids, pid) {
         let _ = replace_process(processes, pid, process);
         return Err(error);
@@ -90,19 +91,19 @@ fn post_transfers<R: Rows>(
     Ok(())
 }
 
-/// Replaces a process and returns the old process.
+/// Replaces the process with this number, which must exist, and returns the old process.
 fn replace_process(processes: &mut IndexMap<u32, Process>, pid: u32, process: Process) -> Process
     requires { is_some (process_at processes.old.entries pid) ≡ true }
     ensures old { process_at processes.old.entries pid ≡ Some result }
     ensures new { processes.new.entries ≡ set_value (λ q. pid == q) processes.old.entries process }
 {
     match processes.get_mut(&pid) {
-        Some(own) => mem::replace(own, process),
+        Some(stored) => mem::replace(stored, process),
         None => unreachable!(),
     }
 }
 
-/// Posts the transfer messages of these tables. If memory is refused, removes those already posted.
+/// Posts the transfer messages of these tables, in order. If memory is refused, removes those already posted.
 fn post_all<R: Rows>(
     alloc: Global,
     processes: &mut IndexMap<u32, Process>,
@@ -162,7 +163,8 @@ fn unpost_all<R: Rows>(
     }
 }
 
-/// Removes the transfer message of one table again. It must be the message that was posted last.
+/// Removes the transfer message of one table again, if `post_transfer` posted one. It must be the message that was
+/// posted last.
 fn unpost_transfer<R: Rows>(
     processes: &mut IndexMap<u32, Process>,
     tables: &[Option<OwnedTable<R>>],
@@ -196,7 +198,7 @@ fn receiver_of<'a, R: Rows>(
     living_heir(processes, table.metadata())
 }
 
-/// Returns the heir of a table, if the heir lives.
+/// Returns the heir of a table, or `None` if no heir is set or the heir does not live.
 pub fn living_heir<'a>(
     processes: &IndexMap<u32, Process>,
     metadata: &'a Metadata,

@@ -36,8 +36,8 @@ impl<R: Rows> World<R> {
     }
 
     /// Sets the heir of a table of the process (stdlib manual, ets:setopts/2). The options are `{heir,none}`,
-    /// `{heir,Pid,Data}`, or a list of these, of which the last takes effect. Returns `Badarg` if the table does not
-    /// exist, `pid` does not own it, or an option does not name an heir.
+    /// `{heir,Pid,Data}`, or a list of these, of which the last takes effect. An empty list changes nothing. Returns
+    /// `Badarg` if the table does not exist, `pid` does not own it, or an option is not one of these two.
     pub fn set_options(&mut self, pid: u32, id: u32, options: &Term) -> Result<(), WorldFault>
         ensures { RefinesWorld (SetOptions self.old pid id options.now) self.old result self.new }
     {
@@ -64,7 +64,8 @@ impl<R: Rows> World<R> {
         Err(WorldFault::Badarg)
     }
 
-    /// Passes a table to another owner, and posts the message to the new owner.
+    /// Passes a table to another owner, and posts the message to the new owner. If memory is refused, processes and
+    /// tables stay as they are.
     fn transfer(&mut self, id: u32, owner: u32, message: Term) -> Result<(), AllocError>
         ensures ok { OnOk result (self.new ≡ after_transfer self.old id owner message) }
         ensures err { OnErr result (self.new ≡ self.old) }
@@ -73,6 +74,7 @@ impl<R: Rows> World<R> {
             drop(message);
             return Err(error);
         }
+        // If this fails, the table stays in the index under a process that does not own it, which is allowed.
         push_message(&mut self.processes, owner, message)?;
         set_owner_at(&mut self.tables, id, owner);
         Ok(())

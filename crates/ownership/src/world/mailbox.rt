@@ -22,7 +22,8 @@ impl<R: Rows> World<R> {
         }
     }
 
-    /// Empties the mailbox of the process and returns its messages, oldest first. This takes no memory.
+    /// Empties the mailbox of the process and returns its messages, oldest first. There are none if the process does
+    /// not exist. This takes no memory.
     pub fn receive(&mut self, pid: u32) -> Items<Term>
         ensures answer { result ≡ mailbox_of self.old.processes pid }
         ensures after { self.new ≡ record self.old { processes = after_receive self.old.processes pid } }

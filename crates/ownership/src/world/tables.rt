@@ -3,7 +3,8 @@
 ghost use Rattle.std.specs.Prelude.{◌≡◌, ◌+◌, ◌<◌, ◌^◌, ◌&&◌, false, OnOk, OnErr, nat_le, length, is_some, option_copied, IfOk};
 ghost use Rattle.std.specs.Option.{option_copied_mut};
 ghost use Rattle.std.specs.Borrow.{sem};
-ghost use Rattle.ownership.specs.World.{table_at, state_at, metadata_of, whereis, resolve};
+ghost use Rattle.ownership.specs.World.{table_at, metadata_of, whereis, resolve};
+ghost use Rattle.ownership.specs.Lookups.{state_at};
 ghost use Rattle.ownership.specs.Messages.{name_or_identifier};
 ghost use Rattle.ownership.specs.Tables.{New, new_metadata, with_table, without_table};
 ghost use Rattle.ownership.specs.Outcomes.{RefinesWorld};
@@ -31,7 +32,7 @@ impl<R: Rows> World<R> {
         self.tables.len() as u32
     }
 
-    /// Returns the metadata of the table with this identifier, or `None`.
+    /// Returns the metadata of the table with this identifier, or `None` if there is no such table.
     pub fn metadata(&self, id: u32) -> Option<&Metadata>
         ensures { option_copied result ≡ metadata_of (table_at self.now.tables id) }
     {
@@ -41,7 +42,8 @@ impl<R: Rows> World<R> {
         }
     }
 
-    /// Returns the identifier of the table with this name (stdlib manual, ets:whereis/1), or `None`.
+    /// Returns the identifier of the named table with this name (stdlib manual, ets:whereis/1). Returns `None` if there
+    /// is no such table.
     pub fn whereis(&self, name: &Atom) -> Option<u32>
         ensures { result ≡ whereis self.now.tables name.now }
     {
@@ -63,7 +65,7 @@ impl<R: Rows> World<R> {
         }
     }
 
-    /// Returns the table with this identifier, or `None`.
+    /// Returns the table with this identifier and its fixes, or `None` if there is no such table.
     pub fn table(&self, id: u32) -> Option<&Walked<R>>
         ensures { option_copied result ≡ state_at self.now.tables id }
     {
@@ -73,7 +75,8 @@ impl<R: Rows> World<R> {
         }
     }
 
-    /// Borrows the table with this identifier for a change of its objects and fixes.
+    /// Borrows the table with this identifier for a change of its objects and fixes. Returns `None` if there is no such
+    /// table.
     // `lends`: when the borrow ends, this table has what the borrower wrote, and the rest of the world is as before. If
     // the result is `None`, all of it is as before.
     pub fn table_mut(&mut self, id: u32) -> Option<&mut Walked<R>>
@@ -188,8 +191,8 @@ impl<R: Rows> World<R> {
         Ok(())
     }
 
-    /// Deletes a table with its name and its fixes, as `ets:delete/1` does (stdlib manual), or as at its owner's exit
-    /// without a living heir. Does nothing if the table does not exist. This takes no memory.
+    /// Deletes a table with its name and its fixes (stdlib manual, ets:delete/1). Does nothing if the table does not
+    /// exist. The index by owner keeps the identifier until the owner exits. This takes no memory.
     pub fn drop_table(&mut self, id: u32)
         ensures { self.new ≡ without_table self.old id }
     {

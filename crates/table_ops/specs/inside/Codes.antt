@@ -5,7 +5,8 @@ use Rattle.ets_term.specs.contracts.term.Term as term
 use Rattle.bucket_table.specs.Slots.{Slot}
 use Rattle.table_ops.specs.declared.kind.Kind.{Kind}
 use Rattle.table_ops.specs.contracts.kind.Kind as kind
-use Rattle.table_ops.specs.Content.{Content, ContentState}
+use Rattle.table_ops.specs.Content.{Content}
+use Rattle.table_ops.specs.ContentState.{ContentState}
 
 abbrev pub slots_code : Coded (List Slot)
 slots_code = coded_list (coded× term.the_row.coded (coded_list term.the_row.coded))

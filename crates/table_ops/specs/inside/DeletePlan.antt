@@ -10,7 +10,7 @@ use Rattle.bucket_table.specs.Rows.{without}
 use Rattle.bucket_table.specs.Walks.{ComesBefore}
 use Rattle.table_ops.specs.declared.delete_plan.SlotDelete.{SlotDelete}
 use Rattle.table_ops.specs.declared.partition.Partition.{Partition}
-use Rattle.table_ops.specs.Queries.{chosen_count}
+use Rattle.table_ops.specs.Results.{chosen_count}
 
 -- a test holds only of objects with the bound key
 abbrev pub RequiresKey : ℕ → Option Term → (Term → Bool) → Type 0

@@ -1,7 +1,8 @@
 -- The invariant of the iterator over slots.
 use Rattle.std.specs.Prelude.{◌≡◌, ◌<◌, ◌^◌, ℕ, List, Option, Some, IfSome, drop, length, option_map}
 use Rattle.ets_term.specs.declared.term.Term.{Term}
-use Rattle.bucket_table.specs.Slots.{Slot, HasDistinctKeys, objects_of}
+use Rattle.bucket_table.specs.Slots.{Slot, objects_of}
+use Rattle.bucket_table.specs.Rows.{HasDistinctKeys}
 use Rattle.bucket_table.specs.Walks.{IsFirstPlace}
 use Rattle.table_ops.specs.declared.slots.PlacedSlot.{PlacedSlot}
 

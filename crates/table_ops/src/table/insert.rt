@@ -1,5 +1,5 @@
-//! The calls `insert` and `insert_new`, which insert all objects of a list or none. A single object takes one search,
-//! whose result is its entry, and no undo log.
+//! The calls `insert` and `insert_new`, which insert all objects of a list or none. A single object takes one search
+//! and no undo log. An entry is the result of a search for a key.
 ghost use Rattle.std.specs.Prelude.{◌≡◌, [], ◌∷◌, true, false, Err, MatchOption};
 ghost use Rattle.std.specs.List.{list_all, list_any};
 ghost use Rattle.ets_term.specs.Depth.{is_too_deep};
@@ -37,7 +37,7 @@ impl<R: Rows> Table<R> {
             return Err(refusal);
         }
         let copy = object.try_clone(self.inner.alloc)?;
-        self.put_checked(copy)
+        self.put_valid_object(copy)
     }
 
     /// Inserts an object as `insert` does, but moves it into the table. A refused object is dropped.
@@ -49,7 +49,7 @@ impl<R: Rows> Table<R> {
         if let Some(refusal) = self.refusal_of(&object) {
             return Err(refusal);
         }
-        self.put_checked(object)
+        self.put_valid_object(object)
     }
 
     /// Returns the refusal if the term is not an object or is too deep, or `None` if it may be inserted.
@@ -70,7 +70,7 @@ impl<R: Rows> Table<R> {
     }
 
     /// Inserts an object that `refusal_of` does not refuse.
-    fn put_checked(&mut self, object: Term) -> Result<(), Refusal>
+    fn put_valid_object(&mut self, object: Term) -> Result<(), Refusal>
         requires object { is_object self.old.content.keypos object ≡ true }
         requires shallow { is_too_deep object ≡ false }
         ensures content { RefinesChange (Inserts (object ∷ []) self.old.content)
@@ -108,7 +108,7 @@ impl<R: Rows> Table<R> {
         }
     }
 
-    /// Does `insert_new` of one object with one search.
+    /// Does `insert_new` of one object with one search. Returns `false` if the key has an object.
     fn insert_one_new(&mut self, object: &Term) -> Result<bool, Refusal>
         ensures content { RefinesChange (InsertsNew (object.now ∷ []) self.old.content)
             self.old.content result self.new.content }
@@ -130,7 +130,7 @@ impl<R: Rows> Table<R> {
         Ok(true)
     }
 
-    /// Does `insert_new` of a list.
+    /// Does `insert_new` of a list. Returns `false` if one of the keys has an object.
     fn insert_all_new(&mut self, list: &[Term]) -> Result<bool, Refusal>
         ensures content { RefinesChange (InsertsNew list.now self.old.content)
             self.old.content result self.new.content }
@@ -139,13 +139,14 @@ impl<R: Rows> Table<R> {
         if !are_objects(self.inner.keypos, list) {
             return Err(Refusal::Badarg);
         }
-        if self.any_taken(list) {
+        if self.is_any_key_taken(list) {
             return Ok(false);
         }
         self.insert_all(list, true)
     }
 
-    /// Returns whether the table has objects with the key of this object.
+    /// Returns whether the table has objects with the key of this object. If the term is not an object, returns
+    /// `false`.
     fn is_taken(&self, object: &Term) -> bool
         ensures { result ≡ is_taken self.now.content.keypos self.now.content.slots object.now }
     {
@@ -156,7 +157,7 @@ impl<R: Rows> Table<R> {
     }
 
     /// Returns whether the table has objects with the key of any of these objects.
-    fn any_taken(&self, objects: &[Term]) -> bool
+    fn is_any_key_taken(&self, objects: &[Term]) -> bool
         ensures { result
             ≡ list_any (is_taken self.now.content.keypos self.now.content.slots) objects.now }
     {

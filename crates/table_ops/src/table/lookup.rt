@@ -2,7 +2,7 @@
 ghost use Rattle.std.specs.Prelude.{◌≡◌, ◌≤◌, ◌+◌, ◌++◌, length, vec_len, vec_capacity, OnOk};
 ghost use Rattle.table_ops.specs.declared.kind.Kind.TheVariants.{Set, Bag};
 ghost use Rattle.table_ops.specs.Content.{objects_under, is_present};
-ghost use Rattle.table_ops.specs.Outcomes.{Returns};
+ghost use Rattle.table_ops.specs.Results.{Returns};
 ghost use Rattle.table_ops.specs.Read.{all_objects, lookup_element, lookup_element_or};
 ghost use Rattle.table_ops.specs.Refusals.{ReturnsOrBadarg};
 
@@ -15,7 +15,7 @@ use ets_term::{Items, Position, Term};
 use std::alloc::{AllocError, Global};
 
 impl<R: Rows> Table<R> {
-    /// Returns the objects of a key, oldest first (stdlib manual, ets:lookup/2).
+    /// Returns the objects of a key, oldest first, or an empty slice if the key has none (stdlib manual, ets:lookup/2).
     pub fn lookup(&self, key: &Term) -> &[Term]
         ensures { result.now ≡ objects_under self.now.content.slots key.now }
     {
@@ -77,7 +77,8 @@ impl<R: Rows> Table<R> {
     }
 }
 
-/// Returns the element at a position of a set's object, or the list of the elements of a bag's objects.
+/// Returns a copy of the element at a position of a set's object, or the list of these elements of a bag's objects.
+/// `objects` are all objects of one key. Refuses with `Badarg` if there are no objects, or one has no such element.
 fn element_of(
     alloc: Global,
     kind: Kind,
@@ -92,7 +93,8 @@ fn element_of(
     }
 }
 
-/// Returns the element at a position of the first object.
+/// Returns a copy of the element at a position of the first object. Refuses with `Badarg` if there is no such object or
+/// element.
 fn first_element(alloc: Global, objects: &[Term], position: Position) -> Result<Term, Refusal>
     ensures { ReturnsOrBadarg (lookup_element Set position objects.now) result }
 {
@@ -101,7 +103,8 @@ fn first_element(alloc: Global, objects: &[Term], position: Position) -> Result<
     Ok(element.try_clone(alloc)?)
 }
 
-/// Returns the list of the elements at a position of all objects. Refuses an empty slice.
+/// Returns the list of the elements at a position of all objects. Refuses with `Badarg` if there are no objects, or one
+/// has no such element.
 fn elements(alloc: Global, objects: &[Term], position: Position) -> Result<Term, Refusal>
     ensures { ReturnsOrBadarg (lookup_element Bag position objects.now) result }
 {

@@ -1,12 +1,11 @@
 //! The calls that match, select, count or delete objects by a pattern or match specification. A pattern *chooses* the
-//! objects that match it, and a match specification those for which its result is `true`. `looks` counts the tested
-//! objects, and `hold` keeps an emptied slot as a tombstone, a slot without objects.
+//! objects that match it, and a match specification those for which its result is `true`. `trial` wraps the pattern or
+//! match specification, and `looks` counts the tested objects. `hold` keeps an emptied slot as a tombstone, a slot
+//! without objects.
 ghost use Rattle.std.specs.Prelude.{◌≡◌, ◌≤◌, ◌<◌, ◌^◌, is_some, IfOk, OnOk, OnErr, option_copied};
 ghost use Rattle.node_list.specs.Ticks.{ticks};
-ghost use Rattle.table_ops.specs.Drop.{without_chosen};
-ghost use Rattle.table_ops.specs.Outcomes.{Returns};
+ghost use Rattle.table_ops.specs.Results.{without_chosen, Returns, matching_in, ReturnsAllData};
 ghost use Rattle.table_ops.specs.Queries.{bound_in, matches, spec_result, is_chosen, answers_in, chosen_in};
-ghost use Rattle.table_ops.specs.Results.{matching_in, ReturnsAllData};
 ghost use Rattle.table_ops.specs.Looks.{looks_of_key, looks_of_pattern, looks_of_spec, CountsLooks};
 ghost use Rattle.table_ops.specs.inside.DeletePlan.{RequiresKey};
 
@@ -93,8 +92,8 @@ impl<R: Rows> Table<R> {
         self.collect(&Trial::new(spec), key, looks)
     }
 
-    /// Returns the number of objects for which the result is `true`, at most 4,294,967,295 (stdlib manual,
-    /// ets:select_count/2).
+    /// Returns the number of objects for which the result of the match specification is `true`, at most 4,294,967,295
+    /// (stdlib manual, ets:select_count/2).
     pub fn select_count(&self, spec: &Spec) -> Result<usize, AllocError>
         ensures count { Returns result (chosen_in (is_chosen spec.now) self.now.content) }
         ensures few { IfOk result (λ count. count < 2 ^ 32) }
@@ -144,13 +143,14 @@ impl<R: Rows> Table<R> {
         ensures buckets { self.new.buckets ≡ self.old.buckets }
     {
         let key = pattern.bound_key(self.inner.keypos as Position);
+        // The number of deleted objects, which `match_delete` does not return.
         let _gone = self.delete_matching(&Trial::new(pattern), key, hold, looks)?;
         Ok(())
     }
 
-    /// Deletes the objects for which the result is `true` and returns their number (stdlib manual,
-    /// ets:select_delete/2). A slot that loses its last object stays as a tombstone if `hold` is true. If memory runs
-    /// out, it changes nothing.
+    /// Deletes the objects for which the result of the match specification is `true` and returns their number (stdlib
+    /// manual, ets:select_delete/2). A slot that loses its last object stays as a tombstone if `hold` is true. If
+    /// memory runs out, it changes nothing.
     pub fn select_delete(&mut self, spec: &Spec, hold: bool) -> Result<usize, AllocError>
         ensures count { Returns result (chosen_in (is_chosen spec.now) self.old.content) }
         ensures few { IfOk result (λ count. count < 2 ^ 32) }
@@ -184,7 +184,8 @@ impl<R: Rows> Table<R> {
         self.delete_matching(&Trial::new(spec), key, hold, looks)
     }
 
-    /// Returns the results of a query. If `key` is given, tests only its objects. No other object may have a result.
+    /// Returns the results of a query. If `key` is given, tests only the objects of this key. The query must then have
+    /// no result for any other object.
     fn collect<P: Projection>(
         &self,
         trial: &Trial<'_, P>,
@@ -205,7 +206,8 @@ impl<R: Rows> Table<R> {
         Ok(Items::from_vec(results))
     }
 
-    /// Returns the number of chosen objects. If `key` is given, tests only its objects. No other object may be chosen.
+    /// Returns the number of chosen objects. If `key` is given, tests only the objects of this key. The query must then
+    /// choose no other object.
     fn count_matching<P: Predicate>(
         &self,
         trial: &Trial<'_, P>,
@@ -224,7 +226,8 @@ impl<R: Rows> Table<R> {
         self.inner.count(trial, key, looks)
     }
 
-    /// Deletes the chosen objects and returns their number. If `key` is given, only its objects may be chosen.
+    /// Deletes the chosen objects and returns their number. If `key` is given, tests only the objects of this key. The
+    /// query must then choose no other object.
     fn delete_matching<P: Predicate>(
         &mut self,
         trial: &Trial<'_, P>,

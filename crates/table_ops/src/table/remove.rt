@@ -3,7 +3,7 @@
 ghost use Rattle.std.specs.Prelude.{◌≡◌, OnOk, OnErr};
 ghost use Rattle.table_ops.specs.Content.{objects_under};
 ghost use Rattle.table_ops.specs.Drop.{without_those, without_held, has_key, every_object, DeletesObject};
-ghost use Rattle.table_ops.specs.Outcomes.{Returns};
+ghost use Rattle.table_ops.specs.Results.{Returns};
 
 use super::Table;
 use crate::object::key_of;
@@ -26,8 +26,8 @@ impl<R: Rows> Table<R> {
         self.count -= count;
     }
 
-    /// Removes and returns the objects of a key, oldest first (stdlib manual, ets:take/2). The slot stays as a
-    /// tombstone if `hold` is true.
+    /// Removes and returns the objects of a key, oldest first, or nothing if it has none (stdlib manual, ets:take/2).
+    /// The slot stays as a tombstone if `hold` is true.
     pub fn take(&mut self, key: &Term, hold: bool) -> Result<Items<Term>, AllocError>
         ensures objects { Returns result (objects_under self.old.content.slots key.now) }
         ensures content { OnOk result

@@ -13,14 +13,14 @@ use counters::{ElementSpecs, Op, Ops, start_counter, start_with_elements};
 use ets_term::{Position, Term};
 
 impl<R: Rows> Table<R> {
-    /// Updates the counters of a key's object in place and returns the new value, or the list of new values for a list
-    /// of operations (stdlib manual, ets:update_counter/3 and /4). If the key has no object, it sets the key in
-    /// the Default, updates the counters of this object and inserts it.
+    /// Updates the counters of a key's object in place. Returns the new value, or for a list of operations the list of
+    /// new values (stdlib manual, ets:update_counter/3 and /4). If the key has no object, makes one from the Default:
+    /// sets the key at keypos, updates the counters and inserts the new object.
     ///
     /// Refuses with `Badarg`
     /// - a table that is not a set,
     /// - an operation on the element at keypos, or on a position without an integer,
-    /// - a Default that is not an object, even if the key has an object,
+    /// - a Default that is not an object after the key is set at keypos, even if the key has an object,
     /// - a key without an object, if there is no Default.
     ///
     /// Refuses with `SystemLimit` a new value out of the range of integers, a new object that is too deep, and one
@@ -46,6 +46,7 @@ impl<R: Rows> Table<R> {
         let Some(default) = default else {
             return Err(Refusal::Badarg);
         };
+        // The new object, made from the Default, and the new value or list of values.
         let (object, answer) = start_counter(
             self.inner.alloc,
             default,
@@ -59,8 +60,8 @@ impl<R: Rows> Table<R> {
         Ok(answer)
     }
 
-    /// Does one operation on a counter of a key's object, as `update_counter` does without a Default. It takes no
-    /// memory.
+    /// Does one operation on a counter of a key's object and returns the new value, as `update_counter` does without a
+    /// Default. The call takes no memory.
     #[inline(always)]
     pub fn update_one_counter(&mut self, key: &Term, op: Op) -> Result<Term, Refusal>
         ensures content { RefinesChange (UpdatesCounter key.now (One op) None self.old.content)
@@ -78,13 +79,13 @@ impl<R: Rows> Table<R> {
     }
 
     /// Sets elements of a key's object in place and returns `true` (stdlib manual, ets:update_element/3 and /4). If the
-    /// key has no object, it sets the key and the elements in the Default and inserts this object, even if there are no
-    /// values. If there is no Default either, it returns `false`.
+    /// key has no object, sets the key and the elements in the Default and inserts this object, even if `specs` has no
+    /// values. If there is no Default either, returns `false`.
     ///
     /// Refuses with `Badarg`
     /// - a table that is not a set,
-    /// - a value for the element at keypos,
-    /// - a Default that is not an object, even if the key has an object,
+    /// - a value for position 0 or for the element at keypos, even if the key has no object,
+    /// - a Default that is not an object after the key is set at keypos, even if the key has an object,
     /// - a position that the object does not have.
     ///
     /// Refuses with `SystemLimit` an object that would be too deep, and one object more than the table may have.
@@ -117,7 +118,8 @@ impl<R: Rows> Table<R> {
         Ok(true)
     }
 
-    /// Sets one element of a key's object to a copy of a value, as `update_element` does without a Default.
+    /// Sets one element of a key's object to a copy of a value, as `update_element` does without a Default. Returns
+    /// `false` if the key has no object.
     #[inline(always)]
     pub fn update_one_element(
         &mut self,
@@ -160,7 +162,8 @@ impl<R: Rows> Table<R> {
         self.is_set() && self.ops_are_valid(key, ops, default)
     }
 
-    /// Returns whether no operation names keypos, and the Default, if there is one, is an object with this key.
+    /// Returns whether no operation names keypos or position 0, and the Default is absent or becomes an object if `key`
+    /// is set at keypos.
     fn ops_are_valid(&self, key: &Term, ops: &Ops, default: Option<&Term>) -> bool
         ensures { result
             ≡ (ops_avoid_key self.now.content.keypos ops.now
@@ -177,7 +180,8 @@ impl<R: Rows> Table<R> {
         self.is_set() && self.specs_are_valid(key, specs, default)
     }
 
-    /// Returns whether no value is for keypos, and the Default, if there is one, is an object with this key.
+    /// Returns whether no value is for keypos or position 0, and the Default is absent or becomes an object if `key` is
+    /// set at keypos.
     fn specs_are_valid(&self, key: &Term, specs: &ElementSpecs, default: Option<&Term>) -> bool
         ensures { result
             ≡ (element_specs_avoid_key self.now.content.keypos specs.now

@@ -1,7 +1,8 @@
-//! The results of a query, a pattern or match specification, for the objects of one key or of all keys. `looks` counts
-//! the tested objects.
+//! The results of a query, a pattern or match specification, for the objects of one key or of all keys. `trial` wraps
+//! the query, and `looks` counts the tested objects.
 ghost use Rattle.std.specs.Prelude.{◌≡◌, ◌≤◌, [], length, is_some, option_copied, filter_map};
-ghost use Rattle.bucket_table.specs.Slots.{HasDistinctKeys, object_count};
+ghost use Rattle.bucket_table.specs.Slots.{object_count};
+ghost use Rattle.bucket_table.specs.Rows.{HasDistinctKeys};
 ghost use Rattle.node_list.specs.Ticks.{tick, ticks};
 ghost use Rattle.std.specs.List.{cons_option};
 ghost use Rattle.table_ops.specs.Results.{AppendsData};
@@ -21,7 +22,7 @@ use std::alloc::AllocError;
 
 impl<R: Rows> TableRows<R> {
     /// Appends the results of the query for all objects to `results`. If `key` is given, tests only the objects of that
-    /// key; no other object may then have a result.
+    /// key; the query must then have no result for any other object.
     pub(crate) fn collect<P: Projection>(
         &self,
         trial: &Trial<'_, P>,
@@ -45,7 +46,7 @@ impl<R: Rows> TableRows<R> {
         }
     }
 
-    /// Returns the objects of a key, oldest first.
+    /// Returns the objects of a key, oldest first, or an empty slice if the key has none.
     pub(crate) fn objects_of(&self, key: &Term) -> &[Term]
         ensures objects { result.now ≡ objects_under (R.slots self.now.rows) key.now }
         ensures distinct { HasDistinctKeys (R.slots self.now.rows) }
@@ -57,7 +58,7 @@ impl<R: Rows> TableRows<R> {
         }
     }
 
-    /// Tests all objects and appends their results.
+    /// Tests all objects and appends the results to `results`.
     #[tactic(auto, using(crate::proofs::QueryLaws::appended))]
     fn collect_all<P: Projection>(
         &self,
@@ -75,13 +76,13 @@ impl<R: Rows> TableRows<R> {
         let _before = looks.count();
         for (_, objects) in all_of(&self.rows) {
             self.collect_from(trial, objects, results, looks)?;
-            // The same for the count after this slot.
+            // Reads the counter for the same proof, after each slot.
             let _after = looks.count();
         }
         Ok(())
     }
 
-    /// Tests these objects and appends their results.
+    /// Tests these objects and appends the results to `results`.
     #[inline(always)]
     fn collect_from<P: Projection>(
         &self,
@@ -104,7 +105,7 @@ impl<R: Rows> TableRows<R> {
         Ok(())
     }
 
-    /// Tests one object and appends its result, if it has one.
+    /// Tests one object and appends its result to `results`, if it has one.
     #[inline(always)]
     fn collect_one<P: Projection>(
         &self,

@@ -1,10 +1,9 @@
-//! The number of objects that a query chooses, among the objects of one key or of all keys. `looks` counts the tested
-//! objects.
+//! The number of objects that a query chooses, among the objects of one key or of all keys. `trial` wraps the query,
+//! and `looks` counts the tested objects.
 ghost use Rattle.std.specs.Prelude.{◌≡◌, ◌≤◌, ◌<◌, ◌^◌, [], ◌∷◌, length, option_copied, IfOk};
 ghost use Rattle.bucket_table.specs.Slots.{object_count};
 ghost use Rattle.node_list.specs.Ticks.{tick, ticks};
-ghost use Rattle.table_ops.specs.Outcomes.{Returns};
-ghost use Rattle.table_ops.specs.Queries.{chosen_count};
+ghost use Rattle.table_ops.specs.Results.{Returns, chosen_count};
 ghost use Rattle.table_ops.specs.Looks.{looks_of_key, CountsLooks};
 ghost use Rattle.table_ops.specs.Read.{all_objects};
 ghost use Rattle.table_ops.specs.inside.DeletePlan.{MatchesOnlyKey};
@@ -19,7 +18,7 @@ use ets_term::Term;
 use std::alloc::AllocError;
 
 impl<R: Rows> TableRows<R> {
-    /// Returns the number of chosen objects. If `key` is given, tests only the objects of that key; the query may then
+    /// Returns the number of chosen objects. If `key` is given, tests only the objects of that key; the query must then
     /// choose no other object.
     pub(crate) fn count<P: Predicate>(
         &self,
@@ -44,7 +43,8 @@ impl<R: Rows> TableRows<R> {
         }
     }
 
-    /// Tests all objects and returns the number of chosen objects.
+    /// Tests all objects and returns the number of chosen objects. The sum cannot overflow, because the rows have fewer
+    /// than 2^32 objects (`few`).
     #[tactic(auto, using(crate::proofs::QueryLaws::appended))]
     fn count_all<P: Predicate>(
         &self,
@@ -63,7 +63,7 @@ impl<R: Rows> TableRows<R> {
         let mut total = 0;
         for (_, objects) in all_of(&self.rows) {
             total += self.count_in(trial, objects, looks)?;
-            // The same for the count after this slot.
+            // Reads the counter for the same proof, after each slot.
             let _after = looks.count();
         }
         Ok(total)

@@ -1,10 +1,9 @@
 //! The deletion of the objects that a query chooses: a plan takes all memory, and then the changes of slots take none.
-//! `looks` counts the tested objects, and `hold` keeps an emptied slot as a tombstone.
+//! `trial` wraps the query, `looks` counts the tested objects, and `hold` keeps an emptied slot as a tombstone.
 ghost use Rattle.std.specs.Prelude.{◌≡◌, ◌≤◌, ◌<◌, ◌^◌, ◌++◌, [], Some, true, is_some, length, option_copied, OnOk};
 ghost use Rattle.bucket_table.specs.Slots.{object_count};
 ghost use Rattle.node_list.specs.Ticks.{ticks};
-ghost use Rattle.table_ops.specs.Outcomes.{Returns};
-ghost use Rattle.table_ops.specs.Queries.{chosen_count};
+ghost use Rattle.table_ops.specs.Results.{Returns, chosen_count};
 ghost use Rattle.table_ops.specs.Looks.{looks_of_key, CountsLooks};
 ghost use Rattle.table_ops.specs.Content.{objects_under};
 ghost use Rattle.table_ops.specs.Read.{all_objects};
@@ -21,8 +20,8 @@ use ets_term::Term;
 use std::alloc::AllocError;
 
 impl<R: Rows> TableRows<R> {
-    /// Plans the deletion of all chosen objects and returns their number. If `key` is given, tests only the objects of
-    /// that key; the query may then choose no other object.
+    /// Adds the deletion of all chosen objects to `plan`, which must be empty, and returns their number. If `key` is
+    /// given, tests only the objects of that key; the query must then choose no other object.
     pub(crate) fn plan<P: Predicate>(
         &self,
         trial: &Trial<'_, P>,
@@ -51,7 +50,7 @@ impl<R: Rows> TableRows<R> {
         }
     }
 
-    /// Plans the deletion of the chosen objects of a key and returns their number.
+    /// Plans the deletion of the chosen objects of a key and returns their number. If the key has no slot, returns 0.
     fn plan_key<P: Predicate>(
         &self,
         trial: &Trial<'_, P>,
@@ -81,7 +80,8 @@ impl<R: Rows> TableRows<R> {
         plan.plan_slot(trial, place, self.rows.objects_at(place), looks)
     }
 
-    /// Tests all objects, plans the deletion of the chosen objects and returns their number.
+    /// Tests all objects, plans the deletion of the chosen objects and returns their number. The sum cannot overflow,
+    /// because the rows have fewer than 2^32 objects (`few`).
     fn plan_all<P: Predicate>(
         &self,
         trial: &Trial<'_, P>,
@@ -103,6 +103,7 @@ impl<R: Rows> TableRows<R> {
         let _before = looks.count();
         self.rows.reveal_invariant();
         let mut total = 0;
+        // The place of the next slot, or `None` after the last slot.
         let mut at = self.rows.first_place();
         for _ in 0..self.rows.len() {
             let Some(place) = at else { unreachable!() };
@@ -113,8 +114,8 @@ impl<R: Rows> TableRows<R> {
         Ok(total)
     }
 
-    /// Executes a plan, from its last slot to its first. A change of a slot does not change the places of the slots
-    /// before it, so the places in the rest of the plan stay valid.
+    /// Executes a plan, from its last slot to its first. The changes take no memory. A change of a slot keeps the
+    /// places of the slots before it. So the places in the rest of the plan stay valid.
     pub(crate) fn apply(&mut self, hold: bool, mut plan: DeletePlan)
         requires { AreInOrder (R.slots self.old.rows)
             (plan_at (R.key_at self.old.rows) plan.list.items) }
@@ -140,8 +141,10 @@ impl<R: Rows> TableRows<R> {
     {
         let SlotDelete { place, kept } = delete;
         if hold || kept.len() > 0 {
+            // Drops the old objects. The plan made copies of those that stay.
             let _ = self.rows.replace_at(place, kept);
         } else {
+            // Ignores the number of objects in the slot: `plan` has counted them.
             let _ = self.rows.delete_at(place);
         }
     }

@@ -1,11 +1,12 @@
-//! The insertion of one object by the kind of the table, which returns how to undo it. An entry is the result of the
-//! search before it: the place (index) of the key's slot, or the hash of a missing key.
+//! The insertion of one object by the kind of the table. Its result is an `Undo`, which says how to undo the insertion.
+//! An entry is the result of the search for the key: the place (index) of the key's slot, or the hash of a missing key.
 ghost use Rattle.std.specs.Prelude.{◌≡◌, ◌||◌, None, IsSome};
 ghost use Rattle.bucket_table.specs.Slots.{objects_of, has_objects};
 ghost use Rattle.bucket_table.specs.Entries.{IsEntry};
 ghost use Rattle.table_ops.specs.declared.kind.Kind.TheVariants.{Set, Bag, DuplicateBag};
 ghost use Rattle.table_ops.specs.Update.{is_set};
-ghost use Rattle.table_ops.specs.Content.{FitsKind, objects_under};
+ghost use Rattle.table_ops.specs.Content.{objects_under};
+ghost use Rattle.table_ops.specs.Invariants.{FitsKind};
 ghost use Rattle.table_ops.specs.inside.TableRows.{ChangesSlotsOnly};
 ghost use Rattle.table_ops.specs.inside.Undo.{ForKey, PutsOne, PutsAt};
 
@@ -19,8 +20,8 @@ use ets_term::Term;
 use node_list::Chain;
 
 impl<R: Rows> TableRows<R> {
-    /// Inserts a copy of one object. `entry` is the result of the search for its key. `below_limit` says whether the
-    /// table may have one more object.
+    /// Inserts a copy of one object and returns how to undo it. `entry` is the result of the search for its key.
+    /// `below_limit` says whether the table may have one more object.
     pub(crate) fn put(
         &mut self,
         below_limit: bool,
@@ -42,7 +43,7 @@ impl<R: Rows> TableRows<R> {
         }
     }
 
-    /// Inserts one object in the slot at a place.
+    /// Inserts one object in the slot at a place, by the kind of the table, and returns how to undo it.
     pub(crate) fn put_in_slot(
         &mut self,
         below_limit: bool,
@@ -62,7 +63,8 @@ impl<R: Rows> TableRows<R> {
         }
     }
 
-    /// Inserts a new slot with a copy of the key and this object. `hash` must be the key's hash.
+    /// Inserts a new slot with a copy of the key and this object. The key must have no slot, and `hash` must be the
+    /// key's hash.
     fn put_new(
         &mut self,
         below_limit: bool,
@@ -85,7 +87,7 @@ impl<R: Rows> TableRows<R> {
         Ok(Undo::NewSlot)
     }
 
-    /// Replaces the object of a set's slot, or inserts the object in a tombstone.
+    /// Puts the object in a set's slot. The object replaces the old object, unless the slot is a tombstone.
     fn put_in_set(&mut self, below_limit: bool, place: Place, object: Term) -> Result<Undo, Refusal>
         requires { ForKey (R.key_at self.old.rows place) (λ key.
             FitsKind Set (objects_under (R.slots self.old.rows) key)) }
@@ -96,8 +98,8 @@ impl<R: Rows> TableRows<R> {
         if !may_insert(below_limit, self.rows.objects_at(place)) {
             return Err(Refusal::SystemLimit);
         }
-        let was = self.rows.replace_at(place, Chain::one(self.alloc, object));
-        Ok(Undo::Objects(was))
+        let old_objects = self.rows.replace_at(place, Chain::one(self.alloc, object));
+        Ok(Undo::Objects(old_objects))
     }
 
     /// Returns whether the table is a set.
@@ -107,7 +109,7 @@ impl<R: Rows> TableRows<R> {
         self.kind == Kind::Set
     }
 
-    /// Appends an object to the slot of a bag, unless it is already there.
+    /// Appends an object to the slot of a bag, unless the slot has an equal object.
     fn put_in_bag(&mut self, below_limit: bool, place: Place, object: Term) -> Result<Undo, Refusal>
         requires { IsSome (R.key_at self.old.rows place) }
         ensures slots { PutsAt below_limit Bag (R.key_at self.old.rows place) object
@@ -120,7 +122,7 @@ impl<R: Rows> TableRows<R> {
         self.put_last(below_limit, place, object)
     }
 
-    /// Appends an object to a slot.
+    /// Appends an object to a slot, after all its other objects.
     fn put_last(&mut self, below_limit: bool, place: Place, object: Term) -> Result<Undo, Refusal>
         requires { IsSome (R.key_at self.old.rows place) }
         ensures slots { PutsAt below_limit DuplicateBag (R.key_at self.old.rows place) object
@@ -130,6 +132,7 @@ impl<R: Rows> TableRows<R> {
         if !below_limit {
             return Err(Refusal::SystemLimit);
         }
+        // Takes the objects out of the slot, appends the object, and puts them back, also if memory runs out.
         let mut objects = self.rows.replace_at(place, Chain::new(self.alloc));
         let pushed = objects.push(object);
         let _ = self.rows.replace_at(place, objects);
@@ -140,7 +143,8 @@ impl<R: Rows> TableRows<R> {
     }
 }
 
-/// Returns whether an object may be inserted in a slot of a set: one more is allowed, or it replaces an object.
+/// Returns whether an object may be inserted in a slot of a set: one more object is allowed, or the new object replaces
+/// one.
 fn may_insert(below_limit: bool, objects: &[Term]) -> bool
     ensures { result ≡ (below_limit || has_objects objects.now) }
 {

@@ -3,7 +3,8 @@
 ghost use Rattle.std.specs.Prelude.{◌≡◌, ◌≤◌, ◌∷◌, [], true, false, length};
 ghost use Rattle.std.specs.List.{list_all, list_any};
 ghost use Rattle.ets_term.specs.Depth.{is_too_deep};
-ghost use Rattle.table_ops.specs.Content.{AreSlots, is_object, key_of};
+ghost use Rattle.table_ops.specs.Content.{is_object, key_of};
+ghost use Rattle.table_ops.specs.Invariants.{AreSlots};
 ghost use Rattle.table_ops.specs.inside.TableRows.{ChangesSlotsOnly, TableRowsInvariant};
 ghost use Rattle.table_ops.specs.inside.Undo.{PutsObject, PutsEach, after_undo, after_roll_back};
 
@@ -42,8 +43,9 @@ impl<R: Rows> TableRows<R> {
         }
     }
 
-    /// Inserts a single object in the slot of its key, which is at `place`. Returns the number of objects of the table
-    /// after the insertion.
+    /// Inserts a single object in the slot of its key, which is at `place`. In a set, the new object replaces the old
+    /// object, if the slot has one. `before` is the number of objects of the table. Returns their number after the
+    /// insertion.
     #[inline(never)]
     fn put_one_at(&mut self, before: usize, place: Place, object: Term) -> Result<usize, Refusal>
         requires object { is_object self.old.keypos object ≡ true }
@@ -61,8 +63,8 @@ impl<R: Rows> TableRows<R> {
         Ok(before + undo.added_objects())
     }
 
-    /// Inserts objects one after another. If one is refused, undoes the earlier insertions by an undo log. Returns the
-    /// number of objects of the table after the insertions.
+    /// Inserts copies of objects one after another. If one is refused, undoes the earlier insertions by an undo log.
+    /// `before` is the number of objects of the table. Returns their number after the insertions.
     pub(crate) fn put_all(&mut self, before: usize, objects: &[Term]) -> Result<usize, Refusal>
         requires objects { list_all (is_object self.old.keypos) objects.now ≡ true }
         requires holds { TableRowsInvariant R.slots self.old before }
@@ -113,6 +115,7 @@ impl<R: Rows> TableRows<R> {
         ensures keeps { ChangesSlotsOnly R.readiness self.old self.new }
     {
         while let Some(undo) = undo_log.pop() {
+            // After the `pop`, the length of the log is the index of the popped element.
             let Some(key) = key_of(self.keypos, &objects[undo_log.len()]) else {
                 unreachable!()
             };
@@ -120,7 +123,7 @@ impl<R: Rows> TableRows<R> {
         }
     }
 
-    /// Undoes the last insertion of an object with this key.
+    /// Undoes the last insertion of an object with this key, as `undo` says. Changes nothing if the key has no slot.
     #[tactic(auto, using(crate::proofs::SlotLaws::slot_laws))]
     fn undo(&mut self, key: &Term, undo: Undo)
         ensures slots { R.slots self.new.rows ≡ after_undo undo key.now (R.slots self.old.rows) }

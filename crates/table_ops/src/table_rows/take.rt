@@ -1,7 +1,8 @@
 //! The removal of objects from the slot at a place, which is its index. `hold` keeps an emptied slot as a tombstone, a
 //! slot without objects.
 ghost use Rattle.std.specs.Prelude.{◌≡◌, ◌||◌, [], Some, IsSome};
-ghost use Rattle.bucket_table.specs.Slots.{HasDistinctKeys, has_objects};
+ghost use Rattle.bucket_table.specs.Slots.{has_objects};
+ghost use Rattle.bucket_table.specs.Rows.{HasDistinctKeys};
 ghost use Rattle.bucket_table.specs.Entries.{objects_in};
 ghost use Rattle.table_ops.specs.inside.TableRows.{ChangesSlotsOnly, IsPlaceOfKey};
 ghost use Rattle.table_ops.specs.inside.Removal.{after_removal, DeletesObjects, RemovesObject};
@@ -13,7 +14,7 @@ use ets_term::Term;
 use node_list::Chain;
 
 impl<R: Rows> TableRows<R> {
-    /// Returns the place of a key's slot, if it has one.
+    /// Returns the place of a key's slot, or `None` if the key has no slot.
     pub(crate) fn find(&self, key: &Term) -> Option<Place>
         ensures place { IsPlaceOfKey (R.slots self.now.rows) (R.key_at self.now.rows) key.now result }
         ensures distinct { HasDistinctKeys (R.slots self.now.rows) }
@@ -22,8 +23,8 @@ impl<R: Rows> TableRows<R> {
         self.rows.find(key)
     }
 
-    /// Removes and returns the objects of a slot. The slot stays as a tombstone if `hold` is true, or if it already was
-    /// a tombstone.
+    /// Removes and returns the objects of the slot at a place. The slot stays as a tombstone if `hold` is true, or if
+    /// it already was a tombstone.
     pub(crate) fn remove_objects_at(&mut self, hold: bool, place: Place) -> Chain
         requires { IsSome (R.key_at self.old.rows place) }
         ensures objects { objects_in (R.slots self.old.rows) (R.key_at self.old.rows place)
@@ -39,8 +40,8 @@ impl<R: Rows> TableRows<R> {
         objects
     }
 
-    /// Drops the objects of a slot and returns their number. The slot stays as a tombstone if `hold` is true, or if it
-    /// already was a tombstone.
+    /// Drops the objects of the slot at a place and returns their number. The slot stays as a tombstone if `hold` is
+    /// true, or if it already was a tombstone.
     pub(crate) fn delete_objects_at(&mut self, hold: bool, place: Place) -> usize
         requires { IsSome (R.key_at self.old.rows place) }
         ensures slots { ForKey (R.key_at self.old.rows place) (λ key.
@@ -61,6 +62,7 @@ impl<R: Rows> TableRows<R> {
             RemovesObject hold (R.slots self.old.rows) key object.now result (R.slots self.new.rows)) }
         ensures keeps { ChangesSlotsOnly R.readiness self.old self.new }
     {
+        // Takes the objects out of the slot. If the slot stays, the remaining objects are put back.
         let mut objects = self.rows.replace_at(place, Chain::new(self.alloc));
         let was_tombstone = objects.len() == 0;
         let count = objects.remove_all(object);
@@ -73,7 +75,8 @@ impl<R: Rows> TableRows<R> {
     }
 }
 
-/// Returns whether a slot stays in the table, if it has these objects after a deletion.
+/// Returns whether a slot stays in the table, if it has these objects after a deletion. `was_tombstone` says whether it
+/// had no objects before.
 fn slot_stays(hold: bool, was_tombstone: bool, objects: &[Term]) -> bool
     ensures { result ≡ (hold || has_objects objects.now || was_tombstone) }
 {

@@ -14,7 +14,7 @@ use super::TableRows;
 use crate::refusal::Refusal;
 use bucket_table::{Place, Rows, SlotEntry};
 use counters::{
-    CounterFault, ElementSpecs, Op, Ops, copy_for_element, counter_value, is_default,
+    CounterFault, ElementSpecs, Op, Ops, copy_for_element, counter_value, is_valid_default,
     update_counter, write_elements,
 };
 use ets_term::{Position, Term};
@@ -47,7 +47,7 @@ impl<R: Rows> TableRows<R> {
         ops.iter().all(|op| self.may_update(op.position))
     }
 
-    /// Returns whether each value has a position that an update may name.
+    /// Returns whether each element value `{Pos,Value}` (`spec`) has a position that an update may name.
     pub(crate) fn element_specs_avoid_key(&self, specs: &ElementSpecs) -> bool
         ensures { result ≡ element_specs_avoid_key self.now.keypos specs.now }
     {
@@ -65,12 +65,13 @@ impl<R: Rows> TableRows<R> {
         ensures { result ≡ default_is_object self.now.keypos key.now (option_copied default.entry) }
     {
         match default {
-            Some(default) => is_default(default, self.keypos, key),
+            Some(default) => is_valid_default(default, self.keypos, key),
             None => true,
         }
     }
 
-    /// Returns the place of the key's slot, if the slot has objects. `entry` is the result of a search for the key.
+    /// Returns the place of the key's slot if the slot has objects, else `None`. `entry` is the result of a search for
+    /// the key.
     pub(crate) fn place_with_objects(&self, key: &Term, entry: SlotEntry) -> Option<Place>
         requires { IsEntry (R.slots self.now.rows) (R.hash_of self.now.rows)
             (R.key_at self.now.rows) key.now entry }
@@ -85,7 +86,8 @@ impl<R: Rows> TableRows<R> {
         Some(place)
     }
 
-    /// Updates counters of the only object of the slot at a place. A single counter is set without moving the object.
+    /// Updates counters of the only object of the slot at a place, and returns the new value or list of values. A
+    /// single counter is set without moving the object.
     pub(crate) fn update_counter_at(
         &mut self,
         place: Place,
@@ -102,7 +104,7 @@ impl<R: Rows> TableRows<R> {
         }
     }
 
-    /// Updates one counter of the only object of the slot at a place, without moving the object.
+    /// Updates one counter of the only object of the slot at a place, without moving the object. Returns the new value.
     #[inline(always)]
     pub(crate) fn update_one_counter_at(
         &mut self,
@@ -116,19 +118,21 @@ impl<R: Rows> TableRows<R> {
     {
         let object = &self.rows.objects_at(place)[0];
         let value = counter_value(object, op)?;
+        // Positions count from 1, and indices from 0. `counter_value` refuses position 0.
         let index = op.position.saturating_sub(1) as usize;
         self.rows.set_element_at(place, index, Term::Int(value));
         Ok(Term::Int(value))
     }
 
-    /// Updates counters of the only object of the slot at a place. The object is moved out of the slot for the update,
-    /// and then back.
+    /// Updates counters of the only object of the slot at a place, and returns the new value or list of values. The
+    /// object is moved out of the slot for the update, and then back.
     fn update_counters_at(&mut self, place: Place, ops: &Ops) -> Result<Term, CounterFault>
         requires { HasOneObject (R.slots self.old.rows) (R.key_at self.old.rows place) }
         ensures slots { UpdatesCounterAt ops.now (R.key_at self.old.rows place)
             (R.slots self.old.rows) result (R.slots self.new.rows) }
         ensures keeps { ChangesSlotsOnly R.readiness self.old self.new }
     {
+        // The integer 0 fills the place of the object in its slot during the update.
         let mut object = self.rows.replace_one_at(place, Term::Int(0));
         let counted = update_counter(self.alloc, &mut object, ops);
         let _zero = self.rows.replace_one_at(place, object);
@@ -171,6 +175,7 @@ impl<R: Rows> TableRows<R> {
     {
         let object = &self.rows.objects_at(place)[0];
         let copy = copy_for_element(self.alloc, object, position, value)?;
+        // Positions count from 1, and indices from 0. `copy_for_element` refuses position 0.
         let index = position.saturating_sub(1) as usize;
         self.rows.set_element_at(place, index, copy);
         Ok(())
@@ -184,14 +189,16 @@ impl<R: Rows> TableRows<R> {
             (R.slots self.old.rows) result (R.slots self.new.rows) }
         ensures keeps { ChangesSlotsOnly R.readiness self.old self.new }
     {
+        // The integer 0 fills the place of the object in its slot during the update.
         let mut object = self.rows.replace_one_at(place, Term::Int(0));
         let written = write_elements(self.alloc, &mut object, specs);
         let _zero = self.rows.replace_one_at(place, object);
         written
     }
 
-    /// Inserts `object` under a key without objects, as the caller has checked. `below_limit` says whether the table
-    /// may have one more object.
+    /// Inserts `object`, made from a Default, under a key without objects; the caller has checked that. `entry` is the
+    /// result of the search for the key. Refuses with `SystemLimit` if `below_limit` is false: the table may not have
+    /// one more object.
     pub(crate) fn insert_default(
         &mut self,
         below_limit: bool,

@@ -6,7 +6,7 @@ use Rattle.ets_term.specs.declared.term.Term.TheVariants.{Int, Pid, Tid, Binary}
 use Rattle.ets_term.specs.Depth.{max_depth}
 use Rattle.ets_term.specs.Character.{max_characters}
 use Rattle.term_text.specs.declared.fault.TextFault.{TextFault}
-use Rattle.term_text.specs.inside.Reader.{OpenBracket, Number, integer, pid, identifier, byte, Expect, whole, digit, after_byte, quoted, escaped, after_quote, admits, Reading, reads_on, fails, with_sign, max_magnitude, put, expect, take_byte, read_from}
+use Rattle.term_text.specs.inside.Reader.{OpenBracket, Number, integer, pid, identifier, byte, Expect, whole, digit, after_byte, in_quotes, after_backslash, after_quote, admits, Reading, reads_on, fails, with_sign, max_magnitude, put, expect, take_byte, read_from}
 use Rattle.term_text.specs.declared.bracket.Bracket.{Bracket}
 use Rattle.term_text.specs.declared.bracket.Bracket.TheVariants.{Square, Brace}
 use Rattle.term_text.specs.declared.quote_form.QuoteForm.{QuoteForm}
@@ -84,27 +84,27 @@ RefusesNext at q n out_of_levels (Some f) =
 abbrev pub ReadsEscaped : List ℕ → ℕ → QuoteForm → Result (ℕ × ℕ) TextFault → Type 0
 ReadsEscaped text at q (Ok x) =
     (cs : List ℕ) (os : List OpenBracket)
-    → Reaches text at (reads_on (escaped q cs) os) x.1 (reads_on (quoted q (cs ++ x.0 ∷ [])) os)
+    → Reaches text at (reads_on (after_backslash q cs) os) x.1 (reads_on (in_quotes q (cs ++ x.0 ∷ [])) os)
 ReadsEscaped text at q (Err f) =
-    (cs : List ℕ) (os : List OpenBracket) → ReaderFails f (read_from at (reads_on (escaped q cs) os) (drop at text))
+    (cs : List ℕ) (os : List OpenBracket) → ReaderFails f (read_from at (reads_on (after_backslash q cs) os) (drop at text))
 
 -- reads a further character in quotes, after n
 abbrev pub ReadsCharacter : List ℕ → ℕ → QuoteForm → Bool → ℕ → Result (ℕ × ℕ) TextFault → Type 0
 ReadsCharacter text at q out_of_levels n (Ok x) =
     (cs : List ℕ) (os : List OpenBracket) → length cs ≡ n → IsOutOfLevels q out_of_levels os
-    → Reaches text at (reads_on (quoted q cs) os) x.1 (reads_on (quoted q (cs ++ x.0 ∷ [])) os)
+    → Reaches text at (reads_on (in_quotes q cs) os) x.1 (reads_on (in_quotes q (cs ++ x.0 ∷ [])) os)
 ReadsCharacter text at q out_of_levels n (Err f) =
     (cs : List ℕ) (os : List OpenBracket) → length cs ≡ n → IsOutOfLevels q out_of_levels os
-    → ReaderFails f (read_from at (reads_on (quoted q cs) os) (drop at text))
+    → ReaderFails f (read_from at (reads_on (in_quotes q cs) os) (drop at text))
 
 -- reads the characters from offset `at` on, and the closing quote
 abbrev pub ReadsQuoted : List ℕ → ℕ → QuoteForm → Bool → Result (List ℕ × ℕ) TextFault → Type 0
 ReadsQuoted text at q out_of_levels (Ok x) =
     (os : List OpenBracket) → IsOutOfLevels q out_of_levels os
-    → Reaches text at (reads_on (quoted q []) os) x.1 (after_quote x.1 q x.0 os)
+    → Reaches text at (reads_on (in_quotes q []) os) x.1 (after_quote x.1 q x.0 os)
 ReadsQuoted text at q out_of_levels (Err f) =
     (os : List OpenBracket) → IsOutOfLevels q out_of_levels os
-    → ReaderFails f (read_from at (reads_on (quoted q []) os) (drop at text))
+    → ReaderFails f (read_from at (reads_on (in_quotes q []) os) (drop at text))
 
 -- reads the bytes of a binary, of which the first must begin at offset `at`
 abbrev pub ReadsBytes : List ℕ → ℕ → Result (List ℕ × ℕ) TextFault → Type 0

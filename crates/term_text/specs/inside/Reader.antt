@@ -22,8 +22,8 @@ pub data Mode : Type 0 where
   digit : Number → ℕ → Mode  -- the first digit of a number
   number : Number → ℕ → ℕ → Mode  -- a further digit, after those of this value
   name : ℕ → List ℕ → Mode  -- a further character of an atom without quotes, which began at this offset and has these characters so far
-  quoted : QuoteForm → List ℕ → Mode  -- a further character in quotes, or the quote that closes
-  escaped : QuoteForm → List ℕ → Mode  -- the quote or `\` after a `\`
+  in_quotes : QuoteForm → List ℕ → Mode  -- a further character in quotes, or the quote that closes
+  after_backslash : QuoteForm → List ℕ → Mode  -- the quote or `\` after a `\`
   signs : List ℕ → Expect → Mode  -- these signs
   angle : Mode  -- after `<`, the `<` of a binary or the `0` of a pid
   opened_binary : Mode  -- a byte, a string or the closing sign of a binary just opened
@@ -38,8 +38,8 @@ pub data Reading : Type 0 where
   found : Term → ℕ → Reading  -- the term that the text begins with, and the number of its bytes
   fails : TextFault → Reading
 
-abbrev pub opening : Bool → OpenBracket
-opening square = record { square = square; terms = [] }
+abbrev pub open_bracket : Bool → OpenBracket
+open_bracket square = record { square = square; terms = [] }
 
 abbrev pub with_term : OpenBracket → Term → OpenBracket
 with_term o t = record { square = o.square; terms = o.terms ++ t ∷ [] }
@@ -63,11 +63,11 @@ next_sign at (c ∷ cs) goal os b = if b == c then expect (at + 1) cs goal os el
 unfoldable pub begin : ℕ → List OpenBracket → ℕ → Reading
 begin at os b = if begins_term b
     then (if nat_le max_depth (length os) then fails (TooDeep at)
-    else if b == 123 then reads_on (wants true) (opening false ∷ os)
-    else if b == 91 then reads_on (wants true) (opening true ∷ os)
+    else if b == 123 then reads_on (wants true) (open_bracket false ∷ os)
+    else if b == 91 then reads_on (wants true) (open_bracket true ∷ os)
     else if b == 45 then reads_on (digit (integer true) at) os
-    else if b == 39 then reads_on (quoted (form.Atom at) []) os
-    else if b == 34 then reads_on (quoted form.String []) os
+    else if b == 39 then reads_on (in_quotes (form.Atom at) []) os
+    else if b == 34 then reads_on (in_quotes form.String []) os
     else if b == 60 then reads_on angle os
     else if b == 35 then reads_on (signs (codes "Tid<") (digits identifier)) os
     else if is_digit b then reads_on (number (integer false) at (b - 48)) os
@@ -139,8 +139,8 @@ admits at form.Binary n os s = s
 
 abbrev pub next_in_quotes : ℕ → QuoteForm → List ℕ → List OpenBracket → ℕ → Reading
 next_in_quotes at q cs os b = if b == quote q then after_quote (at + 1) q cs os
-    else if b == 92 then admits at q (length cs) os (reads_on (escaped q cs) os)
-    else if is_character b then admits at q (length cs) os (reads_on (quoted q (cs ++ b ∷ [])) os)
+    else if b == 92 then admits at q (length cs) os (reads_on (after_backslash q cs) os)
+    else if is_character b then admits at q (length cs) os (reads_on (in_quotes q (cs ++ b ∷ [])) os)
     else fails (Unexpected at)
 
 abbrev pub next : ℕ → Mode → List OpenBracket → ℕ → Reading
@@ -152,16 +152,16 @@ next at (number kind start n) os b = next_number at kind start n os b
 next at (name start cs) os b = if is_name b
     then (if length cs == max_characters then fails (AtomTooLong start) else reads_on (name start (cs ++ b ∷ [])) os)
     else next_unless_found at (put os (Atom cs) at) b
-next at (quoted q cs) os b = next_in_quotes at q cs os b
-next at (escaped q cs) os b = if (b == quote q) || (b == 92)
-    then reads_on (quoted q (cs ++ b ∷ [])) os
+next at (in_quotes q cs) os b = next_in_quotes at q cs os b
+next at (after_backslash q cs) os b = if (b == quote q) || (b == 92)
+    then reads_on (in_quotes q (cs ++ b ∷ [])) os
     else fails (Unexpected at)
 next at (signs cs goal) os b = next_sign at cs goal os b
 next at angle os b = if b == 60 then reads_on opened_binary os
     else if b == 48 then reads_on (signs (codes ".") (digits pid)) os
     else fails (Unexpected at)
 next at opened_binary os b = if is_blank b then reads_on opened_binary os
-    else if b == 34 then reads_on (quoted form.Binary []) os
+    else if b == 34 then reads_on (in_quotes form.Binary []) os
     else if is_digit b then reads_on (number (byte []) at (b - 48)) os
     else binary_ends at [] os b
 next at (wants_byte bs) os b = if is_blank b then reads_on (wants_byte bs) os else next_digit at (byte bs) at os b
@@ -182,13 +182,13 @@ end_after_term at (found t n) = found t n
 end_after_term at (fails f) = fails f
 
 -- the end of the text, where an integer or a name may end
-abbrev pub ending : ℕ → Mode → List OpenBracket → Reading
-ending at (number (integer below) start n) os = end_after_term at (put os (Int (with_sign below n)) at)
-ending at (name start cs) os = end_after_term at (put os (Atom cs) at)
-ending at mode os = fails (Unclosed at)
+abbrev pub end_in_mode : ℕ → Mode → List OpenBracket → Reading
+end_in_mode at (number (integer below) start n) os = end_after_term at (put os (Int (with_sign below n)) at)
+end_in_mode at (name start cs) os = end_after_term at (put os (Atom cs) at)
+end_in_mode at mode os = fails (Unclosed at)
 
 abbrev pub end : ℕ → Reading → Reading
-end at (reads_on mode os) = ending at mode os
+end at (reads_on mode os) = end_in_mode at mode os
 end at (found t n) = found t n
 end at (fails f) = fails f
 

@@ -104,7 +104,8 @@ fn count_of<R: Rows>(table: &Walked<R>, key: Integer) -> usize {
     count
 }
 
-/// Returns the key after this one in a traversal, or None at the end of the table.
+/// Returns the key after this one in a traversal, or None at the end of the table. `Badarg` means that the key has no
+/// slot.
 fn key_after<R: Rows>(table: &Walked<R>, key: Integer) -> Result<Option<&Term>, Badarg> {
     let key = Term::Int(key);
     let found = table.next(&key);
@@ -147,7 +148,8 @@ enum Check {
     Traversal(Keys, BucketsAbove),
 }
 
-/// The number of keys of a traversal: the numbers below it. The lower half of them has objects at the start.
+/// The number of keys of a traversal. The keys are the numbers below it. The lower half of the keys has objects at the
+/// start.
 #[derive(Clone, Copy)]
 struct Keys(u32);
 
@@ -161,8 +163,8 @@ fn table_passes<R: Rows>(alloc: Global, table: &mut Walked<R>, check: Check) -> 
         Check::AllCalls => Some(calls::all_calls_succeed(alloc, table)),
         Check::TakesNoMemory => Some(free::takes_no_memory(alloc, table)),
         Check::Refusals(first, second) => Some(
-            refused::are_answered_with_retry(alloc, table, first)
-                && refused::are_answered_with_retry(alloc, table, second),
+            refused::have_wanted_answers_with_retry(alloc, table, first)
+                && refused::have_wanted_answers_with_retry(alloc, table, second),
         ),
         Check::Tombstones(rows) => Some(tombstones::all_rows_hold(alloc, table, rows)),
         Check::Traversal(keys, buckets) => {

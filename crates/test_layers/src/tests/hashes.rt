@@ -62,7 +62,7 @@ fn hash_of_an_integer(number: Integer) -> u32 {
 const KIND_OF_ATOM: u8 = 2;
 
 /// Returns whether the hash by `Fnv` of the atom of each text is the plain hash of its encoding: a byte for the kind,
-/// the length and the text.
+/// the length and the text. The published hashes are of the texts alone, so they are not used.
 fn are_hashed_by_encoding(alloc: Global, rows: &[(&'static str, u32)]) -> bool {
     for (text, _) in rows {
         let Ok(length) = u8::try_from(text.len()) else {

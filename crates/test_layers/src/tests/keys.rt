@@ -82,7 +82,8 @@ fn items_have_their_split_keys(rt: HostRuntime) {
 /// Each row is a bucket, and its parent.
 const PARENTS: [(u32, u32); 5] = [(1, 0), (3, 1), (6, 2), (12, 4), (u32::MAX, 2_147_483_647)];
 
-/// Returns whether each bucket has the parent of its row.
+/// Returns whether each bucket has the parent of its row. `parent` requires a bucket other than 0, so a row of bucket 0
+/// fails.
 fn buckets_have_parents(rows: &[(u32, u32)]) -> bool {
     for (bucket, wanted) in rows {
         if *bucket == 0 || parent(*bucket) != *wanted {

@@ -186,11 +186,11 @@ fn pushes_and_pops(items: &mut Items<u8>) -> Option<bool> {
 /// Returns whether numbers are pushed to `Items` and popped, and `into_vec` then has the others.
 fn items_push_and_pop(alloc: Global) -> Option<bool> {
     let mut items = Items::new(alloc);
-    let grown = pushes_and_pops(&mut items);
+    let pushed_and_popped = pushes_and_pops(&mut items);
     let vec = items.into_vec();
     let same = vec.as_slice() == [1, 2].as_slice();
     drop(vec);
-    Some(grown? && same)
+    Some(pushed_and_popped? && same)
 }
 
 /// Checks that `Items`, here of bytes, push and pop at their end.

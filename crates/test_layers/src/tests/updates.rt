@@ -1,8 +1,9 @@
 //! Updates of counters and elements of one object. Rows of text have the expected values, from the rules of `ets`.
 //! `None` means out of memory, unless a comment says otherwise.
 use counters::{
-    CounterFault, ElementSpecs, Ops, apply_elements, apply_ops, is_default, read_element_specs,
-    read_ops, start_counter, start_with_elements, update_counter, with_key, write_elements,
+    CounterFault, ElementSpecs, Ops, apply_elements, apply_ops, is_valid_default,
+    read_element_specs, read_ops, start_counter, start_with_elements, update_counter, with_key,
+    write_elements,
 };
 use ets_term::{Items, MAX_DEPTH, Term};
 use std::alloc::Global;

@@ -26,13 +26,14 @@ struct Tally {
     matches: u32,
     /// How many match specifications compiled.
     compiled: u32,
-    /// How many of these gave a result.
+    /// How many of the match specifications that compiled gave a result.
     results: u32,
     /// How many answers differed from the plain reading.
     mismatches: u32,
 }
 
-/// Returns the bindings of a pattern, or `None` if it does not match. The outer `None` means that it does not compile.
+/// Returns the list of the bindings of a pattern, or `Some(None)` if it does not match. The outer `None` means that it
+/// does not compile, or out of memory.
 fn bindings(alloc: Global, pattern: &Term, object: &Term) -> Option<Option<Term>> {
     let pattern = Pattern::compile(alloc, pattern).ok()?;
     match pattern.bindings(alloc, object).ok()? {
@@ -42,7 +43,7 @@ fn bindings(alloc: Global, pattern: &Term, object: &Term) -> Option<Option<Term>
 }
 
 impl Tally {
-    /// Counts a mismatch, unless an answer is the same as that of the plain reading.
+    /// Counts a mismatch if `same` is false: an answer is not that of the plain reading.
     fn count_mismatch_unless(&mut self, same: bool) {
         if !same {
             self.mismatches = self.mismatches.saturating_add(1);
@@ -102,7 +103,8 @@ impl Tally {
         Some(())
     }
 
-    /// Calls `compare_random_object` this number of times.
+    /// Calls `compare_random_object` this number of times. Returns `None` if memory runs out while a random term is
+    /// built.
     fn compare_random_objects(
         &mut self,
         alloc: Global,
@@ -127,8 +129,8 @@ impl Tally {
 }
 
 /// Returns whether `OBJECTS` random objects, each with a pattern and a match specification, give no mismatch, and
-/// enough of them match and give results. If memory runs out, `done` is `None`. Each of the four tests has its own
-/// seed.
+/// enough of them match and give results. Returns `false` if memory runs out while a random term is built. Each of the
+/// four tests has its own seed.
 fn random_terms_agree(alloc: Global, seed: u64) -> bool {
     let mut tally = Tally {
         matches: 0,
@@ -136,8 +138,8 @@ fn random_terms_agree(alloc: Global, seed: u64) -> bool {
         results: 0,
         mismatches: 0,
     };
-    let done = tally.compare_random_objects(alloc, &mut Random::new(seed), OBJECTS);
-    done == Some(()) && tally.agrees_with_enough()
+    let outcome = tally.compare_random_objects(alloc, &mut Random::new(seed), OBJECTS);
+    outcome == Some(()) && tally.agrees_with_enough()
 }
 
 #[test]

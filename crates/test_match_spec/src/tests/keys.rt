@@ -1,5 +1,7 @@
 //! The bound key of patterns and match specifications: the key that every matching object has. A row is a text and the
 //! key that it binds, if it binds one.
+// A helper returns `None` if a text is not a term, pattern or match specification, or memory runs out. Each of these
+// fails its test.
 use super::*;
 use ets_term::Position;
 use term_text::read_term;
@@ -9,7 +11,7 @@ fn term_of(alloc: Global, text: &str) -> Option<Term> {
     Some(read_term(alloc, text).ok()?.0)
 }
 
-/// Returns whether a key is the term of a text, or both are missing.
+/// Returns whether the key that was found is the term of the wanted text, or both are missing.
 fn is_key(alloc: Global, found: Option<&Term>, wanted: Option<&'static str>) -> Option<bool> {
     match (found, wanted) {
         (Some(key), Some(text)) => Some(*key == term_of(alloc, text)?),
@@ -25,7 +27,7 @@ struct Keypos(Position);
 type PatternRow = (&'static str, Keypos, Option<&'static str>);
 
 /// Patterns that bind a key, and patterns that match objects of several keys. The position 2^64 + 1 must not be taken
-/// for 1, which is what 64 bits hold of it.
+/// for 1, its value modulo 2^64.
 const PATTERNS: [PatternRow; 11] = [
     ("{7,'_'}", Keypos(1), Some("7")),
     ("{7,'_'}", Keypos(2), None),

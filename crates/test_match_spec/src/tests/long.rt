@@ -1,4 +1,6 @@
-//! Patterns and match specifications of thousands of parts, and a sum of 128 additions inside each other.
+//! Patterns and match specifications of thousands of parts, and a sum of 128 additions inside each other: as many as
+//! the greatest depth of a term.
+// `None` means out of memory, or that something does not compile, does not match or has no result. Each fails its test.
 use super::*;
 use crate::tests::forms::{atom, one_item, pair, triple};
 
@@ -8,7 +10,7 @@ const COUNT: u32 = 10_000;
 /// The number of the last variable.
 const LAST: u32 = 9_999;
 
-/// Builds the variable of a number, as `'$7'` of 7.
+/// Builds the variable of a number, such as `'$7'` for 7.
 fn variable_atom(alloc: Global, number: u32) -> Option<Term> {
     let text = format!(in alloc; "${number}").ok()?;
     atom(alloc, text.as_str())

@@ -1,5 +1,6 @@
 //! Random objects, patterns and match specifications, the same in each run. They are built from pools of terms, which
 //! grow by tuples and lists of the terms in them.
+// `None` means out of memory. No pool is empty when a term is drawn from it.
 use super::*;
 use crate::tests::forms::{atom, copy, triple};
 
@@ -14,6 +15,7 @@ const INCREMENT: u64 = 1442695040888963407;
 /// Pseudo-random numbers, the same in each run.
 #[derive(Drop)]
 pub(crate) struct Random {
+    /// The last number of the sequence. The next is computed from it.
     state: u64,
 }
 
@@ -23,7 +25,8 @@ impl Random {
         Random { state: seed }
     }
 
-    /// Draws a number below `n`, from the high bits of the next state.
+    /// Draws a number below `n`, or 0 if `n` is 0. The number is made from the high bits of the next state, because the
+    /// low bits of such a generator repeat soon.
     fn random_below(&mut self, n: u64) -> u64 {
         self.state = self.state.wrapping_mul(FACTOR).wrapping_add(INCREMENT);
         (self.state >> 33).checked_rem(n).unwrap_or(0)
@@ -35,7 +38,7 @@ impl Random {
         copy(alloc, terms.get(at)?)
     }
 
-    /// Returns up to `most` copies of the terms, drawn one by one.
+    /// Returns at most `most` copies, each of a term that is drawn from `terms`. Their number is random.
     fn random_copies(&mut self, alloc: Global, terms: &[Term], most: u64) -> Option<Items<Term>> {
         let mut copies = Items::new(alloc);
         let count = self.random_below(most.saturating_add(1));
@@ -43,7 +46,7 @@ impl Random {
         Some(copies)
     }
 
-    /// Pushes `count` copies of the terms, drawn one by one.
+    /// Pushes `count` copies, each of a term that is drawn from `terms`.
     fn push_random_copies(
         &mut self,
         alloc: Global,
@@ -148,8 +151,8 @@ impl Random {
         Some(parts)
     }
 
-    /// Builds a pattern: the object with variables and other terms in place of some of its parts, or in one of ten
-    /// cases `_`.
+    /// Builds a pattern: the object with variables and other terms in place of some of its parts, or in 1 of 10 cases
+    /// `_`.
     pub(crate) fn pattern(&mut self, alloc: Global, object: &Term) -> Option<Term> {
         match object {
             Term::Tuple(items) if self.random_below(10) > 0 => {

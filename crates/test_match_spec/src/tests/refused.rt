@@ -1,10 +1,11 @@
 //! Compilations and evaluations that run out of memory. `.ci/refusals` runs these tests with each allocation refused in
 //! turn.
-// A compilation or evaluation that runs out of memory is repeated, and must then give the result of ample memory.
+// A compilation or evaluation that runs out of memory is repeated, and must then give the result that it has with
+// enough memory. A helper returns `None` if the second attempt also fails, or a text is not a term.
 use super::*;
 use term_text::{TextFault, read_term};
 
-/// Reads the term of a text. Repeats it if memory runs out.
+/// Reads the term of a text. Reads the text again if memory runs out.
 fn term_with_retry(alloc: Global, text: &str) -> Option<Term> {
     let read = match read_term(alloc, text) {
         Err(TextFault::Memory) => read_term(alloc, text),
@@ -16,7 +17,7 @@ fn term_with_retry(alloc: Global, text: &str) -> Option<Term> {
     }
 }
 
-/// Compiles a pattern. Repeats it if memory runs out.
+/// Compiles a pattern. Compiles it again if this fails.
 fn pattern_with_retry(alloc: Global, term: &Term) -> Option<Pattern> {
     match Pattern::compile(alloc, term) {
         Ok(pattern) => Some(pattern),
@@ -24,7 +25,7 @@ fn pattern_with_retry(alloc: Global, term: &Term) -> Option<Pattern> {
     }
 }
 
-/// Compiles a match specification. Repeats it if memory runs out.
+/// Compiles a match specification. Compiles it again if this fails.
 fn spec_with_retry(alloc: Global, term: &Term) -> Option<Spec> {
     match Spec::compile(alloc, term) {
         Ok(spec) => Some(spec),
@@ -32,8 +33,8 @@ fn spec_with_retry(alloc: Global, term: &Term) -> Option<Spec> {
     }
 }
 
-/// Returns the list of the bindings by which an object matches, or the atom `none`. Repeats the match if memory runs
-/// out.
+/// Returns the list of the bindings by which an object matches, or the atom `none` if it does not match. Repeats the
+/// match if memory runs out.
 fn bindings_with_retry(alloc: Global, pattern: &Pattern, object: &Term) -> Option<Term> {
     let bindings = match pattern.bindings(alloc, object) {
         Ok(bindings) => bindings,
@@ -45,8 +46,8 @@ fn bindings_with_retry(alloc: Global, pattern: &Pattern, object: &Term) -> Optio
     }
 }
 
-/// Returns the result of a match specification on an object, or the atom `none`. Repeats the evaluation if memory runs
-/// out.
+/// Returns the result of a match specification on an object, or the atom `none` if no clause applies. Repeats the
+/// evaluation if memory runs out.
 fn result_with_retry(alloc: Global, spec: &Spec, object: &Term) -> Option<Term> {
     let result = match spec.result(alloc, object) {
         Ok(result) => result,
@@ -66,23 +67,26 @@ fn is_true_with_retry(alloc: Global, spec: &Spec, object: &Term) -> Option<bool>
     }
 }
 
-/// Returns whether the bindings of a pattern are the wanted ones.
+/// Returns whether a match gives the wanted term: the list of the bindings, or the atom `none` for no match.
 fn has_bindings(alloc: Global, pattern: &Term, object: &Term, wanted: &Term) -> Option<bool> {
     let pattern = pattern_with_retry(alloc, pattern)?;
     Some(bindings_with_retry(alloc, &pattern, object)? == *wanted)
 }
 
-/// Returns whether the result of a match specification is the wanted one, by `result` and by `is_true`.
+/// Returns whether `result` and `is_true` of a match specification agree with the wanted result. The atom `none` means
+/// that no clause applies.
 fn has_result(alloc: Global, spec: &Term, object: &Term, wanted: &Term) -> Option<bool> {
     let spec = spec_with_retry(alloc, spec)?;
     let is_true_agrees = is_true_with_retry(alloc, &spec, object)? == wanted.is_atom("true");
     Some(is_true_agrees && result_with_retry(alloc, &spec, object)? == *wanted)
 }
 
-/// The form of a row of text: `[Pattern,Object,Values]` or `[Specification,Object,Result]`.
+/// The columns of a row of text.
 #[derive(Clone, Copy)]
 enum Form {
+    /// `[Pattern,Object,Values]`
     Pattern,
+    /// `[Specification,Object,Result]`
     Spec,
 }
 

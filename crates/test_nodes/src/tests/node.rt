@@ -1,6 +1,6 @@
 //! Tests of `node_core::Node`, the store, for what no script of tests/scripts can say.
 // A test is a table of rows: a step, and the reply that the rules of docs/calls.md want, written by hand and called
-// `wanted`. A test reports the index of the first wrong row.
+// `wanted`. A test reports the index of the first wrong row, or `None` if each row is right.
 use crate::tests::text::{is_spelled, term, terms};
 use crate::tests::{Bucket, Pid, Tid, keep_if_ok};
 use ets_term::{AllSame, Atom, Fnv, Items, KeyHash, Term};
@@ -68,7 +68,7 @@ fn ask(alloc: Global, pid: Pid, call: &str) -> Result<Step, AllocError> {
     }
 }
 
-/// Builds the step of a `StepText`.
+/// Builds the step that a `StepText` describes.
 fn build_step(alloc: Global, step_text: StepText) -> Result<Step, AllocError> {
     match step_text {
         StepText::Enrol(pid) => Ok(Step::Enrol(pid.0)),
@@ -133,9 +133,9 @@ fn step_text_has_reply<H: KeyHash + Copy + Drop>(
     wanted: &str,
 ) -> Result<bool, AllocError> {
     let step = build_step(alloc, step_text)?;
-    let answered = step_has_reply(alloc, node, &step, wanted);
+    let has_reply = step_has_reply(alloc, node, &step, wanted);
     drop(step);
-    answered
+    has_reply
 }
 
 /// Runs a step, and returns whether it has the wanted reply.
@@ -151,7 +151,8 @@ fn step_has_reply<H: KeyHash + Copy + Drop>(
     same
 }
 
-/// Runs the rows in a node, and returns the index of the first row with another reply than wanted.
+/// Runs the rows in a node, up to the first row with another reply than wanted. Returns the index of that row, or
+/// `None` if each reply is the wanted one.
 fn first_wrong_row_in<H: KeyHash + Copy + Drop>(
     alloc: Global,
     node: &mut Node<H>,

@@ -1,6 +1,7 @@
 //! A reader of texts as terms, as the store prints them: `{a,-1}`, `['$1',[]]`, `#Tid<7>`, `<0.7.0>`.
-// The text `deep(7)` is the empty list within six lists, seven levels deep. Most texts that are not a term are a fault of
-// their test, reported as out of memory. Brackets are not compared with each other, nor checked to be closed.
+// The text `deep(7)` is the empty list within six lists, seven levels deep. Most texts that are not a term are a fault
+// of their test, reported as out of memory. The reader does not check that brackets are closed, nor that an opening and
+// a closing bracket are of one kind.
 use crate::tests::keep_if_ok;
 use ets_term::{Atom, Integer, Items, Term};
 use std::alloc::{AllocError, Global};
@@ -42,7 +43,7 @@ impl Reader {
     /// Sets the terms read so far aside until the bracket is closed.
     fn open_bracket(&mut self) -> Result<(), AllocError> {
         self.end_word()?;
-        // So that `push_reserved` cannot run out of memory.
+        // First, so that `push_reserved` cannot run out of memory.
         self.open.reserve(1)?;
         let before = mem::replace(&mut self.terms, Items::new(self.alloc));
         self.open.push_reserved(before);
@@ -62,7 +63,7 @@ impl Reader {
         } else {
             Term::List(terms)
         };
-        Ok(self.terms.push(term)?)
+        self.terms.push(term)
     }
 
     /// Appends the term of the word in progress, if there is one.
@@ -72,7 +73,7 @@ impl Reader {
         }
         let term = term_of_word(self.alloc, self.word.as_str())?;
         self.word.clear();
-        Ok(self.terms.push(term)?)
+        self.terms.push(term)
     }
 }
 
@@ -93,12 +94,12 @@ pub fn terms(alloc: Global, text: &str) -> Result<Vec<Term>, AllocError> {
     }
 }
 
-/// Returns the term that a text spells: the last one, if there are several.
+/// Returns the term that a text spells: the last term, if there are several.
 pub fn term(alloc: Global, text: &str) -> Result<Term, AllocError> {
     let mut terms = terms(alloc, text)?;
-    let last = terms.pop();
+    let last_term = terms.pop();
     drop(terms);
-    last.ok_or(AllocError)
+    last_term.ok_or(AllocError)
 }
 
 /// Returns whether a text spells this term.
@@ -137,17 +138,18 @@ fn atom(alloc: Global, word: &str) -> Result<Term, AllocError> {
     }
 }
 
-/// Returns what is left of a word without this start and this end, or `None` if it lacks one of them.
+/// Returns the part of a word between this start and this end, or `None` if the word lacks one of them.
 fn text_between<'a>(word: &'a str, start: &str, end: &str) -> Option<&'a str> {
     word.strip_prefix(start)?.strip_suffix(end)
 }
 
-/// Returns the number that is left of a word without this start and this end, if it is one.
+/// Returns the number between this start and this end of a word. `None` means that the word lacks one of them, or that
+/// there is no number between them.
 fn number_between(word: &str, start: &str, end: &str) -> Option<u32> {
     text_between(word, start, end)?.parse::<u32>().ok()
 }
 
-/// Returns the empty list within lists, a term of this depth.
+/// Returns the empty list within lists, a term of this depth. The empty list alone has the depth 1.
 fn nested_list(alloc: Global, depth: u32) -> Result<Term, AllocError> {
     let mut term = Term::List(Items::new(alloc));
     for _ in 1..depth {

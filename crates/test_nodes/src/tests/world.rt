@@ -1,6 +1,6 @@
 //! Tests of `ownership::World`: the processes and tables of a node, without its calls.
 // Each test is a table of rows: a call of a method of `World`, and the answer that the rules want, called `wanted`. A
-// test reports the index of the first wrong row.
+// test reports the index of the first wrong row, or `None` if each row is right.
 use crate::tests::text::is_spelled;
 use crate::tests::{Pid, Tid};
 use bucket_table::PlainRows;
@@ -153,7 +153,8 @@ fn row_has_answer(
     }
 }
 
-/// Makes the calls of the rows in a world, and returns the index of the first row with another answer than wanted.
+/// Makes the calls of the rows in a world, up to the first row with another answer than wanted. Returns the index of
+/// that row, or `None` if each answer is the wanted one.
 fn first_wrong_row_in(
     alloc: Global,
     world: &mut PlainWorld,
@@ -177,8 +178,8 @@ fn first_wrong_row(alloc: Global, tries: Tries, rows: &[Row]) -> Result<Option<u
     index
 }
 
-/// Makes the calls of each scenario in a world of its own. Returns the index of the first scenario with a wrong row,
-/// and the index of that row.
+/// Makes the calls of each scenario in a new world. Returns the index of the first scenario with a wrong row, and the
+/// index of that row. `None` means that each row is right.
 fn first_wrong_scenario(
     alloc: Global,
     scenarios: &[&'static [Row]],

@@ -1,5 +1,5 @@
 //! Scripts with their answers. docs/calls.md says what the calls do.
-use super::{count_answered_scripts, usual_run};
+use super::{first_wrong_script, usual_run};
 
 /// Answers scripts that start and end processes, and that name tables. A row is a script and its answers.
 #[test]
@@ -29,7 +29,7 @@ fn scripts_about_processes_tables_and_names_are_answered(rt: HostRuntime) {
         ),
     ];
     assert_eq!(rt;
-        count_answered_scripts(rt.alloc(), &usual_run(), &rows),
+        first_wrong_script(rt.alloc(), &usual_run(), &rows),
         rows.len()
     );
 }
@@ -64,7 +64,7 @@ fn each_kind_of_table_answers_insertions_and_lookups(rt: HostRuntime) {
         ),
     ];
     assert_eq!(rt;
-        count_answered_scripts(rt.alloc(), &usual_run(), &rows),
+        first_wrong_script(rt.alloc(), &usual_run(), &rows),
         rows.len()
     );
 }

@@ -1,5 +1,5 @@
-//! Command lines of the program. `settings` parses `--threads`, `--hash` and `--max-objects`. `parse_options` also parses
-//! the other options, such as the limits of processes and tables.
+//! Command lines of the program. `settings` parses `--threads`, `--hash` and `--max-objects`. `parse_options` also
+//! parses the other options, such as the limits of processes and tables.
 use clap::error::ErrorKind;
 use ets_script::{parse_options, settings};
 use node_core::Limits;

@@ -34,7 +34,7 @@ pub struct FlushLog {
     written: Cell<usize>,
     /// How many of them were flushed.
     flushed: Cell<usize>,
-    /// How many had been flushed when a read failed.
+    /// How many had been flushed when a read failed, or `None` if no read failed.
     flushed_at_fault: Cell<Option<usize>>,
     /// Whether some read began before all written bytes were flushed.
     is_read_unflushed: Cell<bool>,

@@ -1,6 +1,6 @@
 //! Which answers are written if the reader or the writer of a script is slow or fails.
 use super::devices::{Devices, GOOD_DEVICES};
-use super::{End, Run, ends_with_answers, ends_with_answers_by_hash, usual_run};
+use super::{End, Run, ends_with_answers, ends_with_answers_with_hasher, usual_run};
 use ets_term::Fnv;
 use std::alloc::{AllocError, Global};
 use std::test::Fail;
@@ -174,7 +174,7 @@ fn first_wrong_prefix(alloc: Global, script: &[u8], answers: &[u8], end: End) ->
         let written = REFUSAL_BYTES.saturating_mul(lines as usize);
         let prefix = &answers[..answers.len().min(written)];
         let run = with_devices(failing_devices(end, lines));
-        if !ends_with_answers_by_hash(alloc, &run, Fnv, script, prefix, end) {
+        if !ends_with_answers_with_hasher(alloc, &run, Fnv, script, prefix, end) {
             return Some(lines);
         }
     }

@@ -1,5 +1,5 @@
 //! Calls past a limit are refused, and the script continues.
-use super::{Run, count_answered_scripts, usual_run};
+use super::{Run, first_wrong_script, usual_run};
 use node_core::Limits;
 
 /// Returns a run with good devices and these limits of processes, tables and objects.
@@ -23,7 +23,7 @@ fn a_limit_of_no_tables_refuses_the_first(rt: HostRuntime) {
         b"<0.0.0>\n** system_limit\n** system_limit\n** badarg\ntrue\n",
     )];
     assert_eq!(rt;
-        count_answered_scripts(rt.alloc(), &with_limits(1, 0, 0), &rows),
+        first_wrong_script(rt.alloc(), &with_limits(1, 0, 0), &rows),
         rows.len()
     );
 }
@@ -36,7 +36,7 @@ fn a_limit_of_three_objects_refuses_the_fourth(rt: HostRuntime) {
         b"<0.0.0>\nt\ntrue\n** system_limit\n[]\ntrue\n[{a,2}]\n** system_limit\n",
     )];
     assert_eq!(rt;
-        count_answered_scripts(rt.alloc(), &with_limits(1, 1, 3), &rows),
+        first_wrong_script(rt.alloc(), &with_limits(1, 1, 3), &rows),
         rows.len()
     );
 }
@@ -49,7 +49,7 @@ fn a_limit_of_one_process_refuses_the_second(rt: HostRuntime) {
         b"<0.0.0>\n** system_limit\n** noproc\n",
     )];
     assert_eq!(rt;
-        count_answered_scripts(rt.alloc(), &with_limits(1, 1, 1), &rows),
+        first_wrong_script(rt.alloc(), &with_limits(1, 1, 1), &rows),
         rows.len()
     );
 }

@@ -1,6 +1,6 @@
 //! Long lines, long binaries and long scripts, with their answers.
 use super::devices::{Devices, GOOD_DEVICES};
-use super::{End, Run, ends_with_answers, ends_with_answers_by_hash, usual_run};
+use super::{End, Run, ends_with_answers, ends_with_answers_with_hasher, usual_run};
 use ets_term::Fnv;
 use node_core::Limits;
 use std::alloc::{AllocError, Global};
@@ -75,8 +75,8 @@ fn long_lines_in_parts_are_answered_or_refused(rt: HostRuntime) -> Result<(), Fa
     Ok(())
 }
 
-/// Returns whether the first line is answered if the first read returns it and this number of letters of a second line,
-/// and the next read fails.
+/// Returns whether the first line is answered before the next read, which fails. The first read returns this line and
+/// `letters` letters of a second one.
 fn line_is_answered_before_next_read(alloc: Global, letters: usize) -> Result<bool, AllocError> {
     let script = with_repeats(alloc, b"spawn p\n", b"a", letters, b"")?;
     let devices = Devices {
@@ -113,7 +113,8 @@ fn with_repeats(
     Ok(text)
 }
 
-/// Stores a binary of one letter `a` and then `bytes` letters `b`. Returns whether a lookup finds it.
+/// Stores a binary of one letter `a` and then `bytes` letters `b`. Returns whether a lookup finds it: whether the script
+/// writes exactly the expected answers.
 fn long_binary_is_found(alloc: Global, bytes: usize) -> Result<bool, AllocError> {
     let script = with_repeats(
         alloc,
@@ -170,6 +171,7 @@ fn script_is_read_by_bytes(alloc: Global, lines: usize) -> Result<bool, AllocErr
 /// Answers a script that is read byte by byte.
 #[test]
 fn a_script_read_byte_by_byte_is_answered(rt: HostRuntime) -> Result<(), Fail> {
+    // An arbitrary number of lines; each takes eight reads.
     assert!(rt; script_is_read_by_bytes(rt.alloc(), 2_500)?);
     Ok(())
 }
@@ -203,7 +205,7 @@ fn processes_are_spawned(alloc: Global, count: u32) -> Result<bool, AllocError> 
         limits,
         ..usual_run()
     };
-    Ok(ends_with_answers_by_hash(
+    Ok(ends_with_answers_with_hasher(
         alloc,
         &run,
         Fnv,

@@ -1,5 +1,5 @@
 //! Lines that are not commands, and the ends of lines.
-use super::{count_answered_scripts, usual_run};
+use super::{first_wrong_script, usual_run};
 
 /// Answers each wrong line with `** syntax N`, where N is the number of bytes before its first fault. A row is a script
 /// and its answers.
@@ -33,7 +33,7 @@ fn wrong_lines_are_answered_with_their_first_fault(rt: HostRuntime) {
         ),
     ];
     assert_eq!(rt;
-        count_answered_scripts(rt.alloc(), &usual_run(), &rows),
+        first_wrong_script(rt.alloc(), &usual_run(), &rows),
         rows.len()
     );
 }
@@ -53,7 +53,7 @@ fn lines_end_with_cr_lf_or_both(rt: HostRuntime) {
         (b"\n\n \t spawn \t p \t\n\n%spawn q\n", b"<0.0.0>\n"),
     ];
     assert_eq!(rt;
-        count_answered_scripts(rt.alloc(), &usual_run(), &rows),
+        first_wrong_script(rt.alloc(), &usual_run(), &rows),
         rows.len()
     );
 }

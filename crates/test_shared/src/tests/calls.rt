@@ -1,5 +1,6 @@
 //! Helpers that build calls from text, make them, and check the replies. A call is a pair of texts: its name, and the
-//! list of its arguments. `None` means that a text is not a call, or that memory ran out.
+//! list of its arguments. Parameters `text` are such pairs. `None` means that a text is not a call, or that memory ran
+//! out.
 use ets_term::{Atom, KeyHash, Term};
 use node_core::{Call, Reply};
 use node_shared::{Caller, Client, HistoryId, Job, Server, Shared};
@@ -93,7 +94,7 @@ pub(super) fn caller_gets_value_formatted<B: HistoryId, H: KeyHash + Copy + Drop
     Some(caller.ask(rt, server, request).ok()?.is_value())
 }
 
-/// Makes a call of a caller, and returns `None` if the reply is a refusal.
+/// Makes a call of a caller. Returns `None` also if the reply is a refusal.
 pub(super) fn expect_value<B: HistoryId, H: KeyHash + Copy + Drop, R: Wait>(
     rt: &R,
     alloc: Global,
@@ -108,7 +109,7 @@ pub(super) fn expect_value<B: HistoryId, H: KeyHash + Copy + Drop, R: Wait>(
     }
 }
 
-/// Makes a call of a caller with formatted arguments, and returns `None` if the reply is a refusal.
+/// Makes a call of a caller with formatted arguments. Returns `None` also if the reply is a refusal.
 pub(super) fn expect_value_formatted<B: HistoryId, H: KeyHash + Copy + Drop, R: Wait>(
     rt: &R,
     alloc: Global,

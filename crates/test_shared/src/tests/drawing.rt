@@ -1,7 +1,7 @@
 //! A test of two threads, each of which makes a visit: it draws a process number, joins a client by it, and makes a
 //! call.
-// In contracts, the table is not one of objects: it is the kit's table of shared words, here the word with the next
-// number.
+// In contracts, the table has no objects: it is the kit's table of shared words, here of the word that has the next
+// process number.
 ghost use Rattle.std.specs.Prelude.{◌≡◌, IfSome};
 ghost use Rattle.std.specs.Thread.{IsSync};
 

@@ -19,7 +19,8 @@ use std::thread::Threads;
 /// The arguments of `insert` for ten objects.
 const INSERT_TEN: &str = "[t,[{0},{1},{2},{3},{4},{5},{6},{7},{8},{9}]]";
 
-/// Three calls, each a name and the text of its arguments.
+/// Three calls, each a name and the text of its list of arguments. Table t belongs to the first client that makes it,
+/// so the calls of the other may be refused; such a refusal is not `NoProcess`.
 const CALLS: [(&str, &str); 3] = [
     ("new", "[t,[named_table]]"),
     ("insert", INSERT_TEN),
@@ -91,7 +92,7 @@ fn both_are_refused_after_end<L: Ledger + Send + Sync, R: Threads + Wait + Sync>
 
 #[test]
 fn calls_after_the_end_of_their_process_are_refused(rt: HostRuntime) -> Result<(), Fail> {
-    let refused = both_are_refused_after_end::<Brand, _>(&rt, rt.alloc(), Blank::new(3));
-    assert!(rt; refused.ok_or("a transcript")?);
+    let is_right = both_are_refused_after_end::<Brand, _>(&rt, rt.alloc(), Blank::new(3));
+    assert!(rt; is_right.ok_or("no memory, or a wrong journal")?);
     Ok(())
 }

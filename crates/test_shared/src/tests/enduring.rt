@@ -1,6 +1,7 @@
 //! Tests of eight clients with twenty thousand jobs each, on tables that grow. At the end the journal must have the
 //! steps of all clients.
-// Some processes end and leave their tables to heirs.
+// Some processes end and leave their tables to heirs. A round is a new node with eight new clients. `None` means that
+// memory ran out, that an enrolment was refused, or that the journal differs from the clients' records.
 ghost use Rattle.std.specs.Prelude.{◌≡◌};
 
 use super::calls::build_formatted_call;
@@ -21,7 +22,7 @@ const CLIENTS: usize = 8;
 /// The number of jobs of each client.
 const JOBS: u32 = 20_000;
 
-/// Clients with even numbers end their process in place of this job.
+/// Clients with even numbers end their process in place of this job. Their later jobs are refused, but have entries.
 const END: u32 = 15_000;
 
 /// The number of enrolments and jobs of all clients: 8 and 8 times 20,000. A transcript has more entries, since it has
@@ -125,34 +126,34 @@ fn two_rounds_are_complete<R: Threads + Wait + Sync>(rt: &R, alloc: Global) -> O
 /// Runs the first two of ten rounds.
 #[test]
 fn rounds_one_and_two_are_complete(rt: HostRuntime) -> Result<(), Fail> {
-    assert!(rt; two_rounds_are_complete(&rt, rt.alloc()).ok_or("a round")?);
+    assert!(rt; two_rounds_are_complete(&rt, rt.alloc()).ok_or("no memory, or a wrong journal")?);
     Ok(())
 }
 
 /// Runs two more rounds.
 #[test]
 fn rounds_three_and_four_are_complete(rt: HostRuntime) -> Result<(), Fail> {
-    assert!(rt; two_rounds_are_complete(&rt, rt.alloc()).ok_or("a round")?);
+    assert!(rt; two_rounds_are_complete(&rt, rt.alloc()).ok_or("no memory, or a wrong journal")?);
     Ok(())
 }
 
 /// Runs two more rounds.
 #[test]
 fn rounds_five_and_six_are_complete(rt: HostRuntime) -> Result<(), Fail> {
-    assert!(rt; two_rounds_are_complete(&rt, rt.alloc()).ok_or("a round")?);
+    assert!(rt; two_rounds_are_complete(&rt, rt.alloc()).ok_or("no memory, or a wrong journal")?);
     Ok(())
 }
 
 /// Runs two more rounds.
 #[test]
 fn rounds_seven_and_eight_are_complete(rt: HostRuntime) -> Result<(), Fail> {
-    assert!(rt; two_rounds_are_complete(&rt, rt.alloc()).ok_or("a round")?);
+    assert!(rt; two_rounds_are_complete(&rt, rt.alloc()).ok_or("no memory, or a wrong journal")?);
     Ok(())
 }
 
 /// Runs the last two rounds.
 #[test]
 fn rounds_nine_and_ten_are_complete(rt: HostRuntime) -> Result<(), Fail> {
-    assert!(rt; two_rounds_are_complete(&rt, rt.alloc()).ok_or("a round")?);
+    assert!(rt; two_rounds_are_complete(&rt, rt.alloc()).ok_or("no memory, or a wrong journal")?);
     Ok(())
 }

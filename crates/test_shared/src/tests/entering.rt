@@ -13,10 +13,11 @@ use std::marker::Brand;
 use std::sync::ledger::{Blank, Ledger};
 use std::test::Fail;
 
-/// The arguments of `insert` for nine objects, after which the table doubles its buckets.
+/// The arguments of `insert` for nine objects. Four growth steps are pending after this call.
 const INSERT_NINE: &str = "[t,[{1},{2},{3},{4},{5},{6},{7},{8},{9}]]";
 
-/// Makes a call of process 0, to which the share belongs.
+/// Makes a call of process 0, to which the share belongs. `text` is the name of the call and its list of arguments. The
+/// reply is not checked.
 fn ask<L: Ledger>(
     alloc: Global,
     book: &mut Book<L, Fnv>,
@@ -61,6 +62,10 @@ fn new_book_enters_steps<L: Ledger>(alloc: Global, blank: Blank) -> Option<bool>
 
 #[test]
 fn steps_and_pending_steps_are_in_the_journal(rt: HostRuntime) -> Result<(), Fail> {
-    assert!(rt; new_book_enters_steps::<Brand>(rt.alloc(), Blank::new(2)).ok_or("a book")?);
+    assert!(rt;
+        new_book_enters_steps::<Brand>(rt.alloc(), Blank::new(2)).ok_or(
+            "no memory, or a refused enrolment"
+        )?
+    );
     Ok(())
 }

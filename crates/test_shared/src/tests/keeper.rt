@@ -11,14 +11,14 @@ use std::sync::ledger::Ledger;
 use std::thread;
 use std::thread::Threads;
 
-/// A gate that does nothing.
+/// A gate that does nothing. `run_clients` calls it before and after each job of a client.
 #[derive(Drop)]
 struct OpenGate;
 
 impl Gate for OpenGate {
-    fn before(&self, _client: usize, _call: usize) {}
+    fn before(&self, _client: usize, _job: usize) {}
 
-    fn after(&self, _client: usize, _call: usize) {}
+    fn after(&self, _client: usize, _job: usize) {}
 }
 
 /// A number of steps that is greater than the number of pending steps at any time.
@@ -43,7 +43,7 @@ fn keep_until<L: Ledger, H: KeyHash + Copy + Drop, R: Wait>(
 }
 
 /// Runs all jobs of the clients while another thread runs pending steps, also those that are pending at the end.
-/// Returns the clients.
+/// Returns the clients, or `None` if memory ran out.
 pub(super) fn run_while_keeping<
     L: Ledger + Send + Sync,
     H: KeyHash + Copy + Drop + Send + Sync,
@@ -60,7 +60,8 @@ pub(super) fn run_while_keeping<
 }
 
 /// Runs the pending steps in one thread, and the jobs of the clients in others. Sets `clients_are_done` after the jobs.
-/// Returns what the clients have done. The closures require that threads may share the runtime (`IsSync`).
+/// Returns each client with the number of jobs it has left. The closures require that threads may share the runtime
+/// (`IsSync`).
 fn run_side_by_side<
     L: Ledger + Send + Sync,
     H: KeyHash + Copy + Drop + Send + Sync,

@@ -38,7 +38,7 @@ fn fill_table<L: Ledger, R: Wait>(
     Some(())
 }
 
-/// Joins a client and lets it fill two tables. Returns how many pending steps `keep` runs after each.
+/// Enrols a process, and lets its client fill two tables. Returns how many pending steps `keep` runs after each.
 fn run_pending_in_turns<L: Ledger, R: Wait>(
     rt: &R,
     alloc: Global,
@@ -91,7 +91,9 @@ fn keep_runs_a_pending_step_in_each_turn(rt: HostRuntime) -> Result<(), Fail> {
         in_nine_more_turns: 0,
         of_other_table: 4,
     };
-    let run = pending_steps_run::<Brand, _>(&rt, rt.alloc(), Blank::new(2)).ok_or("steps")?;
+    let run = pending_steps_run::<Brand, _>(&rt, rt.alloc(), Blank::new(2)).ok_or(
+        "no memory, or a refused enrolment",
+    )?;
     assert!(rt; run == wanted);
     Ok(())
 }

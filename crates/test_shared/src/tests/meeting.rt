@@ -1,5 +1,5 @@
-//! A test of two clients that run at the same time, which a `Gate` checks: its methods are called before and after each
-//! call.
+//! A test of two clients that run at the same time. A `Gate`, whose methods are called before and after each job, makes
+//! them wait for each other. Each job is a call.
 // The first call of each client waits until the other client is at its first call. The second call of the reader waits
 // until the writer has the reply to its second call.
 ghost use Rattle.std.specs.Prelude.{◌≡◌};
@@ -28,7 +28,7 @@ struct Meeting {
     reader_has_arrived: AtomicBool,
     writer_has_arrived: AtomicBool,
     writer_has_its_reply: AtomicBool,
-    /// A client waited in vain.
+    /// Whether a client polled a flag `MAX_POLLS` times in vain.
     failed: AtomicBool,
 }
 
@@ -56,8 +56,8 @@ impl Meeting {
 }
 
 impl Gate for Meeting {
-    fn before(&self, client: usize, call: usize) {
-        match (client, call) {
+    fn before(&self, client: usize, job: usize) {
+        match (client, job) {
             // The first call of the reader, which is client 0.
             (0, 0) => {
                 self.reader_has_arrived.store(true, Ordering::SeqCst);
@@ -74,8 +74,8 @@ impl Gate for Meeting {
         }
     }
 
-    fn after(&self, client: usize, call: usize) {
-        if client == 1 && call == 1 {
+    fn after(&self, client: usize, job: usize) {
+        if client == 1 && job == 1 {
             self.writer_has_its_reply.store(true, Ordering::SeqCst);
         }
     }

@@ -18,10 +18,10 @@ use std::thread::Threads;
 /// adds a digit: 1 and 2 are `before` and `after` job 0, 3 and 4 are those of job 1, and so on.
 #[derive(Drop)]
 struct Log {
-    zero: AtomicU64,
-    one: AtomicU64,
-    two: AtomicU64,
-    three: AtomicU64,
+    client_0: AtomicU64,
+    client_1: AtomicU64,
+    client_2: AtomicU64,
+    client_3: AtomicU64,
     others: AtomicU64,
 }
 
@@ -29,10 +29,10 @@ impl Log {
     /// Returns a gate without calls so far.
     fn new() -> Log {
         Log {
-            zero: AtomicU64::new(0),
-            one: AtomicU64::new(0),
-            two: AtomicU64::new(0),
-            three: AtomicU64::new(0),
+            client_0: AtomicU64::new(0),
+            client_1: AtomicU64::new(0),
+            client_2: AtomicU64::new(0),
+            client_3: AtomicU64::new(0),
             others: AtomicU64::new(0),
         }
     }
@@ -40,10 +40,10 @@ impl Log {
     /// Appends a digit to a client's number.
     fn add_digit(&self, client: usize, digit: usize) {
         match client {
-            0 => push_digit(&self.zero, digit),
-            1 => push_digit(&self.one, digit),
-            2 => push_digit(&self.two, digit),
-            3 => push_digit(&self.three, digit),
+            0 => push_digit(&self.client_0, digit),
+            1 => push_digit(&self.client_1, digit),
+            2 => push_digit(&self.client_2, digit),
+            3 => push_digit(&self.client_3, digit),
             _ => push_digit(&self.others, digit),
         }
     }
@@ -51,10 +51,10 @@ impl Log {
     /// Returns the logged numbers of the clients 0 to 3, and of all other clients.
     fn digits(&self) -> [u64; 5] {
         [
-            self.zero.load(Ordering::SeqCst),
-            self.one.load(Ordering::SeqCst),
-            self.two.load(Ordering::SeqCst),
-            self.three.load(Ordering::SeqCst),
+            self.client_0.load(Ordering::SeqCst),
+            self.client_1.load(Ordering::SeqCst),
+            self.client_2.load(Ordering::SeqCst),
+            self.client_3.load(Ordering::SeqCst),
             self.others.load(Ordering::SeqCst),
         ]
     }
@@ -68,12 +68,12 @@ fn push_digit(number: &AtomicU64, digit: usize) {
 }
 
 impl Gate for Log {
-    fn before(&self, client: usize, call: usize) {
-        self.add_digit(client, call.wrapping_mul(2).wrapping_add(1));
+    fn before(&self, client: usize, job: usize) {
+        self.add_digit(client, job.wrapping_mul(2).wrapping_add(1));
     }
 
-    fn after(&self, client: usize, call: usize) {
-        self.add_digit(client, call.wrapping_mul(2).wrapping_add(2));
+    fn after(&self, client: usize, job: usize) {
+        self.add_digit(client, job.wrapping_mul(2).wrapping_add(2));
     }
 }
 
@@ -125,7 +125,7 @@ fn log_of_four<L: Ledger + Send + Sync, R: Threads + Wait + Sync>(
 #[test]
 fn the_gate_is_called_before_and_after_each_job(rt: HostRuntime) -> Result<(), Fail> {
     let logged = log_of_four::<Brand, _>(&rt, rt.alloc(), Blank::new(5));
-    let (calls, entries) = logged.ok_or("a transcript")?;
+    let (calls, entries) = logged.ok_or("no memory, or a wrong journal")?;
     // Client 0 has one job, client 1 has two, and so on. No other client made a call of `Gate`.
     assert_eq!(rt; calls, [12, 1_234, 123_456, 12_345_678, 0]);
     // The enrolment and four jobs.

@@ -167,7 +167,7 @@ fn reads_what_it_inserted<B: HistoryId, R: Wait>(
     Some(is_right && read_is_refused_after_end(rt, alloc, server, caller)?)
 }
 
-/// Joins a caller, and returns whether it reads what it inserted.
+/// Enrols a process. Returns whether its caller reads what it inserted.
 fn new_caller_reads_what_it_inserted<B: HistoryId, R: Wait>(
     rt: &R,
     alloc: Global,
@@ -204,7 +204,7 @@ fn a_caller_reads_what_it_inserted(rt: HostRuntime) -> Result<(), Fail> {
             history,
             limits(1),
         );
-        assert!(rt; is_right.ok_or("a reply")?);
+        assert!(rt; is_right.ok_or("no memory, or a refused enrolment")?);
     }
     Ok(())
 }

@@ -24,7 +24,8 @@ const FILL_V: [&str; 2] = [
     "[v,[{1},{2},{3},{4},{5},{6},{7},{8},{9}]]",
 ];
 
-/// Makes a table of a caller, and inserts nine objects. `arguments` are those of both calls.
+/// Makes a table of a caller, and inserts nine objects. `arguments` are those of both calls. Returns `None` if a call
+/// is refused.
 fn fill_table<B: HistoryId, R: Wait>(
     rt: &R,
     alloc: Global,
@@ -61,11 +62,11 @@ fn pending_steps_run_in_turns<B: HistoryId, R: Wait>(
     caller: &mut Caller<B>,
 ) -> Option<bool> {
     fill_table(rt, alloc, server, caller, FILL_T)?;
-    let first_table = server.keep(rt, 3) == 3 && server.keep(rt, 9) == 1 && server.keep(rt, 9) == 0;
+    let first_grew = server.keep(rt, 3) == 3 && server.keep(rt, 9) == 1 && server.keep(rt, 9) == 0;
     fill_table(rt, alloc, server, caller, FILL_U)?;
-    let second_table = server.keep(rt, 9) == 4;
+    let second_grew = server.keep(rt, 9) == 4;
     let is_filled = fill_table_at_once(rt, alloc, server, caller, FILL_V)? == 2;
-    Some(first_table && second_table && is_filled && server.keep(rt, 9) == 1)
+    Some(first_grew && second_grew && is_filled && server.keep(rt, 9) == 1)
 }
 
 /// Ends the process of a caller. Returns whether its next call has the reply `NoProcess`.
@@ -135,7 +136,7 @@ fn new_server_serves_one_caller<B: HistoryId, R: Wait>(
 fn a_server_runs_calls_and_pending_steps(rt: HostRuntime) -> Result<(), Fail> {
     let history = NewHistory::new(rt.alloc())?;
     let is_right = new_server_serves_one_caller::<Brand, _>(&rt, rt.alloc(), history, limits(1));
-    assert!(rt; is_right.ok_or("a reply")?);
+    assert!(rt; is_right.ok_or("no memory, or a refused call")?);
     Ok(())
 }
 
@@ -200,7 +201,7 @@ fn both_ask<
     other: (Caller<B>, Vec<Call>),
 ) -> u64 {
     let (one, calls) = one;
-    let (other, others) = other;
+    let (other, other_calls) = other;
     let (one_caller, other_caller) = thread::join(
         rt,
         move || -> u64
@@ -208,7 +209,7 @@ fn both_ask<
         { ask_one_by_one(rt, server, one, calls) },
         move || -> u64
             requires { IsSync R.row }
-        { ask_one_by_one(rt, server, other, others) },
+        { ask_one_by_one(rt, server, other, other_calls) },
     );
     one_caller.max(other_caller)
 }
@@ -221,9 +222,9 @@ fn objects_of_both<B: HistoryId + Send + Sync, R: Threads + Wait + Sync>(
     server: &Server<B, Fnv>,
 ) -> Option<u64> {
     let calls = insertions(alloc, 0)?;
-    let others = insertions(alloc, INSERTIONS)?;
+    let other_calls = insertions(alloc, INSERTIONS)?;
     let (one, other) = two_callers(rt, alloc, server)?;
-    Some(both_ask(rt, server, (one, calls), (other, others)))
+    Some(both_ask(rt, server, (one, calls), (other, other_calls)))
 }
 
 /// Creates a server, and lets two callers insert at the same time. Returns how many objects there are at the end.

@@ -2,7 +2,7 @@
 // Meanwhile tables grow, are fixed and traversed, and processes end and leave their tables to heirs. Each reader and
 // writer checks the replies against its own writes; it 'is right' if all replies are right. A reader or writer is the
 // last caller of a team. The other callers of a writer's team are its guests: they end, and the writer inherits their
-// tables.
+// tables. `None` means that memory ran out, or that a call which must succeed was refused.
 ghost use Rattle.std.specs.Prelude.{◌≡◌};
 ghost use Rattle.std.specs.Thread.{IsSync};
 
@@ -24,7 +24,7 @@ use std::thread;
 use std::thread::Threads;
 
 /// The number of operations of a reader. An operation is one call, or a whole traversal.
-const READS: u32 = 200_000;
+const READER_OPERATIONS: u32 = 200_000;
 
 /// The number of batches of a writer. A batch is ten calls and a read. Before some of them the writer inherits a table.
 const BATCHES: u32 = 10_000;
@@ -38,8 +38,8 @@ const GUESTS: u32 = 20;
 /// The number of callers: four readers, and two writers with their guests.
 const CALLERS: usize = 46;
 
-/// The process numbers of the writers. Teams take callers from the end of the list: the processes 45 to 25 for the
-/// first writer's team, and 24 to 4 for the second team. The last caller of a team is the writer.
+/// The process numbers of the writers. Teams take callers from the end of the list. The team of the first writer has
+/// the processes 45 to 25, that of the second 24 to 4. The last caller of a team is the writer.
 const WRITERS: [u32; 2] = [25, 4];
 
 /// The number of teams: two of a writer, and four of a reader.
@@ -97,7 +97,7 @@ fn form_team<B: HistoryId, R: Wait>(
     Some(team)
 }
 
-/// Joins all callers, and returns the teams. Each has its table.
+/// Enrols all callers, and returns the teams. Each has its table.
 fn form_teams<B: HistoryId, R: Wait>(
     rt: &R,
     alloc: Global,
@@ -137,7 +137,7 @@ fn count_right<
     let Ok(back) = teams.split_off(half) else {
         return 0;
     };
-    let (front, back) = thread::join(
+    let (front_count, back_count) = thread::join(
         rt,
         move || -> u32
             requires { IsSync R.row }
@@ -146,7 +146,7 @@ fn count_right<
             requires { IsSync R.row }
         { count_right(rt, server, back) },
     );
-    front.wrapping_add(back)
+    front_count.wrapping_add(back_count)
 }
 
 /// Makes all calls of a team: of a reader if it has no guests, else of a writer. Returns whether all replies are right.
@@ -207,34 +207,44 @@ fn two_rounds_are_right<R: Threads + Wait + Sync>(rt: &R, alloc: Global) -> Opti
 /// Runs the first two of ten rounds.
 #[test]
 fn rounds_one_and_two_have_right_replies(rt: HostRuntime) -> Result<(), Fail> {
-    assert!(rt; two_rounds_are_right(&rt, rt.alloc()).ok_or("a round")?);
+    assert!(rt;
+        two_rounds_are_right(&rt, rt.alloc()).ok_or("no memory, or a call refused at the setup")?
+    );
     Ok(())
 }
 
 /// Runs two more rounds.
 #[test]
 fn rounds_three_and_four_have_right_replies(rt: HostRuntime) -> Result<(), Fail> {
-    assert!(rt; two_rounds_are_right(&rt, rt.alloc()).ok_or("a round")?);
+    assert!(rt;
+        two_rounds_are_right(&rt, rt.alloc()).ok_or("no memory, or a call refused at the setup")?
+    );
     Ok(())
 }
 
 /// Runs two more rounds.
 #[test]
 fn rounds_five_and_six_have_right_replies(rt: HostRuntime) -> Result<(), Fail> {
-    assert!(rt; two_rounds_are_right(&rt, rt.alloc()).ok_or("a round")?);
+    assert!(rt;
+        two_rounds_are_right(&rt, rt.alloc()).ok_or("no memory, or a call refused at the setup")?
+    );
     Ok(())
 }
 
 /// Runs two more rounds.
 #[test]
 fn rounds_seven_and_eight_have_right_replies(rt: HostRuntime) -> Result<(), Fail> {
-    assert!(rt; two_rounds_are_right(&rt, rt.alloc()).ok_or("a round")?);
+    assert!(rt;
+        two_rounds_are_right(&rt, rt.alloc()).ok_or("no memory, or a call refused at the setup")?
+    );
     Ok(())
 }
 
 /// Runs the last two rounds.
 #[test]
 fn rounds_nine_and_ten_have_right_replies(rt: HostRuntime) -> Result<(), Fail> {
-    assert!(rt; two_rounds_are_right(&rt, rt.alloc()).ok_or("a round")?);
+    assert!(rt;
+        two_rounds_are_right(&rt, rt.alloc()).ok_or("no memory, or a call refused at the setup")?
+    );
     Ok(())
 }

@@ -81,7 +81,8 @@ enum KeyState {
     Object(Integer),
 }
 
-/// Returns the state of a slot with these objects: its first integer, or a tombstone if there is none.
+/// Returns the state of a slot with these objects: the first object, which is an integer here, or a tombstone if there
+/// is no object.
 fn state_of_objects(objects: &[Term]) -> KeyState {
     match objects.first() {
         Some(Term::Int(value)) => KeyState::Object(*value),
@@ -101,7 +102,7 @@ fn state_at<R: Rows>(rows: &R, key: Integer) -> KeyState {
 }
 
 /// Returns the state of a key whose slot had these objects before a change. `None` means that the key had no slot.
-fn state_of_removed(objects: Option<Chain>) -> KeyState {
+fn state_before(objects: Option<Chain>) -> KeyState {
     match objects {
         Some(objects) => {
             let state = state_of_objects(objects.as_slice());
@@ -128,7 +129,7 @@ fn insert<R: Rows>(
         }
         SlotEntry::Occupied(place) => {
             drop(term);
-            Ok(state_of_removed(Some(rows.replace_at(place, objects))))
+            Ok(state_before(Some(rows.replace_at(place, objects))))
         }
     }
 }
@@ -151,7 +152,7 @@ fn replace<R: Rows>(rows: &mut R, key: Integer, objects: Chain) -> KeyState {
     let term = Term::Int(key);
     let old_objects = rows.replace(&term, objects);
     drop(term);
-    state_of_removed(old_objects)
+    state_before(old_objects)
 }
 
 /// Removes the slot of a key, if it has one. Returns the state of the key before.
@@ -159,7 +160,7 @@ fn remove<R: Rows>(rows: &mut R, key: Integer) -> KeyState {
     let term = Term::Int(key);
     let objects = rows.remove(&term);
     drop(term);
-    state_of_removed(objects)
+    state_before(objects)
 }
 
 /// Returns whether each key below `past_keys` has an object equal to the key.
@@ -172,7 +173,8 @@ fn each_has_its_number<R: Rows>(rows: &R, past_keys: u32) -> bool {
     all_right
 }
 
-/// Returns whether an integer is a key of the rows. Adds the number of nodes that the search visits to `visited`.
+/// Returns whether an integer is a key of the rows. Adds the number of nodes that the search visits to the counter
+/// `visited`.
 fn is_found<H: KeyHash + Copy + Drop>(
     rows: &SplitRows<H>,
     number: u32,

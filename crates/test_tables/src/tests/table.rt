@@ -1,7 +1,7 @@
 //! Tests of tables over rows: their answers are compared with those that follow from the manual of ets. A scenario is a
 //! list of steps, each with its answer.
-// `scenario_holds` runs it on tables over plain rows and over split rows. Each answer has a code, an integer, so that
-// answers of all types can be compared.
+// `scenario_holds` runs a scenario on tables over plain rows and over split rows. Each answer has a code, an integer,
+// so that answers of all types can be compared.
 use super::rows::new_rows_with_retry;
 use answers::Answer;
 use bucket_table::{PlainRows, Rows, SplitRows};
@@ -53,7 +53,7 @@ pub struct Pos(pub Position);
 #[derive(Clone, Copy)]
 pub struct Incr(pub Integer);
 
-/// The counter of the default object `{0,Counter}`.
+/// The counter of the default object `{0,Counter}`, from which a counter starts if its key is missing.
 #[derive(Clone, Copy)]
 pub struct Start(pub Integer);
 
@@ -209,7 +209,7 @@ fn scenario_holds(alloc: Global, scenario: Scenario) -> bool {
         && split_table_passes(alloc, AllSame, empty, check) == Some(true)
 }
 
-/// Returns the index of the first scenario with a wrong answer.
+/// Returns the index of the first scenario with a wrong answer, or `None` if all answers are right.
 fn first_mismatch(alloc: Global, scenarios: &[Scenario]) -> Option<usize> {
     for (index, scenario) in scenarios.iter().enumerate() {
         if !scenario_holds(alloc, *scenario) {

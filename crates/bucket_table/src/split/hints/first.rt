@@ -31,7 +31,8 @@ impl Hints {
         }
     }
 
-    /// Returns the new hint of an interval if its first item, at `at`, is removed. It is unknown if a dummy follows.
+    /// Returns the new hint of an interval for the case that its first item, at `at`, is removed. It is unknown if the
+    /// next node is a dummy of the same interval.
     pub fn hint_after_removal(&self, list: &NodeList, interval: usize, at: At) -> Hint
         requires parity { HaveParity list.now.cells }
         requires hints { HintsAreSound self.now list.now.cells }
@@ -46,6 +47,7 @@ impl Hints {
         if self.interval_of(split_key) != interval {
             return Hint::empty();
         }
+        // The split key of an item is odd, and that of a dummy is even.
         if split_key % 2 == 1 {
             Hint::at(next)
         } else {

@@ -27,10 +27,12 @@ impl Hints {
         let mut at = start;
         while let Some(next) = list.after(at) {
             let next_split_key = list.split_key(next);
+            // The next node is past the interval, which is thus empty.
             if next_split_key >> interval_bits > split_key >> interval_bits {
                 return (at, Hint::empty());
             }
             if next_split_key >> interval_bits == split_key >> interval_bits {
+                // The split key of an item is odd, and that of a dummy is even.
                 if next_split_key % 2 == 1 {
                     return (at, Hint::at(next));
                 }
@@ -41,8 +43,8 @@ impl Hints {
         (at, Hint::empty())
     }
 
-    /// If the hint of the split key's interval is unknown, sets it by a scan from `start`. Returns a node with a lesser
-    /// split key, from which the insertion can start.
+    /// If the hint of the split key's interval is unknown, sets it by a scan from `start`. Does nothing if `start` is
+    /// not before the interval. Returns a node with a lesser split key, from which the insertion can start.
     pub fn refresh(&mut self, list: &NodeList, split_key: u64, start: At) -> At
         requires parity { HaveParity list.now.cells }
         requires hints { HintsAreSound self.old list.now.cells }
@@ -55,6 +57,7 @@ impl Hints {
         if self.current.get(interval).is_some() {
             return start;
         }
+        // A scan from within the interval could miss its first item.
         if self.interval_of(list.split_key(start)) >= interval {
             return start;
         }

@@ -1,6 +1,6 @@
-//! After a doubling, each insertion splits a few of the previous hints, those of the old number of buckets, and each
-//! removal splits that of its interval. A hint caches the place of the first item of an interval. A previous interval
-//! is two current intervals, a *pair*.
+//! After a doubling, each insertion splits a few of the previous hints, which are those of the old number of buckets.
+//! Each removal splits the previous hint of its item's interval. A hint caches the place of the first item of an
+//! interval. A previous interval is two current intervals, a *pair*.
 
 ghost use Rattle.std.specs.Prelude.{◌≡◌, ◌+◌, ◌*◌, ◌/◌, ◌^◌, None, get_or};
 ghost use Rattle.bucket_table.specs.inside.Intervals.{HintsAreSound, IsSoundHint};
@@ -10,8 +10,9 @@ use crate::split::hint::Hint;
 use node_list::NodeList;
 
 impl Hints {
-    /// Returns the hints of the lower and the upper half of the previous interval `pair`, which are the current
-    /// intervals `2 * pair` and `2 * pair + 1`. If its first item is in the upper half, the lower half is empty.
+    /// Returns the hints of the lower and the upper half of the previous interval `pair`. The halves are the current
+    /// intervals `2 * pair` and `2 * pair + 1`. If the first item of the pair is in the upper half, the lower half is
+    /// empty. If it is in the lower half, the hint of the upper half is unknown.
     fn split_hint(&self, list: &NodeList, pair: usize) -> (Hint, Hint)
         requires hints { HintsAreSound self.now list.now.cells }
         ensures lower { IsSoundHint (2 ^ self.now.interval_bits) (2 * pair) list.now.cells result.0 }
@@ -22,6 +23,7 @@ impl Hints {
             Some(None) => (Hint::empty(), Hint::empty()),
             Some(Some(first)) => {
                 list.reveal_invariant();
+                // The upper half has the odd number.
                 if self.interval_of(list.split_key(first)) % 2 == 1 {
                     (Hint::empty(), Hint::at(first))
                 } else {
@@ -58,7 +60,7 @@ impl Hints {
     }
 
     /// Rehashes the next three previous hints, and adds unknown current hints if some are missing. If all previous
-    /// hints are rehashed, frees the memory of some of them.
+    /// hints were rehashed before this call, frees the memory of some of them instead of rehashing.
     fn rehash_step(&mut self, list: &NodeList)
         requires hints { HintsAreSound self.old list.now.cells }
         ensures hints { HintsAreSound self.new list.now.cells }

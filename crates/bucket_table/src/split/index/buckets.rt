@@ -19,11 +19,13 @@ impl<H: KeyHash + Copy + Drop> SplitIndex<H> {
         requires below { bucket < length self.now.directory }
         ensures { IsNearestReady self.now.directory bucket result.0 result.1 }
     {
+        // `at` is the number of a bucket here, not a place.
         let mut at = bucket;
         loop {
             if let Some(place) = self.directory.get(at as usize) {
                 return (at, place);
             }
+            // Bucket 0 is always ready.
             if at == 0 {
                 unreachable!();
             }
@@ -60,7 +62,7 @@ impl<H: KeyHash + Copy + Drop> SplitIndex<H> {
     }
 }
 
-/// Computes the hash of an item from its split key.
+/// Computes the hash of an item from its split key: drops the last bit and reverses the others.
 pub fn item_hash(split_key: u64) -> u32
     requires { split_key < 2 ^ 33 }
     ensures { (hash : ℕ) → split_key ≡ key_of_item hash → result ≡ hash % 2 ^ 32 }

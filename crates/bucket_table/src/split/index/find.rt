@@ -26,6 +26,7 @@ impl<H: KeyHash + Copy + Drop> SplitIndex<H> {
         let interval = self.hints.interval_of(item_key(hash));
         match self.hints.current.get(interval) {
             Some(Some(first)) => self.find_from(first, hash, key, steps),
+            // The interval is empty, so the key has no item.
             Some(None) => None,
             None => self.find_by_previous_hint(hash, key, steps),
         }
@@ -42,6 +43,7 @@ impl<H: KeyHash + Copy + Drop> SplitIndex<H> {
         // The call changes nothing. Its contract gives the proof that the count is a `u64`.
         let _count = steps.count();
         let interval = self.hints.interval_of(item_key(hash));
+        // A previous interval is two current ones.
         match self.hints.previous.get(interval / 2) {
             Some(Some(first)) => self.find_from(first, hash, key, steps),
             Some(None) => None,
@@ -58,6 +60,8 @@ impl<H: KeyHash + Copy + Drop> SplitIndex<H> {
         ensures visits { CountsVisits H.hash self.now key.now steps.old steps.new }
     {
         self.list.reveal_invariant();
+        // `bucket` is the nearest ready bucket, and `start` is its dummy. Hints below `floor` are not read:
+        // their items come before the dummy.
         let (bucket, start) = self.bucket_start(hash);
         let floor = self.hints.interval_of(dummy_key(bucket));
         let interval = self.hints.interval_of(item_key(hash));

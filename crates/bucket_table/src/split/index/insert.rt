@@ -30,6 +30,7 @@ impl<H: KeyHash + Copy + Drop> SplitIndex<H> {
         self.list.reveal_invariant();
         let split_key = item_key(hash);
         self.hints.catch_up(&self.list, split_key);
+        // `before` and `start` are nodes with a lesser split key. `start` is nearer if the refresh scanned the list.
         let before = self.search_start(split_key);
         let start = self.hints.refresh(&self.list, split_key, before);
         let is_first = self.hints.is_new_first(&self.list, split_key);

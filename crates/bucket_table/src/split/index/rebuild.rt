@@ -1,7 +1,6 @@
 //! When a bucket becomes ready, one scan sets its hints, and another sets those of its parent if that is ready. Hints
-//! past the end of the list of hints stay unknown. The
-//! parent is the bucket that a doubling split to create this bucket. A hint caches the place of the first item of an
-//! interval.
+//! past the end of the list of hints stay unknown. The parent is the bucket that a doubling split to create this
+//! bucket. A hint caches the place of the first item of an interval.
 
 ghost use Rattle.std.specs.Prelude.{◌≡◌, ◌<◌, Some, None, length, get_or};
 ghost use Rattle.bucket_table.specs.inside.SplitIndex.{RowsInvariant, KeepsDirectory};
@@ -40,8 +39,8 @@ impl<H: KeyHash + Copy + Drop> SplitIndex<H> {
         }
     }
 
-    /// Rebuilds the hints of a ready bucket by one scan. Those that the list of hints has are set to empty first, and
-    /// then to the first items.
+    /// Rebuilds the hints of a ready bucket, whose dummy is at `start`, by one scan. First sets those that the list of
+    /// hints has to empty. Then sets the hint of each interval that has items to its first item.
     fn rebuild_hints(&mut self, bucket: u32, start: At)
         requires rows { RowsInvariant H.hash self.old }
         requires start { get_or self.old.directory bucket None ≡ Some start }
@@ -62,7 +61,8 @@ impl<H: KeyHash + Copy + Drop> SplitIndex<H> {
             if interval >= end {
                 return;
             }
-            // (The next dummy is at or past `end`; this test spares a proof of it.)
+            // An even split key is that of a dummy. The next dummy is at or past `end`, so this is never true. The test
+            // spares a proof of that.
             if split_key % 2 != 1 {
                 return;
             }

@@ -1,5 +1,6 @@
-//! A removal rehashes the interval of its item, and replaces the interval's hint if the item is the first. `remove`
-//! returns the objects; `delete` drops them without moving them.
+//! A removal first rehashes the interval of its item: it splits the hint from before the last doubling. Then it
+//! replaces the interval's hint if the item is the first. `remove` returns the objects; `delete` drops them without
+//! moving them.
 
 ghost use Rattle.std.specs.Prelude.{◌≡◌, ◌+◌, ◌/◌, ◌^◌, Some, None, length, get_or, option_map};
 ghost use Rattle.node_list.specs.Cells.{new_item};
@@ -23,7 +24,7 @@ impl<H: KeyHash + Copy + Drop> SplitIndex<H> {
     {
         let split_key = self.rehash_at(at);
         let start = self.start_before(split_key, at);
-        self.remove_rehashed(split_key, start, at)
+        self.remove_after_rehash(split_key, start, at)
     }
 
     /// Removes the item at a place, drops its objects without moving them, and returns their number.
@@ -37,7 +38,7 @@ impl<H: KeyHash + Copy + Drop> SplitIndex<H> {
     {
         let split_key = self.rehash_at(at);
         let start = self.start_before(split_key, at);
-        self.delete_rehashed(split_key, start, at)
+        self.delete_after_rehash(split_key, start, at)
     }
 
     /// Removes an item, drops its objects and returns their number. `start` is a node before the item.
@@ -52,7 +53,7 @@ impl<H: KeyHash + Copy + Drop> SplitIndex<H> {
     {
         self.list.reveal_invariant();
         let split_key = self.rehash_at(at);
-        self.delete_rehashed(split_key, start, at)
+        self.delete_after_rehash(split_key, start, at)
     }
 
     /// Rehashes the interval of the item at a place, and returns the item's split key.
@@ -83,7 +84,7 @@ impl<H: KeyHash + Copy + Drop> SplitIndex<H> {
     }
 
     /// Removes an item whose interval is rehashed, and returns its key and objects. `start` is a node before the item.
-    fn remove_rehashed(&mut self, split_key: u64, start: At, at: At) -> (Term, Chain)
+    fn remove_after_rehash(&mut self, split_key: u64, start: At, at: At) -> (Term, Chain)
         requires rows { RowsInvariant H.hash self.old }
         requires item { HasItem at (cells_after start self.old.list.cells) }
         requires key { split_key_at at self.old.list.cells ≡ Some split_key }
@@ -96,6 +97,7 @@ impl<H: KeyHash + Copy + Drop> SplitIndex<H> {
     {
         self.list.reveal_invariant();
         let interval = self.hints.interval_of(split_key);
+        // The hint is used only if the item is the first of its interval.
         let hint = self.hints.hint_after_removal(&self.list, interval, at);
         let slot = self.list.unlink(start, at);
         self.hints.current.replace_first(interval, at, hint);
@@ -104,7 +106,7 @@ impl<H: KeyHash + Copy + Drop> SplitIndex<H> {
 
     /// Removes an item whose interval is rehashed, and returns the number of its objects. `start` is a node before the
     /// item.
-    fn delete_rehashed(&mut self, split_key: u64, start: At, at: At) -> usize
+    fn delete_after_rehash(&mut self, split_key: u64, start: At, at: At) -> usize
         requires rows { RowsInvariant H.hash self.old }
         requires item { HasItem at (cells_after start self.old.list.cells) }
         requires key { split_key_at at self.old.list.cells ≡ Some split_key }
@@ -118,6 +120,7 @@ impl<H: KeyHash + Copy + Drop> SplitIndex<H> {
     {
         self.list.reveal_invariant();
         let interval = self.hints.interval_of(split_key);
+        // The hint is used only if the item is the first of its interval.
         let hint = self.hints.hint_after_removal(&self.list, interval, at);
         let count = self.list.delete_item(start, at);
         self.hints.current.replace_first(interval, at, hint);

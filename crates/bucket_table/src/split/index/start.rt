@@ -14,8 +14,8 @@ use node_list::At;
 use split_key::{dummy_key, item_key};
 
 impl<H: KeyHash + Copy + Drop> SplitIndex<H> {
-    /// Returns a node before all items with this split key: the first item of a near interval by the hints, or the
-    /// dummy of the nearest ready bucket. It computes the hash only if `near_start` finds no node.
+    /// Returns a node before all items with this split key. It is the first item of a near interval by the hints, or
+    /// the dummy of the nearest ready bucket. The hash is computed only if `near_start` finds no node.
     pub fn search_start(&self, split_key: u64) -> At
         requires rows { RowsInvariant H.hash self.now }
         requires small { split_key < 2 ^ 33 }
@@ -29,7 +29,8 @@ impl<H: KeyHash + Copy + Drop> SplitIndex<H> {
     }
 
     /// Returns the first item of the split key's interval, if the item has a lesser split key. Otherwise returns the
-    /// first item of a lower interval of the same bucket, if a current hint has its place.
+    /// first item of a lower interval of the same bucket, if a current hint has its place. Returns `None` if neither is
+    /// found.
     #[inline(always)]
     fn near_start(&self, split_key: u64) -> Option<At>
         requires rows { RowsInvariant H.hash self.now }
@@ -45,8 +46,8 @@ impl<H: KeyHash + Copy + Drop> SplitIndex<H> {
         self.hints.bucket_hint_below(interval)
     }
 
-    /// Returns a node before all items with this hash: the first item of a lower interval by the hints, or the dummy of
-    /// the nearest ready bucket.
+    /// Returns a node before all items with this hash. It is the first item of a lower interval by the hints, or the
+    /// dummy of the nearest ready bucket.
     #[inline(never)]
     fn far_start(&self, hash: u32) -> At
         requires rows { RowsInvariant H.hash self.now }
@@ -55,6 +56,8 @@ impl<H: KeyHash + Copy + Drop> SplitIndex<H> {
         self.list.reveal_invariant();
         let split_key = item_key(hash);
         let interval = self.hints.interval_of(split_key);
+        // `bucket` is the nearest ready bucket, and `start` is its dummy. Hints below `floor` are not read:
+        // their items come before the dummy.
         let (bucket, start) = self.bucket_start(hash);
         let floor = self.hints.interval_of(dummy_key(bucket));
         match self.hints.nearest_below(floor, interval) {
@@ -71,6 +74,8 @@ impl<H: KeyHash + Copy + Drop> SplitIndex<H> {
     {
         self.list.reveal_invariant();
         let split_key = dummy_key(bucket);
+        // `near` is the nearest ready bucket, and `start` is its dummy. Hints below `floor` are not read: their
+        // items come before the dummy.
         let (near, start) = self.nearest_ready(bucket);
         let floor = self.hints.interval_of(dummy_key(near));
         let interval = self.hints.interval_of(split_key);

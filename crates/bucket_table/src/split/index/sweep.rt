@@ -65,7 +65,7 @@ impl<H: KeyHash + Copy + Drop> SplitIndex<H> {
         }
     }
 
-    /// Removes the tombstones whose keys have this hash, and any other that the scan for them meets.
+    /// Removes the tombstones whose keys have this hash, and any other tombstone that the scan for them meets.
     fn purge_hash(&mut self, hash: u32)
         requires rows { RowsInvariant H.hash self.old }
         ensures rows { RowsInvariant H.hash self.new }
@@ -89,7 +89,7 @@ impl<H: KeyHash + Copy + Drop> SplitIndex<H> {
         }
     }
 
-    /// Removes the tombstones of these hashes, which must include those of all tombstones.
+    /// Removes all tombstones. `hashes` must have the hash of each tombstone, and is empty afterwards.
     pub fn purge_hashes(&mut self, hashes: &mut Vec<u32>)
         requires rows { RowsInvariant H.hash self.old }
         requires logged { TombstonesAreAmong (H.hash self.old.hasher) hashes.old.items (slots_of self.old.list.cells) }
@@ -111,6 +111,7 @@ impl<H: KeyHash + Copy + Drop> SplitIndex<H> {
         ensures slots { slots_of self.new.list.cells ≡ after_sweep mode (slots_of self.old.list.cells) }
         ensures each { Sweeps mode self.old.list.cells self.new.list.cells }
     {
+        // The head is a dummy, so it is not swept.
         let mut at = self.list.head();
         while let Some(next) = self.list.after(at) {
             at = self.sweep_next(mode, at, next);

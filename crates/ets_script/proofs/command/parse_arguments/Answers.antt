@@ -8,4 +8,4 @@ pub loop-preserved : goal.loop-preserved
 loop-preserved c =
     let pushed : c.push.new.self ≡ c.loop.terms ++ c.in_ok-term.term ∷ [] = search rules in
     let more : separator c.in_ok-term.after.now ≡ read true c.in_ok-more.tail.now = search rules in
-    rw pushed (one-more (length c.past_blanks-rest.result.now) c.loop.counter c.loop.terms c.loop.rest.now c.in_ok-term.after.now c.in_ok-more.tail.now c.in_ok-term.term (arguments c.args.text.now) c.loop-test.true c.loop.invariant c.in_ok-term.ensures more)
+    rw pushed (one-more (length c.skip_blanks-rest.result.now) c.loop.counter c.loop.terms c.loop.rest.now c.in_ok-term.after.now c.in_ok-more.tail.now c.in_ok-term.term (arguments c.args.text.now) c.loop-test.true c.loop.invariant c.in_ok-term.ensures more)

@@ -1,6 +1,6 @@
 use Rattle.std.proofs.Common.{◌≡◌, ◌∙◌, true, sym, ap, rules}
 use Rattle.std.specs.List.{list_all}
-use Rattle.ets_script.specs.Classes.{is_printable, past_blanks}
+use Rattle.ets_script.specs.Classes.{is_printable, skip_blanks}
 use Rattle.ets_script.specs.Reads.{read}
 use Rattle.ets_script.specs.Commands.{word, ask}
 use Rattle.ets_script.proofs.CallLines.{call-means, word-not_silent}
@@ -9,7 +9,7 @@ use Rattle.ets_script.proofs.command.read_call.Goals as goal
 pub returns-in-Ok-parse_words : goal.returns-in-Ok-parse_words
 returns-in-Ok-parse_words c =
     let line = c.args.line.now in
-    let front : word (past_blanks line) ≡ read c.in-Ok.caller.now c.in-Ok.rest.now = ap word (sym c.past_blanks.ensures) ∙ c.in-Ok.ensures.word in
+    let front : word (skip_blanks line) ≡ read c.in-Ok.caller.now c.in-Ok.rest.now = ap word (sym c.skip_blanks.ensures) ∙ c.in-Ok.ensures.word in
     let clean : list_all is_printable line ≡ true = search rules in
     let passes : c.is_caller.result ≡ true = search rules in
     let call_command = ask c.in-Ok-parse_words.name.now c.in-Ok-parse_words.word.now c.parse_words.new.terms in
@@ -17,4 +17,4 @@ returns-in-Ok-parse_words c =
 
 pub returns-in-Err-Memory : goal.returns-in-Err-Memory
 returns-in-Err-Memory c =
-    word-not_silent c.args.line.now c.in-Ok.caller.now c.in-Ok.rest.now (ap word (sym c.past_blanks.ensures) ∙ c.in-Ok.ensures.word)
+    word-not_silent c.args.line.now c.in-Ok.caller.now c.in-Ok.rest.now (ap word (sym c.skip_blanks.ensures) ∙ c.in-Ok.ensures.word)

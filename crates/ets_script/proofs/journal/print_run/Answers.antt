@@ -14,12 +14,12 @@ pub returns-clause-ok : goal.returns-clause-ok
 returns-clause-ok g c =
     let entries : c.as_slice.result.now ≡ c.args.run.now.entries.items = search rules in
     let left : c.as_slice-2.result.now ≡ c.args.run.now.left.items = search rules in
-    on-ok c.print_stopped.result
-    (λ q. sends-two (g.W.Write.contents c.args.output.now.writer.now) (g.W.Write.contents c.print_entries.new.output.writer.now) (g.W.Write.contents c.print_stopped.new.output.writer.now) c.args.output.now.bytes.now.items (flat_map (entry_text c.args.names.now) c.args.run.now.entries.items) c.print_entries.new.output.bytes.now.items (stopped_text c.args.names.now c.args.run.now.left.items) c.print_stopped.new.output.bytes.now.items (rw entries at c.in_ok-print_entries.ensures.ok) q) (rw left at c.print_stopped.ensures.ok)
+    on-ok c.print_stopped_processes.result
+    (λ q. sends-two (g.W.Write.contents c.args.output.now.writer.now) (g.W.Write.contents c.print_entries.new.output.writer.now) (g.W.Write.contents c.print_stopped_processes.new.output.writer.now) c.args.output.now.bytes.now.items (flat_map (entry_text c.args.names.now) c.args.run.now.entries.items) c.print_entries.new.output.bytes.now.items (stopped_text c.args.names.now c.args.run.now.left.items) c.print_stopped_processes.new.output.bytes.now.items (rw entries at c.in_ok-print_entries.ensures.ok) q) (rw left at c.print_stopped_processes.ensures.ok)
 
 pub returns-clause-err : goal.returns-clause-err
 returns-clause-err g c =
     let entries : c.as_slice.result.now ≡ c.args.run.now.entries.items = search rules in
     let left : c.as_slice-2.result.now ≡ c.args.run.now.left.items = search rules in
-    on-err c.print_stopped.result
-    (λ q. breaks-two (g.W.Write.contents c.args.output.now.writer.now) (g.W.Write.contents c.print_entries.new.output.writer.now) (g.W.Write.contents c.print_stopped.new.output.writer.now) c.args.output.now.bytes.now.items (flat_map (entry_text c.args.names.now) c.args.run.now.entries.items) c.print_entries.new.output.bytes.now.items (stopped_text c.args.names.now c.args.run.now.left.items) (rw entries at c.in_ok-print_entries.ensures.ok) q) (rw left at c.print_stopped.ensures.err)
+    on-err c.print_stopped_processes.result
+    (λ q. breaks-two (g.W.Write.contents c.args.output.now.writer.now) (g.W.Write.contents c.print_entries.new.output.writer.now) (g.W.Write.contents c.print_stopped_processes.new.output.writer.now) c.args.output.now.bytes.now.items (flat_map (entry_text c.args.names.now) c.args.run.now.entries.items) c.print_entries.new.output.bytes.now.items (stopped_text c.args.names.now c.args.run.now.left.items) (rw entries at c.in_ok-print_entries.ensures.ok) q) (rw left at c.print_stopped_processes.ensures.err)

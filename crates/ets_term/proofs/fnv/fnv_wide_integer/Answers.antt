@@ -1,7 +1,6 @@
 use Rattle.std.proofs.Common.{rules, ◌≡◌, ◌∙◌, ◌*◌, ◌%◌, ◌<◌, ◌^◌, sym, ap, pos, fold}
 use Rattle.std.specs.Int.{to_be_bytes, w32, w64}
-use Rattle.ets_term.specs.Integers.{integer_bytes}
-use Rattle.ets_term.specs.Encoding.{fnv_step}
+use Rattle.ets_term.specs.Encoding.{integer_bytes, fnv_step}
 use Rattle.ets_term.proofs.FnvLaws.{twelve-zeros, eight-zeros}
 use Rattle.ets_term.proofs.fnv.fnv_wide_integer.Goals as goal
 

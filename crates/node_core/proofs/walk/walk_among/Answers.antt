@@ -15,6 +15,6 @@ returns-in_err-fix_table g c =
 
 pub returns : goal.returns
 returns g c =
-    let walked = c.walk_fixed-walked in
+    let walked = c.walk_fixed_table-walked in
     walked-among c.args.pid c.in-Some.id c.args.node.now c.args.table.now c.args.limit (sym c.resolve.ensures ∙ c.in-Some.is) (g.O.Others.keys walked.new.others) (g.O.Others.steps walked.new.others) c.unfix_table.new.self
     c.fix_table.new.self walked.new.node (c.in_ok-fix_table.ensures.fix, c.in_ok-fix_table.ensures.buckets) walked.result c.unfix_table.result walked.ensures c.unfix_table.ensures.release c.unfix_table.ensures.buckets

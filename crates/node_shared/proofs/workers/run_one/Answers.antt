@@ -25,5 +25,5 @@ loop-job-preserved g c =
       len = omega (arith, at.invariant.len, gone, short);
       count = at.invariant.count;
       left = omega (arith, at.invariant.left, more, one, whole);
-      did = did-next c.args.client at.client c.work.new.client at.yielded rest job c.args.jobs.items at.left (sym (append_assoc at.yielded (job ∷ []) rest) ∙ all) at.invariant.left at.invariant.did c.in-Ok.ensures.ok;
+      did = did-next c.args.client at.client c.run_job.new.client at.yielded rest job c.args.jobs.items at.left (sym (append_assoc at.yielded (job ∷ []) rest) ∙ all) at.invariant.left at.invariant.did c.in-Ok.ensures.ok;
     }

@@ -35,7 +35,7 @@ pub(super) enum Step {
     Ready,
 }
 
-/// The expected answer of a call, or what it leaves.
+/// The expected answer of a call, or whether the table is still fixed after a release.
 #[derive(Clone, Copy)]
 pub(super) enum Expected {
     /// The call succeeds, and returns true if it returns a boolean.
@@ -64,10 +64,10 @@ impl Expected {
     }
 }
 
-/// The code for a call that ran out of memory.
+/// The code for a call that ran out of memory. It is negative, unlike each count and each value of the tests.
 pub(super) const OUT_OF_MEMORY: Integer = -1;
 
-/// The code for a call with another refusal.
+/// The code for a call with another refusal, `badarg` or `system_limit`, or with an object that could not be built.
 const OTHER_REFUSAL: Integer = -2;
 
 /// Returns the code of a refusal.
@@ -79,8 +79,8 @@ fn refusal_code(refused: &Refusal) -> Integer {
 }
 
 /// Returns 1 for a call that succeeded, or the code of its refusal.
-fn done_code(done: Result<(), Refusal>) -> Integer {
-    match done {
+fn done_code(outcome: Result<(), Refusal>) -> Integer {
+    match outcome {
         Ok(()) => 1,
         Err(refused) => refusal_code(&refused),
     }
@@ -114,7 +114,7 @@ fn try_insert_new<R: Rows>(table: &mut Walked<R>, object: Option<Term>) -> Integ
     let inserted = table.insert_new(slice::from_ref(&object));
     drop(object);
     match inserted {
-        Ok(done) => Integer::from(done),
+        Ok(is_new) => Integer::from(is_new),
         Err(refused) => refusal_code(&refused),
     }
 }
@@ -201,6 +201,7 @@ fn try_grow<R: Rows>(table: &mut Walked<R>) -> Integer {
 
 /// Makes the first unready bucket ready. Returns 1 if it did, 0 if all were ready, or `OUT_OF_MEMORY`.
 fn try_ready<R: Rows>(table: &mut Walked<R>) -> Integer {
+    // Bucket 0 is always ready, so it gives the answer 0 if all buckets are ready.
     let bucket = table.first_unready().unwrap_or(0);
     match table.ready(bucket) {
         Ok(readying) => Integer::from(readying == Readying::Ready),
@@ -209,7 +210,7 @@ fn try_ready<R: Rows>(table: &mut Walked<R>) -> Integer {
 }
 
 /// Makes a step, and returns whether it has the wanted answer.
-pub(super) fn is_answered<R: Rows>(
+pub(super) fn has_wanted_answer<R: Rows>(
     alloc: Global,
     table: &mut Walked<R>,
     step: Step,

@@ -2,11 +2,11 @@
 //! the answer of the rules of `ets`.
 use super::answers::Expected::{Done, NotDone, Objects};
 use super::answers::Step::{DeleteObject, InsertNew, Take};
-use super::answers::{count_objects, is_answered, second_element};
+use super::answers::{count_objects, has_wanted_answer, second_element};
 use super::*;
 
-/// How many keys the test inserts. `grow` runs once for each key, which is enough to reach the 4,096 buckets at which it
-/// stops.
+/// How many keys the test inserts. `grow` runs once for each key. Over split rows this is enough to reach `MAX_BUCKETS`
+/// buckets, all of them ready.
 const KEYS: u32 = 5_000;
 
 /// How many processes fix a table at the same time.
@@ -27,13 +27,13 @@ fn reads_object<R: Rows>(table: &Walked<R>, key: Integer) -> bool {
 
 /// Returns whether `insert_new` inserts `{Key,2}` once, and inserts nothing the second time.
 fn inserts_as_new<R: Rows>(alloc: Global, table: &mut Walked<R>, key: Integer) -> bool {
-    is_answered(alloc, table, InsertNew(Object(key, 2)), Done)
-        && is_answered(alloc, table, InsertNew(Object(key, 2)), NotDone)
+    has_wanted_answer(alloc, table, InsertNew(Object(key, 2)), Done)
+        && has_wanted_answer(alloc, table, InsertNew(Object(key, 2)), NotDone)
 }
 
 /// Returns whether `delete_object` deletes `{Key,1}`, the only object of its key.
 fn deletes_object<R: Rows>(alloc: Global, table: &mut Walked<R>, key: Integer) -> bool {
-    is_answered(alloc, table, DeleteObject(Object(key, 1)), Done) && !is_member(table, key)
+    has_wanted_answer(alloc, table, DeleteObject(Object(key, 1)), Done) && !is_member(table, key)
 }
 
 /// Returns whether each call on one new key succeeds: insertions, reads, and both ways to delete the object. At the end
@@ -41,7 +41,7 @@ fn deletes_object<R: Rows>(alloc: Global, table: &mut Walked<R>, key: Integer) -
 fn calls_on_key_succeed<R: Rows>(alloc: Global, table: &mut Walked<R>, key: Integer) -> bool {
     inserts_as_new(alloc, table, key)
         && reads_object(table, key)
-        && is_answered(alloc, table, Take(Key(key)), Objects(1))
+        && has_wanted_answer(alloc, table, Take(Key(key)), Objects(1))
         && insert(alloc, table, key, 1)
         && deletes_object(alloc, table, key)
         && insert(alloc, table, key, 3)

@@ -65,9 +65,9 @@ pub(super) fn takes_no_memory<R: Rows>(alloc: Global, table: &mut Walked<R>) -> 
     delete(table, 3);
     let refilled = insert(alloc, table, 3, 3);
     let has_start_mark = request_mark(alloc);
-    let done = traverses_and_releases(table);
+    let holds = traverses_and_releases(table);
     let has_end_mark = request_mark(alloc);
-    filled && refilled && has_start_mark && done && has_end_mark
+    filled && refilled && has_start_mark && holds && has_end_mark
 }
 
 #[test]

@@ -7,7 +7,7 @@ use super::answers::Step::{
     AllObjects, Delete, DeleteObject, Fix, Grow, Insert, InsertNew, LookupSecond, Ready, Release,
     Take,
 };
-use super::answers::{OUT_OF_MEMORY, answer_code, integer_or_zero, is_answered};
+use super::answers::{OUT_OF_MEMORY, answer_code, has_wanted_answer, integer_or_zero};
 use super::*;
 
 /// The factor of the digest of the previous keys: a prime, so that another order gives another digest.
@@ -52,7 +52,7 @@ fn visible_state<R: Rows>(table: &Walked<R>) -> (Integer, usize, u32, bool) {
 
 /// Returns whether a call has the wanted answer. If it is refused memory, it must change nothing, and its retry must
 /// have the wanted answer.
-fn is_answered_with_retry<R: Rows>(
+fn has_wanted_answer_with_retry<R: Rows>(
     alloc: Global,
     table: &mut Walked<R>,
     step: Step,
@@ -63,17 +63,17 @@ fn is_answered_with_retry<R: Rows>(
     if first != OUT_OF_MEMORY {
         return first == wanted.code();
     }
-    visible_state(table) == before && is_answered(alloc, table, step, wanted)
+    visible_state(table) == before && has_wanted_answer(alloc, table, step, wanted)
 }
 
 /// Returns whether each call has the wanted answer. Retries a call once if memory is refused.
-pub(super) fn are_answered_with_retry<R: Rows>(
+pub(super) fn have_wanted_answers_with_retry<R: Rows>(
     alloc: Global,
     table: &mut Walked<R>,
     steps: &[(Step, Expected)],
 ) -> bool {
     for (step, wanted) in steps {
-        if !is_answered_with_retry(alloc, table, *step, *wanted) {
+        if !has_wanted_answer_with_retry(alloc, table, *step, *wanted) {
             return false;
         }
     }

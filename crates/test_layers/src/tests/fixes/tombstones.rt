@@ -129,7 +129,8 @@ fn a_deleted_key_keeps_its_place(rt: HostRuntime) {
     assert!(rt; hold_on_both_tables(rt.alloc(), &DELETED_KEY_KEEPS_ITS_PLACE) == Some(true));
 }
 
-/// Deletes key 2 while two processes fix the table, and releases the fixes one by one.
+/// Deletes key 2 while two processes fix the table, and releases the fixes one by one. Process 8 has one fix, so its
+/// second release changes nothing.
 const LAST_RELEASE_REMOVES_TOMBSTONES: [Row; 18] = [
     Insert(Object(1, 1)),
     Insert(Object(2, 1)),

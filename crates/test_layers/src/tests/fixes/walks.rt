@@ -22,8 +22,8 @@ const KEYS: Keys = Keys(4000);
 /// The start of the pseudo-random sequence. Any number is allowed.
 const FIRST_SEED: u64 = 20251122;
 
-/// Returns the first key of a traversal if `last` is None, else the key after `last`. `Badarg` also means a key that is
-/// not a number of 32 bits, which no test inserts.
+/// Returns the first key of a traversal if `last` is None, else the key after `last`. The result None is the end.
+/// `Badarg` also means a key that is not a number of 32 bits, which no test inserts.
 fn first_or_next<R: Rows>(table: &Walked<R>, last: Option<u32>) -> Result<Option<u32>, Badarg> {
     let found = match last {
         None => table.first(),
@@ -131,7 +131,7 @@ pub(super) fn traverses_exactly<R: Rows>(
     Some(filled && is_exact?)
 }
 
-/// A traversal that passes even if the buckets never double.
+/// A traversal that passes even if the buckets never double, as those of plain rows.
 const WALK: Check = Check::Traversal(KEYS, BucketsAbove(0));
 
 /// A traversal during which the buckets double to more than 1,000.

@@ -86,9 +86,9 @@ fn pushes_and_pops(chain: &mut Chain) -> Result<bool, AllocError> {
 /// Returns whether `pushes_and_pops` holds for a new chain.
 fn a_new_chain_pushes_and_pops(alloc: Global) -> Result<bool, AllocError> {
     let mut chain = Chain::new(alloc);
-    let done = pushes_and_pops(&mut chain);
+    let holds = pushes_and_pops(&mut chain);
     drop(chain);
-    done
+    holds
 }
 
 /// Checks a chain of many terms.
@@ -136,11 +136,11 @@ fn cuts_off_last(chain: &mut Chain) -> bool {
 /// Returns whether the chain 1, 2, 1, 3, 1 has the expected terms after each removal, replacement and cut.
 fn removes_replaces_and_cuts_off(alloc: Global) -> Result<bool, AllocError> {
     let mut chain = chain_of(alloc, &[1, 2, 1, 3, 1])?;
-    let done = removes_three_ones(&mut chain)
+    let holds = removes_three_ones(&mut chain)
         && replaces_first(&mut chain)
         && cuts_off_last(&mut chain);
     drop(chain);
-    Ok(done)
+    Ok(holds)
 }
 
 #[test]

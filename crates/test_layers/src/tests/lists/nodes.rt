@@ -64,7 +64,8 @@ fn add_item(list: &mut NodeList, alloc: Global, key: u64, number: Integer) -> Re
 #[derive(Clone, Copy)]
 struct Visits(u64);
 
-/// Returns the first split key for which a search does not visit the wanted number of nodes.
+/// Returns the first split key for which a search does not visit the wanted number of nodes. None means that all
+/// searches do.
 fn first_visits_mismatch(list: &NodeList, wanted: &[(u64, Visits)]) -> Option<u64> {
     for (key, nodes) in wanted {
         if count_visited(list, *key) != nodes.0 {

@@ -48,7 +48,7 @@ fn push_uneven_items(alloc: Global, parts: &mut Items<Term>) -> Option<()> {
     parts.push(letter_tuple(alloc, "ab")?).ok()
 }
 
-/// Builds a list of an integer and a tuple of atoms.
+/// Builds a list of an integer and a tuple of atoms, which have different depths.
 fn uneven_list(alloc: Global) -> Option<Term> {
     let mut parts = Items::new(alloc);
     Some(Term::List(keep_if_some(push_uneven_items(alloc, &mut parts), parts)?))
@@ -81,7 +81,8 @@ fn nested_list_has_depth(alloc: Global, levels: usize) -> Option<bool> {
     Some(built_term_has_depth_and_equals_copy(alloc, Some(term), levels)? && limit_agrees)
 }
 
-/// Returns the first of these depths for which `nested_list_has_depth` does not hold.
+/// Returns the first of these depths for which `nested_list_has_depth` does not hold. The outer None means out of
+/// memory.
 fn first_depth_mismatch(alloc: Global, rows: &[usize]) -> Option<Option<usize>> {
     for levels in rows {
         if !nested_list_has_depth(alloc, *levels)? {

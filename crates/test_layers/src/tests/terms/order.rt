@@ -89,7 +89,7 @@ fn compares_with_all_as_indices(terms: &[Term], i: usize, left: &Term) -> bool {
     all_agree
 }
 
-/// Returns the index of the first term that compares with a term differently from their indices.
+/// Returns the index of the first term that does not compare with each term as their indices do.
 fn first_order_mismatch(terms: &[Term]) -> Option<usize> {
     for (i, left) in terms.iter().enumerate() {
         if !compares_with_all_as_indices(terms, i, left) {

@@ -15,10 +15,10 @@ fn is_printed_and_written_as(
     printed: &str,
 ) -> Result<bool, AllocError> {
     let mut out = String::new(alloc);
-    let done = print_term(alloc, term, &mut out);
+    let outcome = print_term(alloc, term, &mut out);
     let same = out.as_str() == printed;
     drop(out);
-    done?;
+    outcome?;
     Ok(same && is_written_as(alloc, term, printed))
 }
 

@@ -27,7 +27,7 @@ struct End<'a>(&'a str);
 type LongRow<'a> = (Start<'a>, Repeat<'a>, End<'a>, Reading<'a>);
 
 /// Texts at a limit or past it, with their syntax errors and the offsets of these. Where two errors are possible, the
-/// row says which is found first.
+/// row says which is found first. The offset 128 is that of the byte after `MAX_DEPTH` bytes.
 const LONG: [LongRow<'static>; 9] = [
     (
         Start(""),

@@ -30,7 +30,7 @@ struct Reader<'t> {
     out: String,
     /// The characters between the last quotes, or the bytes of the last binary.
     quoted: Vec<u8>,
-    /// The closing bracket of each open one.
+    /// The closing bracket of each open bracket, that of the innermost last.
     closing: Vec<u8>,
     /// Whether a term must follow, unless a bracket closes.
     term_must_follow: bool,

@@ -61,18 +61,18 @@ fn failing_writer_takes_prefix(alloc: Global, term: &Term, text: &str, count: us
 /// Writes a term to a vector of bytes, `out`. Returns whether this succeeded.
 fn writes_to_vec(term: &Term, out: &mut Vec<u8>) -> bool {
     let written = write_term(term, out);
-    let done = written.is_ok();
+    let succeeds = written.is_ok();
     drop(written);
-    done
+    succeeds
 }
 
 /// Returns whether `write_term` writes a term as this text.
 pub fn is_written_as(alloc: Global, term: &Term, text: &str) -> bool {
     let mut out = Vec::new(alloc);
-    let done = writes_to_vec(term, &mut out);
+    let succeeds = writes_to_vec(term, &mut out);
     let same = out.as_slice() == text.as_bytes();
     drop(out);
-    done && same
+    succeeds && same
 }
 
 /// Returns whether a failing writer has taken a prefix of the text, for each number of bytes below the text's length.
@@ -85,14 +85,14 @@ fn failing_writers_take_prefixes(alloc: Global, term: &Term, text: &str) -> bool
     true
 }
 
-/// Returns whether the term of a text is written as this text, and a failing writer has taken a prefix of it.
+/// Returns whether the term of a text is written as this text, and each failing writer has taken a prefix of the text.
 fn writes_text_or_prefix(alloc: Global, text: &str) -> bool {
     match read_term(alloc, text) {
         Ok((term, _)) => {
-            let done = is_written_as(alloc, &term, text)
+            let holds = is_written_as(alloc, &term, text)
                 && failing_writers_take_prefixes(alloc, &term, text);
             drop(term);
-            done
+            holds
         }
         Err(_) => false,
     }
@@ -109,9 +109,9 @@ const PART: usize = 1_000;
 /// Returns whether a writer takes the whole text, and no further write would succeed.
 fn takes_whole_text(text: &str, out: &mut FailingWriter) -> bool {
     let written = write_bytes(text.as_bytes(), out);
-    let done = written.is_ok();
+    let succeeds = written.is_ok();
     drop(written);
-    done && out.taken.as_slice() == text.as_bytes() && out.writes_before_fault == 0
+    succeeds && out.taken.as_slice() == text.as_bytes() && out.writes_before_fault == 0
 }
 
 /// Returns whether a text is written in 100 parts of `PART` bytes.

@@ -58,7 +58,8 @@ pub fn updates_counter_as_expected(
 }
 
 /// Rows `[Before, update, Operations, gives, Answer, leaves, After]` whose operations succeed. An operation is `Incr`,
-/// `{Pos,Incr}` or `{Pos,Incr,Threshold,SetValue}`. The greatest integer is 170141183460469231731687303715884105727.
+/// `{Pos,Incr}` or `{Pos,Incr,Threshold,SetValue}`. The greatest integer, 2^127 - 1, is
+/// 170141183460469231731687303715884105727.
 const COUNTED: [&str; 16] = [
     "[{c,5}, update, 3, gives, 8, leaves, {c,8}]",
     "[{c,5}, update, -7, gives, -2, leaves, {c,-2}]",
@@ -87,9 +88,9 @@ fn operations_on_counters_succeed(rt: HostRuntime) {
     );
 }
 
-/// Rows of the same columns whose operations are refused. A sum is out of range, or a position has no integer. If both
-/// are true, the answer is `badarg`, also if the overflow comes first: all positions are tested before the first
-/// operation.
+/// Rows with the columns of `COUNTED` whose operations are refused. A sum is out of range, or a position has no
+/// integer. If both are true, the answer is `badarg`, also if the overflow comes first: all positions are tested before
+/// the first operation.
 const REFUSED: [&str; 10] = [
     "[{c,170141183460469231731687303715884105727}, update, 1, gives, system_limit, leaves, {c,170141183460469231731687303715884105727}]",
     "[{c,-170141183460469231731687303715884105728}, update, -1, gives, system_limit, leaves, {c,-170141183460469231731687303715884105728}]",
@@ -112,8 +113,8 @@ fn refused_operations_leave_the_object(rt: HostRuntime) {
     );
 }
 
-/// Rows of the same columns for an object whose key is second. The operation 4 updates the element after the key. The
-/// others are refused: an atom is not a counter, and 5 is not a tuple.
+/// Rows with the columns of `COUNTED` for an object whose key is second. The operation 4 updates the element after the
+/// key. The others are refused: an atom is not a counter, and 5 is not a tuple.
 const KEY_SECOND: [&str; 3] = [
     "[{1,2,3}, update, 4, gives, 7, leaves, {1,2,7}]",
     "[{c,5}, update, {1,1}, gives, badarg, leaves, {c,5}]",

@@ -8,22 +8,22 @@ fn is_answer_and_object(expected: &Term, answer: &Term, object: &Term) -> bool {
     expected.element(1) == Some(answer) && expected.element(2) == Some(object)
 }
 
-/// Returns whether both `with_key` and `is_default` accept a default object with this key.
+/// Returns whether both `with_key` and `is_valid_default` accept a default object with this key.
 fn default_is_accepted(alloc: Global, keypos: u32, default: &Term, key: &Term) -> bool {
     let outcome = with_key(alloc, default, keypos, key);
     let has_object = outcome.is_ok();
     drop(outcome);
-    has_object && is_default(default, keypos, key)
+    has_object && is_valid_default(default, keypos, key)
 }
 
-/// Returns whether both `with_key` and `is_default` refuse a default object with this key.
+/// Returns whether both `with_key` and `is_valid_default` refuse a default object with this key.
 fn default_is_refused(alloc: Global, keypos: u32, default: &Term, key: &Term) -> bool {
     let fault = with_key(alloc, default, keypos, key).err();
-    !is_default(default, keypos, key) && matches!(fault, Some(CounterFault::Badarg))
+    !is_valid_default(default, keypos, key) && matches!(fault, Some(CounterFault::Badarg))
 }
 
 /// Returns whether `start_counter` gives the object and the answer of `expected`, `{Answer,Object}`, or the expected
-/// refusal. If it succeeds, `with_key` and `is_default` must accept the default object too.
+/// refusal. If it succeeds, `with_key` and `is_valid_default` must accept the default object too.
 fn applies_ops_to_default(
     alloc: Global,
     keypos: u32,
@@ -120,8 +120,8 @@ fn values_are_written_to_a_default_object(rt: HostRuntime) {
     );
 }
 
-/// Returns whether `with_key` and `is_default` both accept a default object with the key of this text, and whether both
-/// refuse it.
+/// Returns whether `with_key` and `is_valid_default` both accept a default object with the key of this text, and
+/// whether both refuse it.
 fn verdicts_on_default(
     alloc: Global,
     keypos: u32,
@@ -136,8 +136,8 @@ fn verdicts_on_default(
 }
 
 /// Returns whether the default object and the key of these texts make an object. None means out of memory, a text that
-/// is not a term, or that `with_key` and `is_default` disagree.
-fn is_valid_default(alloc: Global, keypos: u32, default: &str, key: &str) -> Option<bool> {
+/// is not a term, or that `with_key` and `is_valid_default` disagree.
+fn default_makes_object(alloc: Global, keypos: u32, default: &str, key: &str) -> Option<bool> {
     let (default, _) = read_term(alloc, default).ok()?;
     let verdicts = verdicts_on_default(alloc, keypos, &default, key);
     drop(default);
@@ -157,19 +157,19 @@ const INVALID_DEFAULTS: [(u32, &str, &str); 4] = [
     (1, "7", "h"),
 ];
 
-/// Returns whether no row makes an object. None is as in `is_valid_default`.
+/// Returns whether no row makes an object. None is as in `default_makes_object`.
 fn are_invalid_defaults(alloc: Global, rows: &[(u32, &'static str, &'static str)]) -> Option<bool> {
     for (keypos, default, key) in rows {
-        if is_valid_default(alloc, *keypos, *default, *key)? {
+        if default_makes_object(alloc, *keypos, *default, *key)? {
             return Some(false);
         }
     }
     Some(true)
 }
 
-/// Checks that `with_key` and `is_default` accept a default object only if it is an object with the key.
+/// Checks that `with_key` and `is_valid_default` accept a default object only if it is an object with the key.
 #[test]
 fn only_objects_are_valid_defaults(rt: HostRuntime) {
-    assert!(rt; is_valid_default(rt.alloc(), 1, "{x}", "h") == Some(true));
+    assert!(rt; default_makes_object(rt.alloc(), 1, "{x}", "h") == Some(true));
     assert!(rt; are_invalid_defaults(rt.alloc(), &INVALID_DEFAULTS) == Some(true));
 }

@@ -112,7 +112,8 @@ fn writes_default_as_expected_with_retry(
 enum UpdateCall {
     /// `[Before, update, Operations, gives, Answer, leaves, After]`
     UpdateCounter,
-    /// `[default, Default, key, Key, update, Operations, gives, Answer, leaves, Object]`
+    /// `[default, Default, key, Key, update, Operations, gives, Answer, leaves, Object]`. The object of a refusal is
+    /// `none`, which is not compared.
     UpdateCounterWithDefault,
     /// `[Before, set, Values, gives, Result]`
     UpdateElement,

@@ -32,7 +32,7 @@ fn is_refused_memory<T>(outcome: &Result<T, CounterFault>) -> bool {
 }
 
 /// Updates the counters of an object in place. Retries once if memory is refused and the object is still `before`. If
-/// it is not, returns the refusal, and so the test fails.
+/// the object has changed, returns the refusal, and so the test fails.
 pub fn update_counter_with_retry(
     alloc: Global,
     object: &mut Term,

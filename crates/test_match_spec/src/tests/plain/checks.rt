@@ -72,7 +72,7 @@ fn is_tuple_expression(items: &[Term], bindings: &[Binding]) -> bool {
     }
 }
 
-/// Collects the variables of a pattern as bindings, each with the variable itself as its value.
+/// Collects the variables of a pattern in `found`, as bindings whose values are the variables themselves.
 #[cycle(plain_variables)]
 fn collect_variables(alloc: Global, pattern: &Term, found: &mut Vec<Binding>) {
     match pattern {
@@ -80,14 +80,14 @@ fn collect_variables(alloc: Global, pattern: &Term, found: &mut Vec<Binding>) {
         Term::List(items) => collect_all_variables(alloc, items.as_slice(), found),
         _ => {
             if let Some(n) = variable_number(pattern) {
-                // Ignored: it is `None` only if memory runs out.
+                // The result is ignored: it is `None` only if memory runs out.
                 let _pushed = push_binding(alloc, n, pattern, found);
             }
         }
     }
 }
 
-/// Collects the variables of the parts of a pattern.
+/// Collects the variables of the parts of a pattern in `found`.
 #[cycle(plain_variables)]
 fn collect_all_variables(alloc: Global, parts: &[Term], found: &mut Vec<Binding>) {
     for part in parts {
@@ -113,7 +113,8 @@ fn is_clause(alloc: Global, clause: &Term) -> bool {
         && are_conditions_and_body(conditions, body, found.as_slice())
 }
 
-/// Returns whether a list is a match specification. Its items must be tuples whose conditions and body are lists.
+/// Returns whether a list of tuples is a match specification. Conditions and body of each tuple must be lists, which is
+/// not checked.
 pub(crate) fn is_spec(alloc: Global, spec: &Term) -> bool {
     for clause in parts_of(spec) {
         if !is_clause(alloc, clause) {

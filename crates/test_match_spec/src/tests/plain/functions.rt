@@ -32,8 +32,8 @@ pub(crate) fn apply_function(alloc: Global, name: &Term, arguments: &[Term]) -> 
     }
 }
 
-/// Returns the value of `or` if `dominant` is true, else of `and`: `dominant` if an argument is `dominant`, otherwise its
-/// opposite. `None` means that an argument is not a boolean.
+/// Returns the value of `or` if `dominant` is true, else of `and`. The value is `dominant` if an argument is
+/// `dominant`, otherwise the opposite. `None` means that an argument is not a boolean.
 fn join_booleans(arguments: &[Term], dominant: bool) -> Option<bool> {
     let mut joined = !dominant;
     for argument in arguments {
@@ -160,8 +160,8 @@ fn integer_of(term: &Term) -> Option<Integer> {
     }
 }
 
-/// Returns the element of a tuple at a position, from 1. It compares the position with each index, and so converts no
-/// position that `usize` may not hold.
+/// Returns the element of a tuple at a position, from 1. The position is compared with each index, because `usize` may
+/// not hold it. `None` means a position that is not an integer, or a term without an element at the position.
 fn element_at<'t>(position: &Term, term: &'t Term) -> Option<&'t Term> {
     let position = integer_of(position)?;
     let Term::Tuple(items) = term else {

@@ -10,7 +10,8 @@ pub(crate) struct Binding {
     pub(crate) value: Term,
 }
 
-/// Returns the number of a variable. The tests have only the variables `$0`, `$1` and `$2`.
+/// Returns the number of a variable, or `None` if the term is not a variable. The tests have only the variables `$0`,
+/// `$1` and `$2`.
 pub(crate) fn variable_number(term: &Term) -> Option<u32> {
     for (n, name) in [(0, "$0"), (1, "$1"), (2, "$2")] {
         if term.is_atom(name) {
@@ -68,7 +69,7 @@ fn parts_match(alloc: Global, parts: &[Term], items: &[Term], bindings: &mut Vec
     parts.len() == items.len()
 }
 
-/// Binds a variable to a copy of a term.
+/// Binds a variable to a copy of a term. Returns `None` if memory runs out.
 pub(crate) fn push_binding(
     alloc: Global,
     n: u32,
@@ -79,7 +80,7 @@ pub(crate) fn push_binding(
     bindings.push(Binding { number: n, value }).ok()
 }
 
-/// Returns whether a variable is bound to this term. Binds it to the term if it is not bound.
+/// Binds a variable to this term if the variable is not bound. Returns whether it is then bound to the term.
 fn bind_variable(alloc: Global, n: u32, term: &Term, bindings: &mut Vec<Binding>) -> bool {
     match bound_value(n, bindings.as_slice()) {
         Some(value) => *value == *term,

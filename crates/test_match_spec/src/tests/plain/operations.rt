@@ -47,7 +47,8 @@ fn remainder(m: Integer, n: Integer) -> Option<Integer> {
     if n == -1 { Some(0) } else { m.checked_rem(n) }
 }
 
-/// Returns the value of an arithmetic operator, or `None` if it overflows or divides by 0.
+/// Returns the value of an arithmetic operator, or `None` if it overflows or divides by 0. Any name other than `+`,
+/// `-`, `*` and `div` is taken for `rem`.
 pub(crate) fn calculate(name: &Term, m: Integer, n: Integer) -> Option<Integer> {
     if name.is_atom("+") {
         sum(m, n)

@@ -78,8 +78,8 @@ fn tuple_value(alloc: Global, items: &[Term], object: &Term, bindings: &[Binding
     }
 }
 
-/// Returns the value of `orelse` if `stop` is true, else of `andalso`. Arguments after the first that is `stop` are not
-/// evaluated.
+/// Returns the value of `orelse` if `stop` is true, else of `andalso`. The items are the name and the arguments.
+/// Arguments after the first that is `stop` are not evaluated.
 #[cycle(plain_value)]
 fn short_circuit_value(
     alloc: Global,

@@ -1,5 +1,5 @@
 //! Random expressions of match specifications, for their conditions and bodies. They are built from a pool of
-//! expressions, and some of them are refused.
+//! expressions, and some of them are refused. `None` means out of memory.
 use super::Random;
 use crate::tests::forms::{atom, one_item};
 use ets_term::{Items, Term};
@@ -60,8 +60,8 @@ impl Random {
         }
     }
 
-    /// Builds a random function with arguments from the pool: its usual number, or in 1 of 40 cases a random number,
-    /// which is often refused.
+    /// Builds the call of a random function, `{Name,Argument,..}`, with arguments from the pool. It has the usual
+    /// number of arguments, or in 1 of 40 cases a random number, which is often refused.
     fn application(&mut self, alloc: Global, pool: &[Term]) -> Option<Term> {
         let (name, count) = self.random_function();
         let count = if self.random_below(40) == 0 {
@@ -74,7 +74,8 @@ impl Random {
         Some(Term::Tuple(parts))
     }
 
-    /// Builds an expression of the expressions in the pool: a list, a list of a tuple, a tuple `{{..}}` or a function.
+    /// Builds an expression of the expressions in the pool: a list, a list of a tuple, a tuple `{{..}}` or the call of
+    /// a function.
     fn expression(&mut self, alloc: Global, pool: &[Term]) -> Option<Term> {
         match self.random_below(8) {
             0 => Some(Term::List(self.random_copies(alloc, pool, 2)?)),

@@ -23,10 +23,10 @@ enum Pending {
 }
 
 /// Returns the pending step of the node, if any.
-fn first_pending<H: KeyHash + Copy + Drop>(node: &Node<H>) -> Pending {
+fn first_pending_step<H: KeyHash + Copy + Drop>(node: &Node<H>) -> Pending {
     match node.due() {
         Some(step) => {
-            let pending = pending_of(&step);
+            let pending = pending_step_of(&step);
             drop(step);
             pending
         }
@@ -35,7 +35,7 @@ fn first_pending<H: KeyHash + Copy + Drop>(node: &Node<H>) -> Pending {
 }
 
 /// Returns this step as a `Pending`.
-fn pending_of(step: &Step) -> Pending {
+fn pending_step_of(step: &Step) -> Pending {
     match step {
         Step::Grow(id) => ToGrow(Tid(*id)),
         Step::Ready(id, bucket) => ToReady(Tid(*id), Bucket(*bucket)),
@@ -95,7 +95,9 @@ fn first_wrong_pending_in<H: KeyHash + Copy + Drop>(
     rows: &[PendingRow],
 ) -> Result<Option<usize>, AllocError> {
     for (index, (row, wanted)) in rows.iter().enumerate() {
-        if first_wrong_row_in(alloc, node, &[*row])?.is_some() || first_pending(node) != *wanted {
+        if first_wrong_row_in(alloc, node, &[*row])?.is_some()
+            || first_pending_step(node) != *wanted
+        {
             return Ok(Some(index));
         }
     }

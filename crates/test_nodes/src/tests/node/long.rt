@@ -1,5 +1,5 @@
 //! Tests of a node with long inputs: thousands of objects, tables, processes and steps.
-// They fail a mutant that reports out of memory at a small size. A template is a text such as `lookup(t,N)`, in which a
+// They fail if a mutant reports out of memory at a small size. A template is a text such as `lookup(t,N)`, in which a
 // number replaces each N.
 
 // A table that grows while objects are inserted, found and deleted.
@@ -127,12 +127,12 @@ fn filled_call_has_reply(
     number: u32,
 ) -> Result<bool, AllocError> {
     let call = fill_template(alloc, call, number)?;
-    let answered = call_has_filled_reply(alloc, node, call.as_str(), wanted, number);
+    let has_reply = call_has_filled_reply(alloc, node, call.as_str(), wanted, number);
     drop(call);
-    answered
+    has_reply
 }
 
-/// Makes a call of process 0, and returns whether its reply is the template filled in with a number.
+/// Makes a call of process 0, and returns whether its reply is the template `wanted`, filled in with a number.
 fn call_has_filled_reply(
     alloc: Global,
     node: &mut Node<Fnv>,
@@ -141,12 +141,13 @@ fn call_has_filled_reply(
     number: u32,
 ) -> Result<bool, AllocError> {
     let wanted = fill_template(alloc, wanted, number)?;
-    let answered = call_has_reply(alloc, node, call, wanted.as_str());
+    let has_reply = call_has_reply(alloc, node, call, wanted.as_str());
     drop(wanted);
-    answered
+    has_reply
 }
 
-/// Fills each number into the templates of a call and a reply. Returns the first number whose call has another reply.
+/// Fills each number below `COUNT` into the templates of a call and a reply. Returns the first number whose call has
+/// another reply, or `None` if each has its reply.
 fn first_wrong_number(
     alloc: Global,
     node: &mut Node<Fnv>,

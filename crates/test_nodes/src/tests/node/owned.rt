@@ -10,7 +10,8 @@ use node_core::{Node, Reply, Step};
 use std::alloc::{AllocError, Global};
 
 /// Steps and their wanted replies: an object goes under a new key, over another object, over a tombstone, or after the
-/// other objects of its key in a bag. Then lists of objects, and calls that are refused.
+/// other objects of its key in a bag. Then lists of objects, and calls that are refused. There is no table v and no
+/// process 1.
 pub(super) static OWNED: [Row; 22] = [
     (Enrol(Pid(0)), "<0.0.0>"),
     (Ask(Pid(0), "new(t,[named_table])"), "t"),

@@ -21,8 +21,8 @@ type ReadRow = (Pid, &'static str, &'static str);
 /// The wanted text of a call that `read` leaves to `step`: it may change a table, or is not a call that reads.
 const LEFT_TO_STEP: &str = "";
 
-/// Calls that read, with their replies; and calls that `read` leaves to `step`. There is no process 1 and no table u. The
-/// second `lookup(t,a)` overwrites the reply `NoProcess` of the call before it.
+/// Calls that read, with their replies; and calls that `read` leaves to `step`. There is no process 1 and no table u.
+/// The second `lookup(t,a)` by process 0 overwrites the reply `NoProcess` of the call before it.
 static READS: [ReadRow; 25] = [
     (Pid(0), "lookup(t,a)", "[{a,1}]"),
     (Pid(0), "lookup(t,b)", "[]"),
@@ -119,7 +119,8 @@ fn overwriting_read_of_step_has_reply(
     reply_has_text(alloc, reply, if replied { wanted } else { before })
 }
 
-/// Makes the calls of the rows by `read`, and returns the index of the first row with another reply.
+/// Makes the calls of the rows by `read`. Returns the index of the first row with another reply, or `None` if each is
+/// right.
 fn first_wrong_read(
     alloc: Global,
     node: &Node<Fnv>,
@@ -134,7 +135,7 @@ fn first_wrong_read(
 }
 
 /// Makes the calls of the rows by `read_into`, each over the previous reply, which is `NoProcess` at the start. Returns
-/// the index of the first row with another reply.
+/// the index of the first row with another reply, or `None` if each is right.
 fn first_wrong_overwriting_read(
     alloc: Global,
     node: &Node<Fnv>,
@@ -158,13 +159,13 @@ fn first_wrong_overwriting_read(
 fn a_read_replies_as_a_step(rt: HostRuntime) {
     let alloc = rt.alloc();
     let mut node = Node::new(alloc, Limits::usual(), Fnv);
-    let setup = first_wrong_row_in(alloc, &mut node, &SETUP);
-    let read = first_wrong_read(alloc, &node, &READS);
+    let wrong_setup_row = first_wrong_row_in(alloc, &mut node, &SETUP);
+    let wrong_read = first_wrong_read(alloc, &node, &READS);
     let mut reply = Reply::NoProcess;
-    let overwriting = first_wrong_overwriting_read(alloc, &node, &READS, &mut reply);
+    let wrong_overwrite = first_wrong_overwriting_read(alloc, &node, &READS, &mut reply);
     drop(reply);
     drop(node);
-    assert_eq!(rt; setup, Ok(None));
-    assert_eq!(rt; read, Ok(None));
-    assert_eq!(rt; overwriting, Ok(None));
+    assert_eq!(rt; wrong_setup_row, Ok(None));
+    assert_eq!(rt; wrong_read, Ok(None));
+    assert_eq!(rt; wrong_overwrite, Ok(None));
 }

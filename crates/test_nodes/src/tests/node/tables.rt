@@ -40,19 +40,20 @@ fn tid_of(id: Option<u32>) -> Option<Tid> {
     Some(Tid(id?))
 }
 
-/// Runs the rows in a node, without a check of their replies. Returns the identifier of the table that a term then
-/// names.
+/// Runs the rows in a node, up to the first wrong reply. Returns the identifier of the table that a term then names, or
+/// `None` if the term names no table.
 fn resolve_after(
     alloc: Global,
     node: &mut Node<Fnv>,
     rows: &[Row],
     named: &Term,
 ) -> Result<Option<Tid>, AllocError> {
-    let _made = first_wrong_row_in(alloc, node, rows)?;
+    let _wrong_row = first_wrong_row_in(alloc, node, rows)?;
     Ok(tid_of(node.resolve(named)))
 }
 
-/// Runs the rows in a new node, and returns the identifier of the table that a term then names.
+/// Runs the rows in a new node. Returns the identifier of the table that a term then names, or `None` if the term names
+/// no table.
 fn resolve_in_new_node(
     alloc: Global,
     rows: &[Row],
@@ -64,7 +65,8 @@ fn resolve_in_new_node(
     resolved
 }
 
-/// Returns the identifier of the table that the term of a text names, in a new node with two tables.
+/// Returns the identifier of the table that the term of a text names, in a new node with `TWO_TABLES`. `None` means
+/// that the term names no table.
 fn resolve_text(alloc: Global, named: &str) -> Result<Option<Tid>, AllocError> {
     let named = term(alloc, named)?;
     let resolved = resolve_in_new_node(alloc, &TWO_TABLES, &named);
@@ -72,8 +74,8 @@ fn resolve_text(alloc: Global, named: &str) -> Result<Option<Tid>, AllocError> {
     resolved
 }
 
-/// Texts of terms, and the table that each names in a node with `TWO_TABLES`. A table was made as `u`, but it is not a
-/// named table.
+/// Texts of terms, and the table that each names in a node with `TWO_TABLES`, or `None` for no table. A table was made
+/// as `u`, but it is not a named table.
 static NAMED: [(&str, Option<Tid>); 7] = [
     ("t", Some(Tid(0))),
     ("#Tid<0>", Some(Tid(0))),
@@ -84,7 +86,8 @@ static NAMED: [(&str, Option<Tid>); 7] = [
     ("[t]", None),
 ];
 
-/// Returns the first text whose term names another table than wanted.
+/// Returns the first text whose term names another table than wanted. `None` means that each term names the wanted
+/// table.
 fn first_wrong_name(
     alloc: Global,
     rows: &[(&'static str, Option<Tid>)],
@@ -110,13 +113,13 @@ static REFUSED: [Row; 4] = [
     (Ask(Pid(0), "new(t,[named_table])"), "** badarg"),
 ];
 
-/// Runs the rows in a node, without a check of their replies. Returns the identifier that the next table will get.
+/// Runs the rows in a node, up to the first wrong reply. Returns the identifier that the next table will get.
 fn next_identifier_after(
     alloc: Global,
     node: &mut Node<Fnv>,
     rows: &[Row],
 ) -> Result<Tid, AllocError> {
-    let _made = first_wrong_row_in(alloc, node, rows)?;
+    let _wrong_row = first_wrong_row_in(alloc, node, rows)?;
     Ok(Tid(node.next_identifier()))
 }
 

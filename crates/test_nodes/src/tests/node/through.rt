@@ -1,5 +1,5 @@
 //! Tests of `Node::run` and `Node::run_through`, which run a list of steps. A row is a step and its wanted reply.
-// Both reply to each step, a refused one too, if there is memory. The answer of `run_through` to a step is `None` if
+// Both reply to each step, a refused one too, if memory suffices. The answer of `run_through` to a step is `None` if
 // memory ran out.
 use super::StepText::{Ask, End, Enrol, Grow, Ready};
 use super::{Bucket, Pid, Row, Tid, build_step, reply_has_text};
@@ -9,7 +9,7 @@ use node_core::{Limits, Node, Reply, Step};
 use std::alloc::{AllocError, Global};
 use std::process::Abort;
 
-/// Steps of each kind with their wanted replies; some are refused.
+/// Steps of each kind with their wanted replies; some are refused. There is no process 1 and no table 1.
 static EACH_KIND: [Row; 16] = [
     (Enrol(Pid(0)), "<0.0.0>"),
     (Enrol(Pid(0)), "** badarg"),
@@ -43,7 +43,8 @@ fn steps_of(alloc: Global, rows: &[Row]) -> Result<Vec<Step>, AllocError> {
     keep_if_ok(push_steps(alloc, &mut steps, rows), steps)
 }
 
-/// Returns the index of the first row whose answer is not the wanted reply: another one, `None`, or none at all.
+/// Returns the index of the first row whose answer is not the wanted reply: it is another reply, it is `None`, or it is
+/// missing. Returns `None` if each answer is the wanted reply.
 fn first_wrong_answer(
     alloc: Global,
     rows: &[Row],
@@ -73,7 +74,7 @@ fn first_wrong_row_through(
     index
 }
 
-/// Returns the index of the first row with another reply or no reply.
+/// Returns the index of the first row with another reply or no reply, or `None` if each has its reply.
 fn first_wrong_reply(
     alloc: Global,
     rows: &[Row],
@@ -90,8 +91,8 @@ fn first_wrong_reply(
     Ok(None)
 }
 
-/// Runs the steps of the rows by `run`, and returns the index of the first row with another reply or no reply; 0 if the
-/// run stops because memory runs out.
+/// Runs the steps of the rows by `run`. Returns the index of the first row with another reply or no reply, or 0 if the
+/// run stops because memory runs out. `None` means that each row has its reply.
 fn first_wrong_row_of_run(
     alloc: Global,
     node: &mut Node<Fnv>,

@@ -24,7 +24,7 @@ mod starts;
 mod walk_check;
 
 /// Nine keys, less than the limit. Another process deletes each key and inserts it again as soon as it is visited.
-static REINSERTED: WalkSetup<'static> = WalkSetup {
+static REINSERTED_KEYS: WalkSetup<'static> = WalkSetup {
     rows: &NINE_KEYS,
     walker: 0,
     limit: 100,
@@ -33,12 +33,13 @@ static REINSERTED: WalkSetup<'static> = WalkSetup {
 
 #[test]
 fn keys_that_are_deleted_and_inserted_again_come_once(rt: HostRuntime) {
+    let alloc = rt.alloc();
     let all_keys = WalkEnd::Keys("[1,2,3,4,5,6,7,8,9]");
     assert!(rt;
-        walk_has_wanted_end(rt.alloc(), Fnv, REINSERTED, all_keys, IS_NOT_FIXED) == Ok(true)
+        walk_has_wanted_end(alloc, Fnv, REINSERTED_KEYS, all_keys, IS_NOT_FIXED) == Ok(true)
     );
     assert!(rt;
-        walk_has_wanted_end(rt.alloc(), AllSame, REINSERTED, all_keys, IS_NOT_FIXED) == Ok(true)
+        walk_has_wanted_end(alloc, AllSame, REINSERTED_KEYS, all_keys, IS_NOT_FIXED) == Ok(true)
     );
 }
 
@@ -97,6 +98,7 @@ fn setup_of_two_keys(plan: Plan) -> WalkSetup<'static> {
 type StopRow = (Plan, Row);
 
 /// Returns the index of the first row whose walk does not end with the wanted fault, or whose step has another reply.
+/// `None` means that each row is right.
 fn first_wrong_stop(
     alloc: Global,
     wanted: &WalkFault,
@@ -124,7 +126,7 @@ fn walk_stops(alloc: Global, stop: StopRow, wanted: &WalkFault) -> Result<bool, 
 
 /// Others delete the table, or also create another table with its name. The walk ends, and does not change the new
 /// table.
-static LOST: [StopRow; 3] = [
+static LOST_TABLE: [StopRow; 3] = [
     (
         Plan::Always(&DELETES_TABLE),
         (Ask(Pid(0), "whereis(t)"), "undefined"),
@@ -139,7 +141,7 @@ static LOST: [StopRow; 3] = [
 #[test]
 fn a_deleted_table_ends_the_walk(rt: HostRuntime) {
     assert_eq!(rt;
-        first_wrong_stop(rt.alloc(), &WalkFault::Lost, &LOST),
+        first_wrong_stop(rt.alloc(), &WalkFault::Lost, &LOST_TABLE),
         Ok(None)
     );
 }
@@ -195,6 +197,7 @@ fn walk_has_fault(
         rows,
         walker: 0,
         limit,
+        // The plan plays no part: these walks end before the first key is visited.
         plan: Plan::DeleteAndInsert,
     };
     walk_has_wanted_end(alloc, Fnv, setup, WalkEnd::Fault(fault), next_row)
@@ -214,15 +217,16 @@ static UNREADABLE: [(&[Row], Row); 3] = [
     (&[], HAS_NO_PROCESS),
 ];
 
-/// Returns the index of the first row whose walk does not end with this fault, or whose step has another reply.
+/// Returns the index of the first row whose walk does not end with this fault, or whose step has another reply. `None`
+/// means that each row is right.
 fn first_walk_with_wrong_fault(
     alloc: Global,
     fault: &WalkFault,
     rows: &[(&'static [Row], Row)],
 ) -> Result<Option<usize>, AllocError> {
-    for (index, (before, next_row)) in rows.iter().enumerate() {
+    for (index, (setup_rows, next_row)) in rows.iter().enumerate() {
         // The limit 9 plays no part: these walks are refused before the first key.
-        if !walk_has_fault(alloc, *before, 9, fault, *next_row)? {
+        if !walk_has_fault(alloc, *setup_rows, 9, fault, *next_row)? {
             return Ok(Some(index));
         }
     }
@@ -237,7 +241,7 @@ fn a_walk_without_a_readable_table_is_refused(rt: HostRuntime) {
     );
 }
 
-/// A walk over an empty table with the limit 0: it may not visit a key.
+/// A walk over an empty table with the limit 0: it may not visit a key. The plan plays no part.
 static ZERO_LIMIT: WalkSetup<'static> = WalkSetup {
     rows: &NO_KEYS,
     walker: 0,

@@ -41,9 +41,9 @@ fn step_text_has_reason(
     wanted: &str,
 ) -> Result<bool, AllocError> {
     let step = build_step(alloc, step_text)?;
-    let explained = step_has_reason(alloc, node, &step, wanted);
+    let has_wanted_reason = step_has_reason(alloc, node, &step, wanted);
     drop(step);
-    explained
+    has_wanted_reason
 }
 
 /// Runs a step, and returns whether its reply has the wanted reason.
@@ -54,12 +54,12 @@ fn step_has_reason(
     wanted: &str,
 ) -> Result<bool, AllocError> {
     let reply = node.step(step)?;
-    let explained = has_reason(alloc, node, step, &reply, wanted);
+    let has_wanted_reason = has_reason(alloc, node, step, &reply, wanted);
     drop(reply);
-    explained
+    has_wanted_reason
 }
 
-/// Runs the rows in a node, and returns the index of the first row with another reason.
+/// Runs the rows in a node. Returns the index of the first row with another reason, or `None` if each is right.
 fn first_wrong_reason_in(
     alloc: Global,
     node: &mut Node<Fnv>,

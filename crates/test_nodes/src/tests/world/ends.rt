@@ -53,7 +53,8 @@ static IN_ORDER: [Row; 11] = [
     (Info(Tid(3), "heir"), "<0.1.0>"),
 ];
 
-/// The exit of a process releases its fixes, also of a table that passes to an heir.
+/// The exit of a process releases its fixes, also of a table that passes to an heir. The empty list of options changes
+/// nothing.
 static FIXES: [Row; 12] = [
     (Enrol(Pid(0)), DONE),
     (Enrol(Pid(1)), DONE),
@@ -82,7 +83,7 @@ static ENROLLED: [Row; 8] = [
     (End(Pid(1)), "** noproc"),
 ];
 
-/// Runs the rows about the ends of processes.
+/// Runs the rows about enrolment and exit of processes.
 #[test]
 fn processes_enrol_and_end(rt: HostRuntime) {
     let scenarios: [&[Row]; 5] = [&INHERITED, &NO_HEIR, &IN_ORDER, &FIXES, &ENROLLED];

@@ -13,8 +13,8 @@ const MANY: u32 = 300;
 /// How many tables one process makes, all with one heir.
 const TABLES: u32 = 70;
 
-/// In place of the owner of a table that does not exist. It is not the number of a process, since those are below
-/// `MANY`.
+/// The owner that a table gets in comparisons if it does not exist. It is not the number of a process, since those are
+/// below `MANY`.
 const GONE: u32 = 1_000;
 
 /// Makes a table of the process, with this heir and the gift 1.
@@ -103,8 +103,8 @@ fn heir_of(id: u32) -> u32 {
     id.wrapping_mul(17).wrapping_add(1) % MANY
 }
 
-/// Returns the process that fixes a table. Different tables are fixed by different processes, because 11 and `MANY` have
-/// no common divisor but 1.
+/// Returns the process that fixes a table. Different tables are fixed by different processes, because 11 and `MANY`
+/// have no common divisor but 1.
 fn fixer_of(id: u32) -> u32 {
     id.wrapping_mul(11).wrapping_add(5) % MANY
 }
@@ -139,7 +139,7 @@ fn owner_and_fix_after(id: u32, turns: u32) -> (u32, bool) {
     (owner, owner != GONE && !has_exited(fixer_of(id), turns))
 }
 
-/// Enrols all processes.
+/// Enrols the processes 0 to `MANY` - 1.
 fn enrol_all(world: &mut PlainWorld) -> Result<(), WorldFault> {
     for pid in 0..MANY {
         world.enrol(pid)?;
@@ -156,7 +156,8 @@ fn make_and_fix_all(alloc: Global, world: &mut PlainWorld) -> Result<(), WorldFa
     Ok(())
 }
 
-/// Returns the first table with another owner or fix than it must have after a number of turns.
+/// Returns the first table with another owner or fix than it must have after a number of turns, or `None` if each is
+/// right.
 fn first_wrong_table_after(world: &PlainWorld, turns: u32) -> Option<u32> {
     for id in 0..MANY {
         if owner_and_fix(world, id) != owner_and_fix_after(id, turns) {

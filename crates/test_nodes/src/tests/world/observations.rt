@@ -124,7 +124,8 @@ fn observe_name(
 /// The names of tables that are observed.
 static NAMES: [&str; 5] = ["a_name_longer_than_its_place", "u", "v", "w", "x"];
 
-/// Appends processes 0 to 3, and tables 0 to 3 with these items and the rights of the processes in each.
+/// Appends what is observed of processes 0 to 3, and of tables 0 to 3: these items of each, and the rights of the
+/// processes in it.
 fn observe_numbers(
     alloc: Global,
     world: &PlainWorld,

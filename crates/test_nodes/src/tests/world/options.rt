@@ -5,6 +5,7 @@ use super::{Pid, Row, Tid, first_wrong_scenario};
 use std::process::Abort;
 
 /// `info` shows all options. Of several options of one kind, the last one is used. The greatest keypos is 4294967295.
+/// `memory` is not an `info` item of this store, and there is no table 1.
 static READ: [Row; 12] = [
     (
         New(

@@ -4,7 +4,7 @@ use super::Call::{Delete, End, Enrol, GiveAway, Info, New, Receive, Resolve, Rig
 use super::{DONE, Pid, Row, Tid, first_wrong_scenario};
 use std::process::Abort;
 
-/// Only the owner gives a table away, and only to another living process.
+/// Only the owner gives a table away, and only to another living process. There is no process 2 and no table 1.
 static GIVEN: [Row; 14] = [
     (Enrol(Pid(0)), DONE),
     (Enrol(Pid(1)), DONE),
@@ -22,7 +22,8 @@ static GIVEN: [Row; 14] = [
     (Info(Tid(0), "owner"), "<0.1.0>"),
 ];
 
-/// Only the owner sets the heir, and a malformed option sets nothing.
+/// Only the owner sets the heir, and a malformed option sets nothing. Of two heirs, the last one is used. There is no
+/// table 1.
 static HEIRS: [Row; 13] = [
     (Enrol(Pid(0)), DONE),
     (Enrol(Pid(1)), DONE),
@@ -45,7 +46,7 @@ static HEIRS: [Row; 13] = [
     (Info(Tid(0), "heir"), "<0.1.0>"),
 ];
 
-/// The protection of a table decides which other processes may read and write it.
+/// The protection of a table decides which other processes may read and write it. There is no table 3.
 static RIGHTS: [Row; 9] = [
     (New(Pid(0), "a", "[public]"), "#Tid<0>"),
     (New(Pid(0), "b", "[]"), "#Tid<1>"),
@@ -58,8 +59,8 @@ static RIGHTS: [Row; 9] = [
     (Info(Tid(2), "protection"), "private"),
 ];
 
-/// A name may be used again after its table is deleted, but an identifier may not. To delete a table again does
-/// nothing.
+/// A name may be used again after its table is deleted, but an identifier may not. An integer names no table. To delete
+/// a table again does nothing.
 static NAMES: [Row; 12] = [
     (New(Pid(0), "t", "[named_table]"), "t"),
     (New(Pid(0), "t", "[]"), "#Tid<1>"),

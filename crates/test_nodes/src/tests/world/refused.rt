@@ -12,7 +12,7 @@ use std::alloc::{AllocError, Global};
 use std::process::Abort;
 
 /// Calls, each with the answer that it must have when memory suffices. The long name is not stored inline in its atom,
-/// so it takes memory.
+/// so it takes memory. The limits are three processes and four tables.
 static CALLS: [Row; 28] = [
     (Enrol(Pid(0)), DONE),
     (Enrol(Pid(1)), DONE),
@@ -91,10 +91,10 @@ fn is_spelled_with_retry(alloc: Global, value: &Term, wanted: &str) -> Result<bo
 /// Returns whether an answer or a refusal is the wanted one.
 fn answer_has_text(
     alloc: Global,
-    answered: Result<Term, WorldFault>,
+    answer_or_fault: Result<Term, WorldFault>,
     wanted: &str,
 ) -> Result<bool, AllocError> {
-    match answered {
+    match answer_or_fault {
         Ok(answer) => {
             let same = is_spelled_with_retry(alloc, &answer, wanted);
             drop(answer);
@@ -133,7 +133,7 @@ fn call_has_answer_or_is_refused_once(
 }
 
 /// Makes a call, a second time if memory runs out. Returns whether it has the wanted answer, and a call that ran out of
-/// memory changed nothing.
+/// memory changed nothing that can be observed.
 pub(super) fn call_has_answer_with_retry(
     alloc: Global,
     world: &mut PlainWorld,
@@ -141,9 +141,9 @@ pub(super) fn call_has_answer_with_retry(
     wanted: &str,
 ) -> Result<bool, AllocError> {
     let before = observe_world_with_retry(alloc, world)?;
-    let done = call_has_answer_or_is_refused_once(alloc, world, before.as_slice(), call, wanted);
+    let right = call_has_answer_or_is_refused_once(alloc, world, before.as_slice(), call, wanted);
     drop(before);
-    done
+    right
 }
 
 #[test]

@@ -24,9 +24,9 @@ pub fn new_table(
     let options = options_of(alloc, options)?;
     match Atom::new(alloc, name) {
         Ok(name) => {
-            let named = add_table(alloc, world, pid, &name, options);
+            let name_or_tid = add_table(alloc, world, pid, &name, options);
             drop(name);
-            named
+            name_or_tid
         }
         // Out of memory, or a name that is too long for an atom, which is a fault of the test.
         Err(_) => {
@@ -39,9 +39,9 @@ pub fn new_table(
 /// Returns the options of a table that a text spells.
 fn options_of(alloc: Global, options_text: &str) -> Result<NewOptions, WorldFault> {
     let options = term(alloc, options_text)?;
-    let read = NewOptions::read(alloc, &options);
+    let new_options = NewOptions::read(alloc, &options);
     drop(options);
-    read
+    new_options
 }
 
 /// Puts an empty table for at most ten objects into the world. Returns its name if it is named, and its identifier
@@ -59,7 +59,7 @@ fn add_table(
     world.new_table(pid, name, options, Walked::new(alloc, table))
 }
 
-/// Returns an `info` item of a table, or `undefined` if the table does not exist.
+/// Returns an `info` item of a table, or `undefined` if the table does not exist. An unknown item is refused.
 pub fn info_or_undefined(
     alloc: Global,
     world: &PlainWorld,
@@ -78,9 +78,9 @@ pub fn info_or_undefined(
 /// Returns the `info` item that a text names, if there is such an item.
 fn item_of(alloc: Global, item: &str) -> Result<Option<InfoItem>, AllocError> {
     let item = term(alloc, item)?;
-    let read = InfoItem::read(&item);
+    let info_item = InfoItem::read(&item);
     drop(item);
-    Ok(read)
+    Ok(info_item)
 }
 
 /// Returns the identifier of the table that a text names, or `none`.
@@ -124,7 +124,7 @@ fn push_rights(
     push_right(alloc, rights, "own", world.is_owner(pid, id))
 }
 
-/// Appends the name of a right, if the process has it.
+/// Appends the name of a right, if the process has this right.
 fn push_right(
     alloc: Global,
     rights: &mut Items<Term>,
@@ -137,7 +137,7 @@ fn push_right(
     Ok(())
 }
 
-/// Fixes a table for a process. A table that does not exist is refused.
+/// Fixes a table for a process, and returns the empty tuple. A table that does not exist is refused.
 pub fn fix_table(
     alloc: Global,
     world: &mut PlainWorld,
@@ -178,7 +178,7 @@ pub fn set_options(
     options: &str,
 ) -> Result<(), WorldFault> {
     let options = term(alloc, options)?;
-    let done = world.set_options(pid, id, &options);
+    let outcome = world.set_options(pid, id, &options);
     drop(options);
-    done
+    outcome
 }

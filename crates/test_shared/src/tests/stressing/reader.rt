@@ -1,7 +1,7 @@
 //! The calls of a reader: it reads the tables of the writers and its own, and it fixes and traverses the tables of the
 //! writers.
 // Table `tN` is the table of process N. A reader or a turn 'is right' if all its replies are right.
-use super::{KEPT_KEYS, READS, WRITERS};
+use super::{KEPT_KEYS, READER_OPERATIONS, WRITERS};
 use crate::tests::calls::{build_formatted_call, caller_gets_value_formatted, read_gives_list};
 use ets_term::{KeyHash, Term};
 use node_core::Reply;
@@ -32,7 +32,7 @@ pub(super) fn reader_is_right<B: HistoryId, H: KeyHash + Copy + Drop, R: Wait>(
     server: &Server<B, H>,
     caller: &mut Caller<B>,
 ) -> Option<bool> {
-    for turn in 0..READS {
+    for turn in 0..READER_OPERATIONS {
         if !turn_is_right(rt, alloc, server, caller, turn)? {
             return Some(false);
         }

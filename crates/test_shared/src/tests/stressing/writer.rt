@@ -38,7 +38,8 @@ pub(super) fn writer_is_right<B: HistoryId, H: KeyHash + Copy + Drop, R: Wait>(
     Some(true)
 }
 
-/// Makes the calls of a batch under one lock, and then reads its last object. Returns whether all replies are right.
+/// Makes the calls of a batch under one lock, and then reads its last object. `number` is that of the batch. Returns
+/// whether all replies are right.
 fn batch_is_right<B: HistoryId, H: KeyHash + Copy + Drop, R: Wait>(
     rt: &R,
     alloc: Global,
@@ -56,8 +57,8 @@ fn batch_is_right<B: HistoryId, H: KeyHash + Copy + Drop, R: Wait>(
     Some(is_written && read_gives_list(rt, alloc, server, caller, ("match_object", arguments), 1)?)
 }
 
-/// Makes the calls, and then runs at most `2 * INSERTIONS_PER_BATCH` growth steps, under one lock, by `ask_all`. Returns
-/// whether all replies are values.
+/// Makes the calls, and then runs at most `2 * INSERTIONS_PER_BATCH` growth steps, under one lock, by `ask_all`.
+/// Returns whether all replies are values.
 fn all_get_values<B: HistoryId, H: KeyHash + Copy + Drop, R: Wait>(
     rt: &R,
     server: &Server<B, H>,
@@ -71,8 +72,8 @@ fn all_get_values<B: HistoryId, H: KeyHash + Copy + Drop, R: Wait>(
     Some(replies.len() == count && replies.iter().all(|reply| reply.is_value()))
 }
 
-/// Returns the calls of the batch whose first key is `first`: the insertions of its keys, each with the number of the
-/// batch as its value, and the deletions of the first keys.
+/// Returns the calls of the batch whose first key is `first`. They insert its keys, each with the number of the batch
+/// as its value, and then delete the first keys.
 fn batch(alloc: Global, own_table: u32, first: u32) -> Option<Vec<Call>> {
     let number = first.wrapping_sub(KEPT_KEYS) / INSERTIONS_PER_BATCH;
     let mut calls = Vec::new(alloc);
@@ -109,10 +110,10 @@ fn inherits_from_guest<B: HistoryId, H: KeyHash + Copy + Drop, R: Wait>(
     guests: &mut Vec<Caller<B>>,
 ) -> Option<bool> {
     let mut guest = guests.pop()?;
-    let is_left = leaves_table(rt, alloc, server, &mut guest, caller.pid())?;
+    let both_are_values = leaves_table(rt, alloc, server, &mut guest, caller.pid())?;
     let table = guest.pid();
     drop(guest);
-    Some(is_left && inherits(rt, alloc, server, caller, table)?)
+    Some(both_are_values && inherits(rt, alloc, server, caller, table)?)
 }
 
 /// Makes the table of a guest, which has an heir, fills it, and ends the guest. Returns whether both replies are

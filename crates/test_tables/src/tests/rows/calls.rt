@@ -29,7 +29,7 @@ enum Call {
     RemoveAtPlace,
 }
 
-/// Draws a call: an insertion most often, with a value below 1000.
+/// Draws a call: in five of eight draws an insertion, with a value below 1000.
 fn draw_call(draws: &mut Draws) -> Call {
     let value = Integer::from(draws.random_below(1000));
     match draws.random_below(8) {
@@ -80,7 +80,7 @@ fn remove_at_place<R: Rows>(rows: &mut R, key: Integer) -> KeyState {
         Some(place) => {
             let (removed_key, objects) = rows.remove_at(place);
             drop(removed_key);
-            state_of_removed(Some(objects))
+            state_before(Some(objects))
         }
         None => KeyState::Nothing,
     }
@@ -102,7 +102,8 @@ fn run_call<R: Rows>(
     }
 }
 
-/// Makes a call on the list, which has the state of each key at its index. Returns the state of the key before.
+/// Makes a call on the list, which has the state of each key at the index of the key. Returns the state of the key
+/// before, or `None` if the list does not have the key.
 fn run_on_list(list: &mut [KeyState], key: u32, call: Call) -> Option<KeyState> {
     let state = list.get_mut(key as usize)?;
     let before = *state;

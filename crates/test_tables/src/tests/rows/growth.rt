@@ -3,8 +3,9 @@
 use super::checks::{Check, plain_rows_pass, split_rows_pass};
 use super::*;
 
-/// Returns whether `ready` gives this answer, and the bucket is then ready unless the answer is that it does not exist.
-pub(super) fn ready_answers<R: Rows>(
+/// Returns whether `ready` gives this answer, and the bucket is then ready. If the answer is that the bucket does not
+/// exist, it must not be ready.
+pub(super) fn ready_gives<R: Rows>(
     rows: &mut R,
     bucket: u32,
     answer: Readying,
@@ -15,7 +16,7 @@ pub(super) fn ready_answers<R: Rows>(
 }
 
 /// Calls `grow` a number of times, and returns whether it gives this answer each time.
-pub(super) fn each_doubling_answers<R: Rows>(
+pub(super) fn each_doubling_gives<R: Rows>(
     rows: &mut R,
     times: usize,
     answer: Growth,
@@ -28,13 +29,10 @@ pub(super) fn each_doubling_answers<R: Rows>(
 }
 
 /// Returns whether `ready` gives these answers for these buckets, in order.
-fn each_ready_answers<R: Rows>(
-    rows: &mut R,
-    wanted: &[(u32, Readying)],
-) -> Result<bool, AllocError> {
+fn each_ready_gives<R: Rows>(rows: &mut R, wanted: &[(u32, Readying)]) -> Result<bool, AllocError> {
     let mut all_right = true;
     for (bucket, answer) in wanted {
-        all_right = ready_answers(rows, *bucket, *answer)? && all_right;
+        all_right = ready_gives(rows, *bucket, *answer)? && all_right;
     }
     Ok(all_right)
 }
@@ -48,8 +46,8 @@ const DOUBLINGS: usize = 19;
 /// Returns whether rows double from 2 buckets to `MAX_BUCKETS`, and two more calls of `grow` then change nothing.
 pub(super) fn doubles_to_most_buckets<R: Rows>(rows: &mut R) -> Result<bool, AllocError> {
     let starts_with_two = rows.buckets() == 2;
-    let grown = each_doubling_answers(rows, DOUBLINGS, Growth::Grown)?;
-    let stopped = each_doubling_answers(rows, 2, Growth::AtMost)?;
+    let grown = each_doubling_gives(rows, DOUBLINGS, Growth::Grown)?;
+    let stopped = each_doubling_gives(rows, 2, Growth::AtMost)?;
     Ok(starts_with_two && grown && stopped && rows.buckets() == MAX_BUCKETS)
 }
 
@@ -72,14 +70,14 @@ fn readies_past_first<R: Rows>(
     rows: &mut R,
     wanted: &[(u32, Readying)],
 ) -> Result<bool, AllocError> {
-    let first_before = rows.first_unready();
-    let readied = each_ready_answers(rows, wanted)?;
-    Ok(readied && first_before == Some(1) && rows.first_unready() == Some(1))
+    let unready_before = rows.first_unready();
+    let readied = each_ready_gives(rows, wanted)?;
+    Ok(readied && unready_before == Some(1) && rows.first_unready() == Some(1))
 }
 
 /// Doubles rows to `MAX_BUCKETS`, and returns whether `ready` then gives `READY_ANSWERS`.
 pub(super) fn readies_among_most_buckets<R: Rows>(rows: &mut R) -> Result<bool, AllocError> {
-    let grown = each_doubling_answers(rows, DOUBLINGS, Growth::Grown)?;
+    let grown = each_doubling_gives(rows, DOUBLINGS, Growth::Grown)?;
     let readied = readies_past_first(rows, &READY_ANSWERS)?;
     Ok(grown && readied)
 }
@@ -94,8 +92,8 @@ const ONE_BUCKET: [(u32, Readying); 2] = [(0, Readying::AlreadyReady), (1, Ready
 
 /// Returns whether rows have one bucket, which is ready, and do not grow.
 pub(super) fn has_one_ready_bucket<R: Rows>(rows: &mut R) -> Result<bool, AllocError> {
-    let readied = each_ready_answers(rows, &ONE_BUCKET)?;
-    let grown = each_doubling_answers(rows, 1, Growth::AtMost)?;
+    let readied = each_ready_gives(rows, &ONE_BUCKET)?;
+    let grown = each_doubling_gives(rows, 1, Growth::AtMost)?;
     Ok(readied && grown && rows.buckets() == 1 && rows.first_unready() == None)
 }
 
@@ -111,7 +109,8 @@ const DOUBLINGS_TO_MANY: usize = 16;
 /// segment of the directory. A segment has 32,768 buckets.
 const READIED: [u32; 6] = [65_536, 1, 131_071, 32_768, 65_535, 32_767];
 
-/// Some buckets that stay unready.
+/// Some buckets that stay unready: 2 is the first unready bucket, 32,769 follows a bucket of `READIED`, and 98,304
+/// starts the last segment.
 const UNREADIED: [u32; 3] = [2, 32_769, 98_304];
 
 /// Returns whether none of these buckets is ready.
@@ -145,14 +144,14 @@ fn readies_in_order<R: Rows>(rows: &mut R) -> Result<bool, AllocError> {
     let mut count = 0usize;
     let mut all_right = only_first_are_ready(rows, count);
     for bucket in &READIED {
-        all_right = ready_answers(rows, *bucket, Readying::Ready)? && all_right;
+        all_right = ready_gives(rows, *bucket, Readying::Ready)? && all_right;
         count = count.wrapping_add(1);
         all_right = only_first_are_ready(rows, count) && all_right;
     }
     Ok(all_right)
 }
 
-/// Returns whether rows have this number of buckets, those of `READIED` are ready, and 2 is the first unready one.
+/// Returns whether rows have this number of buckets, those of `READIED` are ready, and 2 is the first unready bucket.
 fn are_all_ready<R: Rows>(rows: &R, buckets: u32) -> bool {
     rows.buckets() == buckets
         && only_first_are_ready(rows, READIED.len())
@@ -162,10 +161,10 @@ fn are_all_ready<R: Rows>(rows: &R, buckets: u32) -> bool {
 /// Makes the buckets of `READIED` ready among 131,072. Returns whether `is_ready` is right then, and after one more
 /// doubling.
 pub(super) fn keeps_ready_buckets<R: Rows>(rows: &mut R) -> Result<bool, AllocError> {
-    let grown = each_doubling_answers(rows, DOUBLINGS_TO_MANY, Growth::Grown)?;
+    let grown = each_doubling_gives(rows, DOUBLINGS_TO_MANY, Growth::Grown)?;
     let readied = readies_in_order(rows)?;
     let are_ready = are_all_ready(rows, 131_072);
-    let grown_again = each_doubling_answers(rows, 1, Growth::Grown)?;
+    let grown_again = each_doubling_gives(rows, 1, Growth::Grown)?;
     Ok(grown && readied && are_ready && grown_again && are_all_ready(rows, 262_144))
 }
 

@@ -1,7 +1,7 @@
 //! Calls on rows that run out of memory. `.ci/refusals` runs these tests with each allocation refused in turn.
 // A call that ran out of memory must have changed nothing, and must succeed when it is made again.
 use super::checks::{Check, plain_rows_pass, split_rows_pass};
-use super::growth::{each_doubling_answers, ready_answers};
+use super::growth::{each_doubling_gives, ready_gives};
 use super::several::{put_three, three_keys};
 use super::*;
 
@@ -73,8 +73,8 @@ enum Call {
 fn run_call<R: Rows>(rows: &mut R, alloc: Global, call: Call) -> Result<bool, AllocError> {
     match call {
         Call::PutThree(number) => put_three(rows, alloc, three_keys(number)),
-        Call::Grow => each_doubling_answers(rows, 1, Growth::Grown),
-        Call::Ready(bucket) => ready_answers(rows, bucket, Readying::Ready),
+        Call::Grow => each_doubling_gives(rows, 1, Growth::Grown),
+        Call::Ready(bucket) => ready_gives(rows, bucket, Readying::Ready),
         Call::Insert(key) => Ok(insert(rows, alloc, key, key)? == KeyState::Nothing),
     }
 }
@@ -84,17 +84,17 @@ fn run_call<R: Rows>(rows: &mut R, alloc: Global, call: Call) -> Result<bool, Al
 fn runs_with_retry<R: Rows>(rows: &mut R, alloc: Global, call: Call) -> Result<bool, AllocError> {
     let before = hash_of_rows(rows);
     match run_call(rows, alloc, call) {
-        Ok(done) => Ok(done),
+        Ok(as_expected) => Ok(as_expected),
         Err(_) => {
             let unchanged = hash_of_rows(rows) == before;
-            let done = run_call(rows, alloc, call)?;
-            Ok(unchanged && done)
+            let as_expected = run_call(rows, alloc, call)?;
+            Ok(unchanged && as_expected)
         }
     }
 }
 
-/// Puts the three slots of a number, doubles the buckets, and makes the first unready one ready. Repeats calls that run
-/// out of memory. Returns whether each has its result.
+/// Puts the three slots of a number, doubles the buckets, and makes the first unready bucket ready. Repeats calls that
+/// run out of memory. Returns whether each call has the expected result.
 fn grows_with_retry<R: Rows>(rows: &mut R, alloc: Global, number: u32) -> Result<bool, AllocError> {
     let put = runs_with_retry(rows, alloc, Call::PutThree(number))?;
     let grown = runs_with_retry(rows, alloc, Call::Grow)?;
@@ -113,7 +113,8 @@ fn all_grow_with_retry<R: Rows>(rows: &mut R, alloc: Global) -> Result<bool, All
     Ok(all_right)
 }
 
-/// Puts slots, grows, and inserts a key. Repeats calls that run out of memory. Returns whether each has its result.
+/// Puts slots, grows, and inserts a key. Repeats calls that run out of memory. Returns whether each call has the
+/// expected result, and each key put has its object.
 pub(super) fn all_run_with_retry<R: Rows>(rows: &mut R, alloc: Global) -> Result<bool, AllocError> {
     let keys_put = TIMES.wrapping_mul(3);
     let grown = all_grow_with_retry(rows, alloc)?;

@@ -1,6 +1,7 @@
 //! Searches in split rows at random moments of growth. Each finds exactly the inserted keys, and in a ready bucket of n
 //! keys visits at most n + 2 nodes.
-// The keys are the integers below the number of slots.
+// The integers below `slots` are inserted as keys. A slot is one key with its objects, so `slots` counts keys, not
+// buckets.
 use super::*;
 
 /// The number of moments of growth at which keys are searched for, for each of four hashers.
@@ -93,8 +94,8 @@ fn searches_are_right<H: KeyHash + Copy + Drop>(
 /// `insert_some_and_grow` inserts fewer keys than this number.
 const PAST_NEW_KEYS: u32 = 20;
 
-/// Inserts the next few keys, up to `max_slots` in all, doubles the buckets sometimes, and makes some ready. Returns
-/// how many keys there are now.
+/// Inserts the next few keys, up to `max_slots` in all, doubles the buckets sometimes, and makes some buckets ready.
+/// `slots` is how many keys there are before. Returns how many keys there are then.
 fn insert_some_and_grow<R: Rows>(
     rows: &mut R,
     alloc: Global,
@@ -150,9 +151,9 @@ fn searches_are_right_as_new_rows_grow<H: KeyHash + Copy + Drop>(
     max_slots: u32,
 ) -> Result<bool, AllocError> {
     let mut rows = SplitRows::new(alloc, hasher)?;
-    let found = searches_are_right_as_rows_grow(&mut rows, alloc, hasher, max_slots);
+    let right = searches_are_right_as_rows_grow(&mut rows, alloc, hasher, max_slots);
     drop(rows);
-    found
+    right
 }
 
 /// Searches rows with the usual hasher.

@@ -38,7 +38,7 @@ pub fn put_three<R: Rows>(
     Ok(true)
 }
 
-/// Returns the three keys of a number. No two numbers share a key.
+/// Returns the three keys of a number n: 3n, 3n + 1 and 3n + 2. No two numbers share a key.
 pub fn three_keys(number: u32) -> (Integer, Integer, Integer) {
     let first = Integer::from(number).wrapping_mul(3);
     (first, first.wrapping_add(1), first.wrapping_add(2))

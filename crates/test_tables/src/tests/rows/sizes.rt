@@ -81,9 +81,9 @@ fn clear_leaves_tombstones_for_purge<R: Rows>(rows: &mut R) -> bool {
 pub(super) fn clears_and_purges<R: Rows>(rows: &mut R, alloc: Global) -> Result<bool, AllocError> {
     let filled = inserts_all(rows, alloc)?;
     let swept = clear_leaves_tombstones_for_purge(rows);
-    let again = inserts_all(rows, alloc)?;
+    let refilled = inserts_all(rows, alloc)?;
     rows.clear(false);
-    Ok(filled && swept && again && rows.len() == 0)
+    Ok(filled && swept && refilled && rows.len() == 0)
 }
 
 #[test]

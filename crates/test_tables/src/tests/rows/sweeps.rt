@@ -6,7 +6,7 @@ use super::*;
 enum Sweep {
     /// `clear` that makes a tombstone of each slot.
     LeaveTombstones,
-    /// `clear` that removes each slot with objects.
+    /// `clear` that removes each slot that has objects, and keeps the tombstones.
     RemoveSlotsWithObjects,
     /// `purge`, which removes each tombstone.
     Purge,

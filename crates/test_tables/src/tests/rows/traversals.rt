@@ -1,7 +1,7 @@
 //! Traversals of all slots of rows. Each next slot is found twice: by `next_place`, and by `next_at` of the key.
 use super::*;
 
-/// Returns the integer that a key is, or -1.
+/// Returns the integer that a key is, or -1 for a key of another type.
 fn number_of(key: &Term) -> Integer {
     match key {
         Term::Int(number) => *number,
@@ -9,14 +9,14 @@ fn number_of(key: &Term) -> Integer {
     }
 }
 
-/// Returns the key of the first slot.
+/// Returns the key of the first slot, or `None` if there is no slot.
 fn first_key<R: Rows>(rows: &R) -> Option<Integer> {
     let place = rows.first_place()?;
     let (key, _objects) = rows.slot_at(place);
     Some(number_of(key))
 }
 
-/// Returns the key after another, found by `next_place`.
+/// Returns the key after another, found by `next_place`. `None` means that `key` is the last key or has no slot.
 fn key_after<R: Rows>(rows: &R, key: Integer) -> Option<Integer> {
     let term = Term::Int(key);
     let found = rows.find(&term);

@@ -1,6 +1,6 @@
 //! The number of list nodes that searches visit, in split rows whose keys in each bucket are known. In a ready bucket
 //! of n keys it must be at most n + 2, and in one test the least possible.
-use super::growth::{each_doubling_answers, ready_answers};
+use super::growth::{each_doubling_gives, ready_gives};
 use super::*;
 
 /// Returns how many nodes a search for a key visits.
@@ -36,7 +36,7 @@ const BUCKETS: u32 = 8;
 
 /// The searches are for the processes below this number, one for each of the 8 intervals of each bucket. Those from
 /// `BUCKETS` on are missing.
-const SEARCHED: u32 = 64;
+const SEARCHED_PROCESSES: u32 = 64;
 
 /// The most nodes that a search in a ready bucket of one key visits: the dummy at the bucket's start, the key, and the
 /// node after the bucket.
@@ -54,7 +54,7 @@ fn ready_and_put_each<R: Rows>(rows: &mut R, alloc: Global) -> Result<(), AllocE
 /// Returns whether each search visits at most `MAX_VISITS` nodes.
 fn each_search_is_short(rows: &SplitRows<PidNumber>) -> bool {
     let mut all_short = true;
-    for number in 0..SEARCHED {
+    for number in 0..SEARCHED_PROCESSES {
         all_short = count_visited(rows, Term::Pid(number)) <= MAX_VISITS && all_short;
     }
     all_short
@@ -62,7 +62,7 @@ fn each_search_is_short(rows: &SplitRows<PidNumber>) -> bool {
 
 /// Puts one key into each of eight ready buckets. Returns whether each search is then short.
 fn searches_are_short(rows: &mut SplitRows<PidNumber>, alloc: Global) -> Result<bool, AllocError> {
-    let grown = each_doubling_answers(rows, 2, Growth::Grown)?;
+    let grown = each_doubling_gives(rows, 2, Growth::Grown)?;
     ready_and_put_each(rows, alloc)?;
     Ok(grown && each_search_is_short(rows))
 }
@@ -92,7 +92,7 @@ fn put_each<R: Rows>(rows: &mut R, alloc: Global) -> Result<(), AllocError> {
 fn each_becomes_ready<R: Rows>(rows: &mut R) -> Result<bool, AllocError> {
     let mut all_ready = true;
     for bucket in 1..BUCKETS {
-        all_ready = ready_answers(rows, bucket, Readying::Ready)? && all_ready;
+        all_ready = ready_gives(rows, bucket, Readying::Ready)? && all_ready;
     }
     Ok(all_ready)
 }
@@ -101,7 +101,7 @@ fn each_becomes_ready<R: Rows>(rows: &mut R) -> Result<bool, AllocError> {
 /// missing key, whose interval is empty.
 fn each_search_visits_fewest_nodes(rows: &SplitRows<PidNumber>) -> bool {
     let mut all_exact = true;
-    for number in 0..SEARCHED {
+    for number in 0..SEARCHED_PROCESSES {
         let fewest = u64::from(number < BUCKETS);
         all_exact = count_visited(rows, Term::Pid(number)) == fewest && all_exact;
     }
@@ -112,7 +112,7 @@ fn each_search_visits_fewest_nodes(rows: &SplitRows<PidNumber>) -> bool {
 /// fewest nodes, as it does if the readying of a bucket sets the hints of its intervals and of its parent's.
 fn hints_are_set(rows: &mut SplitRows<PidNumber>, alloc: Global) -> Result<bool, AllocError> {
     put_each(rows, alloc)?;
-    let grown = each_doubling_answers(rows, 2, Growth::Grown)?;
+    let grown = each_doubling_gives(rows, 2, Growth::Grown)?;
     let readied = each_becomes_ready(rows)?;
     Ok(grown && readied && each_search_visits_fewest_nodes(rows))
 }
@@ -120,9 +120,9 @@ fn hints_are_set(rows: &mut SplitRows<PidNumber>, alloc: Global) -> Result<bool,
 /// Returns whether the readying of buckets sets the hints of new split rows.
 fn hints_of_new_rows_are_set(alloc: Global) -> Result<bool, AllocError> {
     let mut rows = SplitRows::new(alloc, PidNumber)?;
-    let hints = hints_are_set(&mut rows, alloc);
+    let are_set = hints_are_set(&mut rows, alloc);
     drop(rows);
-    hints
+    are_set
 }
 
 #[test]
@@ -134,28 +134,28 @@ fn readying_sets_hints(rt: HostRuntime) {
 const SAME_HASH_KEYS: u32 = 1_000;
 
 /// The most nodes that a search among these keys visits: the dummy, the keys, and the node after the bucket.
-const MOST_SAME_HASH_VISITS: u64 = 1_002;
+const MAX_SAME_HASH_VISITS: u64 = 1_002;
 
-/// Returns whether each search for one of these keys visits at most `MOST_SAME_HASH_VISITS` nodes.
+/// Returns whether each search for one of these keys visits at most `MAX_SAME_HASH_VISITS` nodes.
 fn each_search_is_bounded(rows: &SplitRows<AllSame>) -> bool {
     let mut all_bounded = true;
     for number in 0..SAME_HASH_KEYS {
         let visited = count_visited(rows, Term::Int(Integer::from(number)));
-        all_bounded = visited <= MOST_SAME_HASH_VISITS && all_bounded;
+        all_bounded = visited <= MAX_SAME_HASH_VISITS && all_bounded;
     }
     all_bounded
 }
 
 /// Inserts keys of one hash. Returns whether a search for a missing key visits all of them, and no search visits more
-/// than `MOST_SAME_HASH_VISITS` nodes.
+/// than `MAX_SAME_HASH_VISITS` nodes.
 fn same_hash_searches_are_bounded(
     rows: &mut SplitRows<AllSame>,
     alloc: Global,
 ) -> Result<bool, AllocError> {
     insert_range(rows, alloc, 0, SAME_HASH_KEYS)?;
-    let missed = count_visited(rows, Term::Int(Integer::from(SAME_HASH_KEYS)));
-    let missed_all = SAME_HASH_KEYS as u64 <= missed && missed <= MOST_SAME_HASH_VISITS;
-    Ok(missed_all && each_search_is_bounded(rows))
+    let visited_by_miss = count_visited(rows, Term::Int(Integer::from(SAME_HASH_KEYS)));
+    let missed_all = SAME_HASH_KEYS as u64 <= visited_by_miss;
+    Ok(missed_all && visited_by_miss <= MAX_SAME_HASH_VISITS && each_search_is_bounded(rows))
 }
 
 /// Returns whether searches are bounded in new split rows with one hash for all keys.

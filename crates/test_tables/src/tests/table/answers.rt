@@ -57,11 +57,11 @@ impl Answer {
                 count.wrapping_mul(2),
             ),
             Answer::Selected(count) => code_of_selections(count, count),
-            Answer::Int(count)
-            | Answer::OneValue(count)
-            | Answer::Objects(count)
-            | Answer::Slots(count)
-            | Answer::Deleted(count) => count,
+            Answer::Int(number)
+            | Answer::OneValue(number)
+            | Answer::Objects(number)
+            | Answer::Slots(number)
+            | Answer::Deleted(number) => number,
         }
     }
 }
@@ -75,7 +75,7 @@ pub fn refusal_code(refusal: Refusal) -> Integer {
     }
 }
 
-/// Returns the number whose digits are these values.
+/// Returns the number whose decimal digits are these values.
 fn code_of_values(values: &[Integer]) -> Integer {
     let mut digits: Integer = 0;
     for value in values {
@@ -84,13 +84,13 @@ fn code_of_values(values: &[Integer]) -> Integer {
     digits
 }
 
-/// Appends a digit to a number, which may wrap.
+/// Appends a decimal digit to a number, which may wrap.
 pub fn add_digit(number: Integer, digit: Integer) -> Integer {
     number.wrapping_mul(10).wrapping_add(digit)
 }
 
 /// Returns the code of `match` and `match_object`: how many results both have in all, and how many objects they test.
-/// The number of tested objects, at most 99, is in the last two digits.
+/// The number of tested objects is in the last two digits; a number above 99 counts as 99.
 pub fn code_of_matchings(results: Integer, tested: Integer) -> Integer {
     results.wrapping_mul(100).wrapping_add(tested.min(99))
 }

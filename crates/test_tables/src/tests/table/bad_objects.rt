@@ -12,7 +12,8 @@ use std::alloc::Global;
 use std::process::Abort;
 use table_ops::{Kind, Table};
 
-/// Returns a copy of the bad term at its index, and at each other index an object whose key is the index.
+/// Returns a copy of the bad term at its index, and at each other index an object whose key is the index. `None` means
+/// out of memory.
 fn item_at(alloc: Global, index: usize, bad_index: usize, bad: &Term) -> Option<Term> {
     if index == bad_index {
         bad.try_clone(alloc).ok()
@@ -21,7 +22,7 @@ fn item_at(alloc: Global, index: usize, bad_index: usize, bad: &Term) -> Option<
     }
 }
 
-/// Appends `length` objects, with the bad term at one index.
+/// Appends `length` terms: the bad term at one index, and objects at all others. `None` means out of memory.
 fn push_objects(
     alloc: Global,
     objects: &mut Items<Term>,
@@ -35,8 +36,8 @@ fn push_objects(
     Some(())
 }
 
-/// Returns whether `insert` and `insert_new` refuse a list of this length with the bad term at an index. The table
-/// keeps the one object that it had.
+/// Returns whether `insert` and `insert_new` refuse a list of this length with the bad term at an index. The table must
+/// also keep the one object that it had. `None` means out of memory.
 fn refuses_list_with_bad<R: Rows>(
     alloc: Global,
     table: &mut Table<R>,
@@ -46,17 +47,18 @@ fn refuses_list_with_bad<R: Rows>(
 ) -> Option<bool> {
     let mut objects = Items::new(alloc);
     let pushed = push_objects(alloc, &mut objects, length, bad_index, bad);
-    let inserted = try_insert(table, objects.as_slice());
-    let inserted_new = try_insert_new(table, objects.as_slice());
+    let code = try_insert(table, objects.as_slice());
+    let code_of_new = try_insert_new(table, objects.as_slice());
     drop(objects);
+    // Out of memory is reported here, after the list is dropped.
     pushed?;
-    Some(inserted == Badarg.code() && inserted_new == Badarg.code() && table.size() == 1)
+    Some(code == Badarg.code() && code_of_new == Badarg.code() && table.size() == 1)
 }
 
 /// The length of a list with a bad term.
 const LENGTH: usize = 5;
 
-/// Returns whether each list with the bad term at an index is refused, and the list of the bad term alone.
+/// Returns whether each list with the bad term at an index is refused, and the list of the bad term alone too.
 fn refuses_at_each_index<R: Rows>(alloc: Global, table: &mut Table<R>, bad: &Term) -> bool {
     for bad_index in 0..LENGTH {
         if refuses_list_with_bad(alloc, table, LENGTH, bad_index, bad) != Some(true) {
@@ -78,7 +80,8 @@ fn refuses_and_drops<R: Rows>(
     Some(refused)
 }
 
-/// Inserts `{3,0}`. Returns whether lists with 7, with `{}` and with `{'$end_of_table',1}` are then refused.
+/// Inserts `{3,0}`. Returns whether lists with 7, with `{}` and with `{'$end_of_table',1}` are then refused. `None`
+/// means out of memory.
 pub fn refuses_bad_terms<R: Rows>(alloc: Global, table: &mut Table<R>) -> Option<bool> {
     Some(
         insert(table, tuple(alloc, &[3, 0]))? == True.code()

@@ -46,7 +46,7 @@ const SETS: [(Step, Answer); 26] = [
     (DeleteAll(RemoveSlot), Slots(0)),
 ];
 
-/// Steps on a bag: a key has different objects, in the order of their insertion.
+/// Steps on a bag: a key has different objects, in the order of their insertion. Updates are refused.
 const BAGS: [(Step, Answer); 12] = [
     (Insert(Object(7, 1)), True),
     (Insert(Object(7, 2)), True),
@@ -62,7 +62,7 @@ const BAGS: [(Step, Answer); 12] = [
     (CountSlots, Slots(0)),
 ];
 
-/// Steps on a duplicate bag: a key has equal objects too.
+/// Steps on a duplicate bag: a key has equal objects too. Updates are refused.
 const DUPLICATE_BAGS: [(Step, Answer); 14] = [
     (InsertTwo(Object(7, 1), Object(7, 2)), True),
     (Insert(Object(7, 1)), True),
@@ -80,7 +80,8 @@ const DUPLICATE_BAGS: [(Step, Answer); 14] = [
     (Purge, Slots(0)),
 ];
 
-/// Steps on a set of at most three objects, some of which are refused with `system_limit`.
+/// Steps on a set of at most three objects. Those that would exceed the limit are refused with `system_limit`. A
+/// tombstone does not count as an object.
 const LIMITS: [(Step, Answer); 15] = [
     (InsertTwo(Object(1, 1), Object(2, 1)), True),
     (InsertTwo(Object(3, 1), Object(4, 1)), SystemLimit),
@@ -119,7 +120,8 @@ const UPDATES: [(Step, Answer); 16] = [
     (CountSlots, Slots(2)),
 ];
 
-/// Steps that search and delete by a pattern or a match specification, in a set.
+/// Steps that search and delete by a pattern or a match specification, in a set. The keys 7 to 10 have the values 1 to
+/// 4.
 const QUERIES: [(Step, Answer); 16] = [
     (Match(Key(7)), Matched(0)),
     (InsertTwo(Object(7, 1), Object(8, 2)), True),

@@ -36,7 +36,7 @@ pub enum Check<'a> {
     SearchByKeys,
     /// Matches, in a search by a key with three objects, the pattern against each of the three, and counts them.
     TestEachOfThree,
-    /// Never lowers its count of tested objects, also when memory runs out.
+    /// Never lowers the count of tested objects in a search, also when memory runs out.
     NeverLowerLooks,
 }
 
@@ -78,7 +78,8 @@ pub fn split_table_passes<H: KeyHash + Copy + Drop>(
     passed
 }
 
-/// Returns whether tables over plain rows and over split rows with the usual hasher pass a check.
+/// Returns whether tables over plain rows and over split rows with the usual hasher both pass a check. Out of memory is
+/// `false`.
 pub fn both_tables_pass(alloc: Global, empty: EmptyTable, check: Check) -> bool {
     plain_table_passes(alloc, empty, check) == Some(true)
         && split_table_passes(alloc, Fnv, empty, check) == Some(true)

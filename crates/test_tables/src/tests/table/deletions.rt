@@ -22,7 +22,7 @@ struct Slots(usize);
 struct Objects(usize);
 
 /// Deletes by a match specification with a clause for each key, and leaves no tombstones (`false`). Returns how many
-/// objects it deletes, leaves and tests.
+/// objects it deletes, leaves and tests. `None` means out of memory.
 fn delete_by_keys<R: Rows>(
     alloc: Global,
     table: &mut Table<R>,
@@ -40,7 +40,7 @@ fn delete_by_keys<R: Rows>(
 }
 
 /// Deletes by the pattern of a key, and leaves a tombstone (`true`). Returns how many slots and objects it leaves, and
-/// how many objects it tests.
+/// how many objects it tests. `None` means out of memory.
 fn delete_by_pattern<R: Rows>(
     alloc: Global,
     table: &mut Table<R>,
@@ -48,9 +48,9 @@ fn delete_by_pattern<R: Rows>(
 ) -> Option<(Slots, Objects, Tested)> {
     let pattern = pattern_of_key(alloc, key.0)?;
     let mut looks = Looks::new();
-    let done = table.match_delete_counted(&pattern, true, &mut looks);
+    let outcome = table.match_delete_counted(&pattern, true, &mut looks);
     drop(pattern);
-    done.ok()?;
+    outcome.ok()?;
     Some((
         Slots(table.slots()),
         Objects(table.size()),
@@ -59,8 +59,8 @@ fn delete_by_pattern<R: Rows>(
 }
 
 /// Columns: the keys of the clauses, and how many objects are then deleted, left and tested. Clauses of one key test
-/// its objects, and clauses of different keys all objects. The second row deletes the object of key 7,
-/// so the third deletes only that of key 8.
+/// its objects, and clauses of different keys all objects. The second row deletes the object of key 7, so the third
+/// deletes only that of key 8.
 const DELETIONS: [(&[Integer], Deleted, Objects, Tested); 3] = [
     (&[MISSING], Deleted(0), Objects(1_000), Tested(0)),
     (&[7], Deleted(1), Objects(999), Tested(1)),
@@ -81,8 +81,8 @@ fn deletions_by_keys_are_right<R: Rows>(
     true
 }
 
-/// Columns: the key of a pattern, and how many objects a deletion by it tests. After each, 998 slots and 997 objects
-/// remain: the first makes a tombstone of the slot of key 9, which has no object to test.
+/// Columns: the key of a pattern, and how many objects a deletion by the pattern tests. After each deletion 998 slots
+/// and 997 objects remain. The first row makes a tombstone of the slot of key 9, so the second finds no object to test.
 const PATTERN_DELETIONS: [(Key, Tested); 3] = [
     (Key(9), Tested(1)),
     (Key(9), Tested(0)),
@@ -96,8 +96,8 @@ fn deletions_by_patterns_are_right<R: Rows>(
     wanted: &[(Key, Tested)],
 ) -> bool {
     for (key, tested) in wanted {
-        let left = Some((Slots(998), Objects(997), *tested));
-        if delete_by_pattern(alloc, table, *key) != left {
+        let expected = Some((Slots(998), Objects(997), *tested));
+        if delete_by_pattern(alloc, table, *key) != expected {
             return false;
         }
     }

@@ -33,7 +33,7 @@ pub struct Row {
     objects: u32,
     /// How many slots the table then has.
     slots: u32,
-    /// The values of key 0 as the decimal digits of one number, which wraps.
+    /// The values of key 0 as the decimal digits of one number, which may wrap.
     digits: Integer,
 }
 
@@ -89,13 +89,14 @@ const ROWS: [Row; 6] = [
     },
 ];
 
-/// The ten different values of key 0 as digits: 0, 7, 4 and so on.
+/// The ten different values of key 0 as digits: 0, 7, 4 and so on, because its objects have the indexes 0, 97, 194 and
+/// so on.
 const DIGITS_IN_BAG: Integer = 741_852_963;
 
-/// The 104 values of key 0 as digits. A number of 104 digits wraps.
+/// The 104 values of key 0 as digits. A number of 104 digits wraps, so this is its remainder modulo 2^128.
 const DIGITS_IN_DUPLICATE_BAG: Integer = 17_411_923_686_422_082_608_420_841_024_488_311_317;
 
-/// Appends `OBJECTS` objects, in the order of their indexes.
+/// Appends `OBJECTS` objects, in the order of their indexes. `None` means out of memory.
 fn push_objects(alloc: Global, objects: &mut Items<Term>) -> Option<()> {
     for index in 0..OBJECTS {
         let key = Integer::from(index % KEYS);
@@ -117,16 +118,16 @@ pub fn inserts<R: Rows>(table: &mut Table<R>, list: &[Term], row: Row) -> bool {
     try_insert(table, list) == row.answer.code() && has_contents(table, row)
 }
 
-/// Returns whether `insert_new` of the list does what the row says, and does not insert it again.
+/// Returns whether `insert_new` of the list does what the row says, and a second `insert_new` does not insert the list.
 pub fn inserts_new<R: Rows>(table: &mut Table<R>, list: &[Term], row: Row) -> bool {
     let answer = row.answer.code();
-    let again = match row.answer {
+    let second_answer = match row.answer {
         True => False.code(),
         _ => answer,
     };
     try_insert_new(table, list) == answer
         && has_contents(table, row)
-        && try_insert_new(table, list) == again
+        && try_insert_new(table, list) == second_answer
 }
 
 /// Returns whether `insert` and `insert_new` do what the row says, each on new tables over each form of rows.
@@ -136,7 +137,7 @@ fn row_holds(alloc: Global, list: &[Term], row: Row) -> bool {
         && both_tables_pass(alloc, empty, Check::InsertNew(list, row))
 }
 
-/// Returns the index of the first row whose insertion does not do what the row says.
+/// Returns the index of the first row whose insertion does not do what the row says, or `None` if each does.
 fn first_row_mismatch(alloc: Global, list: &[Term], rows: &[Row]) -> Option<usize> {
     for (index, row) in rows.iter().enumerate() {
         if !row_holds(alloc, list, *row) {
@@ -152,6 +153,7 @@ fn all_rows_hold(alloc: Global, rows: &[Row]) -> Option<bool> {
     let pushed = push_objects(alloc, &mut list);
     let mismatch = first_row_mismatch(alloc, list.as_slice(), rows);
     drop(list);
+    // Out of memory is reported here, after the list is dropped.
     pushed?;
     Some(mismatch == None)
 }

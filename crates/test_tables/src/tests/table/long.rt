@@ -1,5 +1,5 @@
-//! Long runs of steps. Pseudo-random ones have the same answers over plain rows and over split rows, and a table that
-//! grows to 10,000 objects has the expected ones.
+//! Long runs of steps. Pseudo-random steps have the same answers over plain rows and over split rows, and a table that
+//! grows to 10,000 objects has the expected answers.
 use super::Emptied::{LeaveTombstone, RemoveSlot};
 use super::Step::{
     CountObjects, CountSlots, Delete, DeleteObject, Grow, Insert, InsertNew, InsertTwo,
@@ -158,6 +158,7 @@ pub fn answers_as_it_grows<R: Rows>(alloc: Global, table: &mut Table<R>) -> bool
             return false;
         }
     }
+    // All values are 1, so this step deletes all objects.
     step_has_answer(
         alloc,
         table,
@@ -166,7 +167,8 @@ pub fn answers_as_it_grows<R: Rows>(alloc: Global, table: &mut Table<R>) -> bool
     )
 }
 
-/// Returns whether each call answers as it must on a table of the keys up to this one, each with the value 1.
+/// Returns whether each call answers as it must on a table of the keys 0 to `last`, each with the value 1. At the end
+/// the table has the same objects.
 fn each_call_answers<R: Rows>(alloc: Global, table: &mut Table<R>, last: Integer) -> bool {
     let count = last.wrapping_add(1);
     let rows = [

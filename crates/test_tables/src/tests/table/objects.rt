@@ -93,7 +93,8 @@ fn objects_obey_keypos_and_depth_limit(rt: HostRuntime) {
     assert_eq!(rt; first_mismatch(rt.alloc(), &SCENARIOS), None);
 }
 
-/// Builds `{'$end_of_table',1}`, which is not an object, because `'$end_of_table'` is not a key.
+/// Builds `{'$end_of_table',1}`, which is not an object, because `'$end_of_table'` is not a key. `None` means out of
+/// memory.
 pub fn object_under_end_of_table(alloc: Global) -> Option<Term> {
     tuple_of(alloc, &[Part::Atom("$end_of_table"), Part::Int(1)])
 }
@@ -104,7 +105,8 @@ fn refuses_to_insert<R: Rows>(table: &mut Table<R>, object: &Term) -> bool {
         && try_insert_new(table, slice::from_ref(object)) == Badarg.code()
 }
 
-/// Returns whether `update_counter` is refused for the key `'$end_of_table'`, with a default object and without.
+/// Returns whether `update_counter` is refused for the key `'$end_of_table'`, with a default object and without. `None`
+/// means out of memory.
 fn refuses_to_update_counter<R: Rows>(
     alloc: Global,
     table: &mut Table<R>,
@@ -113,13 +115,13 @@ fn refuses_to_update_counter<R: Rows>(
 ) -> Option<bool> {
     // The increment 1 of a counter, read for the keypos 1.
     let ops = increment_of_counter(alloc, 1, 1)?;
-    let alone = table.update_counter(end, &ops, None).err();
-    let with_default = table.update_counter(end, &ops, Some(object)).err();
+    let refusal = table.update_counter(end, &ops, None).err();
+    let refusal_with_default = table.update_counter(end, &ops, Some(object)).err();
     drop(ops);
-    Some(alone.is_some() && with_default.is_some())
+    Some(refusal.is_some() && refusal_with_default.is_some())
 }
 
-/// Returns whether `update_element` finds no object with the key `'$end_of_table'`.
+/// Returns whether `update_element` finds no object with the key `'$end_of_table'`. `None` means out of memory.
 fn updates_no_element<R: Rows>(alloc: Global, table: &mut Table<R>, end: &Term) -> Option<bool> {
     // Any value would do.
     let specs = second_element_value(alloc, 5)?;
@@ -139,11 +141,11 @@ fn deletes_nothing<R: Rows>(table: &mut Table<R>, end: &Term, object: &Term) -> 
 
 /// Returns whether lookups find nothing under the key `'$end_of_table'`.
 fn reads_nothing<R: Rows>(table: &Table<R>, end: &Term) -> bool {
-    let element = table.lookup_element(end, 1).err();
-    element.is_some() && table.lookup(end).is_empty() && !table.member(end)
+    let refusal = table.lookup_element(end, 1).err();
+    refusal.is_some() && table.lookup(end).is_empty() && !table.member(end)
 }
 
-/// Returns whether no call finds or changes anything under the key `'$end_of_table'`.
+/// Returns whether no call finds or changes anything under the key `'$end_of_table'`. `None` means out of memory.
 fn refuses_end_of_table<R: Rows>(
     alloc: Global,
     table: &mut Table<R>,
@@ -159,7 +161,8 @@ fn refuses_end_of_table<R: Rows>(
     )
 }
 
-/// Builds `{'$end_of_table',1}`, and returns whether no call finds or changes anything under its key.
+/// Builds `{'$end_of_table',1}`, and returns whether no call finds or changes anything under its key. `None` means out
+/// of memory.
 fn nothing_is_under_end_of_table<R: Rows>(
     alloc: Global,
     table: &mut Table<R>,
@@ -171,7 +174,8 @@ fn nothing_is_under_end_of_table<R: Rows>(
     is_refused
 }
 
-/// Builds the key `'$end_of_table'`, and returns whether no call finds or changes anything under it.
+/// Builds the key `'$end_of_table'`, and returns whether no call finds or changes anything under this key. `None` means
+/// out of memory.
 pub fn end_of_table_is_not_a_key<R: Rows>(alloc: Global, table: &mut Table<R>) -> Option<bool> {
     let end = atom(alloc, "$end_of_table")?;
     let is_no_key = nothing_is_under_end_of_table(alloc, table, &end);

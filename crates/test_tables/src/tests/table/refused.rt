@@ -136,6 +136,7 @@ fn searches_never_lower_looks<R: Rows>(
     spec: &Spec,
     looks: &mut Looks,
 ) -> bool {
+    // `start` is the count before the searches, and the others are the counts after each search.
     let start = looks.count();
     let _ = count_of(table.matches_counted(pattern, looks).ok());
     let first = looks.count();
@@ -152,8 +153,9 @@ fn searches_never_lower_looks<R: Rows>(
     first_three && third <= fourth && fourth <= fifth && fifth <= looks.count()
 }
 
-/// Runs searches by a pattern, and by the match specification that chooses the objects below an integer. Returns
-/// whether none lowers the count of tested objects. `None` means out of memory.
+/// Runs searches by a pattern, and by the match specification that chooses the objects whose second element is less
+/// than `limit`. Returns whether no search lowers the count of tested objects. `None` means that memory ran out while
+/// the match specification was built.
 fn looks_never_fall_for_pattern<R: Rows>(
     alloc: Global,
     table: &mut Table<R>,
@@ -169,8 +171,9 @@ fn looks_never_fall_for_pattern<R: Rows>(
     Some(never_falls)
 }
 
-/// Runs searches by the pattern of a key, and by the match specification that chooses the objects below it. Returns
-/// whether none lowers the count of tested objects. `None` means out of memory.
+/// Runs searches by the pattern of a key, and by the match specification that chooses the objects whose second element
+/// is less than the key. Returns whether no search lowers the count of tested objects. `None` means that memory ran out
+/// while the pattern or the match specification was built.
 fn looks_never_fall_for_key<R: Rows>(
     alloc: Global,
     table: &mut Table<R>,
@@ -183,7 +186,8 @@ fn looks_never_fall_for_key<R: Rows>(
 }
 
 /// Inserts four objects into a table, or fewer if memory runs out. Returns whether no search lowers the count of tested
-/// objects. If memory runs out when the test builds its pattern or match specification, nothing is searched.
+/// objects. If memory runs out when the test builds its pattern or match specification, searches nothing and returns
+/// `true`.
 pub fn looks_never_fall<R: Rows>(alloc: Global, table: &mut Table<R>) -> bool {
     for key in 1..5u32 {
         let key = Integer::from(key);

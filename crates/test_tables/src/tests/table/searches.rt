@@ -32,7 +32,7 @@ pub fn both_find(found: Found, tested: Tested) -> Search {
     Some((found, found, tested))
 }
 
-/// Inserts the objects `{Key,0}` of the keys 1 to 1,000.
+/// Inserts the objects `{Key,0}` of the keys 1 to 1,000. `None` means out of memory.
 fn fill_with_keys<R: Rows>(alloc: Global, table: &mut Table<R>) -> Option<()> {
     for key in 1..1_001u32 {
         insert(table, tuple(alloc, &[Integer::from(key), 0]))?;
@@ -56,7 +56,7 @@ pub fn select_by_keys<R: Rows>(alloc: Global, table: &Table<R>, keys: &[Integer]
     found
 }
 
-/// Searches by `match` and `match_object` with a pattern.
+/// Searches by `match` and `match_object` with a pattern, if it was compiled, and drops the pattern.
 fn match_by_pattern<R: Rows>(table: &Table<R>, compiled: Option<Pattern>) -> Search {
     let pattern = compiled?;
     let found = count_matches(table, &pattern);
@@ -104,7 +104,7 @@ fn matches_are_right<R: Rows>(
     true
 }
 
-/// Returns whether the bindings are `[[0]]`.
+/// Returns whether the answer of `match`, a list of bindings, is `[[0]]`.
 fn is_one_zero(bindings: &[Term]) -> bool {
     match bindings {
         [Term::List(bound)] => matches!(bound.as_slice(), [Term::Int(0)]),
@@ -112,7 +112,7 @@ fn is_one_zero(bindings: &[Term]) -> bool {
     }
 }
 
-/// Returns whether `match` of `{7,'$1'}` answers `[[0]]`.
+/// Returns whether `match` of `{7,'$1'}` answers `[[0]]`. `None` means out of memory.
 fn answers_bindings<R: Rows>(alloc: Global, table: &Table<R>) -> Option<bool> {
     let pattern = pattern_of_key(alloc, 7)?;
     let found = table.matches(&pattern);
@@ -147,25 +147,26 @@ fn selects_are_right<R: Rows>(
     true
 }
 
-/// The objects `{Key,0}` of the key 7, three times, and of its neighbours.
+/// The objects `{Key,0}` of the key 7, three times, and of its neighbours 6 and 8.
 const SEVEN_THRICE: [[Integer; 2]; 5] = [[6, 0], [7, 0], [7, 0], [7, 0], [8, 0]];
 
 /// Returns whether a search tests each of three objects under one key of a duplicate bag. A search is two calls, so it
-/// tests each object twice. A search by two keys tests all five objects.
+/// tests each object twice. A search by two keys tests all five objects. `None` means out of memory.
 pub fn tests_each_of_three<R: Rows>(alloc: Global, table: &mut Table<R>) -> Option<bool> {
     insert_all(table, tuples(alloc, &SEVEN_THRICE))?;
-    let of_one_key = match_bound(alloc, table, Bound::Key(7)) == both_find(Found(3), Tested(6));
-    let of_two_keys = select_by_keys(alloc, table, &[7, 6]) == both_find(Found(4), Tested(10));
-    Some(of_one_key && of_two_keys)
+    let one_right = match_bound(alloc, table, Bound::Key(7)) == both_find(Found(3), Tested(6));
+    let two_right = select_by_keys(alloc, table, &[7, 6]) == both_find(Found(4), Tested(10));
+    Some(one_right && two_right)
 }
 
-/// Fills a set, and returns whether each search and each deletion finds and tests as many objects as it must.
+/// Fills a set, and returns whether each search and each deletion finds and tests as many objects as it must. `None`
+/// means out of memory.
 pub fn searches_are_right<R: Rows>(alloc: Global, table: &mut Table<R>) -> Option<bool> {
     fill_with_keys(alloc, table)?;
-    let bindings = answers_bindings(alloc, table)?;
-    let matched = matches_are_right(alloc, table, &MATCHES);
-    let selected = selects_are_right(alloc, table, &SELECTIONS);
-    Some(bindings && matched && selected && deletions_are_right(alloc, table))
+    let bindings_right = answers_bindings(alloc, table)?;
+    let matches_right = matches_are_right(alloc, table, &MATCHES);
+    let selects_right = selects_are_right(alloc, table, &SELECTIONS);
+    Some(bindings_right && matches_right && selects_right && deletions_are_right(alloc, table))
 }
 
 /// Searches and deletes in sets by keys.

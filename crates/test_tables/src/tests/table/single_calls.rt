@@ -1,6 +1,6 @@
 //! Functions that make one call on a table, and return the code of its answer, an integer.
 // `leave_tombstone` says whether a slot that loses its last object stays as a tombstone. `built` is an argument just
-// built, or `None` if memory ran out.
+// built, or `None` if memory ran out. A function that returns `None` ran out of memory.
 use super::OUT_OF_MEMORY;
 use super::answers::{code_of_matchings, code_of_selections, refusal_code};
 use super::terms::{
@@ -30,7 +30,7 @@ pub fn try_insert_new<R: Rows>(table: &mut Table<R>, objects: &[Term]) -> Intege
     }
 }
 
-/// Returns an element of a key's object if it is an integer, or its length if it is a list, or the code of the refusal.
+/// Returns an element of a key's object as `integer_or_length` gives it, or the code of the refusal.
 pub fn try_lookup_element<R: Rows>(table: &Table<R>, key: Integer, position: Position) -> Integer {
     let key = Term::Int(key);
     let found = table.lookup_element(&key, position);
@@ -45,7 +45,7 @@ pub fn try_lookup_element<R: Rows>(table: &Table<R>, key: Integer, position: Pos
     }
 }
 
-/// Returns the length of a list, or an integer.
+/// Returns the length of a list, or the integer that a term is, or 0 for any other term.
 fn integer_or_length(element: &Term) -> Integer {
     match element {
         Term::List(elements) => as_integer(elements.len()),
@@ -100,7 +100,7 @@ pub fn count_matches<R: Rows>(table: &Table<R>, pattern: &Pattern) -> Option<(us
     Some((bindings, objects, looks.count()))
 }
 
-/// Searches by `match` and `match_object` with the pattern of a key. Returns the code of both answers.
+/// Searches by `match` and `match_object` with the pattern of a key. Returns one code for both answers.
 pub fn count_matches_of_key<R: Rows>(
     alloc: Global,
     table: &Table<R>,
@@ -114,7 +114,7 @@ pub fn count_matches_of_key<R: Rows>(
     Some(code_of_matchings(results, looks as Integer))
 }
 
-/// Searches by `select` and `select_count` for the objects whose second element is below a limit. Returns the code of
+/// Searches by `select` and `select_count` for the objects whose second element is below a limit. Returns one code for
 /// both answers.
 pub fn select_below<R: Rows>(alloc: Global, table: &Table<R>, limit: Integer) -> Option<Integer> {
     let spec = spec_below(alloc, limit)?;
@@ -124,7 +124,7 @@ pub fn select_below<R: Rows>(alloc: Global, table: &Table<R>, limit: Integer) ->
     Some(code_of_selections(as_integer(results?), as_integer(count?)))
 }
 
-/// Deletes the objects whose second element is below a limit. Returns how many.
+/// Deletes the objects whose second element is below a limit. Returns how many objects it deletes.
 pub fn delete_below<R: Rows>(
     alloc: Global,
     table: &mut Table<R>,
@@ -145,9 +145,9 @@ pub fn delete_matching<R: Rows>(
     leave_tombstone: bool,
 ) -> Option<Integer> {
     let pattern = pattern_of_key(alloc, key)?;
-    let done = table.match_delete(&pattern, leave_tombstone);
+    let outcome = table.match_delete(&pattern, leave_tombstone);
     drop(pattern);
-    done.ok()?;
+    outcome.ok()?;
     Some(as_integer(table.size()))
 }
 
@@ -159,7 +159,7 @@ pub fn hash_of_objects<R: Rows>(table: &Table<R>) -> Option<Integer> {
     Some(hash)
 }
 
-/// Doubles the buckets and makes the first unready one ready. Returns 1.
+/// Doubles the buckets and makes the first unready bucket ready. Returns 1, the code of success.
 pub fn grow<R: Rows>(table: &mut Table<R>) -> Option<Integer> {
     let _growth = table.grow().ok()?;
     if let Some(bucket) = table.first_unready() {

@@ -1,5 +1,5 @@
 //! Functions that run a step on a table. Each runs some kinds of steps, and passes the other kinds to the next
-//! function.
+//! function. All return the code of the step's answer, or `None` if memory ran out.
 use super::Step;
 use super::single_calls::{
     clear, count_matches_of_key, deep_object, delete_below, delete_key, delete_matching,
@@ -13,8 +13,8 @@ use ets_term::{Integer, Term};
 use std::alloc::Global;
 use table_ops::Table;
 
-/// Runs a step that inserts, and passes all other kinds on. Returns the code of the step's answer. `None` means out of
-/// memory.
+/// Runs a step that inserts, and passes all other kinds to `run_deletion`. Returns the code of the step's answer.
+/// `None` means out of memory.
 pub fn run_step<R: Rows>(alloc: Global, table: &mut Table<R>, step: Step) -> Option<Integer> {
     match step {
         Step::Insert(object) => insert(table, tuple(alloc, &[object.0, object.1])),
@@ -50,7 +50,8 @@ fn run_deletion<R: Rows>(alloc: Global, table: &mut Table<R>, step: Step) -> Opt
     }
 }
 
-/// Runs a step that updates or grows, or deletes by a pattern or a match specification, and passes all other kinds on.
+/// Runs a step that updates or grows, or deletes by a pattern or a match specification. `run_read` gets all other
+/// kinds.
 fn run_update<R: Rows>(alloc: Global, table: &mut Table<R>, step: Step) -> Option<Integer> {
     match step {
         Step::UpdateCounter(key, incr) => update_counter(alloc, table, key.0, incr.0, None),
@@ -75,7 +76,7 @@ fn run_update<R: Rows>(alloc: Global, table: &mut Table<R>, step: Step) -> Optio
     }
 }
 
-/// Runs a step that changes nothing.
+/// Runs a step that changes nothing, and returns the code of its answer.
 fn run_read<R: Rows>(alloc: Global, table: &Table<R>, step: Step) -> Option<Integer> {
     match step {
         Step::Lookup(key) => Some(lookup_digits(table, key.0)),

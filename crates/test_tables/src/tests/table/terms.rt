@@ -1,5 +1,6 @@
 //! Functions that build the terms, patterns and match specifications of the tests, and compute hashes and digits of
-//! objects. The digits are the second elements, written as one number.
+//! objects. The digits are the second elements, written as one number. A function that builds returns `None` if memory
+//! runs out.
 use super::answers::add_digit;
 use ets_term::{Atom, Integer, Items, Term};
 use match_spec::{Pattern, Spec};
@@ -49,12 +50,12 @@ pub fn tuples(alloc: Global, pairs: &[[Integer; 2]]) -> Option<Items<Term>> {
     keep_if_some(push_pairs(alloc, &mut items, pairs), items)
 }
 
-/// Returns a count as an integer of a term.
+/// Returns a count as an `Integer`, the type of the integers of terms.
 pub fn as_integer(count: usize) -> Integer {
     count as Integer
 }
 
-/// Returns the integer that a term is, or 0.
+/// Returns the integer that a term is, or 0 if it is another term or missing.
 pub fn integer_of(term: Option<&Term>) -> Integer {
     match term {
         Some(Term::Int(n)) => *n,
@@ -74,7 +75,8 @@ pub fn digits_of(objects: &[Term]) -> Integer {
 /// A prime, so that a pair has another hash if its elements are swapped.
 const PRIME: Integer = 1_000_003;
 
-/// Returns a hash of pairs that does not depend on their order: the sum of squares of a number for each pair.
+/// Returns a hash of pairs that does not depend on their order. Each pair gives a number, and the hash is the sum of
+/// the squares of these numbers.
 pub fn hash_of_pairs(objects: &[Term]) -> Integer {
     let mut sum: Integer = 0;
     for object in objects {
@@ -142,7 +144,7 @@ pub fn tuple_of(alloc: Global, parts: &[Part]) -> Option<Term> {
     Some(Term::Tuple(items_of(alloc, parts)?))
 }
 
-/// Compiles a pattern, and drops its term.
+/// Compiles the pattern of a term, if the term was built, and drops the term.
 fn pattern_of(alloc: Global, built: Option<Term>) -> Option<Pattern> {
     let term = built?;
     let pattern = Pattern::compile(alloc, &term);
@@ -163,7 +165,7 @@ pub fn pattern_of_value(alloc: Global, value: Integer) -> Option<Pattern> {
     )
 }
 
-/// Builds the list of one term that is built.
+/// Builds the list of one term, if the term was built.
 fn list_of(alloc: Global, built: Option<Term>) -> Option<Term> {
     let mut items = Items::new(alloc);
     Some(Term::List(keep_if_some(push_built(&mut items, built), items)?))
@@ -178,7 +180,7 @@ pub fn nested_list(alloc: Global, depth: usize) -> Option<Term> {
     term
 }
 
-/// Builds the list of one condition or none.
+/// Builds the conditions of a clause: a list of this condition, or the empty list if there is no condition.
 fn conditions(alloc: Global, condition: Option<&[Part]>) -> Option<Term> {
     match condition {
         Some(parts) => list_of(alloc, tuple_of(alloc, parts)),
@@ -186,7 +188,7 @@ fn conditions(alloc: Global, condition: Option<&[Part]>) -> Option<Term> {
     }
 }
 
-/// Appends the pattern, the conditions and the results `[true]` of a clause.
+/// Appends the pattern, the conditions and the body `[true]` of a clause.
 fn push_clause(
     alloc: Global,
     items: &mut Items<Term>,
@@ -204,7 +206,7 @@ fn clause(alloc: Global, pattern: &[Part], condition: Option<&[Part]>) -> Option
     Some(Term::Tuple(keep_if_some(push_clause(alloc, &mut items, pattern, condition), items)?))
 }
 
-/// Compiles a match specification, and drops its term.
+/// Compiles the match specification of a term, if the term was built, and drops the term.
 fn spec_of(alloc: Global, built: Option<Term>) -> Option<Spec> {
     let term = built?;
     let spec = Spec::compile(alloc, &term);
@@ -212,7 +214,8 @@ fn spec_of(alloc: Global, built: Option<Term>) -> Option<Spec> {
     spec.ok()
 }
 
-/// Builds the match specification `[{{'_','$1'},[{'<','$1',Limit}],[true]}]`.
+/// Builds the match specification `[{{'_','$1'},[{'<','$1',Limit}],[true]}]`: the objects whose second element is less
+/// than the limit.
 pub fn spec_below(alloc: Global, limit: Integer) -> Option<Spec> {
     let pattern = [Part::Atom("_"), Part::Atom("$1")];
     let condition = [Part::Atom("<"), Part::Atom("$1"), Part::Int(limit)];
@@ -229,7 +232,7 @@ fn push_clauses(alloc: Global, clauses: &mut Items<Term>, keys: &[Integer]) -> O
     Some(())
 }
 
-/// Builds the list of a clause for each of these keys.
+/// Builds the list with a clause `{{Key,'_'},[],[true]}` for each of these keys.
 fn clauses_of_keys(alloc: Global, keys: &[Integer]) -> Option<Term> {
     let mut clauses = Items::new(alloc);
     Some(Term::List(keep_if_some(push_clauses(alloc, &mut clauses, keys), clauses)?))

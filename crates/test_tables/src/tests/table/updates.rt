@@ -1,4 +1,5 @@
-//! Functions that update counters and elements of a table's objects, and return the codes of the answers.
+//! Functions that update counters and elements of a table's objects, and return the codes of the answers. `None` means
+//! out of memory.
 use super::answers::refusal_code;
 use super::terms::{integer_of, tuple};
 use bucket_table::Rows;
@@ -26,10 +27,10 @@ pub fn update_counter<R: Rows>(
 ) -> Option<Integer> {
     let ops = increment_of_counter(alloc, increment, table.keypos())?;
     let key = Term::Int(key);
-    let counted = table.update_counter(&key, &ops, default);
+    let updated = table.update_counter(&key, &ops, default);
     drop(key);
     drop(ops);
-    match counted {
+    match updated {
         Ok(answer) => {
             let value = integer_of(Some(&answer));
             drop(answer);
@@ -53,7 +54,8 @@ pub fn update_counter_from<R: Rows>(
     answer
 }
 
-/// Builds the update `{2,Value}`, read as for a table whose key position is 1. The table checks it again.
+/// Builds the update `{2,Value}`, read as for a table whose keypos is 1. `update_element` of the table checks the
+/// update again.
 pub fn second_element_value(alloc: Global, value: Integer) -> Option<ElementSpecs> {
     let update = tuple(alloc, &[2, value])?;
     let specs = read_element_specs(alloc, &update, 1);

@@ -1,5 +1,6 @@
 use Rattle.std.proofs.Common.{◌≡◌, Ok, ap, subst}
-use Rattle.table_ops.specs.Queries.{chosen_count, is_chosen}
+use Rattle.table_ops.specs.Queries.{is_chosen}
+use Rattle.table_ops.specs.Results.{chosen_count}
 use Rattle.table_ops.specs.Read.{all_objects}
 use Rattle.fixed_walk.specs.TableState.{after_delete}
 use Rattle.node_core.proofs.node.searching.delete_selected.Goals as goal

@@ -2,7 +2,7 @@ use Rattle.std.proofs.Common.{◌≡◌, ◌++◌, ◌∷◌, [], ◌+◌, true,
 use Rattle.std.proofs.lemmas.Grind.{common_steps}
 use Rattle.node_core.specs.declared.step.Reply.TheVariants.{NoProcess}
 use Rattle.node_core.specs.declared.step.Step.TheVariants.{Enrol}
-use Rattle.node_core.specs.rules.Replies.{is_value}
+use Rattle.node_core.specs.Values.{is_value}
 use Rattle.node_core.specs.Observable.{observable}
 use Rattle.node_core.proofs.calls.Enrolling.{not-enrolled}
 use Rattle.node_shared.specs.Running.{RefusesEnrol}
@@ -36,7 +36,7 @@ invariant_of-self-2 g c =
     let does = subst (λ (e : Entry). TakesStep c.self.inside.node e.step c.in-Ok-run_and_reply.reply c.run_and_reply.new.node) draft c.in-Ok-run_and_reply.ensures.run in
     let granted : is_value c.in-Ok-run_and_reply.reply ≡ true = search rules in
     let es = c.self.inside.journal.items in
-    let s = invariant-join _ _ es c.self.inside.node c.run_and_reply.new.node c.self.inside.ledger.total c.self.inside.unissued.parts c.args.pid c.in-Ok-run_and_reply.reply granted c.self.invariant does c.split_off-tokens.new.self.parts c.split_off-tokens.ensures.parts_left in
+    let s = invariant-join _ _ es c.self.inside.node c.run_and_reply.new.node c.self.inside.ledger.total c.self.inside.unissued_share.parts c.args.pid c.in-Ok-run_and_reply.reply granted c.self.invariant does c.split_off-tokens.new.self.parts c.split_off-tokens.ensures.parts_left in
     let journal : c.push_reserved.new.self.items ≡ es ++ entry (Enrol c.args.pid) c.in-Ok-run_and_reply.reply ∷ [] = grind (arith, common_steps) in
     let total : c.add.new.self.total ≡ c.self.inside.ledger.total + 1 = c.add.ensures.total in
     rw (journal, total) s

@@ -16,6 +16,6 @@ invariant_of-self-2 g c =
     let is : due old ≡ Some event = search rules in
     let draft : c.in_ok-draft.draft ≡ entry event NoProcess = search rules in
     let does = subst (λ (e : Entry). TakesStep old e.step reply c.run.new.node) draft c.in_ok-done.ensures.run in
-    let s = invariant-step _ _ es old c.run.new.node c.self.inside.ledger.total c.self.inside.unissued.parts event reply 0 c.self.invariant does (due-weighs old event is) in
+    let s = invariant-step _ _ es old c.run.new.node c.self.inside.ledger.total c.self.inside.unissued_share.parts event reply 0 c.self.invariant does (due-weighs old event is) in
     let journal : c.push_reserved.new.self.items ≡ es ++ entry event reply ∷ [] = grind (arith, common_steps) in
     rw journal (record { most = s.most; same = s.same; run = s.run; counted = let t = s.counted in omega arith; enough = s.enough })

@@ -1,6 +1,6 @@
 use Rattle.std.proofs.Common.{◌≡◌, true, false, [], rules, ◌∙◌}
 use Rattle.node_core.specs.declared.step.Step.TheVariants.{Enrol}
-use Rattle.node_core.specs.rules.Replies.{is_value}
+use Rattle.node_core.specs.Values.{is_value}
 use Rattle.node_core.specs.Observable.{observable}
 use Rattle.node_core.proofs.calls.Enrolling.{not-enrolled}
 use Rattle.node_shared.specs.Journal.{entry}

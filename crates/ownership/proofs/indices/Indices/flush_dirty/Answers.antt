@@ -13,8 +13,8 @@ returns-then-is_fixed-clause-indices g c =
     let last = c.in-Some.last in
     let at : table_at tables last ≡ Some c.in-Some-Some.owned = sym (c.in-Some-Some.ensures.lookup.3.1 None) ∙ c.in-Some-Some.field-0-is in
     let listed : FixedAreListed indices.fixed.items (Some last) tables = subst (λ dirty. FixedAreListed indices.fixed.items dirty tables) c.in-Some.is c.requires.indices.listed in
-    let put = on-ok c.insert_sorted.result (c.insert_sorted.ensures.room (length tables) listed.order (is-there tables last c.in-Some-Some.owned at) c.requires.indices.room) c.insert_sorted.ensures.ok in
-    kept-beside indices tables c.requires.indices c.insert_sorted.new.ids None (listed-put tables indices.fixed.items last c.in-Some-Some.owned at listed c.insert_sorted.new.ids.items put) (omega (arith, c.requires.indices.room, c.insert_sorted.ensures.capacity))
+    let put = on-ok c.insert_in_order.result (c.insert_in_order.ensures.room (length tables) listed.order (is-there tables last c.in-Some-Some.owned at) c.requires.indices.room) c.insert_in_order.ensures.ok in
+    kept-beside indices tables c.requires.indices c.insert_in_order.new.ids None (listed-put tables indices.fixed.items last c.in-Some-Some.owned at listed c.insert_in_order.new.ids.items put) (omega (arith, c.requires.indices.room, c.insert_in_order.ensures.capacity))
 
 pub returns-else-is_fixed-clause-indices : goal.returns-else-is_fixed-clause-indices
 returns-else-is_fixed-clause-indices g c =

@@ -78,6 +78,6 @@ returns-clause-indices g c =
     let start = c.args.tables.now.items in
     let tables = c.loop-i.tables.items in
     let all = whole now ps p c.loop-i.i c.len-fixed.result own start tables c.loop-i.invariant.count (omega (arith, c.loop-i-test.false)) c.loop-i.invariant.reassigned in
-    let items = c.retain_fixed.ensures.items ∙ ap (λ (ts : Tables). filter (is_fixed_at ts) now.fixed.items) c.as_slice-2.ensures.value in
-    let kept = kept-fixed-only ps p c.requires.dead now own start tables c.requires.own all c.retain_fixed.new.self c.retain_fixed.ensures.rest items c.retain_fixed.ensures.capacity in
-    kept-forgotten ps p c.requires.dead now own start tables c.requires.own all c.retain_fixed.new.self c.remove_owner.new.self kept c.remove_owner.ensures
+    let items = c.retain_fixed_tables.ensures.items ∙ ap (λ (ts : Tables). filter (is_fixed_at ts) now.fixed.items) c.as_slice-2.ensures.value in
+    let kept = kept-fixed-only ps p c.requires.dead now own start tables c.requires.own all c.retain_fixed_tables.new.self c.retain_fixed_tables.ensures.rest items c.retain_fixed_tables.ensures.capacity in
+    kept-forgotten ps p c.requires.dead now own start tables c.requires.own all c.retain_fixed_tables.new.self c.remove_owner.new.self kept c.remove_owner.ensures

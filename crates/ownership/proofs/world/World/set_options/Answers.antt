@@ -7,7 +7,8 @@ use Rattle.ownership.specs.declared.fault.WorldFault.{WorldFault}
 use Rattle.ownership.specs.declared.fault.WorldFault.TheVariants.{Badarg, SystemLimit, NoProcess, Memory}
 use Rattle.ownership.specs.declared.metadata.Heir.{Heir}
 use Rattle.ownership.specs.World.{Table, World, table_at}
-use Rattle.ownership.specs.Access.{has_access, is_owner}
+use Rattle.ownership.specs.Access.{is_owner}
+use Rattle.ownership.specs.Lookups.{has_access}
 use Rattle.ownership.specs.Options.{heir_after}
 use Rattle.ownership.specs.Outcomes.{RefinesWorld}
 use Rattle.ownership.specs.Tables.{SetOptions}

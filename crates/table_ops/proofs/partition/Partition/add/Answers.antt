@@ -1,7 +1,7 @@
 use Rattle.std.proofs.Common.{◌≡◌, ◌++◌, [], ◌∷◌, Bool, Some, true, cond, refl, sym, ap, ◌∙◌, List, length, take, nat_lt, slice_get, arith}
 use Rattle.std.proofs.lemmas.Option.{slice_get_read}
 use Rattle.ets_term.specs.declared.term.Term.{Term}
-use Rattle.table_ops.specs.Queries.{chosen_count}
+use Rattle.table_ops.specs.Results.{chosen_count}
 use Rattle.table_ops.specs.inside.DeletePlan.{kept_of}
 use Rattle.table_ops.proofs.DeletePlanLaws.{first-left}
 use Rattle.table_ops.proofs.QueryLaws.{chosen-next, chosen-take}
@@ -20,7 +20,7 @@ returns-then-self-eq0-clause-partition g c =
     let empty : c.args.self.now.kept ≡ [] = c.requires.partition.stay ∙ ap (λ n. kept_of (nat_lt 0 n) choose (take i xs)) c.if-self-eq0.true in
     record {
       counted = omega (arith, chosen-next choose xs i x at, none, one);
-      stay = c.in_ok-copy_kept.ensures ∙ ap (λ (l : List Term). l ++ take i xs) empty ∙ first-left choose xs i x at is none;
+      stay = c.in_ok-append_copies.ensures ∙ ap (λ (l : List Term). l ++ take i xs) empty ∙ first-left choose xs i x at is none;
     }
 
 pub overflow_add-self : goal.overflow_add-self

@@ -10,7 +10,7 @@ pub invariant_of-self : goal.invariant_of-self
 invariant_of-self g c =
     let slots = g.R.Rows.slots c.self.inside.rows.now in
     let key_at = g.R.Rows.key_at c.self.inside.rows.now in
-    let i = c.self.inside.passed in
+    let i = c.self.inside.returned_count in
     let inv = c.self.invariant in
     let place = c.in-Some.slot.place in
     let here = is-here key_at slots inv.distinct i place (subst (λ (o : Option PlacedSlot). IsFirstPlace key_at (drop i slots) (option_map (λ slot. slot.place) o)) c.in-Some.is inv.here) in
@@ -25,7 +25,7 @@ pub returns-clause-steps : goal.returns-clause-steps
 returns-clause-steps g c =
     let slots = g.R.Rows.slots c.self.inside.rows.now in
     let key_at = g.R.Rows.key_at c.self.inside.rows.now in
-    let i = c.self.inside.passed in
+    let i = c.self.inside.returned_count in
     let inv = c.self.invariant in
     let slot = c.in-Some.slot in
     let first = subst (λ (o : Option PlacedSlot). IsFirstPlace key_at (drop i slots) (option_map (λ slot. slot.place) o)) c.in-Some.is inv.here in

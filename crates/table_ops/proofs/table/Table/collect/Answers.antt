@@ -1,6 +1,6 @@
 use Rattle.std.proofs.Common.{sym, subst, is_some, option_copied}
 use Rattle.ets_term.specs.declared.term.Term.{Term}
-use Rattle.table_ops.specs.Content.{ContentState}
+use Rattle.table_ops.specs.ContentState.{ContentState}
 use Rattle.table_ops.specs.inside.DeletePlan.{RequiresKey}
 use Rattle.table_ops.proofs.BoundKeyLaws.{only_key}
 use Rattle.table_ops.proofs.table.Table.collect.Goals as goal

@@ -1,6 +1,6 @@
 use Rattle.std.proofs.Common.{sym, subst, option_copied}
 use Rattle.std.proofs.lemmas.Result.{IfOk-weaker}
-use Rattle.table_ops.specs.Content.{ContentState}
+use Rattle.table_ops.specs.ContentState.{ContentState}
 use Rattle.table_ops.specs.inside.DeletePlan.{RequiresKey}
 use Rattle.table_ops.proofs.BoundKeyLaws.{only_key}
 use Rattle.table_ops.proofs.QueryLaws.{chosen-below}

@@ -1,6 +1,7 @@
 use Rattle.std.proofs.Common.{◌≡◌, List, sym, ap, subst, ◌∙◌, arith}
 use Rattle.bucket_table.specs.Slots.{Slot, object_count}
-use Rattle.table_ops.specs.Content.{AreSlots, Content}
+use Rattle.table_ops.specs.Content.{Content}
+use Rattle.table_ops.specs.Invariants.{AreSlots}
 use Rattle.table_ops.specs.Drop.{every_object, after_drop}
 use Rattle.table_ops.specs.inside.TableRows.{content_of}
 use Rattle.table_ops.proofs.DropLaws.{slots-dropped, dropped-each, nothing-left}

@@ -1,6 +1,7 @@
 use Rattle.std.proofs.Common.{◌-◌, ◌≡◌, List, sym, ap, subst, ◌∙◌, arith, option_copied}
 use Rattle.bucket_table.specs.Slots.{Slot, object_count}
-use Rattle.table_ops.specs.Content.{Content, ContentState}
+use Rattle.table_ops.specs.Content.{Content}
+use Rattle.table_ops.specs.ContentState.{ContentState}
 use Rattle.table_ops.specs.Drop.{after_drop}
 use Rattle.table_ops.specs.inside.DeletePlan.{RequiresKey, PlannedSlot, AreInOrder, after_plan}
 use Rattle.table_ops.proofs.BoundKeyLaws.{only_key}

@@ -1,7 +1,8 @@
 use Rattle.std.proofs.Common.{◌≡◌, ◌+◌, [], ◌∷◌, Ok, Err, Result, Bool, true, false, sym, ap, subst, ◌∙◌}
 use Rattle.std.proofs.lemmas.Result.{err_from_is_err_and}
 use Rattle.ets_term.specs.Depth.{is_too_deep}
-use Rattle.table_ops.specs.Content.{Content, ContentState}
+use Rattle.table_ops.specs.Content.{Content}
+use Rattle.table_ops.specs.ContentState.{ContentState}
 use Rattle.table_ops.specs.Put.{InsertsNew}
 use Rattle.table_ops.specs.Refusals.{RefinesChange}
 use Rattle.table_ops.specs.declared.refusal.Refusal.{Refusal}

@@ -2,7 +2,7 @@ use Rattle.std.proofs.Common.{ap, filter, is_some, subst, option_copied, ◌∙�
 use Rattle.std.proofs.lemmas.Result.{IfOk-weaker}
 use Rattle.table_ops.specs.declared.projection.MatchedObject.{MatchedObject}
 use Rattle.ets_term.specs.declared.term.Term.{Term}
-use Rattle.table_ops.specs.Content.{ContentState}
+use Rattle.table_ops.specs.ContentState.{ContentState}
 use Rattle.table_ops.specs.Queries.{matches}
 use Rattle.table_ops.specs.Results.{matched_object}
 use Rattle.table_ops.specs.Read.{all_objects}

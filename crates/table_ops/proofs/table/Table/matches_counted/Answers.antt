@@ -1,6 +1,6 @@
 use Rattle.std.proofs.Common.{is_some, subst, option_copied}
 use Rattle.ets_term.specs.declared.term.Term.{Term}
-use Rattle.table_ops.specs.Content.{ContentState}
+use Rattle.table_ops.specs.ContentState.{ContentState}
 use Rattle.table_ops.specs.Queries.{bound_in}
 use Rattle.table_ops.specs.inside.DeletePlan.{RequiresKey}
 use Rattle.table_ops.proofs.BoundKeyLaws.{bindings-require}

@@ -1,6 +1,6 @@
 use Rattle.std.proofs.Common.{sym, ap, subst, ◌∙◌}
 use Rattle.bucket_table.specs.Slots.{object_count}
-use Rattle.table_ops.specs.Content.{AreSlots}
+use Rattle.table_ops.specs.Invariants.{AreSlots}
 use Rattle.table_ops.proofs.CountLaws.{count-purged}
 use Rattle.table_ops.proofs.DropLaws.{slots-purged}
 use Rattle.table_ops.proofs.table.Table.purge.Goals as goal

@@ -3,7 +3,8 @@ use Rattle.std.specs.Prelude.{nat_lt}
 use Rattle.std.proofs.lemmas.Result.{err_from_is_err_and}
 use Rattle.ets_term.specs.declared.term.Term.{Term}
 use Rattle.counters.specs.Defaults.{with_key, start_counter}
-use Rattle.table_ops.specs.Content.{Content, ContentState}
+use Rattle.table_ops.specs.Content.{Content}
+use Rattle.table_ops.specs.ContentState.{ContentState}
 use Rattle.table_ops.specs.declared.refusal.Refusal.{Refusal}
 use Rattle.table_ops.specs.Refusals.{RefinesChange}
 use Rattle.table_ops.specs.Update.{refusal_of, is_set, ops_avoid_key, default_is_object, UpdatesCounter}

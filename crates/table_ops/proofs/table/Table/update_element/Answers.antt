@@ -2,7 +2,8 @@ use Rattle.std.proofs.Common.{◌≡◌, ◌+◌, Some, Result, Ok, Err, Bool, t
 use Rattle.std.specs.Prelude.{nat_lt}
 use Rattle.std.proofs.lemmas.Result.{err_from_is_err_and}
 use Rattle.counters.specs.Defaults.{with_key, start_elements}
-use Rattle.table_ops.specs.Content.{Content, ContentState}
+use Rattle.table_ops.specs.Content.{Content}
+use Rattle.table_ops.specs.ContentState.{ContentState}
 use Rattle.table_ops.specs.declared.refusal.Refusal.{Refusal}
 use Rattle.table_ops.specs.Refusals.{RefinesChange}
 use Rattle.table_ops.specs.Update.{refusal_of, is_set, element_specs_avoid_key, default_is_object, with_true, UpdatesElement}

@@ -3,7 +3,7 @@ use Rattle.std.specs.Prelude.{ℕ}
 use Rattle.std.proofs.lemmas.Result.{IfOk-weaker, on_ok_weaker}
 use Rattle.ets_term.specs.Data.{data_of}
 use Rattle.node_list.specs.Ticks.{ticks}
-use Rattle.table_ops.specs.Queries.{chosen_count}
+use Rattle.table_ops.specs.Results.{chosen_count}
 use Rattle.table_ops.specs.Looks.{looks_of}
 use Rattle.table_ops.proofs.BoundKeyLaws.{chosen-under, tried-key, only_key-key}
 use Rattle.std.specs.Option.{option_map}

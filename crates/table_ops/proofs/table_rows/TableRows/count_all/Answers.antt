@@ -1,6 +1,6 @@
 use Rattle.std.proofs.Common.{List, ap, arith}
 use Rattle.bucket_table.specs.Slots.{Slot, object_count}
-use Rattle.table_ops.specs.Queries.{chosen_count}
+use Rattle.table_ops.specs.Results.{chosen_count}
 use Rattle.table_ops.specs.Read.{all_objects}
 use Rattle.table_ops.proofs.QueryLaws.{chosen-append, chosen-few, objects-count}
 use Rattle.table_ops.proofs.table_rows.TableRows.count_all.Goals as goal

@@ -1,6 +1,6 @@
 use Rattle.std.proofs.Common.{◌≡◌, take}
 use Rattle.node_list.specs.Ticks.{ticks}
-use Rattle.table_ops.specs.Queries.{chosen_count}
+use Rattle.table_ops.specs.Results.{chosen_count}
 use Rattle.table_ops.proofs.table_rows.TableRows.count_in.Given as goal
 
 abbrev pub invariant-loop-i : goal.invariant-loop-i

@@ -4,7 +4,7 @@ use Rattle.ets_term.specs.declared.term.Term.{Term}
 use Rattle.bucket_table.specs.Slots.{object_count}
 use Rattle.bucket_table.specs.Walks.{IsFirstPlace}
 use Rattle.node_list.specs.Ticks.{ticks}
-use Rattle.table_ops.specs.Queries.{chosen_count}
+use Rattle.table_ops.specs.Results.{chosen_count}
 use Rattle.table_ops.specs.Read.{all_objects}
 use Rattle.table_ops.specs.inside.DeletePlan.{plan_at, plan_of_slot, plan_of}
 use Rattle.table_ops.proofs.DeletePlanLaws.{plan-next}

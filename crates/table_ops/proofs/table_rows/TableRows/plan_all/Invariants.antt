@@ -2,7 +2,7 @@ use Rattle.std.proofs.Common.{◌≡◌, ◌++◌, take, drop}
 use Rattle.bucket_table.specs.Slots.{object_count}
 use Rattle.bucket_table.specs.Walks.{IsFirstPlace}
 use Rattle.node_list.specs.Ticks.{ticks}
-use Rattle.table_ops.specs.Queries.{chosen_count}
+use Rattle.table_ops.specs.Results.{chosen_count}
 use Rattle.table_ops.specs.Read.{all_objects}
 use Rattle.table_ops.specs.inside.DeletePlan.{plan_at, plan_of}
 use Rattle.table_ops.proofs.table_rows.TableRows.plan_all.Given as goal

@@ -1,7 +1,7 @@
 use Rattle.std.proofs.Common.{◌≡◌, ◌++◌, Some, sym, ap, ◌∙◌, List}
 use Rattle.std.proofs.lemmas.Result.{IfOk-weaker, on_ok_weaker}
 use Rattle.bucket_table.specs.Slots.{objects_of}
-use Rattle.table_ops.specs.Queries.{chosen_count}
+use Rattle.table_ops.specs.Results.{chosen_count}
 use Rattle.table_ops.specs.inside.DeletePlan.{PlannedSlot, plan_of_slot, plan_at}
 use Rattle.table_ops.proofs.BoundKeyLaws.{chosen-under, chosen-absent, plan-under, plan-absent}
 use Rattle.table_ops.proofs.PutLaws.{own-in, under-some}

@@ -3,7 +3,8 @@ use Rattle.std.proofs.lemmas.List.{take_all}
 use Rattle.std.proofs.lemmas.Option.{slice_get_read}
 use Rattle.ets_term.specs.Depth.{is_too_deep}
 use Rattle.std.specs.Prelude.{nat_lt}
-use Rattle.table_ops.specs.Content.{is_object, AreSlots}
+use Rattle.table_ops.specs.Content.{is_object}
+use Rattle.table_ops.specs.Invariants.{AreSlots}
 use Rattle.table_ops.specs.Put.{PutsAll}
 use Rattle.table_ops.specs.declared.table_rows.TableRows.{TableRows}
 use Rattle.table_ops.specs.inside.Undo.{PutsObject, after_roll_back}

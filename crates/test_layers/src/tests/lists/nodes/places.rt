@@ -27,10 +27,10 @@ fn add_five_nodes(list: &mut NodeList, alloc: Global) -> Result<(), AllocError> 
 /// The place of the first item that `add_five_nodes` inserts.
 const FIRST_ITEM: Option<At> = Some(2);
 
-/// The place of its second item.
+/// The place of the second item that `add_five_nodes` inserts.
 const SECOND_ITEM: Option<At> = Some(3);
 
-/// The place of its third item.
+/// The place of the third item that `add_five_nodes` inserts.
 const THIRD_ITEM: Option<At> = Some(5);
 
 /// What `next_item_at` returns from the places 0 to 6 after `add_five_nodes`: the head, a dummy, two items, a dummy, an
@@ -58,7 +58,8 @@ pub(super) fn finds_places(
 /// The place of the only item that `unlinks_first_of_two` leaves.
 const ONLY_ITEM: Option<At> = Some(2);
 
-/// What `next_item_at` returns from the places 0 to 6, if only the place 2 has an item.
+/// What `next_item_at` returns from the places 0 to 6, if only the place 2 has an item: the second that
+/// `unlinks_first_of_two` inserts.
 pub(super) const PLACE_OF_SECOND: [Option<At>; 7] = [
     ONLY_ITEM, ONLY_ITEM, ONLY_ITEM, None, None, None, None,
 ];

@@ -69,7 +69,8 @@ impl Reader<'_> {
         from
     }
 
-    /// Reads one digit or more of a number that begins at the offset `start`, and is at most `limit`.
+    /// Reads one digit or more, and returns their number. If it is greater than `limit`, fails with the offset `start`,
+    /// where the number begins: at its minus or its first digit.
     pub(super) fn read_digits(&mut self, start: usize, limit: u128) -> Result<u128, TextFault> {
         // At the end of the text this is the error `Unclosed`.
         let _first = self.next_byte()?;
@@ -85,7 +86,7 @@ impl Reader<'_> {
         }
     }
 
-    /// Passes the byte that must follow.
+    /// Passes the next byte, which must be `wanted`.
     fn pass_byte(&mut self, wanted: u8) -> Result<(), TextFault> {
         if self.next_byte()? != wanted {
             return Err(TextFault::Unexpected(self.at));
@@ -94,7 +95,7 @@ impl Reader<'_> {
         Ok(())
     }
 
-    /// Passes the bytes that must follow.
+    /// Passes the next bytes, which must be `wanted`.
     pub(super) fn pass_bytes(&mut self, wanted: &[u8]) -> Result<(), TextFault> {
         for byte in wanted {
             self.pass_byte(*byte)?;

@@ -46,7 +46,8 @@ impl Reader<'_> {
         Ok(put_atom(&mut self.out, self.quoted.as_slice())?)
     }
 
-    /// Reads digits, up to `limit`, of a number that begins at the offset `start`, and prints the number.
+    /// Reads the digits of a number, and prints the number. If it is greater than `limit`, fails with the offset
+    /// `start`.
     fn read_number(&mut self, start: usize, limit: u128) -> Result<(), TextFault> {
         let n = self.read_digits(start, limit)?;
         self.put_number(n)

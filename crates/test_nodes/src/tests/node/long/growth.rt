@@ -18,9 +18,9 @@ fn run_pending_step(node: &mut Node<Fnv>) -> Result<bool, AllocError> {
 
 /// Runs at most `max_steps` pending steps, and returns how many it ran.
 fn run_pending_steps(node: &mut Node<Fnv>, max_steps: u32) -> Result<u32, AllocError> {
-    for done in 0..max_steps {
+    for steps_run in 0..max_steps {
         if !run_pending_step(node)? {
-            return Ok(done);
+            return Ok(steps_run);
         }
     }
     Ok(max_steps)
@@ -29,25 +29,25 @@ fn run_pending_steps(node: &mut Node<Fnv>, max_steps: u32) -> Result<u32, AllocE
 /// Returns whether no step is pending.
 fn has_no_pending(node: &Node<Fnv>) -> bool {
     let due = node.due();
-    let none = due.is_none();
+    let has_none = due.is_none();
     drop(due);
-    none
+    has_none
 }
 
 /// Inserts an object for each number, and runs a pending step, if any, after each. Returns the first number whose
-/// object is not inserted.
+/// object is not inserted, or `None` if all are inserted.
 fn first_not_inserted(alloc: Global, node: &mut Node<Fnv>) -> Result<Option<u32>, AllocError> {
     for number in 0..COUNT {
         if !filled_call_has_reply(alloc, node, "insert(t,{N,x})", "true", number)? {
             return Ok(Some(number));
         }
-        let _steps = run_pending_steps(node, 1)?;
+        let _steps_run = run_pending_steps(node, 1)?;
     }
     Ok(None)
 }
 
-/// Templates of calls and of their replies. All calls are made for a number; then a pending step, if any, runs. The
-/// table is a duplicate bag, and has the object `{N,x}` of each number at the start.
+/// Templates of calls and of their replies. All calls are made for a number; then a pending step, if any, runs, and the
+/// next number follows. The table is a duplicate bag, and has the object `{N,x}` of each number at the start.
 static GROWN: [(&str, &str); 5] = [
     ("lookup(t,N)", "[{N,x}]"),
     ("insert(t,{N,y})", "true"),
@@ -72,7 +72,7 @@ fn calls_have_replies(
 }
 
 /// Makes the calls of the rows for each number, and runs a pending step, if any, after each number. Returns the first
-/// number for which a call has another reply.
+/// number for which a call has another reply, or `None` if all calls have their replies.
 fn first_wrong_number_while_growing(
     alloc: Global,
     node: &mut Node<Fnv>,
@@ -82,7 +82,7 @@ fn first_wrong_number_while_growing(
         if !calls_have_replies(alloc, node, rows, number)? {
             return Ok(Some(number));
         }
-        let _steps = run_pending_steps(node, 1)?;
+        let _steps_run = run_pending_steps(node, 1)?;
     }
     Ok(None)
 }

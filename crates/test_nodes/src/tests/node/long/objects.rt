@@ -45,7 +45,7 @@ struct LongTemplate<'a> {
     end: &'a str,
 }
 
-/// Appends a long text.
+/// Appends the long text of a template.
 fn push_long_text(alloc: Global, text: &mut String, long: LongTemplate) -> Result<(), AllocError> {
     text.push_str(long.start)?;
     for number in 0..COUNT {
@@ -54,7 +54,7 @@ fn push_long_text(alloc: Global, text: &mut String, long: LongTemplate) -> Resul
     text.push_str(long.end)
 }
 
-/// Builds a long text.
+/// Builds the long text of a template.
 fn long_text(alloc: Global, long: LongTemplate) -> Result<String, AllocError> {
     let mut text = String::new(alloc);
     keep_if_ok(push_long_text(alloc, &mut text, long), text)
@@ -184,14 +184,14 @@ fn finds_many_objects(
     )
 }
 
-/// The reply of `match` with the keys of many objects: a list of bindings for each object.
+/// The reply of `match` with the keys of `COUNT` objects: a list of bindings for each object.
 const BINDINGS: LongTemplate<'static> = LongTemplate {
     start: "any order: [",
     middle: "[N],",
     end: "]",
 };
 
-/// The reply of `select` with the keys of many objects.
+/// The reply of `select` with the keys of `COUNT` objects.
 const RESULTS: LongTemplate<'static> = LongTemplate {
     start: "any order: [",
     middle: "N,",
@@ -219,14 +219,15 @@ fn call_on_set_has_reply(
     )
 }
 
-/// One call that adds 1 to a counter many times. The counter starts at -1, so that its first value is 0.
+/// One call that adds 1 to a counter `COUNT` times. The counter starts at -1, so that its value after the first
+/// addition is 0.
 const INCREMENTS: LongTemplate<'static> = LongTemplate {
     start: "update_counter(s,c,[",
     middle: "{2,1},",
     end: "],{c,-1})",
 };
 
-/// The reply: the value of the counter after each addition.
+/// The reply to `INCREMENTS`: the value of the counter after each addition.
 const VALUES: LongTemplate<'static> = LongTemplate {
     start: "[",
     middle: "N,",

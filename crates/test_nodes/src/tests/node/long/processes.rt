@@ -14,9 +14,9 @@ fn step_text_has_filled_reply(
     number: u32,
 ) -> Result<bool, AllocError> {
     let wanted = fill_template(alloc, wanted, number)?;
-    let done = step_text_has_reply(alloc, node, step_text, wanted.as_str());
+    let has_reply = step_text_has_reply(alloc, node, step_text, wanted.as_str());
     drop(wanted);
-    done
+    has_reply
 }
 
 /// Enrols a process, and returns whether the reply is its pid.
@@ -39,7 +39,11 @@ fn resolve_identifier(node: &Node<Fnv>, id: u32) -> Option<u32> {
 
 /// Enrols processes 0 up to `count`, exclusive, and makes a table of each, with the identifier that is the number of
 /// the process. Returns whether all steps have their replies.
-fn all_enrol(alloc: Global, node: &mut Node<Fnv>, count: u32) -> Result<bool, AllocError> {
+fn all_enrol_and_make_tables(
+    alloc: Global,
+    node: &mut Node<Fnv>,
+    count: u32,
+) -> Result<bool, AllocError> {
     for pid in 0..count {
         if !enrols(alloc, node, pid)? || !makes_table(alloc, node, pid, pid)? {
             return Ok(false);
@@ -51,7 +55,7 @@ fn all_enrol(alloc: Global, node: &mut Node<Fnv>, count: u32) -> Result<bool, Al
 /// Each process whose number is a multiple of this one exits.
 const EXIT_EVERY: u32 = 16;
 
-/// Ends every sixteenth process, and returns whether all these steps have their replies.
+/// Ends every sixteenth of the processes below `count`, and returns whether all these steps have their replies.
 fn every_16th_exits(alloc: Global, node: &mut Node<Fnv>, count: u32) -> Result<bool, AllocError> {
     for pid in 0..count {
         if pid % EXIT_EVERY == 0 && !step_text_has_reply(alloc, node, End(Pid(pid)), "true")? {
@@ -68,7 +72,7 @@ pub fn exits_delete_tables(
     node: &mut Node<Fnv>,
     count: u32,
 ) -> Result<bool, AllocError> {
-    if !all_enrol(alloc, node, count)? || !every_16th_exits(alloc, node, count)? {
+    if !all_enrol_and_make_tables(alloc, node, count)? || !every_16th_exits(alloc, node, count)? {
         return Ok(false);
     }
     Ok((0..count).all(|pid| resolve_identifier(node, pid).is_some() == (pid % EXIT_EVERY != 0)))
@@ -126,9 +130,9 @@ fn table_takes_name(
 /// Makes a table of process 0, and returns whether it gets this name.
 fn makes_named_table(alloc: Global, node: &mut Node<Fnv>, name: &str) -> Result<bool, AllocError> {
     let call = format!(in alloc; "new({name},[named_table])")?;
-    let answered = call_has_reply(alloc, node, call.as_str(), name);
+    let has_reply = call_has_reply(alloc, node, call.as_str(), name);
     drop(call);
-    answered
+    has_reply
 }
 
 /// Returns whether a name resolves to this table.
@@ -144,8 +148,9 @@ fn name_resolves_to(
     Ok(found == Some(id))
 }
 
-/// Makes tables with names of 1 up to 255 letters, the length of the longest atom. The identifier of each is the length
-/// of its name, because table 0 exists. Returns the first length at which a table does not get its name.
+/// Makes tables with names of 1 up to 255 letters, the length of the longest atom. `name` is empty at the start, and
+/// gets a letter for each table. The identifier of each table is the length of its name, because table 0 exists.
+/// Returns the first length at which a table does not get its name, or `None`.
 fn first_wrong_length(
     alloc: Global,
     node: &mut Node<Fnv>,

@@ -34,7 +34,8 @@ fn insertion(alloc: Global, number: u32) -> Result<Step, AllocError> {
     step
 }
 
-/// Returns whether the last reply exists, and is the object that was inserted last: that of `COUNT` - 1.
+/// Returns whether the last reply exists, and is a list of the object that was inserted last: `{a,2099}`, whose number
+/// is `COUNT` - 1.
 fn is_last_object(alloc: Global, reply: Option<&Reply>) -> Result<bool, AllocError> {
     match reply {
         Some(reply) => reply_has_text(alloc, reply, "[{a,2099}]"),
@@ -51,10 +52,11 @@ fn run_replies_to_each(
     match node.run(steps) {
         Ok(replies) => {
             let has_all = replies.len() == steps.len();
-            let last = is_last_object(alloc, replies.as_slice().last());
+            let is_last = is_last_object(alloc, replies.as_slice().last());
             drop(replies);
-            Ok(last? && has_all)
+            Ok(is_last? && has_all)
         }
+        // Memory ran out.
         Err(fault) => {
             drop(fault);
             Ok(false)
@@ -71,9 +73,9 @@ fn run_through_replies_to_each(
 ) -> Result<bool, AllocError> {
     let answers = node.run_through(steps)?;
     let has_all = answers.iter().all(|answer| answer.is_some());
-    let last = is_last_answer(alloc, answers.as_slice());
+    let is_last = is_last_answer(alloc, answers.as_slice());
     drop(answers);
-    Ok(last? && has_all)
+    Ok(is_last? && has_all)
 }
 
 /// Returns whether the last answer is the object that was inserted last.
@@ -84,20 +86,21 @@ fn is_last_answer(alloc: Global, answers: &[Option<Reply>]) -> Result<bool, Allo
     }
 }
 
-/// Returns whether `run` replies to thousands of steps.
+/// Returns whether `run` replies to thousands of steps, and the last reply is the object that was inserted last.
 pub fn runs_many_steps(alloc: Global, node: &mut Node<Fnv>) -> Result<bool, AllocError> {
     let steps = steps_of_run(alloc, COUNT)?;
-    let replied = run_replies_to_each(alloc, node, steps.as_slice());
+    let all_replied = run_replies_to_each(alloc, node, steps.as_slice());
     drop(steps);
-    replied
+    all_replied
 }
 
-/// Returns whether `run_through` replies to thousands of steps.
+/// Returns whether `run_through` replies to thousands of steps, and the last reply is the object that was inserted
+/// last.
 pub fn runs_through_many_steps(alloc: Global, node: &mut Node<Fnv>) -> Result<bool, AllocError> {
     let steps = steps_of_run(alloc, COUNT)?;
-    let answered = run_through_replies_to_each(alloc, node, steps.as_slice());
+    let all_replied = run_through_replies_to_each(alloc, node, steps.as_slice());
     drop(steps);
-    answered
+    all_replied
 }
 
 #[test]

@@ -31,7 +31,7 @@ pub struct PlanFollower {
     plan: Plan,
     /// The visited keys, in the order of the traversal.
     keys: Vec<Term>,
-    /// The steps, each with its turn.
+    /// The steps handed in so far, each with its turn.
     handed_in: Vec<(usize, Step)>,
 }
 
@@ -51,9 +51,10 @@ impl PlanFollower {
 }
 
 impl Others for PlanFollower {
-    // What contracts of `Others` call the keys and the steps.
+    // The visited keys, as the contracts of `Others` see them.
     ghost keys = { λ h. h.keys.items };
 
+    // The steps handed in so far, as the contracts of `Others` see them.
     ghost steps = { λ h. h.handed_in.items };
 
     // Returns the visited keys.
@@ -115,8 +116,8 @@ fn push_steps(
     Ok(())
 }
 
-/// Returns the steps of `Plan::DeleteAndInsert`: they delete and insert the key, double the buckets, and ready a
-/// bucket.
+/// Returns the steps of `Plan::DeleteAndInsert`: they delete the key `last` and insert it again, double the buckets of
+/// table 0, and make the bucket whose number is the turn ready.
 fn delete_and_insert(alloc: Global, turn: usize, last: &Term) -> Result<Vec<Step>, AllocError> {
     let Term::Int(key) = last else {
         // Cannot happen: all keys of the tables are integers.
@@ -145,7 +146,7 @@ fn push_delete_and_insert(
     push_steps(alloc, steps, &[Grow(Tid(0)), Ready(Tid(0), Bucket(bucket))])
 }
 
-/// Appends the step of a call that process 1 makes.
+/// Appends the step of a call that process 1 makes, and drops the text of the call.
 fn push_ask(alloc: Global, steps: &mut Vec<Step>, call: String) -> Result<(), AllocError> {
     let pushed = push_steps(alloc, steps, &[Ask(Pid(1), call.as_str())]);
     drop(call);

@@ -94,8 +94,9 @@ fn walk_over_has_wanted_end<H: KeyHash + Copy + Drop>(
     has_wanted_end(alloc, walk_result, seen, wanted_end)
 }
 
-/// Runs the steps before a walk, walks, and runs the step of `next_row`. Returns whether the walk has the wanted end
-/// and the step its wanted reply. A wrong reply before the walk is a fault of the test, reported as out of memory.
+/// Runs the steps before a walk, and walks. If the walk has the wanted end, runs the step of `next_row`. Returns
+/// whether the walk has the wanted end and the step its wanted reply. A wrong reply before the walk is a fault of the
+/// test, reported as out of memory.
 fn walk_has_wanted_end_in<H: KeyHash + Copy + Drop>(
     alloc: Global,
     node: &mut Node<H>,
@@ -107,14 +108,14 @@ fn walk_has_wanted_end_in<H: KeyHash + Copy + Drop>(
         return Err(AllocError);
     }
     let table = term(alloc, "t")?;
-    let ended = walk_over_has_wanted_end(alloc, node, setup, &table, wanted_end);
+    let has_end = walk_over_has_wanted_end(alloc, node, setup, &table, wanted_end);
     drop(table);
     let (step_text, wanted) = next_row;
-    Ok(ended? && step_text_has_reply(alloc, node, step_text, wanted)?)
+    Ok(has_end? && step_text_has_reply(alloc, node, step_text, wanted)?)
 }
 
-/// Walks by the setup in a new node with this hasher, and then runs the step of `next_row`. Returns whether the walk
-/// has the wanted end and the step its wanted reply.
+/// Walks by the setup in a new node with this hasher. If the walk has the wanted end, then runs the step of `next_row`.
+/// Returns whether the walk has the wanted end and the step its wanted reply.
 pub fn walk_has_wanted_end<H: KeyHash + Copy + Drop>(
     alloc: Global,
     hasher: H,
@@ -123,7 +124,7 @@ pub fn walk_has_wanted_end<H: KeyHash + Copy + Drop>(
     next_row: Row,
 ) -> Result<bool, AllocError> {
     let mut node = Node::new(alloc, Limits::usual(), hasher);
-    let ended = walk_has_wanted_end_in(alloc, &mut node, setup, wanted_end, next_row);
+    let all_right = walk_has_wanted_end_in(alloc, &mut node, setup, wanted_end, next_row);
     drop(node);
-    ended
+    all_right
 }

@@ -8,7 +8,7 @@ use super::StepText::{Ask, End, Enrol, Grow, Ready};
 /// The wanted text of a step that is not refused.
 const NO_REASON: &str = "";
 
-/// The reason of an argument that cannot be stored.
+/// The reason of a second argument that cannot be an object of the table, or is a list with a term that cannot be one.
 const NOT_AN_OBJECT: &str =
     "argument 2: not a tuple that has the key position, or the key is '$end_of_table'";
 
@@ -69,7 +69,8 @@ pub static STEPS: [Row; 22] = [
     ),
 ];
 
-/// Calls with a wrong argument where an object, a key, a position, a pattern or a match specification must be.
+/// Steps that set up two tables, and then calls with a wrong argument. It is in the place of an object, a key, a
+/// position, a pattern or a match specification. No object has the key zz.
 pub static OBJECTS: [Row; 21] = [
     (Enrol(Pid(7)), NO_REASON),
     (Ask(Pid(7), "new(t,[named_table])"), NO_REASON),
@@ -118,7 +119,8 @@ pub static OBJECTS: [Row; 21] = [
     ),
 ];
 
-/// Updates of counters and elements that are malformed, or do not fit the table or the object.
+/// Steps that set up two tables, and then updates of counters and elements that are malformed, or do not fit the table
+/// or the object. No object has the key zz, so the first two updates reply `false` and are not refused.
 pub static UPDATES: [Row; 21] = [
     (Enrol(Pid(7)), NO_REASON),
     (Ask(Pid(7), "new(t,[named_table])"), NO_REASON),

@@ -7,8 +7,8 @@ use Rattle.std.proofs.Common.{rules}
 use Rattle.test_shared.proofs.SentTeams.{taken_send}
 use Rattle.test_shared.proofs.tests.stressing.+count_right+fn-count_right-join+arg2+fn-count_right-join+arg3.Goals as goal
 
-pub join-front-requires-send-F : goal.join-front-requires-send-F
-join-front-requires-send-F g t c κs within =
+pub join-front_count-requires-send-F : goal.join-front_count-requires-send-F
+join-front_count-requires-send-F g t c κs within =
     let room : IsSend (param 0 g.row.B) = search rules parts 8 in
     let rooms : IsSync (param 0 g.row.B) = search rules parts 8 in
     let runs : IsSync (param 2 g.row.R) = c.requires-raw.1.1.1.1.1.1.1.1.0 in

@@ -20,8 +20,8 @@ use Rattle.bucket_table.proofs.order.Read.{objects-there}
 use Rattle.bucket_table.proofs.order.Remove.{content-removed, places-before}
 use Rattle.bucket_table.proofs.split.rows.SplitRowsRows.delete_at.Goals as goal
 
-pub delete-count-requires-clause-item : goal.delete-count-requires-clause-item
-delete-count-requires-clause-item g c =
+pub delete-dropped_objects-requires-clause-item : goal.delete-dropped_objects-requires-clause-item
+delete-dropped_objects-requires-clause-item g c =
     let P : SplitRowsState g.row.H.Denot → Type 0 = λ v. IsSome (key_of_place v.places c.args.place) in
     let p = at-place c.args.place c.self.inside.index.list.cells c.reveal_invariant.ensures.apart c.self.invariant.rows.rows.split.distinct (subst P (sym c.self.view_is) c.requires) in
     found-item p.key c.args.place c.self.inside.index.list.cells p.found
@@ -38,8 +38,8 @@ invariant_of-self g c =
     let P : SplitRowsState g.row.H.Denot → Type 0 = λ v. IsSome (key_of_place v.places c.args.place) in
     let p = at-place c.args.place c.self.inside.index.list.cells c.reveal_invariant.ensures.apart c.self.invariant.rows.rows.split.distinct (subst P (sym c.self.view_is) c.requires) in
     let l = length-removed (same p.key) (slots_of c.self.inside.index.list.cells) p.found.item.chain p.found.objects in
-    let e = c.delete-count.ensures in
-    let new = c.delete-count.new.self in
+    let e = c.delete-dropped_objects.ensures in
+    let new = c.delete-dropped_objects.new.self in
     let its_log = c.self.inside.log in
     let is = ap slots_of e.cells ∙ p.found.removed in
     let hash_of = g.H.KeyHash.hash c.self.inside.index.hasher in
@@ -60,21 +60,21 @@ returns-clause-count g c =
     let cells = c.self.inside.index.list.cells in
     let is : item_at c.args.place cells ≡ Some p.found.item = ap first_item p.found.is ∙ p.found.has in
     let there = objects-there cells c.reveal_invariant.ensures.apart c.self.invariant.rows.rows.split.distinct c.args.place p p.found.item.chain (ap (option_map (λ (item : Item). item.chain)) is) in
-    let count = sym (ap (option_map (λ (item : Item). length item.chain)) is) ∙ c.delete-count.ensures.count in
-    let Q : SplitRowsState g.row.H.Denot → Type 0 = λ v. option_map (λ (ts : List Term). length ts) (objects_in v.slots (key_of_place v.places c.args.place)) ≡ Some c.delete-count.result in
+    let count = sym (ap (option_map (λ (item : Item). length item.chain)) is) ∙ c.delete-dropped_objects.ensures.count in
+    let Q : SplitRowsState g.row.H.Denot → Type 0 = λ v. option_map (λ (ts : List Term). length ts) (objects_in v.slots (key_of_place v.places c.args.place)) ≡ Some c.delete-dropped_objects.result in
     subst Q c.self.view_is (ap (option_map (λ (ts : List Term). length ts)) there ∙ count)
 
 pub returns-clause-now : goal.returns-clause-now
 returns-clause-now g c =
     let P : SplitRowsState g.row.H.Denot → Type 0 = λ v. IsSome (key_of_place v.places c.args.place) in
     let p = at-place c.args.place c.self.inside.index.list.cells c.reveal_invariant.ensures.apart c.self.invariant.rows.rows.split.distinct (subst P (sym c.self.view_is) c.requires) in
-    let Q : SplitRowsState g.row.H.Denot → Type 0 = λ v. (gone : Term) → key_of_place v.places c.args.place ≡ Some gone → content_of c.delete-count.new.self.list.cells ≡ without v.slots gone in
-    subst Q c.self.view_is (content-removed c.args.place c.self.inside.index.list.cells c.delete-count.new.self.list.cells c.reveal_invariant.ensures.apart c.self.invariant.rows.rows.split.distinct p c.delete-count.ensures.cells)
+    let Q : SplitRowsState g.row.H.Denot → Type 0 = λ v. (gone : Term) → key_of_place v.places c.args.place ≡ Some gone → content_of c.delete-dropped_objects.new.self.list.cells ≡ without v.slots gone in
+    subst Q c.self.view_is (content-removed c.args.place c.self.inside.index.list.cells c.delete-dropped_objects.new.self.list.cells c.reveal_invariant.ensures.apart c.self.invariant.rows.rows.split.distinct p c.delete-dropped_objects.ensures.cells)
 
 pub returns-clause-before : goal.returns-clause-before
 returns-clause-before g c =
     let P : SplitRowsState g.row.H.Denot → Type 0 = λ v. IsSome (key_of_place v.places c.args.place) in
     let p = at-place c.args.place c.self.inside.index.list.cells c.reveal_invariant.ensures.apart c.self.invariant.rows.rows.split.distinct (subst P (sym c.self.view_is) c.requires) in
     let Q : SplitRowsState g.row.H.Denot → Type 0 =
-    λ v. (gone : Term) → key_of_place v.places c.args.place ≡ Some gone → (other : ℕ) (key : Term) → key_of_place v.places other ≡ Some key → ComesBefore v.slots key gone → key_of_place (places_of c.delete-count.new.self.list.cells) other ≡ Some key in
-    subst Q c.self.view_is (places-before c.args.place c.self.inside.index.list.cells c.delete-count.new.self.list.cells c.reveal_invariant.ensures.apart c.self.invariant.rows.rows.split.distinct p c.delete-count.ensures.cells)
+    λ v. (gone : Term) → key_of_place v.places c.args.place ≡ Some gone → (other : ℕ) (key : Term) → key_of_place v.places other ≡ Some key → ComesBefore v.slots key gone → key_of_place (places_of c.delete-dropped_objects.new.self.list.cells) other ≡ Some key in
+    subst Q c.self.view_is (places-before c.args.place c.self.inside.index.list.cells c.delete-dropped_objects.new.self.list.cells c.reveal_invariant.ensures.apart c.self.invariant.rows.rows.split.distinct p c.delete-dropped_objects.ensures.cells)

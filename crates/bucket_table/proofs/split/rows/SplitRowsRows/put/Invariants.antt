@@ -1,7 +1,7 @@
 use Rattle.std.proofs.Common.{◌≡◌, ◌≤◌, List, length}
 use Rattle.std.specs.Vec.Iter.{into_iter_items}
-use Rattle.bucket_table.specs.Slots.{Slot, HasDistinctKeys}
-use Rattle.bucket_table.specs.Rows.{EnterAll, AreNew}
+use Rattle.bucket_table.specs.Slots.{Slot}
+use Rattle.bucket_table.specs.Rows.{HasDistinctKeys, EnterAll, AreNew}
 use Rattle.bucket_table.proofs.split.rows.SplitRowsRows.put.Given as goal
 
 abbrev pub invariant-loop-key : goal.invariant-loop-key

@@ -4,7 +4,7 @@ use Rattle.split_key.specs.Keys.{key_of_dummy}
 use Rattle.node_list.specs.Cells.{Cell, new_cell}
 use Rattle.node_list.specs.Changes.{put_cell}
 use Rattle.node_list.specs.Places.{IsFresh, HasSplitKeyAtMost}
-use Rattle.bucket_table.specs.Buckets.{IsReadied}
+use Rattle.bucket_table.specs.Readying.{IsReadied}
 use Rattle.bucket_table.specs.declared.growth.Readying.TheVariants.{Ready}
 use Rattle.bucket_table.specs.Slots.{Slot}
 use Rattle.bucket_table.specs.SplitRowsState.{SplitRowsState}

@@ -1,5 +1,5 @@
 use Rattle.std.proofs.Common.{subst}
-use Rattle.bucket_table.specs.Slots.{HasDistinctKeys}
+use Rattle.bucket_table.specs.Rows.{HasDistinctKeys}
 use Rattle.bucket_table.specs.SplitRowsState.{SplitRowsState}
 use Rattle.bucket_table.proofs.order.Read.{keys-distinct}
 use Rattle.bucket_table.proofs.split.rows.SplitRowsRows.reveal_invariant.Goals as goal
