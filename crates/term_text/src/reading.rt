@@ -144,11 +144,12 @@ fn bracket_at(
     ensures reads { (os : List OpenBracket) → length os + 1 + levels_left ≡ MAX_DEPTH
         → ReadsTerm text.now at (reads_on (wants true) (open_bracket (is_square bracket) ∷ os)) os result }
 {
-    let mut items = Items::new(alloc);
     let mut offset = past_blanks(text, at);
     if offset < text.len() && bracket.is_closed_by(text[offset]) {
-        return Ok((bracket.enclose(items), offset + 1));
+        return Ok((bracket.enclose(Items::new(alloc)), offset + 1));
     }
+    // An object often has two elements, and a table keeps the capacity of an object that moves in.
+    let mut items = Items::from_vec(Vec::with_capacity(alloc, 2)?);
     loop {
         let (item, end) = match term_at(alloc, text, offset, levels_left) {
             Ok(found) => found,
