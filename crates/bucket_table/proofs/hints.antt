@@ -10,3 +10,4 @@ pub mod Rebuild
 pub mod Start
 pub mod Replace
 pub mod Invariant
+pub mod Double

@@ -9,14 +9,17 @@
 //! A traversal also reads free places and the places of dummies.
 //!
 //! *Mechanism.* `SplitRows` is a split-ordered list (Shalev and Shavit): one list of nodes, sorted by split keys. A
-//! bucket is an interval of the list that starts at a sentinel, its dummy. The directory has the place of each dummy.
-//! The hints are a cache: for each eighth of a bucket, an *interval*, they give the place of its first item. A hint may
-//! also say that the interval is empty, or be unknown. A search starts at a hint, or without one at the dummy of the
-//! nearest ready bucket. That is the key's bucket or an ancestor of it. An insertion refreshes the hint of its interval
-//! if that hint is unknown.
+//! bucket is a part of the list that starts at a sentinel, its dummy. The directory has the place of each dummy.
+//! The hints are a cache: for each *interval*, at most an eighth of a bucket, they give the place of its first item. A
+//! hint may also say that the interval is empty, or be unknown. A search starts at a hint, or without one at the dummy
+//! of the nearest ready bucket. That is the key's bucket or an ancestor of it. An insertion refreshes the hint of its
+//! interval if that hint is unknown.
 //!
-//! A doubling moves no node. It keeps the old hints as previous hints, and each insertion rehashes a few of them. The
-//! directory is written when buckets become ready. The order of the slots is that of their places, and a traversal
+//! A doubling moves no node. If it makes intervals half as wide, it keeps the old hints as previous hints, and each
+//! insertion rehashes a few of them. An insertion also halves the intervals if there are more nodes than intervals. So
+//! searches stay short while buckets wait to become ready.
+//!
+//! The directory is written when buckets become ready. The order of the slots is that of their places, and a traversal
 //! reads the places forward. `PlainRows` keeps the slots in insertion order, in one bucket.
 //!
 //! A *tombstone* is a slot without objects: its key was deleted while the table is fixed. Public names call it

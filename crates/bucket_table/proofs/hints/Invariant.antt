@@ -1,12 +1,12 @@
 -- The invariants are kept by each change.
 use Rattle.std.proofs.Common.{inl, inr, ◌≤◌, ◌≡◌, ℕ, zero, suc, ◌+◌, ◌-◌, ◌*◌, ◌/◌, ◌^◌, ◌<◌, List, [], ◌∷◌, ◌++◌, length, replicate, take, set, get_or, Option, Some, None, Bool, true, false, nat_eq, ◌&&◌, refl, sym, ◌∙◌, ap, subst, arith}
+use Rattle.std.specs.Prelude.{Result, Ok, Err}
+use Rattle.std.specs.Result.{OnOk, OnErr}
 use Rattle.std.specs.Map.{lookup}
 use Rattle.std.proofs.lemmas.List.{length-set}
 use Rattle.ets_term.specs.declared.term.Term.{Term}
 use Rattle.ets_term.specs.Order.{same}
 use Rattle.split_key.specs.Keys.{key_of_item, key_of_dummy}
-use Rattle.split_key.proofs.Revs.{pow-suc}
-use Rattle.split_key.proofs.Halves.{exponent-lt}
 use Rattle.std.proofs.lemmas.Bool.{cases_eq}
 use Rattle.node_list.proofs.CellLaws.{from-here, from-on, at-most-from}
 use Rattle.node_list.specs.Cells.{Cell, Sorted, new_cell, new_item}
@@ -15,24 +15,20 @@ use Rattle.node_list.specs.Changes.{put_cell}
 use Rattle.node_list.specs.Changes.{cells_with}
 use Rattle.bucket_table.specs.inside.Nodes.{slots_of}
 use Rattle.bucket_table.specs.inside.Search.{IsFound}
-use Rattle.bucket_table.specs.inside.Intervals.{first_in, AreSound, ListInvariant, IsNewFirst, KeepsFirst, SetsFirst}
+use Rattle.bucket_table.specs.inside.Intervals.{first_in, AreSound, HasIntervalsFor, ListInvariant, IsNewFirst, KeepsFirst, SetsFirst}
 use Rattle.bucket_table.proofs.hints.First.{first-on}
 use Rattle.bucket_table.proofs.directory.New.{new-split}
 use Rattle.bucket_table.proofs.directory.Change.{put-split, with-split, ready-split, grown-split, grown-length}
 use Rattle.bucket_table.proofs.hints.Change.{hints-put, hints-dummy, hints-with}
 
-pub rows-like : (hash_of : Term → ℕ) (directory : List (Option ℕ)) (interval_bits : ℕ) (current fs : List (Option (Option ℕ))) (cells zs : List Cell) → ListInvariant hash_of directory interval_bits current cells → fs ≡ current → zs ≡ cells → ListInvariant hash_of directory interval_bits fs zs
-rows-like hash_of directory interval_bits current fs cells zs r e f =
-    let P : List (Option (Option ℕ)) → Type 0 = λ gs. ListInvariant hash_of directory interval_bits gs zs in
-    let Q : List Cell → Type 0 = λ cs. ListInvariant hash_of directory interval_bits current cs in
-    subst P (sym e) (subst Q (sym f) r)
-
--- Other hints that are right keep the invariants.
-pub rows-hinted : (hash_of : Term → ℕ) (directory : List (Option ℕ)) (interval_bits : ℕ) (current after : List (Option (Option ℕ))) (cells : List Cell) → ListInvariant hash_of directory interval_bits current cells → AreSound (2 ^ interval_bits) after cells → ListInvariant hash_of directory interval_bits after cells
-rows-hinted hash_of directory interval_bits current after cells r h = record {
-  split = r.split;
-  hinted = record { doublings = r.hinted.doublings; size = r.hinted.size; narrow = r.hinted.narrow; hints = h };
-}
+-- Other hints that are right, of intervals that are not wider, keep the invariants.
+pub rows-hinted : (hash_of : Term → ℕ) (directory : List (Option ℕ)) (interval_bits narrower : ℕ) (current after : List (Option (Option ℕ))) (cells : List Cell) → ListInvariant hash_of directory interval_bits current cells → narrower ≤ interval_bits → AreSound (2 ^ narrower) after cells → ListInvariant hash_of directory narrower after cells
+rows-hinted hash_of directory interval_bits narrower current after cells r e h =
+    let narrow : interval_bits + r.hinted.doublings ≤ 30 = r.hinted.narrow in
+    record {
+      split = r.split;
+      hinted = record { doublings = r.hinted.doublings; size = r.hinted.size; narrow = omega arith; hints = h };
+    }
 
 and-false : (b : Bool) → (b && false) ≡ false
 and-false true = refl
@@ -52,7 +48,7 @@ hints-empty width n current cs none is f first e = none f ∙ go n f first (ap (
 pub new-rows : (hash_of : Term → ℕ) (head : ℕ) (directory : List (Option ℕ)) (current : List (Option (Option ℕ))) (n : ℕ) (cells : List Cell) → directory ≡ Some head ∷ None ∷ [] → cells ≡ new_cell 0 0 None ∷ [] → first_place cells ≡ Some head → current ≡ replicate n (Some None) → ListInvariant hash_of directory 29 current cells
 new-rows hash_of head directory current n cells d e f h = record {
   split = new-split hash_of head directory cells d e f;
-  hinted = record { doublings = 1; size = ap length d; narrow = refl; hints = hints-empty (2 ^ 29) n current cells (λ g. ap (first_in (2 ^ 29) g) e ∙ none-first (2 ^ 29) g 0) h };
+  hinted = record { doublings = 1; size = ap length d; narrow = omega arith; hints = hints-empty (2 ^ 29) n current cells (λ g. ap (first_in (2 ^ 29) g) e ∙ none-first (2 ^ 29) g 0) h };
 }
 
 -- A node with a greater split key comes later.
@@ -134,18 +130,18 @@ module _ (hash_of : Term → ℕ) (directory : List (Option ℕ)) (interval_bits
     };
   }
 
-  pub rows-grown : length directory < 2 ^ 20 → (after : List (Option ℕ)) (hints : List (Option (Option ℕ))) → after ≡ directory ++ replicate (length directory) None → AreSound (2 ^ (interval_bits - 1)) hints cells → ListInvariant hash_of after (interval_bits - 1) hints cells
-  rows-grown h after hints e f =
-      let l : length after ≡ 2 * length directory = ap length e ∙ grown-length hash_of directory cells r.split in
-      let R : ℕ → Type 0 = λ z. z < 2 ^ 20 in
-      let fewer : r.hinted.doublings < 20 = exponent-lt r.hinted.doublings 20 (subst R r.hinted.size h) in
-      let narrow : interval_bits + r.hinted.doublings ≡ 30 = r.hinted.narrow in
-      record {
-        split = grown-split hash_of directory cells r.split h after e;
-        hinted = record {
-          doublings = suc r.hinted.doublings;
-          size = l ∙ (ap (λ (z : ℕ). 2 * z) r.hinted.size ∙ sym (pow-suc r.hinted.doublings));
-          narrow = omega arith;
-          hints = f;
-        };
-      }
+  rows-grown : length directory < 2 ^ 20 → HasIntervalsFor (2 * length directory) interval_bits → (after : List (Option ℕ)) → after ≡ directory ++ replicate (length directory) None → ListInvariant hash_of after interval_bits current cells
+  rows-grown h narrow after e = record {
+    split = grown-split hash_of directory cells r.split h after e;
+    hinted = record {
+      doublings = narrow.doublings;
+      size = ap length e ∙ (grown-length hash_of directory cells r.split ∙ narrow.size);
+      narrow = narrow.narrow;
+      hints = r.hinted.hints;
+    };
+  }
+
+  -- The directory is doubled, or stays as it is if memory is refused.
+  pub rows-tried : {E : Type 0} (result : Result (Unit {0}) E) (after : List (Option ℕ)) → length directory < 2 ^ 20 → HasIntervalsFor (2 * length directory) interval_bits → OnOk result (after ≡ directory ++ replicate (length directory) None) → OnErr result (after ≡ directory) → ListInvariant hash_of after interval_bits current cells
+  rows-tried (Ok _) after h narrow ok err = rows-grown h narrow after ok
+  rows-tried (Err _) after h narrow ok err = let P : List (Option ℕ) → Type 0 = λ ds. ListInvariant hash_of ds interval_bits current cells in subst P (sym err) r

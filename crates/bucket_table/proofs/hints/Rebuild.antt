@@ -129,15 +129,22 @@ before-start hash_of directory width m g start b (c ∷ cs) d ds some edge late 
           first-on width g c cs out ∙ (before-start hash_of directory width m g start b cs d ds some edge late k o.1 p.1 later ∙ ap (first_in width g) (sym (from-on start c cs other)))
     ]
 
-module _ (hash_of : Term → ℕ) (directory : List (Option ℕ)) (interval_bits bucket start j : ℕ) (cs : List Cell) (i : DirectoryInvariant hash_of directory cs) (size : length directory ≡ 2 ^ j) (narrow : interval_bits + j ≡ 30) (o : Sorted cs) (a : HasDistinctPlaces cs) (entry : get_or directory bucket None ≡ Some start) (within : bucket < length directory) where
+module _ (hash_of : Term → ℕ) (directory : List (Option ℕ)) (interval_bits bucket start j : ℕ) (cs : List Cell) (i : DirectoryInvariant hash_of directory cs) (size : length directory ≡ 2 ^ j) (narrow : interval_bits + j ≤ 30) (o : Sorted cs) (a : HasDistinctPlaces cs) (entry : get_or directory bucket None ≡ Some start) (within : bucket < length directory) where
   below-size : bucket < 2 ^ j
   below-size = let P : ℕ → Type 0 = λ z. bucket < z in subst P size within
 
-  edge : key_of_dummy bucket ≡ (rev j bucket * 8) * 2 ^ interval_bits
-  edge = border j interval_bits bucket narrow below-size
+  at-border : (m : ℕ) × (key_of_dummy bucket ≡ m * 2 ^ interval_bits)
+  at-border = border j interval_bits bucket (omega (arith, narrow)) below-size
 
-  part-is : key_of_dummy bucket / 2 ^ interval_bits ≡ rev j bucket * 8
-  part-is = ap (λ (z : ℕ). z / 2 ^ interval_bits) edge ∙ mul-div_cancel (rev j bucket * 8) (pow_pos interval_bits)
+  -- The first interval of the bucket.
+  abbrev first : ℕ
+  first = at-border.0
+
+  edge : key_of_dummy bucket ≡ first * 2 ^ interval_bits
+  edge = at-border.1
+
+  part-is : key_of_dummy bucket / 2 ^ interval_bits ≡ first
+  part-is = ap (λ (z : ℕ). z / 2 ^ interval_bits) edge ∙ mul-div_cancel first (pow_pos interval_bits)
 
   pub rebuild-start : (current : List (Option (Option ℕ))) → IsRebuiltUpTo hash_of directory (2 ^ interval_bits) start (key_of_dummy bucket) current (place_after start cs) cs
   rebuild-start current =
@@ -154,8 +161,8 @@ module _ (hash_of : Term → ℕ) (directory : List (Option ℕ)) (interval_bits
         is = ap (λ (z : Option ℕ). tail_from z cs) after ∙ tail-is start cs (new_cell start (key_of_dummy bucket) None) d.later a d.is;
         link = after;
         seen = λ g late known.
-            (let l : rev j bucket * 8 ≤ g = omega (arith, part-is, late) in
-            before-start hash_of directory (2 ^ interval_bits) (rev j bucket * 8) g start bucket cs (new_cell start (key_of_dummy bucket) None) d.later (pow_pos interval_bits) edge l refl o i.placed d.is
+            (let l : first ≤ g = omega (arith, part-is, late) in
+            before-start hash_of directory (2 ^ interval_bits) (first) g start bucket cs (new_cell start (key_of_dummy bucket) None) d.later (pow_pos interval_bits) edge l refl o i.placed d.is
             ∙ (ap (first_in (2 ^ interval_bits) g) d.is ∙ first-on (2 ^ interval_bits) g (new_cell start (key_of_dummy bucket) None) d.later (out-none (key_of_dummy bucket / 2 ^ interval_bits) g None refl)));
         fresh = ap'.0;
         above = so.0;
@@ -281,7 +288,7 @@ module _ (hash_of : Term → ℕ) (directory : List (Option ℕ)) (interval_bits
         let P : Option Item → Type 0 = λ z. HasSplitKey hash_of directory h.cell.at h.cell.split_key z in
         let pl = subst R h.is s.placed in
         let k : IsInDirectory directory h.cell.at h.cell.split_key = subst P none pl.0 in
-        let q : 2 * 2 ^ (32 - j) ≡ 8 * 2 ^ interval_bits = eight j interval_bits narrow in
+        let q : 8 * 2 ^ interval_bits ≤ 2 * 2 ^ (32 - j) = eight j interval_bits narrow in
         let full : j + (32 - j) ≡ 32 = omega arith in
         let w : bucket_width (2 ^ j) ≡ 2 * 2 ^ (32 - j) = bucket_width-even j (32 - j) full in
         let up : key_of_dummy bucket + bucket_width (2 ^ j) ≤ h.cell.split_key =
@@ -294,8 +301,8 @@ module _ (hash_of : Term → ℕ) (directory : List (Option ℕ)) (interval_bits
               absurd (f'.0 (some-one h.cell.at start (get_or directory k.bucket None) (get_or directory bucket None) (ap (λ (z : ℕ). get_or directory z None) same) k.entry entry)))
           | inr most ↦ most
         ] in
-        let far : (rev j bucket * 8 + 8) * 2 ^ interval_bits ≤ h.cell.split_key = omega (arith, up, edge, w, q) in
-        let part : rev j bucket * 8 + 8 ≤ h.cell.split_key / 2 ^ interval_bits = from-part (rev j bucket * 8 + 8) (2 ^ interval_bits) h.cell.split_key (pow_pos interval_bits) far in
+        let far : (first + 8) * 2 ^ interval_bits ≤ h.cell.split_key = omega (arith, up, edge, w, q) in
+        let part : first + 8 ≤ h.cell.split_key / 2 ^ interval_bits = from-part (first + 8) (2 ^ interval_bits) h.cell.split_key (pow_pos interval_bits) far in
         none-before g late known (omega (arith, part, part-is, early))
 
     pub ends-past : (f : ℕ) → f ≡ here.cell.split_key / 2 ^ interval_bits → key_of_dummy bucket / 2 ^ interval_bits + 8 ≤ f → EmptyHintsAreSound (2 ^ interval_bits) (key_of_dummy bucket / 2 ^ interval_bits) (key_of_dummy bucket / 2 ^ interval_bits + 8) current cs

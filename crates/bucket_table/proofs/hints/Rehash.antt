@@ -1,5 +1,5 @@
 -- The hints of the halves of an interval.
-use Rattle.std.proofs.Common.{◌≡◌, ◌≢◌, ℕ, ◌+◌, ◌-◌, ◌*◌, ◌%◌, ◌/◌, ◌^◌, ◌<◌, ◌⊎◌, inl, inr, List, [], ◌∷◌, get_or, Option, Some, None, true, false, refl, sym, ◌∙◌, ap, subst, arith}
+use Rattle.std.proofs.Common.{◌≡◌, ◌≢◌, ℕ, ◌+◌, ◌*◌, ◌%◌, ◌/◌, ◌^◌, ◌<◌, ◌⊎◌, inl, inr, List, [], ◌∷◌, get_or, Option, Some, None, true, false, refl, sym, ◌∙◌, ap, subst, arith}
 use Rattle.std.proofs.lemmas.Bool.{cases_Bool}
 use Rattle.std.proofs.Math.Nat.{div-div-eq-div-mul}
 use Rattle.std.proofs.lemmas.Nat.{pow-add}
@@ -169,10 +169,3 @@ hints-nil width current cs is f first e = absurd (nothing (ap (λ (zs : List (Op
 
     nothing : get_or [] f None ≡ Some first → ⊥
     nothing e = absurd (cc)
-
-pub previous-like : (interval_bits n : ℕ) (current previous : List (Option (Option ℕ))) (cs : List Cell) → 0 < interval_bits → previous ≡ current → AreSound (2 ^ interval_bits) current cs → AreSound (2 ^ (interval_bits - 1 + 1)) previous cs
-previous-like interval_bits n current previous cs some is h =
-    let s : interval_bits ≡ interval_bits - 1 + 1 = omega arith in
-    let P : ℕ → Type 0 = λ z. AreSound (2 ^ z) previous cs in
-    let Q : List (Option (Option ℕ)) → Type 0 = λ zs. AreSound (2 ^ interval_bits) zs cs in
-    subst P s (subst Q (sym is) h)

@@ -6,6 +6,7 @@ use Rattle.std.proofs.lemmas.Bool.Decides.{nat_tests}
 use Rattle.std.proofs.lemmas.List.{length-map}
 use Rattle.std.proofs.lemmas.Nat.{mod_below, pow_pos, pow-add}
 use Rattle.std.proofs.Math.Nat.{div-lt_iff_lt-mul}
+use Rattle.std.proofs.Math.Pow.{pow_mono}
 use Rattle.ets_term.specs.declared.term.Term.{Term}
 use Rattle.ets_term.specs.Order.{same}
 use Rattle.split_key.specs.Keys.{rev, key_of_item, key_of_dummy}
@@ -165,49 +166,43 @@ same-side m width a b some low e =
       | inr most ↦ most
     ]
 
-aligned : (r k s : ℕ) → 2 * k ≡ 8 * s → 2 * (r * k) ≡ (r * 8) * s
-aligned r k s e = let m : r * (2 * k) ≡ r * (8 * s) = ap (λ (z : ℕ). r * z) e in omega (arith, m)
+aligned : (r k s w : ℕ) → k ≡ s * w → 2 * (r * k) ≡ (r * (2 * w)) * s
+aligned r k s w e = let m : r * k ≡ r * (s * w) = ap (λ (z : ℕ). r * z) e in omega (arith, m)
 
-pub eight : (j interval_bits : ℕ) → interval_bits + j ≡ 30 → 2 * 2 ^ (32 - j) ≡ 8 * 2 ^ interval_bits
+-- A bucket has at least eight intervals.
+pub eight : (j interval_bits : ℕ) → interval_bits + j ≤ 30 → 8 * 2 ^ interval_bits ≤ 2 * 2 ^ (32 - j)
 eight j interval_bits e =
-    let k : 32 - j ≡ interval_bits + 2 = omega arith in
-    let p : 2 ^ (32 - j) ≡ 2 ^ interval_bits * 2 ^ 2 = ap (λ (z : ℕ). 2 ^ z) k ∙ pow-add 2 interval_bits 2 in
-    omega (arith, p)
+    let most : interval_bits + 2 ≤ 32 - j = omega arith in
+    let p : 2 ^ (interval_bits + 2) ≡ 2 ^ interval_bits * 2 ^ 2 = pow-add 2 interval_bits 2 in
+    let q : 2 ^ (interval_bits + 2) ≤ 2 ^ (32 - j) = pow_mono most in
+    omega (arith, p, q)
 
 -- A bucket's dummy is at the border of an interval.
-pub border : (j interval_bits b : ℕ) → interval_bits + j ≡ 30 → b < 2 ^ j → key_of_dummy b ≡ (rev j b * 8) * 2 ^ interval_bits
+pub border : (j interval_bits b : ℕ) → interval_bits + j ≤ 32 → b < 2 ^ j → (m : ℕ) × (key_of_dummy b ≡ m * 2 ^ interval_bits)
 border j interval_bits b e within =
-    let k : 32 - j ≡ interval_bits + 2 = omega arith in
+    let k : 32 - j ≡ interval_bits + (32 - j - interval_bits) = omega arith in
     let full : j + (32 - j) ≡ 32 = omega arith in
     let P : ℕ → Type 0 = λ w. rev w b ≡ rev j b * 2 ^ (32 - j) in
     let r : rev 32 b ≡ rev j b * 2 ^ (32 - j) = subst P full (rev-bucket j (32 - j) b within) in
-    let p : 2 ^ (32 - j) ≡ 2 ^ interval_bits * 2 ^ 2 = ap (λ (z : ℕ). 2 ^ z) k ∙ pow-add 2 interval_bits 2 in
-    let q : 2 * 2 ^ (32 - j) ≡ 8 * 2 ^ interval_bits = omega (arith, p) in
-    ap (λ (z : ℕ). 2 * z) r ∙ aligned (rev j b) (2 ^ (32 - j)) (2 ^ interval_bits) q
-
-previous : (r x y : ℕ) → y ≡ x * 2 → (r * 8) * x ≡ (r * 4) * y
-previous r x y e = let m : r * y ≡ r * (x * 2) = ap (λ (z : ℕ). r * z) e in omega (arith, m)
-
-double : (s : ℕ) → 2 ^ (s + 1) ≡ 2 ^ s * 2
-double s = let p : 2 ^ (s + 1) ≡ 2 ^ s * 2 ^ 1 = pow-add 2 s 1 in omega (arith, p)
+    let p : 2 ^ (32 - j) ≡ 2 ^ interval_bits * 2 ^ (32 - j - interval_bits) = ap (λ (z : ℕ). 2 ^ z) k ∙ pow-add 2 interval_bits (32 - j - interval_bits) in
+    (rev j b * (2 * 2 ^ (32 - j - interval_bits)), ap (λ (z : ℕ). 2 * z) r ∙ aligned (rev j b) (2 ^ (32 - j)) (2 ^ interval_bits) (2 ^ (32 - j - interval_bits)) p)
 
 -- A bucket's dummy is at the border of an interval, and of one twice as wide.
 module _ (hash_of : Term → ℕ) (directory : List (Option ℕ)) (cs : List Cell) (term : Term) (interval_bits : ℕ) (current : List (Option (Option ℕ))) (h : HintsInvariant directory interval_bits current cs) where
-  pub own-edge : (m : ℕ) × (key_of_dummy (hash_of term % length directory) ≡ m * 2 ^ interval_bits)
-  own-edge =
-      let narrow : interval_bits + h.doublings ≡ 30 = h.narrow in
+  within : hash_of term % length directory < 2 ^ h.doublings
+  within =
       let same-mod : hash_of term % length directory ≡ hash_of term % 2 ^ h.doublings = ap (λ (n : ℕ). hash_of term % n) h.size in
       let W : ℕ → Type 0 = λ z. z < 2 ^ h.doublings in
-      let within : hash_of term % length directory < 2 ^ h.doublings = subst W (sym same-mod) (mod_below (hash_of term) (2 ^ h.doublings) (pow_pos h.doublings)) in
-      (rev h.doublings (hash_of term % length directory) * 8, border h.doublings interval_bits (hash_of term % length directory) narrow within)
+      subst W (sym same-mod) (mod_below (hash_of term) (2 ^ h.doublings) (pow_pos h.doublings))
+
+  narrow : interval_bits + 1 + h.doublings ≤ 32
+  narrow = let n : interval_bits + h.doublings ≤ 30 = h.narrow in omega arith
+
+  pub own-edge : (m : ℕ) × (key_of_dummy (hash_of term % length directory) ≡ m * 2 ^ interval_bits)
+  own-edge = border h.doublings interval_bits (hash_of term % length directory) (omega (arith, narrow)) within
 
   pub old-edge : (m : ℕ) × (key_of_dummy (hash_of term % length directory) ≡ m * 2 ^ (interval_bits + 1))
-  old-edge =
-      let narrow : interval_bits + h.doublings ≡ 30 = h.narrow in
-      let same-mod : hash_of term % length directory ≡ hash_of term % 2 ^ h.doublings = ap (λ (n : ℕ). hash_of term % n) h.size in
-      let W : ℕ → Type 0 = λ z. z < 2 ^ h.doublings in
-      let within : hash_of term % length directory < 2 ^ h.doublings = subst W (sym same-mod) (mod_below (hash_of term) (2 ^ h.doublings) (pow_pos h.doublings)) in
-      (rev h.doublings (hash_of term % length directory) * 4, border h.doublings interval_bits (hash_of term % length directory) narrow within ∙ previous (rev h.doublings (hash_of term % length directory)) (2 ^ interval_bits) (2 ^ (interval_bits + 1)) (double interval_bits))
+  old-edge = border h.doublings (interval_bits + 1) (hash_of term % length directory) narrow within
 
 pub visited_cells-one : (key : ℕ) (term : Term) (c : Cell) (cs : List Cell) (b : Bool) → (nat_lt key c.split_key || is_it key term c) ≡ b → 1 ≤ length (visited_cells key term (c ∷ cs))
 visited_cells-one key term c cs true e = let P : Bool → Type 0 = λ b. 1 ≤ length (cond b (c ∷ []) (c ∷ visited_cells key term cs)) in subst P (sym e) (omega arith)

@@ -42,12 +42,24 @@ pub record HintsAreSound (hints : Hints) (cells : List Cell) : Type 0 where
   pub current : AreSound (2 ^ hints.interval_bits) hints.current cells
   pub previous : AreSound (2 ^ (hints.interval_bits + 1)) hints.previous cells
 
--- A bucket has eight intervals, and the hints are right.
+-- The number of intervals is doubled: the current hints are the previous ones now, and the new current hints are unknown.
+pub record IsDoubled (old new : Hints) : Type 0 where
+  pub narrow : new.interval_bits + 1 ≡ old.interval_bits
+  pub current : AreUnknown new.current
+  pub previous : new.previous ≡ old.current
+
+-- There are at least eight intervals for each of this number of buckets, a power of two.
+pub record HasIntervalsFor (buckets interval_bits : ℕ) : Type 0 where
+  pub doublings : ℕ
+  pub size : buckets ≡ 2 ^ doublings
+  pub narrow : interval_bits + doublings ≤ 30
+
+-- A bucket has at least eight intervals, and the hints are right.
 pub record HintsInvariant (directory : List (Option ℕ)) (interval_bits : ℕ) (current : List (Option (Option ℕ)))
     (cells : List Cell) : Type 0 where
   pub doublings : ℕ
   pub size : length directory ≡ 2 ^ doublings
-  pub narrow : interval_bits + doublings ≡ 30
+  pub narrow : interval_bits + doublings ≤ 30
   pub hints : AreSound (2 ^ interval_bits) current cells
 
 pub record ListInvariant (hash_of : Term → ℕ) (directory : List (Option ℕ)) (interval_bits : ℕ)

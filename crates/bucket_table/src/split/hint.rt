@@ -1,5 +1,4 @@
-//! One hint: the place of the first item of an interval (an eighth of a bucket's split keys), *empty* if the interval
-//! has no item, or *unknown*.
+//! One hint: the place of the first item of an interval of split keys, *empty* if the interval has no item, or *unknown*.
 ghost use Rattle.std.specs.Prelude.{◌≡◌, ◌⊎◌, Some, None};
 
 use std::marker::Model;

@@ -1,5 +1,4 @@
-//! A list of hints, by interval. A hint is the place of the first item of an interval (an eighth of a bucket), *empty*
-//! or *unknown*.
+//! A list of hints, by interval. A hint is the place of the first item of an interval, *empty* or *unknown*.
 ghost use Rattle.std.specs.Prelude.{◌≡◌, ◌<◌, ◌^◌, [], Some, None, IfOk, OnOk, OnErr, length, get_or, replicate};
 ghost use Rattle.bucket_table.specs.inside.Intervals.{AreUnknown, ForgetsHints, HaveSameHints, SetsIfUnknown, SetsHint, SetsFirst, ReplacesFirst};
 ghost use Rattle.bucket_table.specs.inside.Rebuild.{SetsEmpty, SetsIfEmpty};

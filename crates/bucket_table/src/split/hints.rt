@@ -1,10 +1,10 @@
-//! The hints, a cache by which a search starts near its goal. An interval is an eighth of a bucket's split keys. Its
-//! hint is the place of its first item, *empty* or *unknown*. The *previous* hints are from before the last doubling. A
-//! rehash splits them into *current* hints.
+//! The hints, a cache by which a search starts near its goal. An interval is a part of the split keys: at most an eighth
+//! of a bucket's. Its hint is the place of its first item, *empty* or *unknown*. A doubling makes intervals half as wide.
+//! The *previous* hints are from before the last doubling. A rehash splits them into *current* hints.
 ghost use Rattle.std.specs.Prelude.{◌≡◌, ◌⊎◌, ◌<◌, ◌/◌, ◌^◌, [], Some, None, IfOk, IfSome, replicate};
 ghost use Rattle.bucket_table.specs.inside.Intervals.{IsNearestBelow};
 
-// The modules: the hint of the `first` item of an interval, the hints of one number of buckets (`generation`), the
+// The modules: the hint of the `first` item of an interval, the hints of one number of intervals (`generation`), the
 // `refresh` of an unknown hint, and the `rehash` of the previous hints.
 mod first;
 mod generation;
@@ -15,7 +15,7 @@ use super::hint_list::HintList;
 use node_list::At;
 use std::alloc::{AllocError, Global};
 
-/// The number of intervals of a bucket.
+/// The least number of intervals of a bucket, and the number of intervals in a group.
 pub const INTERVALS_PER_BUCKET: usize = 8;
 
 /// The number of bits of a split key: 32 bits of the hash, reversed, and a last bit. The last bit is 1 for an item and
@@ -25,7 +25,7 @@ const SPLIT_KEY_BITS: u32 = 33;
 /// The greatest number of intervals whose hints `nearest_below` reads. It bounds the time of that call.
 const MAX_INTERVALS_SCANNED: usize = 64;
 
-/// The hints of all intervals of split keys: those of the present number of buckets (`current`), and those from before
+/// The hints of all intervals of split keys: those of the present number of intervals (`current`), and those from before
 /// the last doubling (`previous`). The previous hint at `rehash_index` is rehashed next. The interval of a split key is
 /// `split_key >> interval_bits`.
 #[derive(Drop)]
@@ -85,14 +85,15 @@ impl Hints {
         None
     }
 
-    /// Reads the current hints of the lower intervals of the same bucket, the nearest first. Returns the first place
-    /// that such a hint has: the place of the first item of its interval. Returns `None` if no such hint has a place.
+    /// Reads the current hints of the lower intervals of the same group of eight, the nearest first. Returns the first
+    /// place that such a hint has: the place of the first item of its interval. Returns `None` if no such hint has a
+    /// place. All intervals of a group are of one bucket.
     #[inline(always)]
-    pub fn bucket_hint_below(&self, interval: usize) -> Option<At>
+    pub fn near_hint_below(&self, interval: usize) -> Option<At>
         ensures { IfSome result (λ at. IsNearestBelow 0 interval at self.now.current) }
     {
         let mut below = interval;
-        // The first interval of a bucket has a multiple of `INTERVALS_PER_BUCKET` as its number.
+        // The first interval of a group has a multiple of `INTERVALS_PER_BUCKET` as its number.
         while below % INTERVALS_PER_BUCKET != 0 {
             below -= 1;
             if let Some(Some(first)) = self.current.get(below) {

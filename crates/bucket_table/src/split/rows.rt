@@ -3,7 +3,6 @@
 ghost use Rattle.bucket_table.specs.SplitRowsState.{key_of_place};
 
 use super::SplitRows;
-use super::hints::INTERVALS_PER_BUCKET;
 use super::index::item_hash;
 use super::sweep::SweepMode;
 use crate::entry::{Place, SlotEntry};
@@ -192,19 +191,7 @@ impl<H: KeyHash + Copy + Drop> Rows for SplitRows<H> {
         if buckets >= MAX_BUCKETS {
             return Ok(Growth::AtMost);
         }
-        // Both steps that may run out of memory come first. The new hints are put in `previous`; the swap makes them
-        // the current hints, and the old current hints the previous ones. None of those is rehashed yet. There are
-        // twice as many intervals, so a split key is shifted by one bit less.
-        self.index
-            .hints
-            .start_generation(2 * INTERVALS_PER_BUCKET * buckets)?;
-        self.index.directory.double()?;
-        mem::swap(
-            &mut self.index.hints.current,
-            &mut self.index.hints.previous,
-        );
-        self.index.hints.interval_bits -= 1;
-        self.index.hints.rehash_index = 0;
+        self.index.double_buckets()?;
         Ok(Growth::Grown)
     }
 

@@ -1,5 +1,5 @@
 //! An insertion sets the hint of its interval, if that is unknown, by a scan of the list up to the interval. A hint
-//! caches the place of the first item of an interval (an eighth of a bucket).
+//! caches the place of the first item of an interval.
 
 ghost use Rattle.std.specs.Prelude.{◌≡◌, ◌/◌, ◌^◌};
 ghost use Rattle.bucket_table.specs.inside.Directory.{HaveParity, HasKeyBelow};

@@ -2,7 +2,7 @@
 //! Each removal splits the previous hint of its item's interval. A hint caches the place of the first item of an
 //! interval. A previous interval is two current intervals, a *pair*.
 
-ghost use Rattle.std.specs.Prelude.{◌≡◌, ◌+◌, ◌*◌, ◌/◌, ◌^◌, None, get_or};
+ghost use Rattle.std.specs.Prelude.{◌≡◌, ◌+◌, ◌*◌, ◌/◌, ◌^◌, ◌≤◌, None, get_or};
 ghost use Rattle.bucket_table.specs.inside.Intervals.{HintsAreSound, IsSoundHint};
 
 use super::Hints;
@@ -60,11 +60,12 @@ impl Hints {
     }
 
     /// Rehashes the next three previous hints, and adds unknown current hints if some are missing. If all previous
-    /// hints were rehashed before this call, frees the memory of some of them instead of rehashing.
+    /// hints were rehashed before this call, frees the memory of some of them instead of rehashing. If none is left,
+    /// doubles the number of intervals if the list is crowded.
     fn rehash_step(&mut self, list: &NodeList)
         requires hints { HintsAreSound self.old list.now.cells }
         ensures hints { HintsAreSound self.new list.now.cells }
-        ensures interval_bits { self.new.interval_bits ≡ self.old.interval_bits }
+        ensures interval_bits { self.new.interval_bits ≤ self.old.interval_bits }
     {
         self.extend_generation();
         let rehash_index = self.rehash_index;
@@ -73,31 +74,34 @@ impl Hints {
             self.rehash_pair(list, rehash_index + 1);
             self.rehash_pair(list, rehash_index + 2);
             self.rehash_index = rehash_index.saturating_add(3);
-        } else {
+        } else if self.previous.len() > 0 {
             self.previous.shrink();
+        } else {
+            self.double_if_crowded(list);
         }
     }
 
-    /// Does an insertion's part of the rehash, which includes the previous hint of its split key. It does nothing if
-    /// there are no previous hints and each interval has a current hint.
+    /// Does an insertion's part of the work on hints: a part of the rehash, which includes the previous hint of its split
+    /// key, or a doubling of the number of intervals. It does nothing if there are no previous hints and the list has no
+    /// more nodes than current hints.
     #[inline(always)]
     pub fn catch_up(&mut self, list: &NodeList, split_key: u64)
         requires hints { HintsAreSound self.old list.now.cells }
         ensures hints { HintsAreSound self.new list.now.cells }
-        ensures interval_bits { self.new.interval_bits ≡ self.old.interval_bits }
+        ensures interval_bits { self.new.interval_bits ≤ self.old.interval_bits }
         ensures previous { get_or self.new.previous (split_key / 2 ^ self.new.interval_bits / 2) None ≡ None }
     {
-        if self.previous.len() > 0 || self.current.len() < self.intervals() {
+        if self.previous.len() > 0 || self.current.len() < list.len() {
             self.rehash_now(list, split_key);
         }
     }
 
-    /// Does the next part of the rehash, and rehashes the previous hint of the interval of a split key.
+    /// Does the next part of the work on hints, and rehashes the previous hint of the interval of a split key.
     #[inline(never)]
     fn rehash_now(&mut self, list: &NodeList, split_key: u64)
         requires hints { HintsAreSound self.old list.now.cells }
         ensures hints { HintsAreSound self.new list.now.cells }
-        ensures interval_bits { self.new.interval_bits ≡ self.old.interval_bits }
+        ensures interval_bits { self.new.interval_bits ≤ self.old.interval_bits }
         ensures previous { get_or self.new.previous (split_key / 2 ^ self.new.interval_bits / 2) None ≡ None }
     {
         self.rehash_step(list);

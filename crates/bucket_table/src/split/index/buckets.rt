@@ -1,15 +1,19 @@
 //! A bucket is ready if the directory has the place of its dummy, the first node of the bucket. A search without a hint
-//! starts at the nearest ready bucket: the bucket of its hash, or the first ready one among that bucket's ancestors.
+//! starts at the nearest ready bucket: the bucket of its hash, or the first ready one among that bucket's ancestors. A
+//! doubling adds buckets that are not ready.
 
-ghost use Rattle.std.specs.Prelude.{◌≡◌, ℕ, ◌%◌, ◌<◌, ◌≤◌, ◌^◌, length};
+ghost use Rattle.std.specs.Prelude.{◌≡◌, ℕ, ◌%◌, ◌<◌, ◌≤◌, ◌*◌, ◌^◌, ◌++◌, None, OnOk, OnErr, length, replicate};
 ghost use Rattle.split_key.specs.Keys.{key_of_item};
 ghost use Rattle.bucket_table.specs.inside.Directory.{IsNearestReady, AllReadyBelow, IsFirstUnready};
+ghost use Rattle.bucket_table.specs.inside.Intervals.{HasIntervalsFor};
 ghost use Rattle.bucket_table.specs.inside.SplitIndex.{RowsInvariant};
 
 use super::SplitIndex;
+use crate::split::hints::INTERVALS_PER_BUCKET;
 use ets_term::KeyHash;
 use node_list::At;
 use split_key::{bucket_of, laws, parent, rev32};
+use std::alloc::AllocError;
 
 impl<H: KeyHash + Copy + Drop> SplitIndex<H> {
     /// Returns the first ready bucket among this bucket, its parent, the parent's parent and so on, with the place of
@@ -43,6 +47,36 @@ impl<H: KeyHash + Copy + Drop> SplitIndex<H> {
     {
         let bucket = bucket_of(hash, self.directory.len() as u32);
         self.nearest_ready(bucket)
+    }
+
+    /// Doubles the number of intervals if a bucket would have fewer than eight after a doubling of the buckets.
+    fn narrow_intervals(&mut self) -> Result<(), AllocError>
+        requires rows { RowsInvariant H.hash self.old }
+        requires few { length self.old.directory < 2 ^ 20 }
+        ensures rows { RowsInvariant H.hash self.new }
+        ensures rest { self.new ≡ record self.old { hints = self.new.hints } }
+        ensures ok { OnOk result (HasIntervalsFor (2 * length self.old.directory) self.new.hints.interval_bits) }
+    {
+        if self.hints.intervals() > INTERVALS_PER_BUCKET * self.directory.len() {
+            return Ok(());
+        }
+        self.hints.double()
+    }
+
+    /// Doubles the number of buckets, with at least eight intervals for each. The new buckets are not ready. If memory
+    /// is refused, adds no bucket.
+    pub fn double_buckets(&mut self) -> Result<(), AllocError>
+        requires rows { RowsInvariant H.hash self.old }
+        requires few { length self.old.directory < 2 ^ 20 }
+        ensures rows { RowsInvariant H.hash self.new }
+        ensures ok { OnOk result (self.new.directory
+            ≡ self.old.directory ++ replicate (length self.old.directory) None) }
+        ensures err { OnErr result (self.new.directory ≡ self.old.directory) }
+        ensures list { self.new.list ≡ self.old.list }
+        ensures hasher { self.new.hasher ≡ self.old.hasher }
+    {
+        self.narrow_intervals()?;
+        self.directory.double()
     }
 
     /// Returns the lowest bucket from `from` on that is not ready. If all are ready, returns the number of buckets.

@@ -1,5 +1,5 @@
-//! An insertion also does its part of the work on hints. It rehashes some hints from before the last doubling. Then it
-//! refreshes the hint of its interval: it sets the hint if that is unknown.
+//! An insertion also does its part of the work on hints. It rehashes some hints from before the last doubling, or doubles
+//! the number of intervals. Then it refreshes the hint of its interval: it sets the hint if that is unknown.
 
 ghost use Rattle.std.specs.Prelude.{◌≡◌, ◌+◌, None, length};
 ghost use Rattle.std.specs.Map.{lookup};

@@ -1,6 +1,6 @@
-//! When a bucket becomes ready, one scan sets its hints, and another sets those of its parent if that is ready. Hints
-//! past the end of the list of hints stay unknown. The parent is the bucket that a doubling split to create this
-//! bucket. A hint caches the place of the first item of an interval.
+//! When a bucket becomes ready, one scan sets its first eight hints, and another sets those of its parent if that is
+//! ready. A bucket has at least eight intervals. Hints past the end of the list of hints stay unknown. The parent is the
+//! bucket that a doubling split to create this bucket. A hint caches the place of the first item of an interval.
 
 ghost use Rattle.std.specs.Prelude.{◌≡◌, ◌<◌, Some, None, length, get_or};
 ghost use Rattle.bucket_table.specs.inside.SplitIndex.{RowsInvariant, KeepsDirectory};
@@ -12,7 +12,7 @@ use node_list::At;
 use split_key::{dummy_key, parent};
 
 impl<H: KeyHash + Copy + Drop> SplitIndex<H> {
-    /// Rebuilds the hints of a bucket that became ready, and those of its parent if that is ready.
+    /// Rebuilds the first hints of a bucket that became ready, and those of its parent if that is ready.
     pub fn rebuild_with_parent(&mut self, bucket: u32)
         requires rows { RowsInvariant H.hash self.old }
         requires below { bucket < length self.old.directory }
@@ -26,7 +26,7 @@ impl<H: KeyHash + Copy + Drop> SplitIndex<H> {
         }
     }
 
-    /// Rebuilds the hints of a bucket if it is ready.
+    /// Rebuilds the first hints of a bucket if it is ready.
     fn rebuild_bucket_hints(&mut self, bucket: u32)
         requires rows { RowsInvariant H.hash self.old }
         requires below { bucket < length self.old.directory }
@@ -39,8 +39,9 @@ impl<H: KeyHash + Copy + Drop> SplitIndex<H> {
         }
     }
 
-    /// Rebuilds the hints of a ready bucket, whose dummy is at `start`, by one scan. First sets those that the list of
-    /// hints has to empty. Then sets the hint of each interval that has items to its first item.
+    /// Rebuilds the hints of the first eight intervals of a ready bucket, whose dummy is at `start`, by one scan. First
+    /// sets those that the list of hints has to empty. Then sets the hint of each interval that has items to its first
+    /// item.
     fn rebuild_hints(&mut self, bucket: u32, start: At)
         requires rows { RowsInvariant H.hash self.old }
         requires start { get_or self.old.directory bucket None ≡ Some start }

@@ -1,5 +1,5 @@
 use Rattle.bucket_table.specs.inside.Intervals.{SetsFirst}
-use Rattle.std.proofs.Common.{◌≡◌, ◌/◌, ◌^◌, ℕ, Some, None, get_or, ◌∙◌, sym, ap, subst, arith}
+use Rattle.std.proofs.Common.{◌≡◌, ◌≤◌, ◌/◌, ◌^◌, ℕ, Some, None, get_or, ◌∙◌, sym, ap, subst, arith}
 use Rattle.split_key.specs.Keys.{key_of_item}
 use Rattle.node_list.specs.Cells.{new_cell, new_item}
 use Rattle.node_list.specs.Changes.{put_cell}
@@ -40,8 +40,9 @@ returns-clause-rows g c =
     let hints = c.refresh-start.new.self in
     let split = c.item_key-split_key.result in
     let put = c.insert_item-at in
-    let interval_bits = ap (λ (h : Hints). h.interval_bits) c.refresh-start.ensures.rest ∙ c.catch_up.ensures.interval_bits in
-    let learned = anew g.H.KeyHash.hash index c.requires.rows hints interval_bits c.refresh-start.ensures.hints in
+    let same = ap (λ (h : Hints). h.interval_bits) c.refresh-start.ensures.rest in
+    let narrower : hints.interval_bits ≤ index.hints.interval_bits = omega (arith, same, c.catch_up.ensures.interval_bits) in
+    let learned = anew g.H.KeyHash.hash index c.requires.rows hints narrower c.refresh-start.ensures.hints in
     let G : Hints → Type 0 = λ h. get_or h.previous (split / 2 ^ h.interval_bits / 2) None ≡ None in
     let S : ℕ → Type 0 = λ i. SetsFirst c.is_new_first-is_first.result i put.result hints.current c.set_first.new.self in
     let gone = subst G (sym c.refresh-start.ensures.rest) c.catch_up.ensures.previous in

@@ -21,6 +21,6 @@ returns-then-split_key g c =
 pub returns : goal.returns
 returns g c =
     let index = c.args.self.now in
-    let N : ℕ → Type 0 = λ i. IfSome c.bucket_hint_below.result (λ at. IsNearestBelow 0 i at index.hints.current) in
+    let N : ℕ → Type 0 = λ i. IfSome c.near_hint_below.result (λ at. IsNearestBelow 0 i at index.hints.current) in
     below-lesser (2 ^ index.hints.interval_bits) c.args.split_key index.list.cells index.hints.current c.reveal_invariant.ensures.sorted c.reveal_invariant.ensures.apart (pow_pos index.hints.interval_bits) c.requires.rows.rows.hinted.hints
-    c.bucket_hint_below.result (subst N c.interval_of-interval.ensures c.bucket_hint_below.ensures)
+    c.near_hint_below.result (subst N c.interval_of-interval.ensures c.near_hint_below.ensures)

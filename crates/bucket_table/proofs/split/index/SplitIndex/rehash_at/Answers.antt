@@ -1,3 +1,4 @@
+use Rattle.std.proofs.Common.{arith}
 use Rattle.node_list.proofs.CallerLaws.{item-is_place}
 use Rattle.bucket_table.proofs.hints.Replace.{right, anew}
 use Rattle.bucket_table.proofs.split.index.SplitIndex.rehash_at.Goals as goal
@@ -9,4 +10,4 @@ pub rehash_interval-requires : goal.rehash_interval-requires
 rehash_interval-requires g c = record { hints = right g.H.KeyHash.hash c.args.self.now c.requires.rows }
 
 pub returns-clause-rows : goal.returns-clause-rows
-returns-clause-rows g c = anew g.H.KeyHash.hash c.args.self.now c.requires.rows c.rehash_interval.new.self c.rehash_interval.ensures.interval_bits c.rehash_interval.ensures.hints
+returns-clause-rows g c = anew g.H.KeyHash.hash c.args.self.now c.requires.rows c.rehash_interval.new.self (omega (arith, c.rehash_interval.ensures.interval_bits)) c.rehash_interval.ensures.hints
