@@ -34,10 +34,7 @@ fn store_and_look_up(alloc: Global, node: &mut Node<Fnv>) -> Result<Reply, Alloc
 /// Makes a call in the process, and then runs at most two pending growth steps.
 fn ask(node: &mut Node<Fnv>, call: Call) -> Result<Reply, AllocError> {
     let reply = node.step(&Step::Ask(PID, call))?;
-    for _ in 0..2 {
-        // A step that runs out of memory stays pending.
-        let _ = node.run_pending();
-    }
+    node.run_pending_steps(2);
     Ok(reply)
 }
 

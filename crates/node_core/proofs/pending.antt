@@ -3,3 +3,4 @@ pub mod Index
 pub mod Due
 pub mod Keeping
 pub mod Tending
+pub mod Running

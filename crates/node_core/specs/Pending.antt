@@ -1,9 +1,9 @@
 -- Which step of growth is pending.
-use Rattle.std.specs.Prelude.{◌≡◌, ◌*◌, ℕ, suc, nat_lt, ◌&&◌, Bool, not, if◌then◌else◌, position, length, [], ◌∷◌, Option, Some, None, option_map}
+use Rattle.std.specs.Prelude.{◌≡◌, ◌*◌, ◌⊎◌, ℕ, zero, suc, nat_lt, ◌&&◌, Bool, not, if◌then◌else◌, position, length, [], ◌∷◌, Option, Some, None, option_map}
 use Rattle.std.specs.Bool.{MatchBool}
 use Rattle.std.specs.Option.{option_map_or, option_and_then, IsSomeAnd}
 use Rattle.fixed_walk.specs.TableState.{TableState}
-use Rattle.ownership.specs.World.{Tables}
+use Rattle.ownership.specs.World.{Tables, table_at}
 use Rattle.node_core.specs.declared.step.Step.{Step}
 use Rattle.node_core.specs.declared.step.Step.TheVariants.{Grow, Ready}
 use Rattle.node_core.specs.declared.step.Reply.{Reply}
@@ -26,6 +26,10 @@ pending_step_of t table =
     if is_crowded table then Some (Grow t)
     else option_map (λ bucket. Ready t bucket) (position not table.buckets)
 
+-- the pending step of the table with an identifier, if there is such a table and step
+abbrev pub pending_step_at : Tables → ℕ → Option Step
+pending_step_at tables t = option_and_then (λ table. pending_step_of t table.state) (table_at tables t)
+
 -- the pending step of the first table, in order of creation, that has one
 abbrev pub pending_from : ℕ → Tables → Option Step
 pending_from t [] = None
@@ -43,3 +47,20 @@ RunsPending old new ran =
     MatchBool ran
     (IsSomeAnd (due old) (λ event. (r : Reply) × step_on_buckets old event r new))
     ((due old ≡ None) × (new ≡ old))
+
+-- a step is the pending step of some table
+abbrev pub IsPending : State → Step → Type 0
+IsPending s event = (t : ℕ) × (pending_step_at s.world.tables t ≡ Some event)
+
+-- runs the pending step of some table
+abbrev pub RunsOne : State → State → Type 0
+RunsOne old new = (event : Step) × IsPending old event × ((r : Reply) × step_on_buckets old event r new)
+
+-- runs the pending step of some table, and says whether it ran one; otherwise nothing changes
+abbrev pub RunsPendingOfTable : State → State → Bool → Type 0
+RunsPendingOfTable old new ran = MatchBool ran (RunsOne old new) (new ≡ old)
+
+-- runs at most n steps, each pending in the state before it
+abbrev pub RunsAtMost : ℕ → State → State → Type 0
+RunsAtMost zero old new = new ≡ old
+RunsAtMost (suc n) old new = (new ≡ old) ⊎ ((mid : State) × (RunsAtMost n old mid × RunsOne mid new))

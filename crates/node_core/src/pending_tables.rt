@@ -7,12 +7,18 @@ use std::alloc::{AllocError, Global};
 use std::collections::VecDeque;
 use std::marker::Model;
 
+/// A step of another table than the dirty one may follow one of this number of calls. A step of a large table takes
+/// about half as long as a line of a script, so four calls take about an eighth longer.
+const CALLS_PER_TURN: u8 = 4;
+
 /// The tables that may have a pending growth step: a queue of identifiers in ascending order, each once, and the dirty
 /// table, which was borrowed for a change last. Capacity is reserved before, so that adding a table takes no memory.
 #[derive(Drop)]
 pub struct PendingTables {
     queue: VecDeque<u32>,
     dirty: Option<u32>,
+    /// Counts the calls after which only other tables than the dirty one had a pending step. No contract sees it.
+    calls: u8,
 }
 
 impl Model for PendingTables {
@@ -40,6 +46,7 @@ impl PendingTables {
         PendingTables {
             queue: VecDeque::new(alloc),
             dirty: None,
+            calls: 0,
         }
     }
 
@@ -93,6 +100,18 @@ impl PendingTables {
         ensures { self.new ≡ record self.old { dirty = None } }
     {
         self.dirty = None;
+    }
+
+    /// Counts a call after which the dirty table had no pending step but others may have one. Returns whether a step of
+    /// another table may follow the call.
+    pub fn is_turn_of_others(&mut self) -> bool
+        ensures { self.new ≡ self.old }
+    {
+        if self.is_empty() {
+            return false;
+        }
+        self.calls = self.calls.wrapping_add(1);
+        self.calls % CALLS_PER_TURN == 1
     }
 
     /// Reserves capacity for `len` identifiers in all.

@@ -127,14 +127,12 @@ impl<H: KeyHash + Copy + Drop> Script<H> {
         }
     }
 
-    /// Runs at most two pending growth steps, which no call observes.
+    /// Runs at most two pending growth steps, which no call observes: first those of the table that was changed last.
     #[inline(always)]
     fn run_pending_steps(&mut self)
         ensures { self.new ≡ self.old }
     {
-        // Two, so that the buckets keep up with insertions, and no call waits for more.
-        if matches!(self.node.run_pending(), Ok(true)) {
-            let _ = self.node.run_pending();
-        }
+        // Two, so that the buckets keep up with insertions, and no line waits for more.
+        self.node.run_pending_steps(2);
     }
 }

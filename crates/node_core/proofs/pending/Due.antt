@@ -7,9 +7,9 @@ use Rattle.std.proofs.lemmas.List.{drop_all}
 use Rattle.std.proofs.lemmas.Bool.{cases_lt, ltb-true, ltb-false}
 use Rattle.ownership.specs.World.{Tables}
 use Rattle.node_core.specs.declared.step.Step.{Step}
-use Rattle.node_core.specs.Pending.{pending_step_of, pending_from}
+use Rattle.node_core.specs.Pending.{pending_step_of, pending_step_at, pending_from}
 use Rattle.node_core.specs.inside.PendingTables.{PendingTablesState, Ascends, IsAmong, IsIn}
-use Rattle.node_core.specs.inside.Due.{pending_step_at, dirty_pending_before}
+use Rattle.node_core.specs.inside.Due.{dirty_pending_before}
 
 -- an identifier is in order at this place or after it
 pub record IsFrom (ids : List ℕ) (from id : ℕ) : Type 0 where

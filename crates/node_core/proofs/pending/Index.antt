@@ -17,9 +17,9 @@ use Rattle.ownership.specs.Tables.{with_owner}
 use Rattle.ownership.specs.End.{table_after_exit, living_heir, without_fixes}
 use Rattle.node_core.specs.declared.step.Step.TheVariants.{Grow, Ready}
 use Rattle.node_core.specs.rules.Growth.{max_buckets}
-use Rattle.node_core.specs.Pending.{max_slots_per_bucket, is_crowded, pending_step_of}
+use Rattle.node_core.specs.Pending.{max_slots_per_bucket, is_crowded, pending_step_of, pending_step_at}
 use Rattle.node_core.specs.inside.PendingTables.{PendingTablesState, IsAmong, IsIn, AreBelow}
-use Rattle.node_core.specs.inside.Due.{pending_step_at, TracksPending}
+use Rattle.node_core.specs.inside.Due.{TracksPending}
 use Rattle.node_core.proofs.pending.Due.{same-some}
 
 module _ (index : PendingTablesState) where

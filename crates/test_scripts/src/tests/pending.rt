@@ -1,5 +1,5 @@
-//! After each call of a spawned process, a script runs at most two pending growth steps. After another line it runs
-//! none.
+//! After each call of a spawned process, a script runs at most two pending growth steps, first those of the table that
+//! was changed last. After another line it runs none.
 use super::devices::{FlushLog, GOOD_DEVICES, Source, Target};
 use ets_script::{NodeSettings, Streams, run_script};
 use ets_term::Fnv;
@@ -77,8 +77,16 @@ const INSERT_NINE: &str =
 const INSERT_FORTY: &str =
     "p insert(t,[{1},{2},{3},{4},{5},{6},{7},{8},{9},{10},{11},{12},{13},{14},{15},{16},{17},{18},{19},{20},{21},{22},{23},{24},{25},{26},{27},{28},{29},{30},{31},{32},{33},{34},{35},{36},{37},{38},{39},{40}])\n";
 
+/// Lines that make another table and change it. It was changed last, so its step is run. A step of the first table
+/// follows one of four such lines, and not this one.
+const CHANGE_ANOTHER: &str = "p new(u,[named_table])\np insert(u,{1})\n";
+
+/// The same, and then three lines that change no table. A step of the first table follows the last one.
+const READ_ANOTHER: &str =
+    "p new(u,[named_table])\np insert(u,{1})\np lookup(u,1)\np lookup(u,1)\np lookup(u,1)\n";
+
 /// A row is the lines after `MAKE_TABLE`, the lines after them, and the step that is pending at the end.
-const ROWS: [(&str, &str, Pending); 12] = [
+const ROWS: [(&str, &str, Pending); 14] = [
     ("", "", Pending::Nothing),
     (INSERT_NINE, "", Pending::Bucket(3)),
     (INSERT_NINE, "p lookup(t,9)\n", Pending::Nothing),
@@ -88,6 +96,8 @@ const ROWS: [(&str, &str, Pending); 12] = [
     (INSERT_NINE, "q lookup(t,9\n", Pending::Bucket(3)),
     (INSERT_FORTY, "", Pending::OtherStep),
     (INSERT_FORTY, "p new(u,[])\n", Pending::Bucket(3)),
+    (INSERT_FORTY, CHANGE_ANOTHER, Pending::Bucket(3)),
+    (INSERT_FORTY, READ_ANOTHER, Pending::Bucket(4)),
     ("grow t\n", "", Pending::Bucket(2)),
     ("grow t\n", "ready t 2\n", Pending::Bucket(3)),
     ("grow t\n", "ready t 3\n", Pending::Bucket(2)),

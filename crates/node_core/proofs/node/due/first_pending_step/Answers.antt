@@ -1,7 +1,7 @@
 use Rattle.std.proofs.Common.{◌≡◌, ◌∙◌, inl, inr, get_or, sym, ap, arith}
 use Rattle.std.specs.Option.{option_and_then}
 use Rattle.std.proofs.lemmas.Option.{get_or_from_slice_get}
-use Rattle.node_core.specs.inside.Due.{pending_step_at}
+use Rattle.node_core.specs.Pending.{pending_step_at}
 use Rattle.node_core.proofs.pending.Due.{due-dirty, due-here, due-behind}
 use Rattle.node_core.proofs.node.due.first_pending_step.Goals as goal
 

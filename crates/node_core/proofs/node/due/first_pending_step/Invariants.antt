@@ -1,6 +1,6 @@
 use Rattle.std.proofs.Common.{ℕ}
 use Rattle.std.specs.Prelude.{IsSome}
-use Rattle.node_core.specs.inside.Due.{pending_step_at}
+use Rattle.node_core.specs.Pending.{pending_step_at}
 use Rattle.node_core.proofs.pending.Due.{IsLeft}
 use Rattle.node_core.proofs.node.due.first_pending_step.Given as goal
 
