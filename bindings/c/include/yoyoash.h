@@ -5,6 +5,7 @@
      reads or writes its contents.
    - One call at a time may use a store. Any thread may make the call, if a lock, or the start or end of a thread, orders the calls.
      Never use a store in a signal handler, or in a child forked from a process with threads.
+   - The stack of a thread that makes calls has room for YOYOASH_STACK bytes, which the deepest terms need.
    - Pass no NULL pointer, also when the length is 0. The memory that the arguments of one call point to must not overlap.
      Lengths must be below 2^63. */
 #ifndef YOYOASH_H
@@ -17,10 +18,19 @@
 #define YOYOASH_VERSION "0.1.0"
 #define YOYOASH_VERSION_NUMBER 100 /* major * 10000 + minor * 100 + patch */
 
+/* The bytes of stack that a call may take, with a term of 128 levels. A call in a thread with a smaller stack may end the program. */
+#define YOYOASH_STACK 262144u
+
 /* The limits that the program ets_script uses. */
 #define YOYOASH_DEFAULT_PROCESSES 4096u
 #define YOYOASH_DEFAULT_TABLES 65536u
 #define YOYOASH_DEFAULT_OBJECTS 1000000u
+
+/* The largest limits, which cost nothing until they are used. A store keeps about 53 bytes of each process that ended, and 20 of
+   each table that was deleted. */
+#define YOYOASH_MAX_PROCESSES 4294967295u
+#define YOYOASH_MAX_TABLES 4294967295u
+#define YOYOASH_MAX_OBJECTS 4294967295u
 
 #ifdef __cplusplus
 extern "C" {
@@ -47,6 +57,10 @@ typedef enum yoyoash_status {
 /* Opens a store with these limits: processes and tables that it may ever have, and objects in one table. An open store is closed
    first. Returns VALUE or NO_MEMORY; NO_MEMORY changes nothing. */
 int32_t yoyoash_open(yoyoash_store *store, uint32_t max_processes, uint32_t max_tables, uint32_t max_objects);
+
+/* Opens a store as yoyoash_open does, whose tables hash their keys with this seed. Use it if strangers choose keys, and draw the seed
+   at random: yoyoash_open has a fixed hash, and thousands of keys with one hash make a table slow. */
+int32_t yoyoash_open_with_seed(yoyoash_store *store, uint32_t max_processes, uint32_t max_tables, uint32_t max_objects, uint64_t seed);
 
 /* Starts a process of the store, and ends it. A process owns tables; its number is used once. When a process ends, each of its
    tables goes to its heir or is deleted. */

@@ -29,12 +29,25 @@ typedef struct yoyoash_answer {
     char why[128];  /* the reason of a refusal, ended by a NUL; empty if there is none */
 } yoyoash_answer;
 
-/* Opens a shared store with these limits, as yoyoash_open does. Returns VALUE, or NO_MEMORY, after which there is nothing to close. */
-static inline int32_t yoyoash_shared_open(yoyoash_shared *shared, uint32_t max_processes, uint32_t max_tables, uint32_t max_objects) {
+/* Closes the store of a new shared store, and makes its lock. Returns VALUE, or NO_MEMORY, after which there is no lock. */
+static inline int32_t yoyoash_shared_begin(yoyoash_shared *shared) {
     yoyoash_store closed = {{0, 0}};
     shared->store = closed;
-    if (pthread_mutex_init(&shared->lock, NULL) != 0) return YOYOASH_NO_MEMORY;
+    return pthread_mutex_init(&shared->lock, NULL) == 0 ? YOYOASH_VALUE : YOYOASH_NO_MEMORY;
+}
+
+/* Opens a shared store with these limits, as yoyoash_open does. Returns VALUE, or NO_MEMORY, after which there is nothing to close. */
+static inline int32_t yoyoash_shared_open(yoyoash_shared *shared, uint32_t max_processes, uint32_t max_tables, uint32_t max_objects) {
+    if (yoyoash_shared_begin(shared) != YOYOASH_VALUE) return YOYOASH_NO_MEMORY;
     int32_t status = yoyoash_open(&shared->store, max_processes, max_tables, max_objects);
+    if (status != YOYOASH_VALUE) pthread_mutex_destroy(&shared->lock);
+    return status;
+}
+
+/* Opens a shared store whose tables hash their keys with this seed, as yoyoash_open_with_seed does. */
+static inline int32_t yoyoash_shared_open_with_seed(yoyoash_shared *shared, uint32_t max_processes, uint32_t max_tables, uint32_t max_objects, uint64_t seed) {
+    if (yoyoash_shared_begin(shared) != YOYOASH_VALUE) return YOYOASH_NO_MEMORY;
+    int32_t status = yoyoash_open_with_seed(&shared->store, max_processes, max_tables, max_objects, seed);
     if (status != YOYOASH_VALUE) pthread_mutex_destroy(&shared->lock);
     return status;
 }

@@ -108,7 +108,7 @@ static long grown(yoyoash_store *store) {
     return bytes - before;
 }
 
-/* Fills a table by one call. The next calls make it grow, until it has enough buckets; before and after that they keep no memory. */
+/* Fills a table by one call, which also makes it grow until it has enough buckets. Before and after that, calls keep no memory. */
 static void grow_table(yoyoash_store *store) {
     static char text[16 * OBJECTS];
     int len = sprintf(text, "{insert,t,[{0}");
@@ -117,9 +117,10 @@ static void grow_table(yoyoash_store *store) {
     call(store, "{new,t,[named_table]}");
     grown(store);
     if (grown(store) != 0) fail("calls on an empty table keep memory");
+    long before = bytes;
     call(store, text);
-    if (grown(store) < BYTES * OBJECTS) fail("a table does not grow after the call that filled it");
-    if (grown(store) != 0) fail("calls on a table that has grown keep memory");
+    if (bytes - before < BYTES * OBJECTS) fail("a list of objects takes no memory");
+    if (grown(store) != 0) fail("a table grows after the call that filled it, or calls keep memory");
 }
 
 int main(void) {

@@ -6,8 +6,8 @@
 //! *Guarantee.* A call on a handle runs the step that its text or term spells, as the specification says, or it is
 //! refused and changes nothing. The status, the number of the reply's bytes and the bytes in the caller's buffer are
 //! those of the reply. The status is `UNTOLD` if the step was run, but memory ran out for the bytes of its reply.
-//! `yoyoash_why` returns why the last call was refused. On a closed handle, every function but `yoyoash_open` and
-//! `yoyoash_close` returns `CLOSED`.
+//! `yoyoash_why` returns why the last call was refused. On a closed handle, every function but the two that open it
+//! and `yoyoash_close` returns `CLOSED`.
 //!
 //! *Weakness.* Nothing checks what a caller in C must do: move a handle and never copy it, pass buffers that do not
 //! overlap, and let one call at a time use a handle. A handle may move to another thread, since a store is `Send`; the
@@ -25,7 +25,7 @@ ghost use Rattle.term_text.specs.Printed.{text_of_term};
 ghost use Rattle.external_term.specs.Encoding.{encode_with_version};
 ghost use Rattle.node_core.specs.declared.step.Step.TheVariants.{Enrol, End};
 ghost use Rattle.node_text.specs.Answers.{written_reply};
-ghost use Rattle.node_text.specs.Calls.{HandleOpens, HandleSteps, HandleCalls, HandleCallsExternal, RewritesReply, WritesLastReason};
+ghost use Rattle.node_text.specs.Calls.{HandleOpens, HandleGets, HandleSteps, HandleCalls, HandleCallsExternal, RewritesReply, WritesLastReason};
 
 mod handle;
 mod store_ptr;
@@ -54,7 +54,36 @@ pub extern "C" fn yoyoash_open(
         tables,
         objects,
     };
-    let Ok(store) = Box::new(alloc, Store::new(alloc, limits)) else {
+    open(alloc, handle, Store::new(alloc, limits))
+}
+
+/// Opens a new store in a handle, as `yoyoash_open` does, whose tables hash their keys with this seed. Without the seed,
+/// a user cannot easily choose keys that make a table slow.
+#[unsafe(no_mangle)]
+pub extern "C" fn yoyoash_open_with_seed(
+    alloc: Global,
+    handle: &mut Handle,
+    processes: u32,
+    tables: u32,
+    objects: u32,
+    seed: u64,
+) -> i32
+    ensures { HandleOpens (record { processes = processes; tables = tables; objects = objects })
+        handle.old.pointer.store result handle.new.pointer.store }
+{
+    let limits = Limits {
+        processes,
+        tables,
+        objects,
+    };
+    open(alloc, handle, Store::with_seed(alloc, limits, seed))
+}
+
+/// Puts a new store into a handle. Frees an earlier store of the handle. `NO_MEMORY` changes nothing.
+fn open(alloc: Global, handle: &mut Handle, store: Store) -> i32
+    ensures { HandleGets store handle.old.pointer.store result handle.new.pointer.store }
+{
+    let Ok(store) = Box::new(alloc, store) else {
         return NO_MEMORY;
     };
     // The earlier store, if any, is dropped at the end of this function.

@@ -5,16 +5,15 @@ use denote.Struct.Declared.{shape}
 use Rattle.std.specs.Prelude.{⊤}
 use Rattle.std.proofs.Crossing.{crosses, Vec-send}
 use Rattle.ets_term.proofs.term.Term.TheLaws.TheKnot as terms
-use Rattle.ets_term.specs.contracts.fnv.Fnv as Fnv
 use Rattle.node_core.specs.contracts.step.Reply as Reply
 use Rattle.node_core.proofs.Sent.{node_send}
 use Rattle.std.specs.contracts.option.Option as Option
 use Rattle.node_text.specs.contracts.last_refusal.LastRefusal as LastRefusal
+use Rattle.node_text.specs.contracts.store_hash.StoreHash as StoreHash
+use Rattle.node_text.specs.contracts.store_hash.StoreHashKeyHash.TheImpl.{ghosts as hash_ghosts}
+use Rattle.node_text.proofs.store_hash.StoreHash.TheSendSync as hash
 use Rattle.node_text.specs.contracts.store.Store as Store
 use Rattle.node_text.specs.contracts.store.Store.TheInside as store
-
-hash_send : IsSend Fnv.the_row
-hash_send = search sendable
 
 reply_send : IsSend Reply.the_field.row
 reply_send = search (crosses, terms.crosses, sendable) depth 60 fits 20000
@@ -28,6 +27,6 @@ refusal_send = search (crosses, terms.crosses, sendable) depth 60 fits 20000
 pub store_send : IsSend Store.the_row
 store_send =
     view_send store.the_row _ _ _ _ (recorded_send store.the_field.row _ _ store.the_type.to_one (struct_send (shape store.the_type) (
-      node_send Fnv.the_row _ (record { is_clone = λ _ _. ⊤; is_infallible = λ _. ⊥ }) hash_send,
+      node_send StoreHash.the_row hash_ghosts (record { is_clone = λ _ _. ⊤; is_infallible = λ _. ⊥ }) hash.the_send,
       (reply_send, (refusal_send, (reply_send, (Vec-send _ byte_send, tt)))),
     )))

@@ -76,10 +76,14 @@ abbrev pub OnStore : Type 0 → (StoreState → StoreState → Type 0) → Optio
 OnStore closed rule None new = (new ≡ None) × closed
 OnStore closed rule (Some old) new = (stored : StoreState) × (new ≡ Some stored) × rule old stored
 
+-- a handle gets this store, or keeps what it has if memory runs out
+abbrev pub HandleGets : StoreState → Option StoreState → ℤ → Option StoreState → Type 0
+HandleGets store old status new =
+    ((status ≡ is.VALUE) × (new ≡ Some store)) ⊎ ((status ≡ is.NO_MEMORY) × (new ≡ old))
+
 -- a handle gets a new store, or keeps what it has if memory runs out
 abbrev pub HandleOpens : Limits → Option StoreState → ℤ → Option StoreState → Type 0
-HandleOpens limits old status new =
-    ((status ≡ is.VALUE) × (new ≡ Some (new_store limits))) ⊎ ((status ≡ is.NO_MEMORY) × (new ≡ old))
+HandleOpens limits = HandleGets (new_store limits)
 
 -- a step is run on a handle
 abbrev pub HandleSteps : Option StoreState → Step → ℤ → Option StoreState → Type 0

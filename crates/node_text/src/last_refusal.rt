@@ -8,7 +8,7 @@ ghost use Rattle.node_reasons.specs.Why.{why};
 ghost use Rattle.node_text.specs.Answers.{refusal_text};
 ghost use Rattle.node_text.specs.declared.last_refusal.LastRefusal.TheVariants.{Broken};
 
-use ets_term::Fnv;
+use crate::store_hash::StoreHash;
 use node_core::{Node, Reply, Step};
 use node_external::CallProblem;
 use node_reasons::{Reason, why};
@@ -32,7 +32,7 @@ pub enum LastRefusal {
 impl LastRefusal {
     /// Returns why a step was refused with this reply, or `None` if the reply is a value. The node gave the reply, and
     /// has not changed since. Allocates nothing.
-    pub(crate) fn of(node: &Node<Fnv>, event: &Step, reply: &Reply) -> Option<LastRefusal>
+    pub(crate) fn of(node: &Node<StoreHash>, event: &Step, reply: &Reply) -> Option<LastRefusal>
         ensures exactly { is_some result ≡ not (is_value reply.now) }
         ensures named { (new : State) → step (observable node.now) event.now reply.now new
             → result ≡ option_map Broken (why (observable node.now) event.now reply.now) }

@@ -11,7 +11,8 @@
 //!
 //! *Mechanism.* A store keeps the last reply, and the reason of the last refusal in a few machine words. It makes the
 //! reason's text on demand. It keeps two replies: a step writes its reply over the older one and uses its memory again,
-//! so the last reply stays if memory runs out.
+//! so the last reply stays if memory runs out. The keys of its tables have the hash FNV-1a, or one with a seed, so that
+//! users cannot choose keys of one bucket.
 //!
 //! *Limits.* The tuple of a call counts as one of the 128 levels that a text may have, so an argument may have 127; in
 //! a term the list of the arguments counts too, so an argument may have 126.
@@ -19,12 +20,14 @@
 
 mod call_fault;
 mod copy;
+mod growth;
 mod last_refusal;
 pub mod laws;
 mod parsed_call;
 mod print;
 mod status;
 mod store;
+mod store_hash;
 
 pub use call_fault::CallFault;
 pub use last_refusal::LastRefusal;

@@ -13,10 +13,12 @@ ghost use Rattle.node_text.specs.declared.last_refusal.LastRefusal.TheVariants a
 mod replies;
 
 use crate::call_fault::CallFault;
+use crate::growth::growth_steps;
 use crate::last_refusal::LastRefusal;
 use crate::parsed_call::{ParsedCall, read_call};
 use crate::status::{NO_MEMORY, status_of};
-use ets_term::{Atom, Fnv, Items, Term};
+use crate::store_hash::StoreHash;
+use ets_term::{Atom, Items, Keyed, Term};
 use node_core::{Call, Limits, Node, Reply, Step};
 use script_reasons::diagnose_in_call;
 use std::alloc::{AllocError, Global};
@@ -27,7 +29,7 @@ use std::mem;
 /// observable state of the node. A store may move to another thread, as `laws` proves.
 #[derive(Drop)]
 pub struct Store {
-    node: Node<Fnv>,
+    node: Node<StoreHash>,
     reply: Reply,
     refusal: Option<LastRefusal>,
     /// The reply that the next step writes over. After the step it is swapped with `reply`.
@@ -49,12 +51,28 @@ impl Model for Store {
 }
 
 impl Store {
-    /// Returns a store without processes and tables, whose last reply is `NoProcess`.
+    /// Returns a store without processes and tables, whose last reply is `NoProcess`. The keys of its tables have the
+    /// hash FNV-1a, so the order of keys is the same in each run.
     pub fn new(alloc: Global, limits: Limits) -> Store
         ensures { result ≡ new_store limits }
     {
+        Store::with_hasher(alloc, limits, StoreHash::Fixed)
+    }
+
+    /// Returns a store as `new` does, whose tables hash their keys with this seed. Keys of one bucket make a table slow,
+    /// and are hard to choose for a user without the seed.
+    pub fn with_seed(alloc: Global, limits: Limits, seed: u64) -> Store
+        ensures { result ≡ new_store limits }
+    {
+        Store::with_hasher(alloc, limits, StoreHash::Seeded(Keyed::new(seed)))
+    }
+
+    /// Returns a store without processes and tables, whose tables have this hasher.
+    fn with_hasher(alloc: Global, limits: Limits, hasher: StoreHash) -> Store
+        ensures { result ≡ new_store limits }
+    {
         Store {
-            node: Node::new(alloc, limits, Fnv),
+            node: Node::new(alloc, limits, hasher),
             reply: Reply::NoProcess,
             refusal: None,
             previous: Reply::NoProcess,
@@ -76,8 +94,8 @@ impl Store {
 
     /// Makes the call that a text spells, and returns its status. If the status is `VALUE`, writes as much of the
     /// reply's text as fits into `out`, and its full length to `len`. After `SYNTAX`, `len` is the offset of the error.
-    /// After any other status `len` is 0. Only `VALUE` changes `out`. Runs at most two pending growth steps after a
-    /// call.
+    /// After any other status `len` is 0. Only `VALUE` changes `out`. Runs pending growth steps after a call: at
+    /// most two, or after a list of objects at most two for each, and 4,096 in all.
     pub fn call(
         &mut self,
         alloc: Global,
@@ -97,8 +115,8 @@ impl Store {
 
     /// Makes the call that a term in the external format spells, and returns its status. If the status is `VALUE`,
     /// writes as many of the reply's bytes in this format as fit into `out`, and their number to `len`. After `SYNTAX`,
-    /// `len` is the offset of the error. After any other status `len` is 0. Only `VALUE` changes `out`. Runs at most
-    /// two pending growth steps after a call.
+    /// `len` is the offset of the error. After any other status `len` is 0. Only `VALUE` changes `out`. Runs pending
+    /// growth steps after a call, as `call` does.
     pub fn call_external(
         &mut self,
         alloc: Global,
@@ -116,7 +134,7 @@ impl Store {
         }
     }
 
-    /// Makes the call that a term in the external format spells, and runs at most two pending growth steps. Writes no
+    /// Makes the call that a term in the external format spells, and runs pending growth steps, as `call` does. Writes no
     /// reply. A fault changes nothing but the reason of the last refusal.
     pub fn run_external(&mut self, alloc: Global, pid: u32, bytes: &[u8]) -> Result<(), CallFault>
         ensures { RunsExternalCall (external.parse_call bytes.now) pid self.old result self.new }
@@ -133,7 +151,7 @@ impl Store {
         }
     }
 
-    /// Makes the call that a text spells, and runs at most two pending growth steps. A fault changes nothing but the
+    /// Makes the call that a text spells, and runs pending growth steps, as `call` does. A fault changes nothing but the
     /// reason of the last refusal.
     fn run_text(&mut self, alloc: Global, pid: u32, text: &[u8]) -> Result<(), CallFault>
         ensures { RunsCall text.now (texts.parse_call text.now) pid self.old result self.new }
@@ -159,13 +177,15 @@ impl Store {
         Err(CallFault::Memory)
     }
 
-    /// Makes a call, and runs at most two pending growth steps. If memory runs out for the call, changes nothing but
-    /// the reason of the last refusal.
+    /// Makes a call, and runs pending growth steps, as many as `growth_steps` says. If memory runs out for the call,
+    /// changes nothing but the reason of the last refusal.
     fn ask(&mut self, pid: u32, name: Atom, args: Items<Term>) -> Result<(), CallFault>
         ensures { RunsAsk pid name args self.old result self.new }
     {
+        // Before the step, because a step may take the objects out of its call.
+        let max_steps = growth_steps(&name, args.as_slice());
         self.step(&Step::Ask(pid, Call::new(name, args.into_vec())))?;
-        self.run_pending_steps();
+        self.run_pending_steps(max_steps);
         Ok(())
     }
 
@@ -185,13 +205,11 @@ impl Store {
         Ok(())
     }
 
-    /// Runs at most two pending growth steps, which no call observes. A step that runs out of memory stays pending.
-    fn run_pending_steps(&mut self)
+    /// Runs at most this many pending growth steps, which no call observes: first those of the table that was changed
+    /// last. A step that runs out of memory stays pending.
+    fn run_pending_steps(&mut self, max_steps: u32)
         ensures { self.new ≡ self.old }
     {
-        // Two, so that the buckets keep up with insertions, and no call waits for more.
-        if matches!(self.node.run_pending(), Ok(true)) {
-            let _ = self.node.run_pending();
-        }
+        self.node.run_pending_steps(max_steps);
     }
 }
