@@ -2,12 +2,12 @@
 use Rattle.std.proofs.Common.{◌≡◌, ℕ, ◌≤◌, ◌<◌, ◌^◌, length, List, [], ◌∷◌, ◌++◌, refl, sym, ap, ◌∙◌, subst, append-nil, append_assoc}
 use Rattle.node_text.specs.StoreState.{StoreState}
 use Rattle.ets_packets.specs.Packets.{packet}
-use Rattle.ets_packets.specs.Replies.{PacketReply, reply_body, Answers}
+use Rattle.ets_packets.specs.Replies.{PacketReply, reply_body, AnswersBody}
 use Rattle.ets_packets.specs.Exchanges.{Exchange, Run, requests, replies}
 
-pub run-join : (es fs : List Exchange) (s m t : StoreState) → Run s es m → Run m fs t → Run s (es ++ fs) t
-run-join [] fs s m t p q = subst (λ (x : StoreState). Run x fs t) p q
-run-join (e ∷ es) fs s m t p q = (p.0, p.1, run-join es fs p.0 m t p.2 q)
+pub run-join : (most : ℕ) (es fs : List Exchange) (s m t : StoreState) → Run most s es m → Run most m fs t → Run most s (es ++ fs) t
+run-join most [] fs s m t p q = subst (λ (x : StoreState). Run most x fs t) p q
+run-join most (e ∷ es) fs s m t p q = (p.0, p.1, run-join most es fs p.0 m t p.2 q)
 
 pub requests-join : (es fs : List Exchange) → requests (es ++ fs) ≡ requests es ++ requests fs
 requests-join [] fs = refl
@@ -22,8 +22,8 @@ replies-join (e ∷ es) fs =
 abbrev pub one : List ℕ → PacketReply → List Exchange
 one body reply = record { body = body; reply = reply } ∷ []
 
-pub run-one : (body : List ℕ) (reply : PacketReply) (s t : StoreState) → Answers body s reply t → length body ≤ 16777216 → length (reply_body reply) < 2 ^ 32 → Run s (one body reply) t
-run-one body reply s t p few fits = (t, record { answers = p; few = few; fits = fits }, refl)
+pub run-one : (most : ℕ) (body : List ℕ) (reply : PacketReply) (s t : StoreState) → AnswersBody most body s reply t → length body < 2 ^ 32 → length (reply_body reply) < 2 ^ 32 → Run most s (one body reply) t
+run-one most body reply s t p few fits = (t, record { answers = p; few = few; fits = fits }, refl)
 
 pub requests-one : (es : List Exchange) (body : List ℕ) (reply : PacketReply) → requests (es ++ one body reply) ≡ requests es ++ packet body
 requests-one es body reply = requests-join es (one body reply) ∙ ap (λ k. requests es ++ k) (append-nil (packet body))

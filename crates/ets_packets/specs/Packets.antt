@@ -1,10 +1,6 @@
 -- Packets: a length of four bytes, the high byte first, and a body of this length.
 use Rattle.std.specs.Prelude.{◌≡◌, ◌⊎◌, ℕ, ◌+◌, ◌*◌, ◌/◌, ◌%◌, ◌^◌, ◌≤◌, ◌<◌, List, [], ◌∷◌, ◌++◌, length, slice_index}
 
--- the greatest length of the body of a packet
-abbrev pub max_packet : ℕ
-max_packet = 16777216
-
 -- a number below 2^32 in four bytes, the high byte first
 abbrev pub big4 : ℕ → List ℕ
 big4 n = n / 2 ^ 24 % 256 ∷ n / 2 ^ 16 % 256 ∷ n / 2 ^ 8 % 256 ∷ n % 256 ∷ []
@@ -23,9 +19,4 @@ packet body = big4 (length body) ++ body
 abbrev pub IsUnfinished : List ℕ → Type 0
 IsUnfinished part =
     (length part < 4)
-    ⊎ ((n : ℕ) × (some : List ℕ) × (part ≡ big4 n ++ some) × (length some < n) × (n ≤ max_packet))
-
--- bytes that begin with a length that is too great
-abbrev pub IsTooLong : List ℕ → Type 0
-IsTooLong part =
-    (n : ℕ) × (some : List ℕ) × (part ≡ big4 n ++ some) × (max_packet < n) × (n < 2 ^ 32)
+    ⊎ ((n : ℕ) × (some : List ℕ) × (part ≡ big4 n ++ some) × (length some < n) × (n < 2 ^ 32))

@@ -1,5 +1,5 @@
 -- The reply to a request. Its body is a status, a byte, and the rest.
-use Rattle.std.specs.Prelude.{◌≡◌, ◌⊎◌, ℕ, List, [], ◌∷◌, Option, Some, None, codes}
+use Rattle.std.specs.Prelude.{◌≡◌, ◌⊎◌, ℕ, ◌≤◌, ◌<◌, List, [], ◌∷◌, length, Option, Some, None, codes}
 use Rattle.external_term.specs.Encoding.{encode_with_version}
 use Rattle.node_core.specs.declared.step.Reply.{Reply}
 use Rattle.node_core.specs.declared.step.Reply.TheVariants.{Value, Badarg, SystemLimit, NoProcess}
@@ -72,6 +72,15 @@ AnswersRequest (request.Exit pid) bytes = Steps (End pid)
 AnswersRequest (request.Call pid) bytes = Calls (parse_call bytes) pid
 AnswersRequest request.NotARequest bytes = RefusesRequest
 
--- the answer to the body of a packet
+-- the answer to a body that is not too long
 abbrev pub Answers : List ℕ → StoreState → PacketReply → StoreState → Type 0
 Answers body = AnswersRequest (parse_request body) (call_bytes body)
+
+-- a body that is too long is refused, and changes nothing
+abbrev pub RefusesTooLong : StoreState → PacketReply → StoreState → Type 0
+RefusesTooLong old r new = (new ≡ old) × IsTextReply 5 (codes "the packet is too long") r
+
+-- the answer to the body of a packet, of which at most `most` bytes are allowed
+abbrev pub AnswersBody : ℕ → List ℕ → StoreState → PacketReply → StoreState → Type 0
+AnswersBody most body old r new =
+    ((length body ≤ most) × Answers body old r new) ⊎ ((most < length body) × RefusesTooLong old r new)

@@ -19,9 +19,6 @@ pub enum PacketFault {
     /// The input ends inside a packet. All packets before it are answered.
     #[error("the input ends inside a packet")]
     Truncated,
-    /// The body of a packet is longer than `MAX_PACKET` bytes. All packets before it are answered.
-    #[error("a packet has over 16,777,216 bytes")]
-    TooLong,
 }
 
 impl From<AllocError> for PacketFault {

@@ -3,7 +3,8 @@
 //! *Guarantee.* From the bytes read to the bytes written: each packet is answered as specs/Replies.antt says, by a
 //! store that starts empty, and the replies are in the order of the requests. All replies to packets that were read are
 //! written before the next read. A run that stops early has answered all whole packets before, or has written a prefix
-//! of their replies if a write failed. A packet that is too long, and an input that ends inside a packet, are faults.
+//! of their replies if a write failed. A packet that is too long is refused. An input that ends inside a packet is a
+//! fault.
 //!
 //! *Weakness.* Only tests show that replies are flushed before each read. No contract says when memory is available.
 //!
@@ -11,8 +12,9 @@
 //! which is written before the next read, and when it has 65,536 bytes. This buffer with its writer is `Output`, which
 //! also takes the answers of scripts.
 //!
-//! *Limits.* The body of a packet has at most 16,777,216 bytes. A reader is called at most 2^64 - 1 times. A reply
-//! whose body would have 2^32 bytes or more has status 7, without its term.
+//! *Limits.* The settings say how many bytes the body of a packet may have, usually 16,777,216. The bytes of a longer
+//! one are skipped as they are read. A reader is called at most 2^64 - 1 times. A reply whose body would have 2^32 bytes
+//! or more has status 7, without its term.
 #![tactic(auto)]
 
 mod buffer;
@@ -23,8 +25,9 @@ mod output;
 mod reply;
 mod request;
 mod run;
+mod settings;
 
 pub use fault::PacketFault;
-pub use front::MAX_PACKET;
 pub use output::{Output, WriteFault, output_buffer};
 pub use run::run_packets;
+pub use settings::{MAX_PACKET, PacketSettings};

@@ -27,7 +27,7 @@ const NO_PROCESS: u8 = 3;
 
 const NO_MEMORY: u8 = 4;
 
-const SYNTAX: u8 = 5;
+pub(crate) const SYNTAX: u8 = 5;
 
 const UNTOLD: u8 = 7;
 

@@ -24,7 +24,7 @@ use Rattle.clap.specs.declared.error.kind.ErrorKind.TheVariants.{OutOfMemory}
 use Rattle.clap.specs.declared.parser.matches.ArgMatches.{ArgMatches}
 use Rattle.clap.proofs.SimpleLemmas.{is_false, is_nil}
 use Rattle.ets_script.proofs.Defaults.{default_reads}
-use Rattle.ets_script.specs.CommandLine.{command_line, flag_option, limited_line, number_option, options_line, with_version}
+use Rattle.ets_script.specs.CommandLine.{command_line, flag_option, flagged_line, limited_line, number_option, options_line, with_version}
 use Rattle.ets_script.specs.inside.Options.{HasNumber}
 
 abbrev error_or : {T : Type 0} → Result T Error → Error → Error
@@ -131,15 +131,24 @@ limited_line-of_rules hashes one two three processes tables is adds first adds2 
     let with_first = added one two processes (command_line hashes) (number_option (codes "max-processes") (codes "4096")) adds is first refl in
     added two three tables _ (number_option (codes "max-tables") (codes "65536")) adds2 with_first second refl
 
--- and with those of reasons, packets and a version it is that of a request
-pub options_line-of_rules : (hashes : ValueParser) (three four five six : Command) (why external : Arg) (version : Bor Text) → app_of three ≡ limited_line hashes
+-- with those of reasons and packets
+pub flagged_line-of_rules : (hashes : ValueParser) (three four five : Command) (why external : Arg) → app_of three ≡ limited_line hashes
     → AddsArg three why four → rule_of why ≡ flag_option (codes "why")
     → AddsArg four external five → rule_of external ≡ flag_option (codes "external")
-    → out-Command six ≡ record (out-Command five) { version = Some version } → app_of six ≡ options_line hashes
-options_line-of_rules hashes three four five six why external version is adds first adds2 second versioned =
+    → app_of five ≡ flagged_line hashes
+flagged_line-of_rules hashes three four five why external is adds first adds2 second =
     let with_why = added three four why (limited_line hashes) (flag_option (codes "why")) adds is first refl in
-    let with_both = added four five external _ (flag_option (codes "external")) adds2 with_why second refl in
-    let as_fields : app_of six ≡ with_version (app_of five) = ap app_of_fields versioned in
+    added four five external _ (flag_option (codes "external")) adds2 with_why second refl
+
+-- and with those of a packet's limit, a seed and a version it is that of a request
+pub options_line-of_rules : (hashes : ValueParser) (five six seven eight : Command) (packet seed : Arg) (version : Bor Text) → app_of five ≡ flagged_line hashes
+    → AddsArg five packet six → rule_of packet ≡ number_option (codes "max-packet") (codes "16777216")
+    → AddsArg six seed seven → rule_of seed ≡ number_option (codes "seed") (codes "0")
+    → out-Command eight ≡ record (out-Command seven) { version = Some version } → app_of eight ≡ options_line hashes
+options_line-of_rules hashes five six seven eight packet seed version is adds first adds2 second versioned =
+    let with_packet = added five six packet (flagged_line hashes) (number_option (codes "max-packet") (codes "16777216")) adds is first refl in
+    let with_both = added six seven seed _ (number_option (codes "seed") (codes "0")) adds2 with_packet second refl in
+    let as_fields : app_of eight ≡ with_version (app_of seven) = ap app_of_fields versioned in
     as_fields ∙ ap with_version with_both
 
 -- the k-th of these has this name, and no other has it

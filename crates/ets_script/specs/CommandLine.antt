@@ -97,11 +97,18 @@ limited_line hashes =
     (number_option (codes "max-processes") (codes "4096")))
     (number_option (codes "max-tables") (codes "65536"))
 
--- the command line with all options: also these limits, `--why`, `--external` and `--version`
+-- also with `--why` and `--external`
+abbrev pub flagged_line : ValueParser → App
+flagged_line hashes =
+    with_rule (with_rule (limited_line hashes) (flag_option (codes "why"))) (flag_option (codes "external"))
+
+-- the command line with all options: also these, the limit of a packet, by default 16777216, the seed, by default 0, and
+-- `--version`
 abbrev pub options_line : ValueParser → App
 options_line hashes =
-    with_version (with_rule (with_rule (limited_line hashes) (flag_option (codes "why")))
-    (flag_option (codes "external")))
+    with_version (with_rule (with_rule (flagged_line hashes)
+    (number_option (codes "max-packet") (codes "16777216")))
+    (number_option (codes "seed") (codes "0")))
 
 -- these are the options that were matched
 pub record AreOptions (rows : List Row) (options : Options) : Type 0 where
@@ -110,6 +117,8 @@ pub record AreOptions (rows : List Row) (options : Options) : Type 0 where
   pub tables : IsDecimal (one_of (codes "max-tables") rows) options.tables
   pub why : options.why ≡ is_set (codes "why") rows
   pub external : options.external ≡ is_set (codes "external") rows
+  pub max_packet : IsDecimal (one_of (codes "max-packet") rows) options.max_packet
+  pub seed : IsDecimal (one_of (codes "seed") rows) options.seed
 
 -- Whether options exclude each other: reasons are not reported for processes in threads, and packets are answered
 -- without threads, without reasons, and with the usual hash.

@@ -44,7 +44,7 @@ pub fn settings<S: AsStr>(alloc: Global, words: &[S]) -> Result<Settings, Error>
 }
 
 /// Parses a command line as `settings` does, with more options: the limits of processes and of tables,
-/// `--why`, `--external` and `--version`. Refuses `--why` together with `--threads`, and `--external` together with
+/// `--why`, `--external`, `--max-packet`, `--seed` and `--version`. Refuses `--why` together with `--threads`, and `--external` together with
 /// either or with `--hash same`.
 pub fn parse_options<S: AsStr>(alloc: Global, words: &[S]) -> Result<Options, Error>
     ensures { ParsesOptions (map S.text words.entry.now) result }
@@ -101,11 +101,25 @@ fn parse_words<S: AsStr>(alloc: Global, words: &[S]) -> Result<Options, Error>
         "external",
         "Answer packets of Erlang's External Term Format",
     );
+    let packet = number_option(
+        alloc,
+        "max-packet",
+        "16777216",
+        "Limit the bytes of one packet",
+    );
+    let seed = number_option(
+        alloc,
+        "seed",
+        "0",
+        "Hash keys by this seed; 0 is no seed, or with --external a random one",
+    );
     let command = settings_command(alloc)?
         .arg(processes)?
         .arg(tables)?
         .arg(why)?
         .arg(external)?
+        .arg(packet)?
+        .arg(seed)?
         .version(VERSION);
     let matches = command.try_get_matches_from(words)?;
     Ok(Options {
@@ -114,6 +128,8 @@ fn parse_words<S: AsStr>(alloc: Global, words: &[S]) -> Result<Options, Error>
         tables: matched_number(&matches, "max-tables"),
         why: is_named("true", matches.get_str("why")),
         external: is_named("true", matches.get_str("external")),
+        max_packet: matched_number(&matches, "max-packet"),
+        seed: matched_number(&matches, "seed") as u64,
     })
 }
 

@@ -24,4 +24,8 @@ pub struct Options {
     pub why: bool,
     /// Whether packets of calls in Erlang's External Term Format are answered, in place of lines.
     pub external: bool,
+    /// The greatest number of bytes in the body of a packet.
+    pub max_packet: u32,
+    /// The seed of `Keyed`, which hashes keys in place of `Fnv`. Without a seed it is 0.
+    pub seed: u64,
 }

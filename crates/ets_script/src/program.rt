@@ -1,5 +1,5 @@
 //! Runs the program with its options, and returns its status.
-ghost use Rattle.std.specs.Prelude.{◌≡◌, false, true, IfOk, OnOk, OnErr, IfErr};
+ghost use Rattle.std.specs.Prelude.{◌≡◌, ◌==◌, if◌then◌else◌, false, true, None, Some, IfOk, OnOk, OnErr, IfErr};
 ghost use Rattle.ets_packets.specs.Stops.{PacketsEnd};
 ghost use Rattle.ets_script.specs.CommandLine.{limits_of};
 ghost use Rattle.ets_script.specs.Flows.{flows};
@@ -13,8 +13,8 @@ use crate::options::{Options, Settings};
 use crate::run::{run_script, run_script_with_reasons};
 use crate::streams::Streams;
 use crate::threads::run_threads;
-use ets_packets::{PacketFault, run_packets};
-use ets_term::{AllSame, Fnv, KeyHash};
+use ets_packets::{MAX_PACKET, PacketFault, PacketSettings, run_packets};
+use ets_term::{AllSame, Fnv, KeyHash, Keyed};
 use node_core::{Limits, Node};
 use std::alloc::Global;
 use std::io::{self, Read, Write};
@@ -61,7 +61,15 @@ pub fn answer_alone<R: Read, W: Write, E: Write>(
 /// Returns the options of the settings, with the usual limits.
 fn usual_options(settings: &Settings) -> Options
     ensures { result
-        ≡ record { settings = settings.now; processes = 4096; tables = 65536; why = false; external = false } }
+        ≡ record {
+          settings = settings.now;
+          processes = 4096;
+          tables = 65536;
+          why = false;
+          external = false;
+          max_packet = 16777216;
+          seed = 0;
+        } }
 {
     let usual = Limits::usual();
     Options {
@@ -70,6 +78,8 @@ fn usual_options(settings: &Settings) -> Options
         tables: usual.tables,
         why: false,
         external: false,
+        max_packet: MAX_PACKET,
+        seed: 0,
     }
 }
 
@@ -89,7 +99,7 @@ pub fn answer_with_options<T: Threads + Wait + Sync, R: Read, W: Write, E: Write
         IfOk result (ThreadsStatus (limits_of options.now)
         (flows R.remaining W.contents streams.old streams.new)) }
     ensures external { options.now.external ≡ true →
-        IfOk result (PacketsEnd (limits_of options.now)
+        IfOk result (PacketsEnd options.now.max_packet (limits_of options.now)
         (flows R.remaining W.contents streams.old streams.new)) }
 {
     if options.external {
@@ -109,18 +119,28 @@ fn answer_packets<R: Read, W: Write, E: Write>(
     streams: &mut Streams<R, W>,
     errors: &mut E,
 ) -> io::Result<u8>
-    ensures { IfOk result (PacketsEnd (limits_of options.now)
+    ensures { IfOk result (PacketsEnd options.now.max_packet (limits_of options.now)
         (flows R.remaining W.contents streams.old streams.new)) }
 {
-    match run_packets(
-        alloc,
-        &mut streams.input,
-        &mut streams.output,
-        limits_of(options),
-    ) {
+    let settings = PacketSettings {
+        limits: limits_of(options),
+        max_packet: options.max_packet,
+        seed: seed_of(options),
+    };
+    match run_packets(alloc, &mut streams.input, &mut streams.output, settings) {
         Ok(()) => Ok(0),
         Err(fault) => report_packets(&fault, errors),
     }
+}
+
+/// Returns the seed of the options, if they have one.
+fn seed_of(options: &Options) -> Option<u64>
+    ensures { result ≡ (if options.now.seed == 0 then None else Some options.now.seed) }
+{
+    if options.seed == 0 {
+        return None;
+    }
+    Some(options.seed)
 }
 
 /// Prints on a line of standard error why no more packets are answered, and returns the status.
@@ -145,7 +165,25 @@ fn answer_lines<R: Read, W: Write, E: Write>(
         let run = run_lines(alloc, options, AllSame, streams, errors);
         return report(run, errors);
     }
-    let run = run_lines(alloc, options, Fnv, streams, errors);
+    answer_hashed(alloc, options, streams, errors)
+}
+
+/// Answers a script as `answer_lines` does. Keys are hashed by the seed of the options, if they have one.
+fn answer_hashed<R: Read, W: Write, E: Write>(
+    alloc: Global,
+    options: &Options,
+    streams: &mut Streams<R, W>,
+    errors: &mut E,
+) -> io::Result<u8>
+    ensures { IfOk result (EndsWithin (limits_of options.now)
+        (flows R.remaining W.contents streams.old streams.new)) }
+{
+    let seed = options.seed;
+    if seed == 0 {
+        let run = run_lines(alloc, options, Fnv, streams, errors);
+        return report(run, errors);
+    }
+    let run = run_lines(alloc, options, Keyed::new(seed), streams, errors);
     report(run, errors)
 }
 
@@ -184,13 +222,34 @@ fn answer_in_threads<T: Threads + Wait + Sync, R: Read, W: Write, E: Write>(
     ensures { IfOk result (ThreadsStatus (limits_of options.now)
         (flows R.remaining W.contents streams.old streams.new)) }
 {
-    let limits = limits_of(options);
     if options.settings.same {
+        let limits = limits_of(options);
         let hasher = AllSame;
         let run = run_threads(rt, alloc, streams, NodeSettings { limits, hasher });
         return report(run, errors);
     }
-    let hasher = Fnv;
+    answer_hashed_in_threads(rt, alloc, options, streams, errors)
+}
+
+/// Answers a script as `answer_in_threads` does. Keys are hashed by the seed of the options, if they have one.
+fn answer_hashed_in_threads<T: Threads + Wait + Sync, R: Read, W: Write, E: Write>(
+    rt: &T,
+    alloc: Global,
+    options: &Options,
+    streams: &mut Streams<R, W>,
+    errors: &mut E,
+) -> io::Result<u8>
+    ensures { IfOk result (ThreadsStatus (limits_of options.now)
+        (flows R.remaining W.contents streams.old streams.new)) }
+{
+    let seed = options.seed;
+    let limits = limits_of(options);
+    if seed == 0 {
+        let hasher = Fnv;
+        let run = run_threads(rt, alloc, streams, NodeSettings { limits, hasher });
+        return report(run, errors);
+    }
+    let hasher = Keyed::new(seed);
     let run = run_threads(rt, alloc, streams, NodeSettings { limits, hasher });
     report(run, errors)
 }

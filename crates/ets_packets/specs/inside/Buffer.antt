@@ -1,7 +1,7 @@
 -- What private contracts say of the bytes that were read and not yet answered.
-use Rattle.std.specs.Prelude.{◌≡◌, ℕ, ◌+◌, ◌≤◌, List, ◌++◌, length, take, slice_range}
+use Rattle.std.specs.Prelude.{◌≡◌, ℕ, ◌+◌, ◌^◌, ◌≤◌, ◌<◌, List, ◌++◌, length, take, slice_range}
 use Rattle.std.specs.Io.KnownBytes.{Consumes, IsAtEnd, Keeps}
-use Rattle.ets_packets.specs.Packets.{IsUnfinished, IsTooLong, max_packet, packet}
+use Rattle.ets_packets.specs.Packets.{IsUnfinished, big4, packet}
 use Rattle.ets_packets.specs.Traffic.{Flow}
 use Rattle.ets_packets.specs.declared.buffer.RefillFault.{RefillFault}
 use Rattle.ets_packets.specs.declared.buffer.RefillFault.TheVariants.{Read, Memory}
@@ -23,17 +23,25 @@ abbrev pub RefillStops : Flow → RefillFault → Type 0
 RefillStops reader Read = Keeps reader.before reader.after
 RefillStops reader Memory = (more : List ℕ) × Consumes reader.before reader.after more
 
--- the packet whose body has this length begins the bytes
-pub record BeginsWith (bytes : List ℕ) (len : ℕ) : Type 0 where
+-- the packet whose body has this length, at most `most`, begins the bytes
+pub record BeginsWith (most : ℕ) (bytes : List ℕ) (len : ℕ) : Type 0 where
   pub within : len + 4 ≤ length bytes
-  pub few : len ≤ max_packet
+  pub allowed : len ≤ most
+  pub few : len < 2 ^ 32
   pub is_packet : take (len + 4) bytes ≡ packet (slice_range bytes 4 (len + 4))
 
+-- the length of a body begins the bytes, and it is over `most`
+pub record BeginsTooLong (most : ℕ) (bytes : List ℕ) (len : ℕ) : Type 0 where
+  pub within : 4 ≤ length bytes
+  pub long : most < len
+  pub few : len < 2 ^ 32
+  pub is_length : take 4 bytes ≡ big4 len
+
 -- what bytes begin with
-abbrev pub IsFront : List ℕ → Front → Type 0
-IsFront bytes Incomplete = IsUnfinished bytes
-IsFront bytes TooLong = IsTooLong bytes
-IsFront bytes (Packet len) = BeginsWith bytes len
+abbrev pub IsFront : ℕ → List ℕ → Front → Type 0
+IsFront most bytes Incomplete = IsUnfinished bytes
+IsFront most bytes (TooLong len) = BeginsTooLong most bytes len
+IsFront most bytes (Packet len) = BeginsWith most bytes len
 
 -- why the run stops then
 abbrev pub fault_of : RefillFault → PacketFault

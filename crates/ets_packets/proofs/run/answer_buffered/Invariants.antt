@@ -1,12 +1,13 @@
-use Rattle.std.proofs.Common.{length}
-use Rattle.ets_packets.specs.Output.{HasWriterOf, buffered_bytes}
-use Rattle.ets_packets.proofs.BufferedPackets.{HasAnswered}
+use Rattle.std.proofs.Common.{◌≡◌, ◌<◌, ◌++◌, [], length, List, ℕ}
+use Rattle.ets_packets.specs.inside.Answering.{AnswersPackets, IsSkipped}
+use Rattle.ets_packets.specs.Output.{HasWriterOf, buffered_bytes, writer_flow}
 use Rattle.ets_packets.proofs.run.answer_buffered.Given as goal
 
-abbrev pub invariant-loop-len : goal.invariant-loop-len
-invariant-loop-len g l =
-    HasAnswered (g.W.Write.contents l.initial.output.writer.now) (g.W.Write.contents l.output.writer.now) (buffered_bytes l.initial.output) (buffered_bytes l.output) l.initial.buffer l.buffer l.initial.responder.store l.responder.store
-    × HasWriterOf l.initial.output l.output
+abbrev pub invariant-loop-left : goal.invariant-loop-left
+invariant-loop-left g l =
+    ((part : List ℕ) → IsSkipped l.fn.most part l.fn.left
+    → AnswersPackets l.fn.most (writer_flow g.W.Write.contents l.fn.output l.output) (buffered_bytes l.fn.output) (buffered_bytes l.output) (part ++ l.fn.buffer) l.buffer l.left l.fn.responder.store l.responder.store)
+    × (0 < l.left → l.buffer ≡ []) × HasWriterOf l.fn.output l.output
 
-abbrev pub decreases-loop-len : goal.decreases-loop-len
-decreases-loop-len g l = length l.buffer
+abbrev pub decreases-loop-left : goal.decreases-loop-left
+decreases-loop-left g l = length l.buffer
