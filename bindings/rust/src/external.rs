@@ -1,11 +1,14 @@
 //! Terms in Erlang's External Term Format, as `term_to_binary` writes them.
 use crate::term::Term;
+use crate::walk::{Visit, Walk};
 use std::fmt;
 
 /// The first byte, the version of the format.
 pub(crate) const VERSION: u8 = 131;
 /// The node of the store's pids and table identifiers.
 pub(crate) const NODE: &[u8] = b"nonode@nohost";
+/// The empty list, which also ends a list.
+const LIST_END: u8 = 106;
 /// The most characters of an atom.
 pub(crate) const MAX_ATOM: usize = 255;
 
@@ -52,7 +55,7 @@ impl Term {
     /// ```
     pub fn to_external(&self) -> Result<Vec<u8>, ExternalTermError> {
         let mut bytes = vec![VERSION];
-        put_term(&mut bytes, self)?;
+        put_terms(&mut bytes, Walk::of(self))?;
         Ok(bytes)
     }
 }
@@ -61,20 +64,32 @@ impl Term {
 pub(crate) fn put_call(bytes: &mut Vec<u8>, name: &str, arguments: &[Term]) -> Result<(), ExternalTermError> {
     bytes.extend_from_slice(&[VERSION, 104, 2]);
     put_atom(bytes, name)?;
-    put_list(bytes, arguments)
+    if begin_list(bytes, arguments)? {
+        put_terms(bytes, Walk::over(arguments))?;
+        bytes.push(LIST_END);
+    }
+    Ok(())
 }
 
-fn put_term(bytes: &mut Vec<u8>, term: &Term) -> Result<(), ExternalTermError> {
-    match term {
-        Term::Int(number) => put_integer(bytes, *number),
-        Term::Atom(text) => return put_atom(bytes, text),
-        Term::Pid(number) => put_pid(bytes, *number),
-        Term::Tid(number) => put_reference(bytes, *number),
-        Term::Tuple(elements) => return put_tuple(bytes, elements),
-        Term::List(elements) => return put_list(bytes, elements),
-        Term::Binary(content) => {
-            put_count(bytes, 109, content.len())?;
-            bytes.extend_from_slice(content);
+fn put_terms(bytes: &mut Vec<u8>, mut walk: Walk<'_>) -> Result<(), ExternalTermError> {
+    while let Some(visit) = walk.next() {
+        match visit {
+            Visit::Enter(Term::Int(number)) => put_integer(bytes, *number),
+            Visit::Enter(Term::Atom(text)) => put_atom(bytes, text)?,
+            Visit::Enter(Term::Pid(number)) => put_pid(bytes, *number),
+            Visit::Enter(Term::Tid(number)) => put_reference(bytes, *number),
+            Visit::Enter(Term::Binary(content)) => {
+                put_count(bytes, 109, content.len())?;
+                bytes.extend_from_slice(content);
+            }
+            Visit::Enter(Term::Tuple(elements)) => begin_tuple(bytes, elements.len())?,
+            Visit::Enter(Term::List(elements)) => {
+                if !begin_list(bytes, elements)? {
+                    walk.skip_elements();
+                }
+            }
+            Visit::Leave(Term::List(_)) => bytes.push(LIST_END),
+            Visit::Leave(_) => {}
         }
     }
     Ok(())
@@ -117,30 +132,29 @@ fn put_reference(bytes: &mut Vec<u8>, number: u32) {
     bytes.extend_from_slice(&number.to_be_bytes());
 }
 
-fn put_tuple(bytes: &mut Vec<u8>, elements: &[Term]) -> Result<(), ExternalTermError> {
-    match u8::try_from(elements.len()) {
+fn begin_tuple(bytes: &mut Vec<u8>, count: usize) -> Result<(), ExternalTermError> {
+    match u8::try_from(count) {
         Ok(count) => bytes.extend_from_slice(&[104, count]),
-        Err(_) => put_count(bytes, 105, elements.len())?,
+        Err(_) => put_count(bytes, 105, count)?,
     }
-    elements.iter().try_for_each(|it| put_term(bytes, it))
+    Ok(())
 }
 
-/// Appends a list: as a string if it has only bytes.
-fn put_list(bytes: &mut Vec<u8>, elements: &[Term]) -> Result<(), ExternalTermError> {
+/// Begins a list, and returns whether its elements and its end must follow. A list of bytes is written whole, as a string, and
+/// so is an empty one.
+fn begin_list(bytes: &mut Vec<u8>, elements: &[Term]) -> Result<bool, ExternalTermError> {
     if elements.is_empty() {
-        bytes.push(106);
-        return Ok(());
+        bytes.push(LIST_END);
+        return Ok(false);
     }
     if let (Ok(count), Some(codes)) = (u16::try_from(elements.len()), codes_of(elements)) {
         bytes.push(107);
         bytes.extend_from_slice(&count.to_be_bytes());
         bytes.extend_from_slice(&codes);
-        return Ok(());
+        return Ok(false);
     }
     put_count(bytes, 108, elements.len())?;
-    elements.iter().try_for_each(|it| put_term(bytes, it))?;
-    bytes.push(106);
-    Ok(())
+    Ok(true)
 }
 
 /// Returns the elements as bytes, if all are integers from 0 to 255.

@@ -8,7 +8,7 @@ pub struct RawStore {
 }
 
 unsafe extern "C" {
-    pub fn yoyoash_open(store: *mut RawStore, max_processes: u32, max_tables: u32, max_objects: u32) -> i32;
+    pub fn yoyoash_open_with_seed(store: *mut RawStore, max_processes: u32, max_tables: u32, max_objects: u32, seed: u64) -> i32;
     pub fn yoyoash_spawn(store: *mut RawStore, pid: u32) -> i32;
     pub fn yoyoash_exit(store: *mut RawStore, pid: u32) -> i32;
     pub fn yoyoash_call(store: *mut RawStore, pid: u32, text: *const u8, text_len: usize, out: *mut u8, out_size: usize, len: *mut usize) -> i32;

@@ -38,6 +38,7 @@ mod library;
 mod parse;
 mod store;
 mod term;
+mod walk;
 
 pub use error::{Error, ErrorKind};
 pub use external::ExternalTermError;

@@ -7,12 +7,14 @@ use std::ptr::null_mut;
 
 /// The longest reason, in bytes.
 const MAX_REASON: usize = 100;
+/// The most bytes of memory that a store keeps for its replies. A longer reply has memory of its own.
+const MAX_KEPT: usize = 1 << 20;
 
 /// A function that makes a call, by a text or by bytes, and one that copies the last reply.
 type MakeCall = unsafe extern "C" fn(*mut RawStore, u32, *const u8, usize, *mut u8, usize, *mut usize) -> i32;
 type CopyReply = unsafe extern "C" fn(*mut RawStore, *mut u8, usize, *mut usize) -> i32;
 
-/// An open store, and the memory for its replies.
+/// An open store, and the memory for its short replies.
 pub struct Library {
     raw: Box<RawStore>,
     buffer: Vec<u8>,
@@ -28,9 +30,9 @@ impl fmt::Debug for Library {
 }
 
 impl Library {
-    pub fn open(limits: Limits) -> Result<Library, Error> {
+    pub fn open(limits: Limits, seed: u64) -> Result<Library, Error> {
         let mut library = Library { raw: Box::new(RawStore { opaque: [null_mut(); 2] }), buffer: vec![0; 256] };
-        let status = unsafe { ffi::yoyoash_open(&mut *library.raw, limits.processes, limits.tables, limits.objects) };
+        let status = unsafe { ffi::yoyoash_open_with_seed(&mut *library.raw, limits.processes, limits.tables, limits.objects, seed) };
         library.check(status, 0)?;
         Ok(library)
     }
@@ -46,25 +48,29 @@ impl Library {
     }
 
     /// Makes the call of a text, and returns the text of its reply.
-    pub fn call(&mut self, pid: u32, text: &str) -> Result<&[u8], Error> {
+    pub fn call(&mut self, pid: u32, text: &str) -> Result<Vec<u8>, Error> {
         self.send(pid, text.as_bytes(), ffi::yoyoash_call, ffi::yoyoash_reply)
     }
 
     /// Makes the call of these bytes, and returns the bytes of its reply.
-    pub fn call_external(&mut self, pid: u32, call: &[u8]) -> Result<&[u8], Error> {
+    pub fn call_external(&mut self, pid: u32, call: &[u8]) -> Result<Vec<u8>, Error> {
         self.send(pid, call, ffi::yoyoash_call_external, ffi::yoyoash_reply_external)
     }
 
-    fn send(&mut self, pid: u32, call: &[u8], make: MakeCall, copy: CopyReply) -> Result<&[u8], Error> {
+    fn send(&mut self, pid: u32, call: &[u8], make: MakeCall, copy: CopyReply) -> Result<Vec<u8>, Error> {
         let mut len = 0;
         let status = unsafe { make(&mut *self.raw, pid, call.as_ptr(), call.len(), self.buffer.as_mut_ptr(), self.buffer.len(), &mut len) };
         self.check(status, len)?;
-        if len > self.buffer.len() {
-            self.buffer.resize(len, 0);
-            let status = unsafe { copy(&mut *self.raw, self.buffer.as_mut_ptr(), self.buffer.len(), &mut len) };
-            self.check(status, len)?;
+        if len <= self.buffer.len() {
+            return Ok(self.buffer[..len].to_vec());
         }
-        Ok(&self.buffer[..len])
+        if len <= MAX_KEPT {
+            self.buffer.resize(len, 0);
+        }
+        let mut reply = vec![0; len];
+        let status = unsafe { copy(&mut *self.raw, reply.as_mut_ptr(), reply.len(), &mut len) };
+        self.check(status, len)?;
+        Ok(reply)
     }
 
     /// Turns a status into a result; an error has the reason that the library gives.

@@ -3,10 +3,19 @@ use crate::error::{Error, ErrorKind};
 use crate::external::{self, ExternalTermError};
 use crate::library::Library;
 use crate::term::Term;
+use std::collections::hash_map::RandomState;
 use std::fmt::Write;
+use std::hash::{BuildHasher, Hasher};
 use std::sync::{Mutex, MutexGuard, PoisonError};
 
-/// What a store may hold. The default is that of the program `ets_script`.
+/// What a store may hold. The default is the largest: a limit takes no memory, so it costs nothing until it is used.
+///
+/// ```
+/// use yoyoash::{Limits, Store};
+///
+/// let store = Store::with_limits(Limits { objects: 1_000_000, ..Limits::default() }).unwrap();
+/// # store.spawn(0).unwrap();
+/// ```
 #[derive(Clone, Copy, Debug, PartialEq, Eq)]
 pub struct Limits {
     /// Processes that the store may ever have.
@@ -19,7 +28,7 @@ pub struct Limits {
 
 impl Default for Limits {
     fn default() -> Limits {
-        Limits { processes: 4096, tables: 65_536, objects: 1_000_000 }
+        Limits { processes: u32::MAX, tables: u32::MAX, objects: u32::MAX }
     }
 }
 
@@ -38,7 +47,26 @@ impl Store {
 
     /// Opens a store with these limits.
     pub fn with_limits(limits: Limits) -> Result<Store, Error> {
-        Ok(Store { library: Mutex::new(Library::open(limits)?) })
+        Store::with_seed(limits, drawn_seed())
+    }
+
+    /// Opens a store with these limits, whose keys are hashed with this seed. The other methods draw a seed that nobody can guess,
+    /// so that nobody can choose keys with one hash, which would be slow. The seed also decides in which order a table is
+    /// traversed. So choose one if two runs must have the same order, and no stranger chooses keys.
+    ///
+    /// ```
+    /// # use yoyoash::{Limits, Store, Term};
+    /// let first_key = || {
+    ///     let store = Store::with_seed(Limits::default(), 7).unwrap();
+    ///     store.spawn(0).unwrap();
+    ///     store.call(0, "{new,t,[named_table]}").unwrap();
+    ///     store.call(0, "{insert,t,[{a},{b},{c},{d},{e}]}").unwrap();
+    ///     store.call(0, "{first,t}").unwrap()
+    /// };
+    /// assert_eq!(first_key(), first_key());
+    /// ```
+    pub fn with_seed(limits: Limits, seed: u64) -> Result<Store, Error> {
+        Ok(Store { library: Mutex::new(Library::open(limits, seed)?) })
     }
 
     /// Starts the process of a number. A number is used once.
@@ -72,7 +100,7 @@ impl Store {
     /// Makes the call of these bytes for a process, and returns the bytes of its reply, both in Erlang's External Term Format.
     /// A call is `{Name,Arguments}`, an atom and a list.
     pub fn call_external(&self, pid: u32, call: &[u8]) -> Result<Vec<u8>, Error> {
-        self.lock().call_external(pid, call).map(<[u8]>::to_vec)
+        self.lock().call_external(pid, call)
     }
 
     /// Makes a call for a process, and returns its reply. The text is a tuple of the call's name and its arguments, such as
@@ -95,13 +123,19 @@ impl Store {
 
     /// Makes a call for a process, and returns the text of its reply.
     pub fn call_text(&self, pid: u32, text: &str) -> Result<String, Error> {
-        self.lock().call(pid, text).map(|reply| String::from_utf8_lossy(reply).into_owned())
+        let reply = self.lock().call(pid, text)?;
+        String::from_utf8(reply).map_err(|_| Error::new(ErrorKind::Unknown, "the reply is not a text".to_owned()))
     }
 
     /// Waits for the lock. A thread that panics while it holds the lock leaves a whole store.
     fn lock(&self) -> MutexGuard<'_, Library> {
         self.library.lock().unwrap_or_else(PoisonError::into_inner)
     }
+}
+
+/// Returns a number that the system's random numbers decide, another each time.
+fn drawn_seed() -> u64 {
+    RandomState::new().build_hasher().finish()
 }
 
 /// Returns the error of a call that has no bytes, as the store refuses a call.

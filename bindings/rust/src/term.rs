@@ -1,7 +1,11 @@
 //! Erlang terms, as the store knows them.
-use std::fmt;
+use crate::walk::{Visit, Walk};
+use std::{fmt, mem};
 
-/// A term. `Display` prints it as the store does, and `FromStr` reads what the store reads.
+/// A term. `Display` and `Debug` print it as the store does, and `FromStr` reads what the store reads.
+///
+/// A term may be of any depth; none of its methods overflows the stack. The store itself refuses an argument with more than
+/// 128 levels.
 ///
 /// ```
 /// use yoyoash::Term;
@@ -9,7 +13,16 @@ use std::fmt;
 /// let term: Term = "{apple,[1,-2],'Big atom',<<97,98>>,\"ab\"}".parse().unwrap();
 /// assert_eq!(term.to_string(), "{apple,[1,-2],'Big atom',<<97,98>>,[97,98]}");
 /// ```
-#[derive(Clone, Debug, PartialEq, Eq, Hash)]
+/// As a term has a `Drop`, a pattern borrows what is in it: `match &term`. `into_elements`, `into_binary` and `into_atom` move it
+/// out:
+///
+/// ```
+/// use yoyoash::Term;
+///
+/// let found: Term = "[{apple,30},{pear,40}]".parse().unwrap();
+/// let objects = found.into_elements().unwrap();
+/// assert_eq!(objects.len(), 2);
+/// ```
 pub enum Term {
     /// An integer of 128 bits.
     Int(i128),
@@ -31,6 +44,38 @@ impl Term {
     /// Returns whether this is the atom `true`.
     pub fn is_true(&self) -> bool {
         matches!(self, Term::Atom(text) if text == "true")
+    }
+
+    /// Returns the elements of a tuple or list.
+    pub fn elements(&self) -> Option<&[Term]> {
+        match self {
+            Term::Tuple(elements) | Term::List(elements) => Some(elements),
+            _ => None,
+        }
+    }
+
+    /// Returns the elements of a tuple or list, without a copy.
+    pub fn into_elements(mut self) -> Option<Vec<Term>> {
+        match &mut self {
+            Term::Tuple(elements) | Term::List(elements) => Some(mem::take(elements)),
+            _ => None,
+        }
+    }
+
+    /// Returns the bytes of a binary, without a copy.
+    pub fn into_binary(mut self) -> Option<Vec<u8>> {
+        match &mut self {
+            Term::Binary(bytes) => Some(mem::take(bytes)),
+            _ => None,
+        }
+    }
+
+    /// Returns the text of an atom, without a copy.
+    pub fn into_atom(mut self) -> Option<String> {
+        match &mut self {
+            Term::Atom(text) => Some(mem::take(text)),
+            _ => None,
+        }
     }
 }
 
@@ -55,27 +100,50 @@ impl From<Vec<u8>> for Term {
 
 impl fmt::Display for Term {
     fn fmt(&self, f: &mut fmt::Formatter<'_>) -> fmt::Result {
-        match self {
-            Term::Int(number) => write!(f, "{number}"),
-            Term::Atom(text) => write_atom(f, text),
-            Term::Pid(number) => write!(f, "<0.{number}.0>"),
-            Term::Tid(number) => write!(f, "#Tid<{number}>"),
-            Term::Tuple(elements) => write_row(f, "{", elements, "}"),
-            Term::List(elements) => write_row(f, "[", elements, "]"),
-            Term::Binary(bytes) => write_row(f, "<<", bytes, ">>"),
+        let mut needs_comma = false;
+        for visit in Walk::of(self) {
+            match visit {
+                Visit::Enter(term) => {
+                    f.write_str(if needs_comma { "," } else { "" })?;
+                    write_start(f, term)?;
+                    needs_comma = term.elements().is_none();
+                }
+                Visit::Leave(term) => {
+                    f.write_str(if matches!(term, Term::Tuple(_)) { "}" } else { "]" })?;
+                    needs_comma = true;
+                }
+            }
         }
+        Ok(())
     }
 }
 
-fn write_row<T: fmt::Display>(f: &mut fmt::Formatter<'_>, opening: &str, row: &[T], closing: &str) -> fmt::Result {
-    f.write_str(opening)?;
-    for (place, each) in row.iter().enumerate() {
-        if place > 0 {
-            f.write_str(",")?;
-        }
-        write!(f, "{each}")?;
+impl fmt::Debug for Term {
+    fn fmt(&self, f: &mut fmt::Formatter<'_>) -> fmt::Result {
+        fmt::Display::fmt(self, f)
     }
-    f.write_str(closing)
+}
+
+/// Writes a term, and of a tuple or list the opening bracket.
+fn write_start(f: &mut fmt::Formatter<'_>, term: &Term) -> fmt::Result {
+    match term {
+        Term::Int(number) => write!(f, "{number}"),
+        Term::Atom(text) => write_atom(f, text),
+        Term::Pid(number) => write!(f, "<0.{number}.0>"),
+        Term::Tid(number) => write!(f, "#Tid<{number}>"),
+        Term::Tuple(_) => f.write_str("{"),
+        Term::List(_) => f.write_str("["),
+        Term::Binary(bytes) => write_binary(f, bytes),
+    }
+}
+
+fn write_binary(f: &mut fmt::Formatter<'_>, bytes: &[u8]) -> fmt::Result {
+    f.write_str("<<")?;
+    for (place, byte) in bytes.iter().enumerate() {
+        f.write_str(if place > 0 { "," } else { "" })?;
+        write!(f, "{byte}")?;
+    }
+    f.write_str(">>")
 }
 
 /// Writes an atom, in quotes if it needs them.

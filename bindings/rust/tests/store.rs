@@ -122,10 +122,8 @@ fn long_replies_are_whole() -> Result<(), Error> {
     for key in 0..10_000 {
         store.call(0, &format!("{{insert,t,{{{key},{key}}}}}"))?;
     }
-    match store.call(0, "{tab2list,t}")? {
-        Term::List(objects) => assert_eq!(objects.len(), 10_000),
-        other => panic!("{other} is not a list"),
-    }
+    let objects = store.call(0, "{tab2list,t}")?.into_elements().unwrap();
+    assert_eq!(objects.len(), 10_000);
     assert_eq!(store.ask(0, "tab2list", &["t".into()])?, store.call(0, "{tab2list,t}")?);
     Ok(())
 }
