@@ -25,8 +25,8 @@ PARAMETERS = {
 }
 # The types of the replies. Another call replies with Any.
 REPLIES = {
-    "Atom": "insert insert_new member delete delete_object delete_all_objects update_element match_delete"
-    " safe_fixtable give_away setopts",
+    "bool": "insert_new member",
+    "Atom": "insert delete delete_object delete_all_objects update_element match_delete safe_fixtable give_away setopts",
     "Tid | Atom": "new whereis",
     "int": "select_count select_delete",
     "list[Any]": "match select",
@@ -48,17 +48,20 @@ ABOUT = {
     "CollectedCalls": "Calls whose method collects the call and returns nothing.",
     "AwaitedCalls": "Calls whose method is awaited: it returns the reply or raises a Fault.",
 }
-# How the methods of each class begin, what they return, and what they do.
+# How the methods of each class begin, what they return, and what they do; and what they do for a reply that is a bool.
 KINDS = {
-    "Calls": ("def", "{reply}", "return self._call({words})"),
-    "CollectedCalls": ("def", "None", "self._collect({words})"),
-    "AwaitedCalls": ("async def", "{reply}", "return await self._call({words})"),
+    "Calls": ("def", "{reply}", "return self._call({words})", "return bool(self._call({words}))"),
+    "CollectedCalls": ("def", "None", "self._collect({words})", "self._collect_truth({words})"),
+    "AwaitedCalls": ("async def", "{reply}", "return await self._call({words})", "return bool(await self._call({words}))"),
 }
 # What a class that inherits the methods defines.
 HOOKS = {
-    "Calls": "def _call(self, call: str, *terms: Term) -> Any:",
-    "CollectedCalls": "def _collect(self, call: str, *terms: Term) -> None:",
-    "AwaitedCalls": "async def _call(self, call: str, *terms: Term) -> Any:",
+    "Calls": ["def _call(self, call: str, *terms: Term) -> Any:"],
+    "CollectedCalls": [
+        "def _collect(self, call: str, *terms: Term) -> None:",
+        "def _collect_truth(self, call: str, *terms: Term) -> None:",
+    ],
+    "AwaitedCalls": ["async def _call(self, call: str, *terms: Term) -> Any:"],
 }
 
 
@@ -86,7 +89,8 @@ def named(parameter):
 
 def method_of(name, forms, kind):
     """Returns the lines of a method. A parameter that the shortest form lacks has a default."""
-    defined, returns, body = KINDS[kind]
+    defined, returns, body, truth = KINDS[kind]
+    body = truth if TYPE_OF.get(name) == "bool" else body
     shortest, longest = forms[0][0], forms[-1][0]
     if any(it != longest[: len(it)] for it, _ in forms) or len(longest) - len(shortest) > 1:
         raise SystemExit(f"generate.py: the forms of {name} are not each other's beginnings")
@@ -130,7 +134,8 @@ def module_of(page):
     lines = ["CALLS = (", *[f"    {line}" for line in names], ")"]
     for kind, about in ABOUT.items():
         lines += ["", "", f"class {kind}:", f'    """{about}"""', ""]
-        lines += [f"    {HOOKS[kind]}", "        raise NotImplementedError"]
+        for place, hook in enumerate(HOOKS[kind]):
+            lines += [""] * (place > 0) + [f"    {hook}", "        raise NotImplementedError"]
         for name, forms in calls.items():
             lines += ["", *method_of(name, forms, kind)]
     return HEAD + "\n".join(lines) + "\n"

@@ -1,6 +1,6 @@
 #!/usr/bin/env python3
 """Measures lookups a second: by pipe one by one, in a pipeline and with asyncio, and in this process with the
-extension and without it; and the same calls as texts, without the conversion of terms. The ways are interleaved in one
+extension and without it; and in this process as texts, without the conversion of terms. The ways are interleaved in one
 run.
 
     bindings/python/build-extension     (once)
@@ -15,7 +15,6 @@ import time
 
 from yoyoash import Atom, Process, Store, aio, calling, finding
 from yoyoash.library import Library
-from yoyoash.pipe import Pipe
 
 # A turn is short, so that the best one had a core to itself.
 ROWS, TURNS = 200, 500
@@ -48,7 +47,7 @@ def awaited(loop: asyncio.AbstractEventLoop, process: aio.Process) -> None:
     loop.run_until_complete(lookups())
 
 
-def as_texts(process: Process, way: Pipe | Library) -> None:
+def as_texts(process: Process, way: Library) -> None:
     for key in range(ROWS):
         way.call(process.name, process.pid, "lookup", f"t,{key}")
 
@@ -78,8 +77,8 @@ def seconds(work, *given) -> float:
 
 def main(library=None, program=None):
     program = finding.program(program)
-    loop, other = asyncio.new_event_loop(), aio.Store([program])
-    with Store.in_process(library) as near, by_ctypes(library) as plain, Store([program]) as far:
+    loop, other = asyncio.new_event_loop(), aio.Store(program)
+    with Store.in_process(library) as near, by_ctypes(library) as plain, Store.pipe(program) as far:
         here, there, soon = filled(near), filled(far), loop.run_until_complete(filled_for_asyncio(other))
         by_extension = {"in process, by the extension": (one_by_one, here)} if calling.extension else {}
         ways = {
@@ -88,7 +87,6 @@ def main(library=None, program=None):
             "by pipe, asyncio, 200 at once": (awaited, loop, soon),
             **by_extension,
             "in process, by ctypes": (one_by_one, filled(plain)),
-            "texts by pipe, one by one": (as_texts, there, far._way),
             "texts in process": (as_texts, here, near._way),
         }
         taken = [{name: seconds(*way) for name, way in ways.items()} for _ in range(TURNS)]

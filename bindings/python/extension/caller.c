@@ -1,5 +1,6 @@
 /* The class Caller: makes calls of a store in this process. */
 #include "external.h"
+#include <pthread.h>
 #include <stdlib.h>
 
 enum { VALUE = 0, CLOSED = 6, UNTOLD = 7 };
@@ -16,7 +17,13 @@ typedef struct Caller {
     void *store;
     Calling *call;
     Writing *reply, *why;
+    unsigned forks; /* the number of forks when it was made */
 } Caller;
+
+/* Counts the forks that led to this process since the module was loaded. A store stays with the process that opened it. */
+static unsigned forks;
+static void count_fork(void) { forks++; }
+int watch_forks(void) { return pthread_atfork(NULL, NULL, count_fork); }
 
 /* What came of a call. */
 typedef struct Answer {
@@ -30,7 +37,10 @@ typedef struct Answer {
 /* Makes the call of these bytes, and reads the reason if it is refused. Needs no Python, and lets other threads run it. */
 static void make_call(Caller *self, uint32_t pid, const uint8_t *bytes, size_t len, Answer *answer) {
     answer->longer = NULL;
-    answer->why_status = CLOSED;
+    answer->len = answer->why_len = 0;
+    answer->status = answer->why_status = CLOSED;
+    /* In a forked child a thread that it does not have may hold the lock. */
+    if (self->forks != forks) return;
     Py_BEGIN_ALLOW_THREADS
     PyThread_acquire_lock(self->lock, WAIT_LOCK);
     answer->status = self->call(self->store, pid, bytes, len, answer->reply, sizeof answer->reply, &answer->len);
@@ -158,6 +168,7 @@ static PyObject *new_caller(PyTypeObject *type, PyObject *arguments, PyObject *n
     self->call = (Calling *)(uintptr_t)call;
     self->reply = (Writing *)(uintptr_t)reply;
     self->why = (Writing *)(uintptr_t)why;
+    self->forks = forks;
     if (self->lock) return (PyObject *)self;
     Py_DECREF(self);
     return PyErr_NoMemory();

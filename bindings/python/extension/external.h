@@ -66,4 +66,7 @@ int has_arguments(Py_ssize_t count, Py_ssize_t least);
 
 extern PyType_Spec caller_spec;
 
+/* Has forks counted from now on. Returns 0, or an error number. */
+int watch_forks(void);
+
 #endif

@@ -34,7 +34,10 @@ static PyObject *imported(const char *module, const char *name) {
 }
 
 static int begin_module(PyObject *module) {
+    static int is_watching;
     State *state = PyModule_GetState(module);
+    if (!is_watching && watch_forks()) PyErr_NoMemory();
+    is_watching = 1;
     state->atom = imported("yoyoash.terms", "Atom");
     state->pid = imported("yoyoash.terms", "Pid");
     state->tid = imported("yoyoash.terms", "Tid");

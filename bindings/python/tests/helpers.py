@@ -1,27 +1,57 @@
-"""Programs that stand in for the store, terms by chance, and where the real program and library are."""
+"""Programs that play the store, terms by chance, and where the real program and library are."""
 
 import logging
 import pathlib
 import random
 import re
 import sys
+import threading
 from unittest import mock
 
-from yoyoash import Atom, Pid, Tid, Unavailable, aio, calling, finding, pipe, reasons, spell
+from yoyoash import Atom, Pid, Tid, Unavailable, calling, finding, program, spell
 
-# A busy machine makes steps slow: asyncio would report them, and a reason may arrive late.
+# A busy machine makes steps slow, and asyncio would report them.
 logging.getLogger("asyncio").setLevel(logging.ERROR)
-reasons.PATIENCE = pipe.PATIENCE = aio.PATIENCE = 30.0
+program.SHORTLY = 30.0
 
 HERE = pathlib.Path(__file__).resolve().parent
 PACKAGE = HERE.parent
 REPOSITORY = HERE.parents[2]
-SCRIPT = REPOSITORY / "tests/scripts/client.ets"
-# Answers the lines of the script as the program did.
-RECORDED = [sys.executable, str(HERE / "replay.py"), str(SCRIPT)]
-# Answers `K` to `p lookup('t',K)`, and the number of the line to any other.
-ECHO_LINES = "for n, line in enumerate(sys.stdin):\n print(line[13:-2] if line.startswith('p lookup') else n, flush=True)"
-ECHO = [sys.executable, "-c", f"import sys\n{ECHO_LINES}"]
+# What a program that plays the store needs to read and write packets.
+STAND_IN = """
+import os, struct, sys, time
+def receive():
+    head = sys.stdin.buffer.read(4)
+    if len(head) < 4: sys.exit()
+    return sys.stdin.buffer.read(struct.unpack('>I', head)[0])
+def answer(body):
+    sys.stdout.buffer.write(struct.pack('>I', len(body)) + body)
+    sys.stdout.flush()
+def number(number): answer(b'\\0\\x83b' + struct.pack('>i', number))
+def say(text): print(text, file=sys.stderr, flush=True)
+"""
+# Returns the key of a lookup in the table t, and of any other request its place.
+ECHO_REQUESTS = """
+head, place = b'\\x83h\\2w\\6lookupl\\0\\0\\0\\2w\\1t', 0
+while True:
+    body = receive()
+    if body[5:].startswith(head): answer(b'\\0\\x83' + body[5 + len(head):-1])
+    else: number(place)
+    place += 1
+"""
+
+
+def stand_in(code):
+    """Returns a program that plays the store. The code may call the functions of STAND_IN."""
+    return [sys.executable, "-S", "-c", STAND_IN + code]
+
+
+def answering(*bodies):
+    """Returns a program that gives these answers, one for each request, and ends."""
+    return stand_in(f"for body in {list(bodies)!r}:\n receive()\n answer(body)")
+
+
+ECHO = stand_in(ECHO_REQUESTS)
 
 
 def found(find):
@@ -41,20 +71,20 @@ def without_extension():
     return mock.patch.object(calling, "extension", None)
 
 
-def printing(*answers):
-    """Returns a program that prints these answers, one for each line, and ends."""
-    lines = f"for answer in {list(answers)!r}:\n sys.stdin.readline()\n os.write(1, answer.encode() + b'\\n')"
-    return [sys.executable, "-c", f"import os, sys\n{lines}"]
+def in_time(work, seconds=10):
+    """Does some work in a thread. Returns whether it ended in time, and what it raised."""
+    raised = []
 
+    def run():
+        try:
+            work()
+        except BaseException as error:
+            raised.append(error)
 
-def giving_reasons(program):
-    """Returns a program that prints reasons on standard error by `say(number, what)`, and answers by
-    `answer(what)`."""
-    defined = (
-        "import sys, time\ndef answer(what):\n print(what, flush=True)\n"
-        "def say(number, what):\n print(f'line {number}: {what}', file=sys.stderr, flush=True)\n"
-    )
-    return [sys.executable, "-c", defined + program, "--why"]
+    thread = threading.Thread(target=run, daemon=True)
+    thread.start()
+    thread.join(seconds)
+    return not thread.is_alive(), raised
 
 
 def printed(term):

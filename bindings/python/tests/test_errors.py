@@ -9,8 +9,8 @@ import tempfile
 import unittest
 from unittest import mock
 
-from helpers import ECHO, LIBRARY, PROGRAM, giving_reasons, printing
-from yoyoash import Atom, Gone, Process, Pid, Store, SystemLimit, Unavailable, aio, finding
+from helpers import ECHO, LIBRARY, PROGRAM, answering, stand_in
+from yoyoash import Atom, Gone, Pid, Process, Store, SystemLimit, Unavailable, aio, encode, finding
 
 
 class Errors(unittest.TestCase):
@@ -34,8 +34,8 @@ class Errors(unittest.TestCase):
 
     def test_a_missing_program(self):
         wanted = [f"there is no {self.folder}/ets_script", "export YOYOASH_PROGRAM=", "pip install"]
-        self.raised(lambda: Store(self.folder / "ets_script"), wanted)
-        self.raised(lambda: Store([str(self.folder / "x"), "--why"]), ["export YOYOASH_PROGRAM="])
+        self.raised(lambda: Store.pipe(self.folder / "ets_script"), wanted)
+        self.raised(lambda: Store.pipe([str(self.folder / "x"), "--why"]), ["export YOYOASH_PROGRAM="])
 
     def test_a_missing_library(self):
         self.raised(lambda: Store.in_process(self.folder / "libyoyoash.so"), ["there is no ", "export YOYOASH_LIBRARY=", "pip install"])
@@ -45,23 +45,24 @@ class Errors(unittest.TestCase):
         with mock.patch.multiple(finding, COPIES=nowhere, REPOSITORY=self.folder), mock.patch.dict(os.environ):
             os.environ.pop("YOYOASH_PROGRAM", None)
             os.environ.pop("YOYOASH_LIBRARY", None)
-            self.raised(Store, [f"there is no {nowhere}/ets_script", "export YOYOASH_PROGRAM=", "pip install"])
+            self.raised(Store.pipe, [f"there is no {nowhere}/ets_script", "export YOYOASH_PROGRAM=", "pip install"])
             self.raised(Store.in_process, [f"there is no {nowhere}/libyoyoash.so", "export YOYOASH_LIBRARY=", "pip install"])
             (self.folder / "bindings/python").mkdir(parents=True)
-            self.raised(Store, [f"git -C {self.folder} checkout -- ets_script", "export YOYOASH_PROGRAM="])
-            self.raised(Store.in_process, ["checkout -- dist/x86_64-linux/libyoyoash.so", "export YOYOASH_LIBRARY="])
+            self.raised(Store.pipe, [f"git -C {self.folder} checkout -- ets_script", "export YOYOASH_PROGRAM="])
+            for opening in Store.in_process, Store:
+                self.raised(opening, ["checkout -- dist/x86_64-linux/libyoyoash.so", "export YOYOASH_LIBRARY="])
 
     def test_a_program_that_is_not_executable(self):
         path = self.file("ets_script", b"#!/bin/sh\n")
-        self.raised(lambda: Store(path), ["is not executable", f"chmod +x {path}"])
+        self.raised(lambda: Store.pipe(path), ["is not executable", f"chmod +x {path}"])
 
     def test_a_program_of_another_platform(self):
         path = self.file("ets_script", b"\xcf\xfa\xed\xfe not for this machine", 0o755)
-        self.raised(lambda: Store(path), ["x86-64 Linux with glibc 2.34", "docker run"])
+        self.raised(lambda: Store.pipe(path), ["x86-64 Linux with glibc 2.34", "docker run"])
 
     def test_a_program_whose_loader_is_missing(self):
         path = self.file("ets_script", b"#!/nonexistent/ld-linux.so\n", 0o755)
-        self.raised(lambda: Store(path), ["x86-64 Linux with glibc 2.34", "docker run"])
+        self.raised(lambda: Store.pipe(path), ["x86-64 Linux with glibc 2.34", "docker run"])
 
     def test_a_library_of_another_platform(self):
         path = self.file("libyoyoash.so", b"\xcf\xfa\xed\xfe not for this machine")
@@ -82,31 +83,31 @@ class Errors(unittest.TestCase):
 
     def test_a_missing_folder_is_not_a_missing_program(self):
         with self.assertRaises(FileNotFoundError):
-            Store(ECHO, cwd=self.folder / "nowhere")
+            Store.pipe(ECHO, cwd=self.folder / "nowhere")
 
     def test_a_program_that_has_ended(self):
-        with Store([sys.executable, "-c", "import sys; sys.exit(3)"]) as store:
+        with Store.pipe([sys.executable, "-c", "import sys; sys.exit(3)"]) as store:
             for _ in range(2):
                 with self.assertRaises(Gone) as gone:
-                    store.ask("p member(t,1)")
-                self.assertEqual(str(gone.exception), "gone: p member(t,1) (the program ended with exit status 3; open a new Store)")
+                    store.ask("spawn p")
+                self.assertEqual(str(gone.exception), "gone: spawn p (the program ended with exit status 3; open a new Store)")
 
     def test_a_program_that_was_killed(self):
-        with Store(ECHO) as store:
+        with Store.pipe(ECHO) as store:
             anna = Process(store, "p", Pid(0))
-            self.assertEqual(anna.member(Atom("t"), 1), 0)
-            store._way._program.kill()
+            self.assertEqual(anna.first(Atom("t")), 0)
+            store._way._program.popen.kill()
             with self.assertRaises(Gone) as gone:
-                anna.member(Atom("t"), 1)
+                anna.first(Atom("t"))
             self.assertEqual(gone.exception.reason, "the program was killed by SIGKILL")
 
     def test_a_program_that_says_why_it_ends(self):
-        with mock.patch("os.write"), Store(giving_reasons("sys.exit('rt not found')")) as store, self.assertRaises(Gone) as gone:
+        with mock.patch("os.write"), Store.pipe(stand_in("sys.exit('rt not found')")) as store, self.assertRaises(Gone) as gone:
             store.spawn("anna")
         self.assertEqual(gone.exception.reason, "the program ended with exit status 1: rt not found")
 
     def test_a_closed_store(self):
-        store = Store(printing("<0.0.0>"))
+        store = Store.pipe(answering(b"\0" + encode(Pid(0))))
         anna = store.spawn("anna")
         store.close()
         store.close()
@@ -119,7 +120,7 @@ class Errors(unittest.TestCase):
 
         async def opened(command):
             async with aio.Store(command) as store:
-                await store.ask("p member(t,1)")
+                await store.spawn("p")
 
         self.raised(lambda: asyncio.run(opened(self.folder / "ets_script")), ["export YOYOASH_PROGRAM="])
         path = self.file("ets_script", b"\xcf\xfa\xed\xfe", 0o755)
@@ -148,7 +149,7 @@ class FullTables(unittest.TestCase):
 
     @unittest.skipUnless(PROGRAM, "no ets_script found: set YOYOASH_PROGRAM")
     def test_by_pipe(self):
-        self.check(Store(max_processes=1, max_tables=1, max_objects=1))
+        self.check(Store.pipe(max_processes=1, max_tables=1, max_objects=1))
 
     @unittest.skipUnless(LIBRARY, "no libyoyoash.so found: set YOYOASH_LIBRARY")
     def test_in_process(self):
@@ -162,8 +163,8 @@ class FullTables(unittest.TestCase):
 
 class Unclosed(unittest.TestCase):
     def test_a_dropped_store_warns_and_ends_its_program(self):
-        store = Store(ECHO)
-        program = store._way._program
+        store = Store.pipe(ECHO)
+        program = store._way._program.popen
         with self.assertWarns(ResourceWarning):
             del store
         self.assertEqual(program.returncode, 0)
@@ -171,18 +172,18 @@ class Unclosed(unittest.TestCase):
     def test_a_closed_store_and_one_that_never_opened_do_not_warn(self):
         script = (
             "import warnings\nwarnings.simplefilter('error')\nfrom yoyoash import *\n"
-            f"with Store({ECHO!r}): pass\ntry: Store('/nonexistent/ets_script')\nexcept Unavailable: print('unavailable')"
+            f"with Store.pipe({ECHO!r}): pass\ntry: Store.pipe('/nonexistent/ets_script')\nexcept Unavailable: print('unavailable')"
         )
         self.assertEqual(self.run_python(script), ("unavailable\n", ""))
 
     def test_a_store_that_is_open_at_exit_warns_once(self):
-        script = f"from yoyoash import *\nstore = Store({ECHO!r})\nprint(store.ask('p member(t,1)'))"
+        script = f"from yoyoash import *\nstore = Store.pipe({ECHO!r})\nprint(Process(store, 'p', Pid(0)).first(Atom('t')))"
         output, errors = self.run_python(script, "-Wdefault::ResourceWarning")
         self.assertEqual((output, errors.count(" ResourceWarning: <"), "Traceback" in errors), ("0\n", 1, False))
 
     @unittest.skipUnless(PROGRAM, "no ets_script found: set YOYOASH_PROGRAM")
     def test_python_ends_while_a_store_by_pipe_is_open(self):
-        self.check_ends_while_open(f"Store({str(PROGRAM)!r})")
+        self.check_ends_while_open(f"Store.pipe({str(PROGRAM)!r})")
 
     @unittest.skipUnless(LIBRARY, "no libyoyoash.so found: set YOYOASH_LIBRARY")
     def test_python_ends_while_a_store_in_process_is_open(self):
@@ -202,7 +203,7 @@ class Unclosed(unittest.TestCase):
                 ran = self.ran(begun + script, "-Wdefault::ResourceWarning")
                 self.assertEqual((ran.returncode, ran.stdout, ran.stderr.count("Fatal")), (*wanted[:2], 0), ran.stderr)
                 self.assertIn(wanted[2], ran.stderr)
-                self.assertEqual(ran.stderr.count(" ResourceWarning: <"), 4 if script == forked else 2)
+                self.assertEqual(ran.stderr.count(" ResourceWarning: <"), 2)
 
     def run_python(self, script, *options):
         ran = self.ran(script, *options)

@@ -126,7 +126,7 @@ class InProcess(unittest.TestCase):
         with self.open() as store:
             self.table(store)
             self.assertEqual(store.ask("\tp  new ( u , [ ] ) "), Tid(1))
-            for line, at in [("p lookup(t,{a)", 13), ("p lookup(t,A)", 11), ("p lookup(t,a)(", 0), ("grow t", 6), ("p lookup(t,a}", 0)]:
+            for line, at in [("p lookup(t,{a)", 13), ("p lookup(t,A)", 11), ("p lookup(t,a)(", 13), ("grow t", 6), ("p lookup(t,a}", 12)]:
                 with self.assertRaises(Syntax) as refused:
                     store.ask(line)
                 self.assertEqual(refused.exception.at, at)
@@ -154,9 +154,9 @@ class InProcess(unittest.TestCase):
         wrong = []
 
         def work(store, p, t, start):
-            for number in range(start, start + 500):
-                p.insert(t, (number, [number] * (number % 1_500)))
-                if p.lookup(t, number) != [(number, [number] * (number % 1_500))]:
+            for number in range(start, start + 200):
+                p.insert(t, (number, [number] * (number * 7 % 1_500)))
+                if p.lookup(t, number) != [(number, [number] * (number * 7 % 1_500))]:
                     wrong.append(number)
                 try:
                     p.lookup(Atom("nowhere"), number)
@@ -172,7 +172,7 @@ class InProcess(unittest.TestCase):
                 it.start()
             for it in threads:
                 it.join()
-            self.assertEqual((wrong, p.info(t, Atom("size"))), ([], 2_000))
+            self.assertEqual((wrong, p.info(t, Atom("size"))), ([], 800))
 
     def test_a_store_moves_to_another_thread(self):
         opened = []

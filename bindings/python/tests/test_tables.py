@@ -12,7 +12,7 @@ FIXED, TRUE, FALSE = Atom("fixed"), Atom("true"), Atom("false")
 @unittest.skipUnless(PROGRAM, "no ets_script found: set YOYOASH_PROGRAM")
 class ByPipe(unittest.TestCase):
     def open(self):
-        return Store()
+        return Store.pipe()
 
     def setUp(self):
         store = self.open()

@@ -31,13 +31,13 @@ def backend():
     return module
 
 
-def can_build():
-    """Returns whether the extension can be built here."""
+def built():
+    """Returns the extension as a file of the wheel, or nothing if it cannot be built here."""
     with contextlib.redirect_stderr(io.StringIO()):
-        return bool(backend().extension())
+        return backend().extension()
 
 
-CAN_BUILD = can_build()
+BUILT = built()
 
 
 class Wheel(unittest.TestCase):
@@ -57,9 +57,6 @@ class Wheel(unittest.TestCase):
     def build(self, dist, outdir, **variables):
         words = [sys.executable, "-B", str(PACKAGE / "build-wheel"), str(dist), str(self.folder / outdir)]
         return subprocess.run(words, capture_output=True, text=True, env=os.environ | variables)
-
-    def test_a_wheel_has_the_package_and_the_copies(self):
-        self.check_wheel(self.build(self.dist(), "out"), CAN_BUILD)
 
     def test_a_wheel_without_a_compiler_has_no_extension(self):
         built = self.build(self.dist(), "out", CC=str(self.folder / "no-cc"))
@@ -89,11 +86,13 @@ class Wheel(unittest.TestCase):
         self.assertIn("\nRequires-Python: >=3.10\n", metadata)
         self.assertIn("License: not chosen yet, all rights reserved", metadata)
 
-    def test_two_builds_are_the_same_bytes(self):
+    def test_a_wheel_has_the_package_and_the_copies_and_two_builds_are_the_same_bytes(self):
         dist = self.dist()
         paths = []
         for outdir in "first", "second":
-            paths.append(pathlib.Path(self.build(dist, outdir).stdout.strip()))
+            built = self.build(dist, outdir)
+            self.check_wheel(built, bool(BUILT))
+            paths.append(pathlib.Path(built.stdout.strip()))
             for it in dist.iterdir():
                 os.utime(it, (1_000_000_000, 1_000_000_000))
         self.assertEqual(paths[0].read_bytes(), paths[1].read_bytes())
@@ -107,7 +106,7 @@ class Wheel(unittest.TestCase):
     def built_by_pip(self, dist, is_for_here):
         """Builds what pip installs on a machine that runs the copies, or on another. Returns the wheel's name."""
         made = backend()
-        made.is_for_here = lambda: is_for_here
+        made.is_for_here, made.extension = lambda: is_for_here, lambda: BUILT
         with mock.patch.dict(os.environ, YOYOASH_DIST=str(dist)):
             return made.build_wheel(self.folder)
 
@@ -138,6 +137,6 @@ class Wheel(unittest.TestCase):
 
     @unittest.skipUnless(all((DIST / name).is_file() for name in COPIES), f"there is no {DIST}")
     def test_the_copies_and_the_extension_link_to_glibc_alone(self):
-        for content in [(DIST / name).read_bytes() for name in COPIES] + ([it for it, _ in backend().extension().values()] if CAN_BUILD else []):
+        for content in [(DIST / name).read_bytes() for name in COPIES] + [it for it, _ in BUILT.values()]:
             needed = set(re.findall(rb"\0(lib[a-z_]+\.so\.\d+)(?=\0)", content))
             self.assertLessEqual(needed, {b"libc.so.6", b"libm.so.6", b"libgcc_s.so.1", b"libpthread.so.0", b"libyoyoash.so.0"})

@@ -15,7 +15,7 @@ from typing import TYPE_CHECKING
 from .calls import CALLS
 from .decoding import decode
 from .external import encode
-from .faults import BadArg, Fault, Gone, LineTooLong, NoMemory, NoProcess, Syntax, SystemLimit, Untold
+from .faults import BadArg, Fault, Gone, NoMemory, NoProcess, Syntax, SystemLimit, TooLong, Untold
 from .finding import Unavailable
 from .reading import parse
 from .store import Pipeline, Process, Store
@@ -27,8 +27,8 @@ if TYPE_CHECKING:
 __version__ = "0.1.0"
 
 __all__ = [
-    "ABSENT", "Atom", "BadArg", "CALLS", "END_OF_TABLE", "Fault", "Gone", "LineTooLong", "NoMemory", "NoProcess", "Pid",
-    "Pipeline", "Process", "Store", "Syntax", "SystemLimit", "Table", "Term", "Tid", "Unavailable", "Untold", "aio",
+    "ABSENT", "Atom", "BadArg", "CALLS", "END_OF_TABLE", "Fault", "Gone", "NoMemory", "NoProcess", "Pid", "Pipeline",
+    "Process", "Store", "Syntax", "SystemLimit", "Table", "Term", "Tid", "TooLong", "Unavailable", "Untold", "aio",
     "decode", "encode", "parse", "spell",
 ]  # fmt: skip
 

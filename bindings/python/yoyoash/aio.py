@@ -6,32 +6,28 @@ other.
         prices = await anna.new(Atom("prices"), [Atom("named_table")])
         await asyncio.gather(*[anna.insert(prices, (number, 0)) for number in range(1_000)])
 
-Use a Store in the event loop that opened it. Cancelling a call does not stop it: its answer is read and dropped."""
+Use a Store in the event loop that opened it. Cancelling a call does not stop it: its reply is read and dropped."""
 
 from __future__ import annotations
 
 import asyncio
 import contextlib
-import os
-from asyncio.subprocess import PIPE
-from collections import deque
+import warnings
 from collections.abc import AsyncIterator, Sequence
 from typing import Any
 
-from . import finding
+from . import calling, finding
 from .calls import AwaitedCalls
-from .faults import CLOSED, BadArg, Fault, NoProcess, Refused, gone, line_of, result_of
-from .pipe import BLOCK, TOO_MANY, how_it_ended
-from .reasons import PATIENCE, Heard, reason_of
-from .store import checked_line, checked_name
-from .terms import END_OF_TABLE, FALSE, TRUE, Pid, Table, Term, spell_all
+from .exchange import Body, Exchange
+from .faults import BadArg, Fault, NoProcess, gone, line_of_terms, raised
+from .packets import CALL, Names, Request, fits, packet, result_of, too_long
+from .store import Uncopied, checked_line, checked_name
+from .terms import END_OF_TABLE, FALSE, TRUE, Pid, Table, Term
 
 UNOPENED = "the store is not open: use `async with`, or call open()"
-# A call waits before it sends if this many bytes are unsent.
-MOST_UNSENT = 1 << 20
 
 
-class Store:
+class Store(Uncopied):
     """A store in a program at the other end of a pipe."""
 
     def __init__(
@@ -41,30 +37,18 @@ class Store:
         max_processes: int | None = None,
         max_tables: int | None = None,
         max_objects: int | None = None,
+        seed: int | None = None,
         **options: Any,
     ):
-        """Takes the arguments of yoyoash.Store. `options` are those of asyncio.create_subprocess_exec. Starts nothing
-        yet."""
-        limits = {"max_processes": max_processes, "max_tables": max_tables, "max_objects": max_objects}
-        self._words, self._options = finding.command(command, limits), options
-        self._waiting: deque[asyncio.Future[str | None]] = deque()
-        self._sent, self._ended, self._heard, self._is_patient = 0, UNOPENED, Heard(), True
+        """Takes the arguments of yoyoash.Store.pipe. Starts nothing yet."""
+        settings = finding.Settings(max_processes, max_tables, max_objects, seed)
+        self._words, self._options = finding.command(command, settings), options
+        self._exchange: Exchange | None = None
+        self._names = Names()
 
     async def open(self) -> Store:
         """Starts the program."""
-        has_reasons = "--why" in self._words and "stderr" not in self._options
-        options = {"limit": BLOCK} | ({"stderr": PIPE} if has_reasons else {}) | self._options
-        try:
-            self._program = await asyncio.create_subprocess_exec(*self._words, stdin=PIPE, stdout=PIPE, **options)
-        except OSError as error:
-            if os.fsdecode(error.filename or "") != self._words[0]:
-                raise
-            raise finding.unavailable(self._words[0], "YOYOASH_PROGRAM", error) from None
-        assert self._program.stdin and self._program.stdout
-        self._lines, self._ended, self._draining = self._program.stdin, "", asyncio.Lock()
-        self._changed: asyncio.Future[None] = asyncio.get_running_loop().create_future()
-        self._reasons = asyncio.create_task(self._read_reasons(self._program.stderr)) if has_reasons else None
-        self._answers = asyncio.create_task(self._read_answers(self._program.stdout))
+        self._exchange = Exchange(self._words, self._options)
         return self
 
     async def spawn(self, name: str) -> Process:
@@ -73,27 +57,22 @@ class Store:
 
     async def ask(self, line: str) -> Any:
         """Returns the reply to a line of the script language, or raises a Fault."""
-        return await self._result(checked_line(line), *self._send(line))
+        return await self._answer(*self._request(line))
 
     async def ask_all(self, lines: Sequence[str]) -> list[Any]:
         """Sends all lines, then returns for each its reply or its Fault, in order."""
-        sent = [(checked_line(line), *self._send(line)) for line in lines]
-        answers = await asyncio.gather(*[self._result(*it) for it in sent], return_exceptions=True)
+        sent = [self._request(line) for line in [checked_line(it) for it in lines]]
+        answers = await asyncio.gather(*[self._answer(*it) for it in sent], return_exceptions=True)
         for answer in answers:
             if isinstance(answer, BaseException) and not isinstance(answer, Fault):
                 raise answer
         return answers
 
     async def close(self) -> None:
-        """Ends the store after the calls that were sent. Closing again does nothing."""
-        if self._ended == UNOPENED:
-            return
-        self._ended = CLOSED
-        self._lines.close()
-        await self._answers
-        await self._program.wait()
-        if self._reasons:
-            await asyncio.wait([self._reasons], timeout=PATIENCE)
+        """Ends the store after the calls that were sent. Waits a bounded time, and then kills its program. Closing again does
+        nothing."""
+        if self._exchange:
+            await self._exchange.close()
 
     async def __aenter__(self) -> Store:
         return await self.open()
@@ -101,98 +80,42 @@ class Store:
     async def __aexit__(self, *raised: object) -> None:
         await self.close()
 
-    def _send(self, line: str) -> tuple[int, asyncio.Future[str | None]]:
-        """Sends a line. Returns its number and what will have its answer."""
-        answer: asyncio.Future[str | None] = asyncio.get_running_loop().create_future()
-        if self._ended:
-            answer.set_result(None)
-        else:
-            self._sent += 1
-            self._waiting.append(answer)
-            self._lines.write(line.encode("ascii") + b"\n")
-        return self._sent, answer
+    def _send(self, data: bytes) -> Body:
+        """Sends a request. Returns what will have the body of its reply."""
+        if self._exchange:
+            return self._exchange.send(data)
+        body: Body = asyncio.get_running_loop().create_future()
+        body.set_result(None)
+        return body
 
-    async def _result(self, line: str, number: int, answer: asyncio.Future[str | None]) -> Any:
-        """Waits for an answer. Returns the reply or raises the Fault."""
-        while not answer.done() and self._lines.transport.get_write_buffer_size() > MOST_UNSENT:
-            async with self._draining:
-                with contextlib.suppress(ConnectionError):
-                    await self._lines.drain()
-        text = await answer
-        if text is None:
-            raise gone(line, self._ended)
-        result = result_of(line, Refused(text, await self._reason(number)) if text[:3] == "** " else text, "")
-        if isinstance(result, Fault):
-            raise result
-        return result
+    async def _body(self, body: Body) -> bytes | None:
+        """Waits for the body of a reply."""
+        if self._exchange and not body.done():
+            await self._exchange.room()
+        return await body
 
-    async def _reason(self, number: int) -> str | None:
-        """Waits shortly for the reason of a line, which arrives after its answer."""
-        loop = asyncio.get_running_loop()
-        latest = loop.time() + PATIENCE
-        while self._reasons and self._is_patient and self._heard.number < number:
-            done, _ = await asyncio.wait([self._changed], timeout=latest - loop.time())
-            self._is_patient = bool(done)
-        return self._heard.reasons.pop(number, None)
+    def _why_gone(self) -> str:
+        return self._exchange.ended if self._exchange else UNOPENED
 
-    async def _read_answers(self, stream: asyncio.StreamReader) -> None:
-        """Hands the answers to the calls that wait, in order, until the program ends."""
-        begun: list[bytes] = []
-        try:
-            while block := await stream.read(BLOCK):
-                *lines, rest = block.split(b"\n")
-                for line in lines:
-                    self._hand_over(b"".join([*begun, line]).decode("ascii", "backslashreplace"))
-                    begun.clear()
-                if rest:
-                    begun.append(rest)
-            await self._say_how_it_ended()
-        finally:
-            while self._waiting:
-                self._hand_over(None)
+    def _request(self, line: str) -> tuple[Request, Body | None]:
+        request = Request(checked_line(line), self._names)
+        return request, self._send(request.packet) if request.packet else None
 
-    def _hand_over(self, text: str | None) -> None:
-        """Gives the first call that waits its answer. A cancelled call's answer is dropped."""
-        if not self._waiting:
-            self._ended = self._ended or TOO_MANY
-            return
-        answer = self._waiting.popleft()
-        if not answer.done():
-            answer.set_result(text)
+    async def _answer(self, request: Request, sent: Body | None) -> Any:
+        """Waits for the answer of a line. Returns the reply or raises the Fault."""
+        body = await self._body(sent) if sent else None
+        return raised(request.result(body, self._why_gone()))
 
-    async def _say_how_it_ended(self) -> None:
-        """Finds out how the program ended. No call is sent meanwhile."""
-        if not self._ended:
-            self._ended = "the program closed its output"
-            with contextlib.suppress(asyncio.TimeoutError):
-                status = await asyncio.wait_for(self._program.wait(), PATIENCE)
-                if self._reasons:
-                    await asyncio.wait([self._reasons], timeout=PATIENCE)
-                self._ended = how_it_ended(status, self._heard.last_line)
-
-    async def _read_reasons(self, stream: asyncio.StreamReader) -> None:
-        """Keeps the reasons that the program prints. Wakes the calls that wait for one after each block."""
-        begun = b""
-        while block := await stream.read(BLOCK):
-            *lines, begun = (begun + block).split(b"\n")
-            for line in lines:
-                if found := reason_of(line):
-                    self._heard.keep(*found)
-                    self._is_patient = True
-                else:
-                    self._heard.pass_on(line + b"\n")
-            self._wake()
-        if begun:
-            self._heard.pass_on(begun)
-        self._heard.number = float("inf")
-        self._wake()
-
-    def _wake(self) -> None:
-        self._changed.set_result(None)
-        self._changed = asyncio.get_running_loop().create_future()
+    def __del__(self) -> None:
+        exchange = self.__dict__.get("_exchange")
+        if exchange and exchange.is_open():
+            try:
+                warnings.warn(f"{self!r} was never closed: use `async with`, or call close()", ResourceWarning, source=self)
+            finally:
+                exchange.stop()
 
 
-class Process(AwaitedCalls):
+class Process(Uncopied, AwaitedCalls):
     """A process of the store. Each call of docs/calls.md is a method to await: it returns the reply or raises a
     Fault."""
 
@@ -211,7 +134,7 @@ class Process(AwaitedCalls):
             await self.safe_fixtable(table, TRUE)
         except asyncio.CancelledError:
             # The fix was sent, so its release is sent too.
-            self._send("safe_fixtable", table, FALSE)
+            self.store._send(self._packet("safe_fixtable", table, FALSE))
             raise
         try:
             yield table
@@ -240,11 +163,16 @@ class Process(AwaitedCalls):
                 found = await self.next_lookup(table, key)
 
     async def _call(self, call: str, *terms: Term) -> Any:
-        return await self.store._result(*self._send(call, *terms))
+        body = await self.store._body(self.store._send(self._packet(call, *terms)))
+        if body is None:
+            raise gone(line_of_terms(self.name, call, terms), self.store._why_gone())
+        return raised(result_of(body, line_of_terms, self.name, call, terms))
 
-    def _send(self, call: str, *terms: Term) -> tuple[str, int, asyncio.Future[str | None]]:
-        line = line_of(self.name, call, spell_all(terms))
-        return line, *self.store._send(line)
+    def _packet(self, call: str, *terms: Term) -> bytes:
+        data = calling.encoded(call, terms)
+        if not fits(data):
+            raise too_long(line_of_terms(self.name, call, terms), data)
+        return packet(CALL, self.pid.number, data)
 
     def __repr__(self) -> str:
         return f"<process {self.name} {self.pid!r}>"

@@ -3,6 +3,7 @@
 from __future__ import annotations
 
 import ctypes
+import os
 from collections.abc import Callable, Sequence
 from ctypes import byref, c_size_t, c_void_p
 from threading import Lock
@@ -10,6 +11,7 @@ from typing import Any
 
 from .decoding import decode
 from .external import encode_call
+from .faults import GONE, VALUE, line_of_terms
 from .terms import Term
 
 try:
@@ -18,7 +20,6 @@ except ImportError:
     # It was not built, or for another Python.
     extension = None
 
-VALUE = 0
 
 
 class Handle(ctypes.Structure):
@@ -55,12 +56,27 @@ def encoded(name: str, terms: Sequence[Term]) -> bytes:
     return (extension and extension.encode_call(name, *terms)) or encode_call(name, terms)
 
 
-def caller(library: ctypes.CDLL, handle: Handle) -> Any:
-    """Returns what makes calls of a store. It has the lock of the store too."""
+def decoded(data: bytes) -> Term:
+    """Returns the term of a reply."""
+    term = extension and extension.decode(data)
+    return decode(data) if term is None else term
+
+
+def line_of_call(process: str, call: bytes) -> str:
+    """Returns the line of a process's call with these bytes."""
+    name, terms = decode(call)
+    return line_of_terms(process, name.text, terms)
+
+
+def caller(library: ctypes.CDLL, handle: Handle) -> tuple[Any, Any]:
+    """Returns what makes calls of a store, and the lock of the store. Both locks are made in C: if the lock were a Python
+    method `__enter__`, an interrupt inside of it would leave the lock held."""
     if not extension:
-        return Caller(library, handle)
+        plain = Caller(library, handle)
+        return plain, plain.lock
     functions = library.yoyoash_call_external, library.yoyoash_reply_external, library.yoyoash_why
-    return extension.Caller(handle, ctypes.addressof(handle), *[ctypes.cast(it, c_void_p).value for it in functions])
+    made = extension.Caller(handle, ctypes.addressof(handle), *[ctypes.cast(it, c_void_p).value for it in functions])
+    return made, made
 
 
 class Caller:
@@ -68,7 +84,7 @@ class Caller:
 
     def __init__(self, library: ctypes.CDLL, handle: Handle):
         # No `argtypes` are set: ctypes would convert every argument at every call.
-        self._store, self._turn = byref(handle), Lock()
+        self._store, self.lock, self._owner = byref(handle), Lock(), os.getpid()
         self._do, self._again, self._why = library.yoyoash_call_external, library.yoyoash_reply_external, library.yoyoash_why
         self._buffer, self._reason = Buffer(4_096), Buffer(256)
         self._words, self._length = self._buffer.words, self._buffer.length
@@ -84,7 +100,9 @@ class Caller:
 
     def _made(self, report: Callable[..., Any], process: str, pid: int, data: bytes, call: Any) -> Any:
         why, size, buffer = None, SIZES[len(data)], self._buffer
-        with self._turn:
+        if self._owner != os.getpid():
+            return report(process, pid, call, GONE, 0, None)
+        with self.lock:
             status = self._do(self._store, pid, data, size, *self._words)
             length = self._length.value
             if status == VALUE and length > buffer.size:
@@ -95,10 +113,3 @@ class Caller:
             elif self._why(self._store, *self._reason.words) == VALUE:
                 why = self._reason.read().decode()
         return report(process, pid, call, status, length, why) if status else decode(reply)
-
-    def __enter__(self) -> Caller:
-        self._turn.acquire()
-        return self
-
-    def __exit__(self, *raised: object) -> None:
-        self._turn.release()

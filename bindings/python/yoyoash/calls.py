@@ -44,18 +44,18 @@ class Calls:
         """Calls `insert(T,Objects)`. Inserts an object, or all objects of a list, one after another. Returns `true`."""
         return self._call("insert", table, objects)
 
-    def insert_new(self, table: Table, objects: tuple[Any, ...] | list[Any]) -> Atom:
+    def insert_new(self, table: Table, objects: tuple[Any, ...] | list[Any]) -> bool:
         """Calls `insert_new(T,Objects)`. Returns `false`, and inserts nothing, if the key of one of the objects has
         objects in T. Otherwise as `insert`."""
-        return self._call("insert_new", table, objects)
+        return bool(self._call("insert_new", table, objects))
 
     def lookup(self, table: Table, key: Term) -> list[tuple[Any, ...]]:
         """Calls `lookup(T,Key)`. Returns the list of the key's objects, oldest first."""
         return self._call("lookup", table, key)
 
-    def member(self, table: Table, key: Term) -> Atom:
+    def member(self, table: Table, key: Term) -> bool:
         """Calls `member(T,Key)`. Returns whether the key has objects."""
-        return self._call("member", table, key)
+        return bool(self._call("member", table, key))
 
     def lookup_element(self, table: Table, key: Term, pos: int, default: Term | Absent = ABSENT) -> Any:
         """Calls `lookup_element(T,Key,Pos)` or `lookup_element(T,Key,Pos,Default)`. Returns element Pos of the object
@@ -158,6 +158,9 @@ class CollectedCalls:
     def _collect(self, call: str, *terms: Term) -> None:
         raise NotImplementedError
 
+    def _collect_truth(self, call: str, *terms: Term) -> None:
+        raise NotImplementedError
+
     def new(self, name: Atom, options: Term) -> None:
         """Calls `new(Name,Options)`. Makes a table. Returns its name if it is a named table, otherwise its identifier."""
         self._collect("new", name, options)
@@ -186,7 +189,7 @@ class CollectedCalls:
     def insert_new(self, table: Table, objects: tuple[Any, ...] | list[Any]) -> None:
         """Calls `insert_new(T,Objects)`. Returns `false`, and inserts nothing, if the key of one of the objects has
         objects in T. Otherwise as `insert`."""
-        self._collect("insert_new", table, objects)
+        self._collect_truth("insert_new", table, objects)
 
     def lookup(self, table: Table, key: Term) -> None:
         """Calls `lookup(T,Key)`. Returns the list of the key's objects, oldest first."""
@@ -194,7 +197,7 @@ class CollectedCalls:
 
     def member(self, table: Table, key: Term) -> None:
         """Calls `member(T,Key)`. Returns whether the key has objects."""
-        self._collect("member", table, key)
+        self._collect_truth("member", table, key)
 
     def lookup_element(self, table: Table, key: Term, pos: int, default: Term | Absent = ABSENT) -> None:
         """Calls `lookup_element(T,Key,Pos)` or `lookup_element(T,Key,Pos,Default)`. Returns element Pos of the object
@@ -324,18 +327,18 @@ class AwaitedCalls:
         """Calls `insert(T,Objects)`. Inserts an object, or all objects of a list, one after another. Returns `true`."""
         return await self._call("insert", table, objects)
 
-    async def insert_new(self, table: Table, objects: tuple[Any, ...] | list[Any]) -> Atom:
+    async def insert_new(self, table: Table, objects: tuple[Any, ...] | list[Any]) -> bool:
         """Calls `insert_new(T,Objects)`. Returns `false`, and inserts nothing, if the key of one of the objects has
         objects in T. Otherwise as `insert`."""
-        return await self._call("insert_new", table, objects)
+        return bool(await self._call("insert_new", table, objects))
 
     async def lookup(self, table: Table, key: Term) -> list[tuple[Any, ...]]:
         """Calls `lookup(T,Key)`. Returns the list of the key's objects, oldest first."""
         return await self._call("lookup", table, key)
 
-    async def member(self, table: Table, key: Term) -> Atom:
+    async def member(self, table: Table, key: Term) -> bool:
         """Calls `member(T,Key)`. Returns whether the key has objects."""
-        return await self._call("member", table, key)
+        return bool(await self._call("member", table, key))
 
     async def lookup_element(self, table: Table, key: Term, pos: int, default: Term | Absent = ABSENT) -> Any:
         """Calls `lookup_element(T,Key,Pos)` or `lookup_element(T,Key,Pos,Default)`. Returns element Pos of the object

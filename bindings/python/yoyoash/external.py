@@ -4,8 +4,9 @@ from __future__ import annotations
 
 import struct
 from collections.abc import Sequence
+from typing import Any
 
-from .terms import Atom, ByType, Pid, Term, Tid, in_range
+from .terms import Atom, ByType, End, Path, Pid, Term, Tid, in_range
 
 _VERSION = b"\x83"
 # The node of all pids and references, as an atom of the format.
@@ -66,6 +67,8 @@ LEAVES = {
     Pid: lambda it: b"X" + _NODE + it.number.to_bytes(4, "big") + b"\0\0\0\0\0\0\0\0",
     Tid: lambda it: b"Z\0\1" + _NODE + b"\0\0\0\0" + it.number.to_bytes(4, "big"),
     bytes: lambda it: _count(109, len(it)) + it,
+    bytearray: lambda it: _count(109, len(it)) + it,
+    memoryview: lambda it: _count(109, it.nbytes) + it.tobytes(),
 }
 _is_flat = frozenset(LEAVES).issuperset
 
@@ -74,26 +77,22 @@ def _is_nested(it: Sequence[Term]) -> bool:
     return not _is_flat(map(type, it)) and any(isinstance(each, (tuple, list)) for each in it)
 
 
-class _Tail:
-    """The end of a list."""
-
-
 def _nest(nest: Sequence[Term]) -> bytes:
     """Encodes a tuple or a list that contains others, to any depth, without recursion."""
     parts: list[bytes] = []
-    left: list = [nest]
+    path, left = Path(), [nest]
     while left:
-        it = left.pop()
-        if it is _Tail:
-            parts.append(b"j")
+        it: Any = left.pop()
+        if type(it) is End:
+            parts.append(b"j" if it.sign else b"")
+            path.end(it)
         elif not isinstance(it, (tuple, list)) or not _is_nested(it):
             parts.append(ENCODED_BY[type(it)](it))
-        elif isinstance(it, tuple):
-            parts.append(_tuple_head(it))
-            left += reversed(it)
         else:
-            parts.append(_count(108, len(it)))
-            left.append(_Tail)
+            end = path.begin(it)
+            end.sign = "" if isinstance(it, tuple) else "]"
+            parts.append(_tuple_head(it) if isinstance(it, tuple) else _count(108, len(it)))
+            left.append(end)
             left += reversed(it)
     return b"".join(parts)
 

@@ -3,40 +3,22 @@
 from __future__ import annotations
 
 import re
-from collections.abc import Callable
+from collections.abc import Sequence
 from typing import Any
 
-from .reading import parse
+from .terms import Term, shortened, spell_all
 
 CLOSED = "the store is closed"
-
-
-class Refused(str):
-    """The text of a reply that begins with `** `. `why` is the reason, a function that returns it, or None if it is
-    unknown."""
-
-    __slots__ = ("why",)
-
-    def __new__(cls, text: str, why: Callable[[], str | None] | str | None = None) -> Refused:
-        refused = super().__new__(cls, text)
-        refused.why = why
-        return refused
+FORKED = "this process was forked after the store was opened, and the store stays with its parent"
 
 
 class Fault(Exception):
-    """A call without a reply. `line` is the line that was sent, `answer` what came back, `reason` why, in words."""
+    """A call without a reply. `line` is the call as a line of the script language, `answer` what came back, `reason` why,
+    in words. The text of the exception shortens the line."""
 
-    def __init__(self, line: str, answer: str, why: Callable[[], str | None] | str | None = None):
+    def __init__(self, line: str, answer: str, reason: str | None = None):
         super().__init__(line, answer)
-        self.line, self.answer, self._why = line, answer, why
-
-    @property
-    def reason(self) -> str | None:
-        """Returns the reason, such as `argument 1: no such table`, or None if it is unknown. May wait for it, at most
-        a second."""
-        if callable(self._why):
-            self._why = self._why()
-        return self._why
+        self.line, self.answer, self.reason = line, answer, reason or None
 
     @property
     def remedy(self) -> str | None:
@@ -45,7 +27,11 @@ class Fault(Exception):
 
     def __str__(self) -> str:
         notes = "; ".join(it for it in (self.reason, self.remedy) if it)
-        return f"{self.answer}: {self.line}" + (f" ({notes})" if notes else "")
+        line = shortened(self.line, max(60, 190 - len(self.answer) - len(notes)))
+        return f"{self.answer}: {line}" + (f" ({notes})" if notes else "")
+
+    def __repr__(self) -> str:
+        return f"{type(self).__name__}({shortened(self.line)!r}, {self.answer!r})"
 
     def __reduce__(self):
         return type(self), (self.line, self.answer, self.reason)
@@ -73,48 +59,58 @@ class NoMemory(Fault):
 
 
 class Syntax(Fault):
-    """The line is not a line of the script language. `at` is the byte of its first fault."""
+    """The line is not a line of the script language, or a term is too deep. `at` is the byte of its first fault, or None if
+    that is unknown."""
 
     @property
-    def at(self) -> int:
-        return int(self.answer.rpartition(" ")[2])
+    def at(self) -> int | None:
+        at = self.answer.rpartition(" ")[2]
+        return int(at) if at.isdigit() else None
 
 
-class LineTooLong(Fault):
-    """The line has more than 65,536 bytes. It was skipped."""
+class TooLong(Fault):
+    """The call has more bytes than a program at the other end of a pipe reads at once. It was not sent."""
+
+    @property
+    def remedy(self) -> str | None:
+        return "make several calls of it"
 
 
 class Untold(Fault):
-    """The call was done in this process, but there was no memory for its reply."""
+    """The call was done, but there was no memory for its reply."""
 
 
 class Gone(Fault):
-    """The program has ended or was interrupted, so it is unknown if the call was done; or the store is closed."""
+    """The program has ended or was interrupted, so it is unknown if the call was done; or the store is closed, or this
+    process was forked after it was opened."""
 
     @property
     def remedy(self) -> str | None:
         return "open a new Store"
 
 
-KINDS = {
-    "badarg": BadArg,
-    "system_limit": SystemLimit,
-    "noproc": NoProcess,
-    "nomem": NoMemory,
-    "line too long": LineTooLong,
-    "untold": Untold,
+# What a call without a reply has as its `answer`, by its status, and its exception. docs/c.md has the statuses.
+VALUE, BADARG, NO_PROCESS, SYNTAX, GONE = 0, 1, 3, 5, 6
+ANSWERS: dict[int, tuple[str, type[Fault]]] = {
+    BADARG: ("badarg", BadArg),
+    2: ("system_limit", SystemLimit),
+    NO_PROCESS: ("noproc", NoProcess),
+    4: ("nomem", NoMemory),
+    SYNTAX: ("syntax", Syntax),
+    GONE: ("gone", Gone),
+    7: ("untold", Untold),
 }
 
 
-def fault(line: str, answer: Refused) -> Fault:
-    """Returns the exception of a refused line. The kind follows `** `."""
-    kind = answer[3:]
-    return KINDS.get(kind, Syntax)(line, kind, answer.why)
+def fault(line: str, status: int, reason: str | None, at: int | None = None) -> Fault:
+    """Returns the exception of a line by its status. `at` is the byte of its first fault, if that is known."""
+    answer, kind = ANSWERS[status]
+    return kind(line, answer if at is None else f"{answer} {at}", reason)
 
 
 def gone(line: str, why: str) -> Gone:
     """Returns the exception of a line that got no answer."""
-    return Gone(line, "gone", why)
+    return fault(line, GONE, why)
 
 
 def line_of(process: str, name: str, arguments: str) -> str:
@@ -122,8 +118,13 @@ def line_of(process: str, name: str, arguments: str) -> str:
     return f"{process} {name}({arguments})"
 
 
-def result_of(line: str, answer: str | None, ended: str) -> Any:
-    """Returns the term or the Fault of an answer. `ended` says why there is none if it is None."""
-    if answer is None:
-        return gone(line, ended)
-    return fault(line, answer) if isinstance(answer, Refused) else parse(answer)
+def line_of_terms(process: str, name: str, terms: Sequence[Term]) -> str:
+    """Returns the line of a process's call with these terms."""
+    return line_of(process, name, spell_all(terms))
+
+
+def raised(result: Any) -> Any:
+    """Returns a reply, and raises a Fault."""
+    if isinstance(result, Fault):
+        raise result
+    return result

@@ -3,13 +3,19 @@
 from __future__ import annotations
 
 import errno
+import operator
 import os
 import pathlib
 import platform
 import shutil
 from collections.abc import Sequence
-from typing import Union
+from dataclasses import dataclass
+from typing import Any, Union
 
+from .terms import written
+
+# The limits in the order of the library's arguments, and the largest value of each.
+LIMITS, LARGEST = ("max_processes", "max_tables", "max_objects"), 2**32 - 1
 Path = Union[str, "os.PathLike[str]"]
 
 PACKAGE = pathlib.Path(__file__).resolve().parent
@@ -35,22 +41,54 @@ def library(given: Path | None = None) -> str:
     return _found(given, "YOYOASH_LIBRARY", REPOSITORY / "dist/x86_64-linux/libyoyoash.so")
 
 
-def command(given: Path | Sequence[str] | None, limits: dict[str, int | None]) -> list[str]:
-    """Returns the words that start the program. A path, or nothing, gets `--why`; a list of words is taken as it
-    is."""
-    is_path = given is None or isinstance(given, (str, os.PathLike))
-    words = [program(given), "--why"] if is_path else [str(it) for it in given]
-    for name, limit in limits.items():
-        if limit is not None:
-            words += [f"--{name.replace('_', '-')}", str(limited(name, limit))]
-    return words
+@dataclass(frozen=True)
+class Settings:
+    """The limits and the seed of a store. None is the default: the largest limit, which takes no memory until it is used,
+    and a seed of the system's random numbers."""
+
+    max_processes: int | None = None
+    max_tables: int | None = None
+    max_objects: int | None = None
+    seed: int | None = None
+
+    def __post_init__(self):
+        for name, bits in {**dict.fromkeys(LIMITS, 32), "seed": 64}.items():
+            if getattr(self, name) is not None:
+                object.__setattr__(self, name, _in_bits(name, getattr(self, name), bits))
+
+    def limits(self) -> dict[str, int]:
+        """Returns each limit."""
+        return {name: LARGEST if getattr(self, name) is None else getattr(self, name) for name in LIMITS}
+
+    def words(self, has_defaults: bool) -> list[str]:
+        """Returns the options of the program, with or without the default limits. Raises a ValueError for a seed that the
+        program does not have."""
+        if self.seed is not None and not 0 < self.seed <= LARGEST:
+            raise ValueError(f"seed={self.seed} is out of range: over a pipe it goes from 1 to {LARGEST}")
+        chosen = self.limits() if has_defaults else {name: getattr(self, name) for name in LIMITS}
+        pairs = (chosen | {"seed": self.seed}).items()
+        return [word for name, it in pairs if it is not None for word in (f"--{name.replace('_', '-')}", str(it))]
 
 
-def limited(name: str, limit: int) -> int:
-    """Returns a limit if it fits the store's 32 bits. Raises a ValueError otherwise."""
-    if not 0 <= limit < 2**32:
-        raise ValueError(f"{name}={limit!r} is not a limit: limits go from 0 to 4294967295")
-    return limit
+def _in_bits(name: str, given: Any, bits: int) -> int:
+    """Returns an integer of at most this many bits. Raises a TypeError or a ValueError otherwise."""
+    try:
+        number = None if isinstance(given, bool) else operator.index(given)
+    except TypeError:
+        number = None
+    if number is None:
+        raise TypeError(f"{name}={written(given)} is not an integer")
+    if not 0 <= number < 2**bits:
+        raise ValueError(f"{name}={written(given)} is out of range: it goes from 0 to {2**bits - 1}")
+    return number
+
+
+def command(given: Path | Sequence[str] | None, settings: Settings) -> list[str]:
+    """Returns the words that start the program. A path, or nothing, gets `--external` and the default limits; a list of words
+    is taken as it is."""
+    if given is None or isinstance(given, (str, os.PathLike)):
+        return [program(given), "--external", *settings.words(True)]
+    return [*[str(it) for it in given], *settings.words(False)]
 
 
 def unavailable(path: str, variable: str, error: Exception) -> Unavailable:

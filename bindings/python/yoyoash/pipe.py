@@ -1,165 +1,167 @@
-"""A program at the other end of a pipe."""
+"""A store in a program at the other end of a pipe."""
 
 from __future__ import annotations
 
 import os
 import select
-import signal
-import subprocess
 import threading
+import time
 from collections.abc import Callable, Sequence
 from functools import partial
 from typing import Any
 
-from . import finding
-from .faults import CLOSED, Refused, line_of, result_of
-from .reading import parse
-from .reasons import PATIENCE, Reasons
-from .terms import Pid, Term, spell_all
+from . import calling, finding, forking, program
+from .faults import CLOSED, FORKED, gone, line_of_terms, raised
+from .packets import CALL, NOT_PACKETS, Names, NotPackets, Replies, Request, fits, packet, result_of, too_long
+from .program import INTERRUPTED, TOO_MANY, Program
+from .terms import Pid, Term
 
-# This many bytes are read at once, since a pipe rarely holds more.
-BLOCK = 65_536
-INTERRUPTED = "an earlier call was interrupted"
-TOO_MANY = "the program printed more lines than it was sent"
+# A thread that waits for replies looks each time after this many milliseconds whether the program runs.
+WAKING = 200
 
 
 class Pipe:
-    """A running `ets_script`. Threads may share it: one exchange runs at a time."""
+    """A running `ets_script --external`. Threads may share it: one exchange runs at a time."""
 
-    def __init__(
-        self,
-        command: finding.Path | Sequence[str] | None = None,
-        limits: dict[str, int | None] | None = None,
-        **options,
-    ):
-        """Starts the program. `options` are those of subprocess.Popen. Reads the reasons if the words contain
-        `--why`, unless the caller takes the program's standard error."""
-        words = finding.command(command, limits or {})
-        has_reasons = "--why" in words and "stderr" not in options
-        if has_reasons:
-            options["stderr"] = subprocess.PIPE
-        try:
-            self._program = subprocess.Popen(words, stdin=subprocess.PIPE, stdout=subprocess.PIPE, bufsize=0, **options)
-        except OSError as error:
-            if os.fsdecode(error.filename or "") != words[0]:
-                raise
-            raise finding.unavailable(words[0], "YOYOASH_PROGRAM", error) from None
-        self._reasons = Reasons(self._program.stderr) if has_reasons else None
-        self._lines, self._answers = self._program.stdin, self._program.stdout
-        self._lines_at = self._lines.fileno()
-        # Answers have to be read while the program takes no more lines.
-        os.set_blocking(self._lines_at, False)
-        self._either = select.poll()
-        self._either.register(self._lines, select.POLLOUT)
-        self._either.register(self._answers, select.POLLIN)
-        # Why no more lines are sent; empty while the program runs.
-        self.ended = ""
-        self.is_closed, self._sent, self._turn = False, 0, threading.Lock()
-
-    def call(self, process: str, pid: Pid, name: str, arguments: str) -> str | None:
-        """Returns the text of the answer to a process's call, or None if there was none."""
-        return self._exchange(f"{line_of(process, name, arguments)}\n", 1)[0]
+    def __init__(self, command: finding.Path | Sequence[str] | None, settings: finding.Settings, options: dict[str, Any]):
+        """Starts the program. `options` are those of subprocess.Popen."""
+        self._program = Program(finding.command(command, settings), options)
+        # Replies have to be read while the program takes no more calls.
+        self._readable, self._either = select.poll(), select.poll()
+        for poll in self._readable, self._either:
+            for stream in self._program.replies, self._program.errors:
+                if stream:
+                    poll.register(stream, select.POLLIN)
+        self._either.register(self._program.requests, select.POLLOUT)
+        self._at_requests, self._at_replies = self._program.requests.fileno(), self._program.replies.fileno()
+        # What the polls return if there are replies, and nothing else: the usual case.
+        self._has_replies, self._replies = [(self._at_replies, select.POLLIN)], Replies()
+        # Why no more calls are sent; empty while the program runs.
+        self.ended, self.is_closed = "", False
+        self._turn, self._names = threading.Lock(), Names()
+        forking.hold(self)
 
     def asker(self, process: str, pid: Pid) -> Callable[..., Any]:
         """Returns a function that makes calls of a process, each a name and terms. It returns the reply or raises a
         Fault."""
-        return partial(self._ask, process)
+        return partial(self._ask, process, pid.number)
 
-    def _ask(self, process: str, name: str, *terms: Term) -> Any:
-        line = line_of(process, name, spell_all(terms))
-        (answer,) = self._exchange(f"{line}\n", 1)
-        if answer and answer[0] != "*":
-            return parse(answer)
-        raise result_of(line, answer, self.ended)
+    def _ask(self, process: str, pid: int, name: str, *terms: Term) -> Any:
+        call = calling.encoded(name, terms)
+        if not fits(call):
+            raise too_long(line_of_terms(process, name, terms), call)
+        bodies = self._exchange(packet(CALL, pid, call), 1)
+        if not bodies:
+            raise gone(line_of_terms(process, name, terms), self.ended)
+        return raised(result_of(bodies[0], line_of_terms, process, name, terms))
 
-    def collected(self, name: str, terms: Sequence[Term]) -> tuple[str, str]:
+    def collected(self, name: str, terms: Sequence[Term]) -> bytes:
         """Returns what `results` takes of a call."""
-        return name, spell_all(terms)
+        return calling.encoded(name, terms)
 
-    def results(self, process: str, pid: Pid, calls: Sequence[tuple[str, str]]) -> list[Any]:
+    def results(self, process: str, pid: Pid, calls: Sequence[bytes]) -> list[Any]:
         """Makes calls in one exchange. Returns a reply or a Fault for each."""
-        lines = "".join([f"{process} {name}({arguments})\n" for name, arguments in calls])
-        return [
-            parse(it) if it and it[0] != "*" else result_of(line_of(process, *call), it, self.ended)
-            for call, it in zip(calls, self._exchange(lines, len(calls)), strict=True)
-        ]
+        line = partial(calling.line_of_call, process)
+        sent = [packet(CALL, pid.number, it) if fits(it) else b"" for it in calls]
+        bodies = iter(self._exchange(b"".join(sent), sum(map(bool, sent))))
+        results = []
+        for call, data in zip(calls, sent, strict=True):
+            body = next(bodies, None) if data else None
+            if body is None:
+                results.append(gone(line(call), self.ended) if data else too_long(line(call), call))
+            else:
+                results.append(result_of(body, line, call))
+        return results
 
-    def lines(self, lines: Sequence[str]) -> list[str | None]:
-        """Returns the texts of the answers to lines, in one exchange."""
-        return self._exchange("".join([f"{line}\n" for line in lines]), len(lines))
+    def ask_all(self, lines: Sequence[str]) -> list[Any]:
+        """Sends lines of the script language in one exchange. Returns a reply or a Fault for each."""
+        requests = [Request(line, self._names) for line in lines]
+        sent = [it.packet for it in requests]
+        bodies = iter(self._exchange(b"".join(sent), sum(map(bool, sent))))
+        return [it.result(next(bodies, None) if it.packet else None, self.ended) for it in requests]
 
-    def _exchange(self, lines: str, count: int) -> list[str | None]:
-        """Sends this many lines and returns their answers."""
+    def _exchange(self, data: bytes, count: int) -> list[bytes]:
+        """Sends this many requests. Returns the bodies of their replies: fewer if the program ends."""
+        if self._is_forked() or not count:
+            return []
         with self._turn:
             if self.ended:
-                return [None] * count
-            # If this is interrupted, as by Ctrl-C, a later answer could be taken for another line's. So none is sent
-            # any more.
+                return []
+            # If this is interrupted, as by Ctrl-C, a later reply could be taken for another call's. So none is sent any more.
             self.ended = INTERRUPTED
-            first, self._sent = self._sent + 1, self._sent + count
-            text = self._answer(lines.encode("ascii"), count)
-            *answers, rest = text.split("\n")
-            is_whole = len(answers) == count and rest == ""
-            self.ended = "" if is_whole else TOO_MANY if len(answers) >= count else self._how_it_ended()
-        if "** " in text:
-            answers = [self._refused(it, first + place) if it[:3] == "** " else it for place, it in enumerate(answers)]
-        return answers[:count] + [None] * (count - len(answers))
+            bodies, ended = self._talk(data, count)
+            self.ended = CLOSED if self.is_closed else ended
+        return bodies
 
-    def _refused(self, answer: str, number: int) -> Refused:
-        """Adds to a refusal how to get the reason of the line with this number."""
-        return Refused(answer, self._reasons and partial(self._reasons.of, number))
+    def _talk(self, data: bytes, count: int) -> tuple[list[bytes], str]:
+        """Sends requests and reads this many replies. Returns their bodies, and why there are no more: nothing if there
+        may be."""
+        bodies: list[bytes] = []
+        unsent = self._program.send(data)
+        while unsent or len(bodies) < count:
+            ready = self._wait(bool(unsent))
+            if ready & select.POLLOUT:
+                unsent = self._program.send(unsent)
+            if ready & select.POLLIN:
+                block = self._program.read()
+                if not block:
+                    return bodies, self._how_it_ended()
+                try:
+                    bodies += self._replies.add(block)
+                except NotPackets:
+                    return bodies, NOT_PACKETS
+            elif not ready and self._program.has_ended():
+                # A program that it started has its output still open.
+                return bodies, self._how_it_ended()
+        is_whole = len(bodies) == count and not self._replies.is_begun()
+        return bodies[:count], "" if is_whole else TOO_MANY
 
-    def _answer(self, lines: bytes, count: int) -> str:
-        """Sends lines and reads this many answers, or fewer if the program ends."""
-        unsent, blocks = self._send(lines), []
-        while count > 0 or unsent:
-            if unsent and self._takes_lines():
-                unsent = self._send(unsent)
-                continue
-            block = self._answers.read(BLOCK)
-            if not block:
-                break
-            blocks.append(block)
-            count -= block.count(b"\n")
-        return b"".join(blocks).decode("ascii")
-
-    def _send(self, lines: bytes | memoryview) -> bytes | memoryview:
-        """Sends what the program takes of some lines and returns the rest. There is no rest if the program has
-        ended."""
-        try:
-            sent = self._lines.write(lines)
-        except (BrokenPipeError, ValueError):
-            return b""
-        return b"" if sent == len(lines) else memoryview(lines)[sent or 0 :]
-
-    def _takes_lines(self) -> bool:
-        """Waits until the program takes lines or has printed something. Returns whether it takes lines."""
-        return any(at == self._lines_at for at, _ in self._either.poll())
+    def _wait(self, has_unsent: bool) -> int:
+        """Waits until the program takes requests (POLLOUT) or has printed replies (POLLIN). Passes on what it prints on
+        standard error."""
+        found = (self._either if has_unsent else self._readable).poll(WAKING)
+        if found == self._has_replies:
+            return select.POLLIN
+        ready = 0
+        for at, _ in found:
+            if at == self._at_replies:
+                ready |= select.POLLIN
+            elif at == self._at_requests:
+                ready |= select.POLLOUT
+            elif not self._program.pass_on():
+                self._readable.unregister(at)
+                self._either.unregister(at)
+        return ready
 
     def _how_it_ended(self) -> str:
-        try:
-            status = self._program.wait(PATIENCE)
-        except subprocess.TimeoutExpired:
-            return "the program closed its output"
-        return how_it_ended(status, self._reasons.last_line() if self._reasons else "")
+        self._program.wait(program.SHORTLY)
+        return self._program.how_it_ended()
 
     def close(self) -> None:
-        """Ends the program. Closing again does nothing."""
-        self.is_closed = True
-        self._lines.close()
-        with self._turn:
+        """Ends the program. Waits a bounded time, and then kills it. Closing again does nothing."""
+        if self._is_forked():
+            return
+        self.is_closed, latest = True, time.monotonic() + program.PATIENCE
+        is_held = self._turn.acquire(timeout=program.PATIENCE)
+        if not is_held:
+            # A call runs. It ends with the program.
+            self._program.popen.kill()
+            is_held = self._turn.acquire(timeout=program.PATIENCE)
+        try:
             self.ended = CLOSED
-            self._answers.close()
-            self._program.wait()
-        if self._reasons:
-            self._reasons.close()
+            if is_held:
+                self._program.stop(latest)
+        finally:
+            if is_held:
+                self._turn.release()
 
+    def _is_forked(self) -> bool:
+        """Returns whether the store belongs to another process, which forked this one."""
+        if os.getpid() != self._program.owner:
+            self.ended, self.is_closed = FORKED, True
+        return self.ended == FORKED
 
-def how_it_ended(status: int, last_line: str) -> str:
-    """Says how a program ended, with the last line of its standard error."""
-    if status < 0:
-        names = {it.value: it.name for it in signal.Signals}
-        how = f"the program was killed by {names.get(-status, f'signal {-status}')}"
-    else:
-        how = f"the program ended with exit status {status}"
-    return f"{how}: {last_line}" if last_line else how
+    def abandon(self) -> None:
+        """Gives the program up, in a forked child."""
+        self.ended, self.is_closed, self._turn = FORKED, True, threading.Lock()
+        self._program.abandon()

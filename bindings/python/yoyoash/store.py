@@ -4,6 +4,7 @@ from __future__ import annotations
 
 import atexit
 import contextlib
+import os
 import re
 import warnings
 import weakref
@@ -12,33 +13,40 @@ from typing import Any
 
 from . import finding
 from .calls import Calls, CollectedCalls
-from .faults import BadArg, Fault, NoProcess, result_of
+from .faults import BadArg, NoProcess, raised
 from .library import Library
 from .pipe import Pipe
-from .terms import END_OF_TABLE, FALSE, TRUE, Pid, Table, Term
+from .terms import END_OF_TABLE, FALSE, TRUE, Atom, Pid, Table, Term, written
 
 # Holds the stores that exist, for `close_all`.
 _stores: weakref.WeakSet[Store] = weakref.WeakSet()
+_NAME = re.compile(r"[a-z][A-Za-z0-9_@]{0,254}").fullmatch
+_COMMANDS = ("spawn", "exit", "grow", "ready")
 
 
-class Store:
-    """A store: a program at the other end of a pipe, or in this process. Threads may share it, one call at a time."""
+class Uncopied:
+    """What refuses to be copied and pickled: two objects would be one store, and the end of one would close the other."""
+
+    def __reduce_ex__(self, protocol: Any) -> Any:
+        raise TypeError(f"a {type(self).__name__} of yoyoash cannot be copied or pickled")
+
+
+class Store(Uncopied):
+    """A store: in this process, or in a program at the other end of a pipe. Threads may share it, one call at a time."""
 
     _way: Pipe | Library
 
     def __init__(
         self,
-        command: finding.Path | Sequence[str] | None = None,
         *,
         max_processes: int | None = None,
         max_tables: int | None = None,
         max_objects: int | None = None,
-        **options: Any,
+        seed: int | None = None,
     ):
-        """Starts a program: the path of `ets_script`, or a list of words that starts one. Without it the package
-        finds the program (docs/python.md). `options` are those of subprocess.Popen."""
-        limits = {"max_processes": max_processes, "max_tables": max_tables, "max_objects": max_objects}
-        self._begin(Pipe(command, limits, **options))
+        """Opens a store in this process if the library loads, else over a pipe. The limits are the largest if you give none.
+        The seed chooses the hash of keys; the default is a number of the system's random numbers."""
+        self._begin(_usual_way(finding.Settings(max_processes, max_tables, max_objects, seed)))
 
     @classmethod
     def in_process(
@@ -48,11 +56,30 @@ class Store:
         max_processes: int | None = None,
         max_tables: int | None = None,
         max_objects: int | None = None,
+        seed: int | None = None,
     ) -> Store:
         """Opens a store in this process, by libyoyoash.so."""
+        return cls._by(Library(library, finding.Settings(max_processes, max_tables, max_objects, seed)))
+
+    @classmethod
+    def pipe(
+        cls,
+        command: finding.Path | Sequence[str] | None = None,
+        *,
+        max_processes: int | None = None,
+        max_tables: int | None = None,
+        max_objects: int | None = None,
+        seed: int | None = None,
+        **options: Any,
+    ) -> Store:
+        """Starts a program: the path of `ets_script`, or a list of words that starts one with `--external`. Without it the
+        package finds the program (docs/python.md). `options` are those of subprocess.Popen."""
+        return cls._by(Pipe(command, finding.Settings(max_processes, max_tables, max_objects, seed), options))
+
+    @classmethod
+    def _by(cls, way: Pipe | Library) -> Store:
         store = cls.__new__(cls)
-        limits = {"max_processes": max_processes, "max_tables": max_tables, "max_objects": max_objects}
-        store._begin(Library(library, limits))
+        store._begin(way)
         return store
 
     def _begin(self, way: Pipe | Library) -> None:
@@ -66,16 +93,11 @@ class Store:
     def ask(self, line: str) -> Any:
         """Returns the reply to a line of the script language, or raises a Fault."""
         (answer,) = self.ask_all([line])
-        if isinstance(answer, Fault):
-            raise answer
-        return answer
+        return raised(answer)
 
     def ask_all(self, lines: Sequence[str]) -> list[Any]:
         """Returns for each line its reply or its Fault, in order. Over a pipe the lines are sent together."""
-        for line in lines:
-            checked_line(line)
-        answers = self._way.lines(lines)
-        return [result_of(line, answer, self._way.ended) for line, answer in zip(lines, answers, strict=True)]
+        return self._way.ask_all([checked_line(line) for line in lines])
 
     def close(self) -> None:
         """Ends the store. Closing again does nothing."""
@@ -110,10 +132,28 @@ def close_all() -> None:
             drops.callback(store._drop)
 
 
+def _usual_way(settings: finding.Settings) -> Pipe | Library:
+    """Opens a store in this process, or over a pipe if there is no library here. A library that the environment names has to
+    load."""
+    try:
+        return Library(None, settings)
+    except finding.Unavailable as unavailable:
+        if os.environ.get("YOYOASH_LIBRARY"):
+            raise
+        without_library = unavailable
+    try:
+        return Pipe(None, settings, {})
+    except finding.Unavailable:
+        raise without_library from None
+
+
 def checked_name(name: str) -> str:
-    """Returns the name if a process can have it. Raises a ValueError otherwise."""
-    if not re.fullmatch(r"[a-z][A-Za-z0-9_@]{0,254}", name) or name in ("spawn", "exit", "grow", "ready"):
-        raise ValueError(f"{name!r} is not a name of a process")
+    """Returns the name if a process can have it. Raises a TypeError or a ValueError otherwise."""
+    if not isinstance(name, str):
+        raise TypeError(f"{written(name)} is not a string: the name of a process is one")
+    if not _NAME(name) or name in _COMMANDS:
+        rule = f"a lower-case letter, then at most 254 letters, digits, _ and @; and not {', '.join(_COMMANDS)}"
+        raise ValueError(f"{written(name)} is not a name of a process: a name is {rule}")
     return name
 
 
@@ -121,11 +161,11 @@ def checked_line(line: str) -> str:
     """Returns the line if it has exactly one answer. Raises a ValueError otherwise: all later answers would be
     shifted."""
     if not re.fullmatch(r"[ -~\t]+", line) or not line.strip() or line.lstrip().startswith("%"):
-        raise ValueError(f"{line!r} is not a line that has an answer")
+        raise ValueError(f"{written(line)} is not a line that has an answer: a line has printable ASCII characters, and is no comment")
     return line
 
 
-class Process(Calls):
+class Process(Uncopied, Calls):
     """A process of the store. Each call of docs/calls.md is a method that returns the reply or raises a Fault."""
 
     def __init__(self, store: Store, name: str, pid: Pid):
@@ -173,23 +213,32 @@ class Process(Calls):
         return f"<process {self.name} {self.pid!r}>"
 
 
-class Pipeline(CollectedCalls):
+class Pipeline(Uncopied, CollectedCalls):
     """Collects calls of a process. `run`, or the end of a `with`, sends them. `answers` then has a reply or a Fault
     for each."""
 
     def __init__(self, store: Store, name: str, pid: Pid):
         self.store, self.name, self.pid = store, name, pid
-        self.calls: list[Any] = []
+        self.calls: list[bytes] = []
         self.answers: list[Any] = []
+        # The places of the calls whose replies are True or False.
+        self._truths: list[int] = []
 
     def run(self) -> list[Any]:
         """Sends the collected calls. Returns a reply or a Fault for each, in order."""
-        calls, self.calls = self.calls, []
+        calls, truths, self.calls, self._truths = self.calls, self._truths, [], []
         self.answers = self.store._way.results(self.name, self.pid, calls)
+        for place in truths:
+            if isinstance(self.answers[place], Atom):
+                self.answers[place] = bool(self.answers[place])
         return self.answers
 
     def _collect(self, call: str, *terms: Term) -> None:
         self.calls.append(self.store._way.collected(call, terms))
+
+    def _collect_truth(self, call: str, *terms: Term) -> None:
+        self._collect(call, *terms)
+        self._truths.append(len(self.calls) - 1)
 
     def __enter__(self) -> Pipeline:
         return self

@@ -5,9 +5,27 @@ from __future__ import annotations
 from collections.abc import Iterable
 from dataclasses import dataclass, field
 from operator import attrgetter
-from typing import Final, Union
+from typing import Any, Final, Union
 
 LEAST, GREATEST = -(2**127), 2**127 - 1
+# At most this many characters of a value or a call are in the text of an exception.
+SHORT = 120
+
+
+def shortened(text: str, most: int = SHORT) -> str:
+    """Returns a text, without its middle if it is longer than this."""
+    if len(text) <= most:
+        return text
+    return f"{text[: most * 2 // 3]}...{text[-(most // 3 - 3) :]}"
+
+
+def written(value: object) -> str:
+    """Returns what Python writes for a value, shortened. Python refuses to write some: very long integers, and lists that
+    are deeper than its stack."""
+    try:
+        return shortened(repr(value))
+    except (ValueError, RecursionError):
+        return f"a value of the type {type(value).__name__}"
 
 
 @dataclass(frozen=True, slots=True)
@@ -21,9 +39,9 @@ class Atom:
 
     def __post_init__(self):
         if not isinstance(self.text, str):
-            raise TypeError(f"{self.text!r} is not a string: the text of an atom is one")
+            raise TypeError(f"{written(self.text)} is not a string: the text of an atom is one")
         if len(self.text) > 255 or not (self.text.isascii() and self.text.isprintable()):
-            raise ValueError(f"{self.text!r} is not an atom: an atom has 0 to 255 printable ASCII characters")
+            raise ValueError(f"{written(self.text)} is not an atom: an atom has 0 to 255 printable ASCII characters")
         object.__setattr__(self, "_spelled", "'" + self.text.replace("\\", "\\\\").replace("'", "\\'") + "'")
 
     def __bool__(self) -> bool:
@@ -41,7 +59,7 @@ class _Number:
     def __post_init__(self):
         if type(self.number) is not int or not 0 <= self.number < 2**32:
             kind = type(self).__name__
-            raise ValueError(f"{self.number!r} is not the number of a {kind}: numbers go from 0 to 4294967295")
+            raise ValueError(f"{written(self.number)} is not the number of a {kind}: numbers go from 0 to 4294967295")
 
     def __repr__(self) -> str:
         return f"{type(self).__name__}({self.number})"
@@ -59,7 +77,7 @@ class Tid(_Number):
     __slots__ = ()
 
 
-Term = Union[int, Atom, Pid, Tid, tuple, list, bytes]
+Term = Union[int, Atom, Pid, Tid, tuple, list, bytes, bytearray, memoryview]
 # What names a table: its identifier, or the name of a named table.
 Table = Union[Atom, Tid]
 
@@ -80,16 +98,14 @@ ABSENT: Final = Absent()
 
 
 def _integer(number: int) -> str:
-    text = repr(number)
-    # Fewer than 39 digits are at most 10^38, which is in range.
-    return text if len(text) < 39 else str(in_range(number))
+    return repr(in_range(number))
 
 
 def in_range(number: int) -> int:
     """Returns an integer that terms can have. Raises a ValueError otherwise."""
     if LEAST <= number <= GREATEST:
         return number
-    raise ValueError(f"{number!r} is out of range: integers go from -2**127 to 2**127 - 1")
+    raise ValueError(f"{written(number)} is out of range: integers go from -2**127 to 2**127 - 1")
 
 
 _BYTES = tuple(map(str, range(256)))
@@ -101,6 +117,8 @@ LEAVES = {
     Pid: lambda it: f"<0.{it.number}.0>",
     Tid: lambda it: f"#Tid<{it.number}>",
     bytes: lambda it: f"<<{','.join([_BYTES[byte] for byte in it])}>>",
+    bytearray: lambda it: f"<<{','.join([_BYTES[byte] for byte in it])}>>",
+    memoryview: lambda it: f"<<{','.join([_BYTES[byte] for byte in it.tobytes()])}>>",
 }
 
 
@@ -115,29 +133,53 @@ def _list(it: list) -> str:
     return f"[{spell_all(it)}]" if _is_flat(map(type, it)) else _nest(it)
 
 
-class _Sign(str):
-    """A comma or a bracket between terms."""
+class Path:
+    """The tuples and lists that are begun and not ended, by their identities. Finds a list that contains itself."""
 
-    __slots__ = ()
+    def __init__(self) -> None:
+        self._begun: set[int] = set()
+
+    def begin(self, it: object) -> End:
+        """Begins a tuple or a list. Returns its end. Raises a ValueError if it is in itself."""
+        if id(it) in self._begun:
+            raise ValueError(f"a {type(it).__name__} that contains itself is not a term")
+        self._begun.add(id(it))
+        return End(id(it))
+
+    def end(self, end: End) -> None:
+        """Ends a tuple or a list."""
+        self._begun.discard(end.identity)
 
 
-_COMMA = _Sign(",")
+class End:
+    """The end of a tuple or a list, among terms that are left to do."""
+
+    __slots__ = ("identity", "sign")
+
+    def __init__(self, identity: int):
+        self.identity, self.sign = identity, ""
+
+
+_COMMA = End(0)
+_COMMA.sign = ","
 
 
 def _nest(nest: tuple | list) -> str:
     """Spells a tuple or a list that contains others, to any depth, without recursion."""
     parts: list[str] = []
-    left: list = [nest]
+    path, left = Path(), [nest]
     while left:
-        it = left.pop()
-        if type(it) is _Sign:
-            parts.append(it)
+        it: Any = left.pop()
+        if type(it) is End:
+            parts.append(it.sign)
+            path.end(it)
         elif not isinstance(it, (tuple, list)) or _is_flat(map(type, it)):
             parts.append(spell(it))
         else:
-            opening, closing = "{}" if isinstance(it, tuple) else "[]"
+            end = path.begin(it)
+            opening, end.sign = "{}" if isinstance(it, tuple) else "[]"
             parts.append(opening)
-            left.append(_Sign(closing))
+            left.append(end)
             for element in reversed(it):
                 left += element, _COMMA
             left.pop()
@@ -156,8 +198,18 @@ class ByType(dict):
 
 
 def _refuse(it):
-    hint = f"; an atom is Atom({str(it).lower()!r})" if isinstance(it, (bool, str)) else ""
-    raise TypeError(f"{it!r} is not a term{hint}")
+    raise TypeError(f"{written(it)} is not a term{_hint(it)}")
+
+
+def _hint(it: object) -> str:
+    """Returns what to write in place of a value."""
+    if isinstance(it, bool):
+        return f": an atom is Atom({str(it).lower()!r})"
+    if not isinstance(it, str):
+        return ""
+    if not (it.isascii() and it.isprintable()) or len(it) > 40:
+        return ': a binary is "text".encode(), and an atom is Atom("text")'
+    return f": a binary is {it.encode()!r}, and an atom is Atom({it!r})"
 
 
 SPELLED_BY = ByType(LEAVES | {tuple: _tuple, list: _list})
