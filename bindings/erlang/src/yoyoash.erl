@@ -9,7 +9,9 @@
 %% The shell shows the reason.
 -module(yoyoash).
 
--export([start_link/0, start_link/1, start/0, start/1, stop/0, child_spec/1, format_error/1, call_as/3]).
+-export([
+    start_link/0, start_link/1, start/0, start/1, stop/0, stop/1, child_spec/1, format_error/1, call/3, call_as/3, call_as/4
+]).
 
 -export([
     delete/1, delete/2, delete_all_objects/1, delete_object/2, first/1, first_lookup/1, give_away/3, info/2, insert/2,
@@ -22,9 +24,19 @@
     foldl/3, foldr/3, info/1, fun2ms/1, test_ms/2, match_spec_compile/1, match_spec_run/2, is_compiled_ms/1
 ]).
 
--export_type([options/0, ended/0, table/0, access/0, type/0, option/0, heir/0, item/0, update/0, value/0]).
+-export_type([options/0, store/0, ended/0, table/0, access/0, type/0, option/0, heir/0, item/0, update/0, value/0]).
 
--type options() :: #{backend => port | nif, program => file:filename_all(), args => [string()]}.
+-type options() :: #{
+    name => atom(),
+    backend => port | nif,
+    program => file:filename_all(),
+    max_processes => non_neg_integer(),
+    max_tables => non_neg_integer(),
+    max_objects => non_neg_integer(),
+    seed => non_neg_integer() | random
+}.
+%% A store: the name under which it is registered, or its process.
+-type store() :: atom() | pid().
 %% How a program ended: its exit status (128 and the number of a signal), or why its port was closed.
 -type ended() :: {status, non_neg_integer()} | {closed, term()}.
 -type table() :: atom() | reference().
@@ -47,9 +59,18 @@
 
 %% Does a call of the store for this process. A macro, so that an exception has the caller's function on top.
 -define(CALL(Name, Args),
-    case yoyoash_caller:call(self(), Name, Args) of
+    case yoyoash_caller:call(?MODULE, self(), Name, Args) of
         {ok, Value} -> Value;
         {error, Reason, Cause} -> error(Reason, Args, [{error_info, #{cause => Cause, module => yoyoash_errors}}])
+    end
+).
+
+%% Does a call that is given by its name. `Given' are the arguments of the function that does it.
+-define(CALL_AS(Store, Pid, Name, Args, Given),
+    case is_call(Store, Pid, Name, Args) andalso yoyoash_caller:call(Store, Pid, Name, Args) of
+        false -> error(undef, Given);
+        {ok, Value} -> Value;
+        {error, Reason, Cause} -> error(Reason, Given, [{error_info, #{cause => general(Cause), module => yoyoash_errors}}])
     end
 ).
 
@@ -59,14 +80,19 @@
 -spec start_link() -> {ok, pid()} | {error, term()}.
 start_link() -> start_link(#{}).
 
-%% @doc Starts the store and links it to the caller.
+%% @doc Starts a store and links it to the caller.
+%%
+%% `name' is the name under which the store is registered, by default `yoyoash'. The calls of this module are made in the
+%% store with that name; {@link call/3} makes them in another.
 %%
 %% `backend' is `port' or `nif'. Without it that is `backend' in the environment of the application, or the NIF if it was
 %% loaded and no program is named, or the port.
 %%
 %% `program' is the path of `ets_script'. Without it that is the variable `YOYOASH_PROGRAM', or `program' in the
 %% environment of the application, or the program of the repository that holds this module, or `ets_script' on `PATH'.
-%% `args' are options of the program, such as `["--max-objects", "5000000"]'. The NIF takes the three limits.
+%%
+%% `max_processes' and `max_tables' are how many the store may ever have, `max_objects' how many objects one table may
+%% have. `seed' is the seed of the hash of keys, by default a random one. All of these may be in the environment.
 %%
 %% The function returns when the store can be called. {@link format_error/1} explains an error.
 -spec start_link(options()) -> {ok, pid()} | {error, term()}.
@@ -84,12 +110,16 @@ start(Options) -> yoyoash_server:start(nolink, Options).
 %%
 %% A supervisor starts its store again, empty: use `application:stop(yoyoash)'.
 -spec stop() -> ok.
-stop() -> gen_server:stop(?MODULE).
+stop() -> stop(?MODULE).
 
-%% @doc Returns the specification of a store as a child of a supervisor.
+%% @doc Stops a store with another name.
+-spec stop(store()) -> ok.
+stop(Store) -> gen_server:stop(Store).
+
+%% @doc Returns the specification of a store as a child of a supervisor. Its name is the child's identifier.
 -spec child_spec(options()) -> supervisor:child_spec().
 child_spec(Options) ->
-    #{id => ?MODULE, start => {?MODULE, start_link, [Options]}, restart => permanent, shutdown => 5_000,
+    #{id => maps:get(name, Options, ?MODULE), start => {?MODULE, start_link, [Options]}, restart => permanent, shutdown => 5_000,
       type => worker, modules => [yoyoash_server]}.
 
 %% @doc Explains in one line why a store was not started or has ended, and what to do.
@@ -97,23 +127,23 @@ child_spec(Options) ->
 format_error({error, Reason}) -> format_error(Reason);
 format_error(Reason) -> yoyoash_program:format_error(Reason).
 
+%% @doc Does a call in a store, which may have any name: `yoyoash:call(prices, lookup, [t, apple])'.
+-spec call(store(), atom(), [term()]) -> term().
+call(Store, Name, Args) -> ?CALL_AS(Store, self(), Name, Args, [Store, Name, Args]).
+
 %% @doc Does a call for another process, which may be on another node: that process owns the table that `new' makes.
 %% No access right is checked for the process that calls it.
 -spec call_as(pid(), atom(), [term()]) -> term().
-call_as(Pid, Name, Args) ->
-    case is_pid(Pid) andalso lists:member({Name, length(Args)}, calls()) of
-        true ->
-            case yoyoash_caller:call(Pid, Name, Args) of
-                {ok, Value} -> Value;
-                {error, Reason, Cause} ->
-                    Info = #{cause => general(Cause), module => yoyoash_errors},
-                    error(Reason, [Pid, Name, Args], [{error_info, Info}])
-            end;
-        false ->
-            error(undef, [Pid, Name, Args])
-    end.
+call_as(Pid, Name, Args) -> ?CALL_AS(?MODULE, Pid, Name, Args, [Pid, Name, Args]).
 
-%% The number of an argument is that of the call's, not that of call_as/3.
+%% @doc Does what {@link call_as/3} does, in a store with any name.
+-spec call_as(store(), pid(), atom(), [term()]) -> term().
+call_as(Store, Pid, Name, Args) -> ?CALL_AS(Store, Pid, Name, Args, [Store, Pid, Name, Args]).
+
+is_call(Store, Pid, Name, Args) ->
+    (is_atom(Store) orelse is_pid(Store)) andalso is_pid(Pid) andalso lists:member({Name, length(Args)}, calls()).
+
+%% The number of an argument is that of the call's, not that of the function that does it.
 general({argument, N, Text}) -> {general, iolist_to_binary(["argument ", integer_to_list(N), ": ", Text])};
 general(Cause) -> Cause.
 

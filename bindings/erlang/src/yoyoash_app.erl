@@ -1,6 +1,6 @@
 %% @doc Starts and stops one supervised store: `application:ensure_all_started(yoyoash)'.
 %%
-%% The environment of the application may have `program' and `args', which {@link yoyoash:start_link/1} explains.
+%% The environment of the application may have the options that {@link yoyoash:start_link/1} explains, except `name'.
 -module(yoyoash_app).
 -behaviour(application).
 -export([start/2, stop/1]).

@@ -1,11 +1,13 @@
 %% @doc Keeps the number of each pid and of each table's reference, and the pid and the reference of each number.
 %%
 %% The store has numbers where this node has pids and references. They are in a table of `ets' that ends with the server,
-%% so a caller that finds it works with the store whose numbers it has.
+%% so a caller that finds it works with the store whose numbers it has. A pid is forgotten when its process has ended,
+%% unless an object or an heir may hold it: such a pid is kept.
 -module(yoyoash_known).
--export([new/0, number/2, pid/2, table/2, add/3, forget/2]).
+-export([new/0, number/2, kept/2, keep/2, pid/2, table/2, add/4, lose/2, forget/3]).
 -export_type([known/0]).
 
+%% The rows are {Pid, N}, {N, Pid, Kept}, {Ref, N} and {{table, N}, Ref}.
 -type known() :: ets:tid().
 
 %% @doc Knows no pid and no table.
@@ -20,9 +22,35 @@ number(Identifier, Known) ->
         [] -> none
     end.
 
-%% @doc Returns the pid with a number.
+%% @doc Returns the number of a pid that an object may hold from now on, and keeps the pid for the number.
+-spec kept(pid(), known()) -> non_neg_integer() | none.
+kept(Pid, Known) ->
+    case number(Pid, Known) of
+        none -> none;
+        N -> kept(ets:lookup(Known, N), Pid, Known)
+    end.
+
+%% The number may be forgotten at the same time. So it is looked up again after it was kept.
+kept([{N, _, true}], _Pid, _Known) -> N;
+kept([{N, _, false}], Pid, Known) ->
+    keep(N, Known),
+    kept(Pid, Known);
+kept([], Pid, Known) ->
+    kept(Pid, Known).
+
+%% @doc Keeps the pid of a number.
+-spec keep(non_neg_integer(), known()) -> ok.
+keep(N, Known) ->
+    _ = ets:update_element(Known, N, {3, true}),
+    ok.
+
+%% @doc Returns the pid with a number. Throws `forgotten' if it was forgotten.
 -spec pid(non_neg_integer(), known()) -> pid().
-pid(N, Known) -> ets:lookup_element(Known, {pid, N}, 2).
+pid(N, Known) ->
+    case ets:lookup(Known, N) of
+        [{_, Pid, _}] -> Pid;
+        [] -> throw(forgotten)
+    end.
 
 %% @doc Returns the reference of a table's number. The first process that meets the number makes it.
 -spec table(non_neg_integer(), known()) -> reference().
@@ -43,10 +71,19 @@ first_met(N, Ref, Known) ->
             table(N, Known)
     end.
 
-%% @doc Gives a pid its number.
--spec add(pid(), non_neg_integer(), known()) -> true.
-add(Pid, N, Known) -> ets:insert(Known, [{{pid, N}, Pid}, {Pid, N}]).
+%% @doc Gives a pid its number, and says whether it is kept.
+-spec add(pid(), non_neg_integer(), Kept :: boolean(), known()) -> true.
+add(Pid, N, Kept, Known) -> ets:insert(Known, [{N, Pid, Kept}, {Pid, N}]).
 
-%% @doc Forgets the number of a pid. The pid of the number stays known, since objects may hold it.
--spec forget(pid(), known()) -> true.
-forget(Pid, Known) -> ets:delete(Known, Pid).
+%% @doc Forgets the number of a pid whose connection was lost: if it comes back, it is a new process of the store.
+-spec lose(pid(), known()) -> true.
+lose(Pid, Known) -> ets:delete(Known, Pid).
+
+%% @doc Forgets a process that has ended in the store, if its pid need not be kept.
+-spec forget(pid(), non_neg_integer(), known()) -> ok.
+forget(Pid, N, Known) ->
+    case ets:select_delete(Known, [{{N, Pid, false}, [], [true]}]) of
+        1 -> ets:delete_object(Known, {Pid, N});
+        0 -> true
+    end,
+    ok.

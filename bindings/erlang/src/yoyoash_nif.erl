@@ -2,7 +2,7 @@
 %%
 %% A mistake in the NIF would end the whole node, not only the store. A store is freed when the process that opened it ends.
 -module(yoyoash_nif).
--export([is_loaded/0, open/3, close/1, ask/4, ask_long/4]).
+-export([is_loaded/0, open/4, close/1, ask/4, ask_long/4]).
 -export_type([handle/0]).
 -on_load(load/0).
 
@@ -22,18 +22,21 @@ load(_NoFile) -> ok.
 -spec is_loaded() -> boolean().
 is_loaded() -> false.
 
-%% @doc Opens a store for this process, with the limits of processes, tables, and objects in one table.
--spec open(non_neg_integer(), non_neg_integer(), non_neg_integer()) -> {ok, handle()} | {error, enomem}.
-open(_Processes, _Tables, _Objects) -> erlang:nif_error(not_loaded).
+%% @doc Opens a store for this process, with the limits of processes, tables, and objects in one table, and the seed of its
+%% hash. A random seed is drawn from the system; `no_seed' says that the system gave none.
+-spec open(non_neg_integer(), non_neg_integer(), non_neg_integer(), non_neg_integer() | random) ->
+    {ok, handle()} | {error, enomem | no_seed}.
+open(_Processes, _Tables, _Objects, _Seed) -> erlang:nif_error(not_loaded).
 
 %% @doc Closes a store. The end of the process that opened it does the same.
 -spec close(handle()) -> ok.
 close(_Handle) -> erlang:nif_error(not_loaded).
 
 %% @doc Answers a request as the program does: kind 0 spawns a process, 1 ends it, 2 makes the call that the bytes are.
--spec ask(handle(), 0..2, non_neg_integer(), binary()) -> binary().
+%% Returns `busy' if another request has the store for long.
+-spec ask(handle(), 0..2, non_neg_integer(), binary()) -> binary() | busy.
 ask(_Handle, _Kind, _Pid, _Bytes) -> erlang:nif_error(not_loaded).
 
 %% @doc Answers a request that may take long, by a dirty scheduler.
--spec ask_long(handle(), 0..2, non_neg_integer(), binary()) -> binary().
+-spec ask_long(handle(), 0..2, non_neg_integer(), binary()) -> binary() | busy.
 ask_long(_Handle, _Kind, _Pid, _Bytes) -> erlang:nif_error(not_loaded).

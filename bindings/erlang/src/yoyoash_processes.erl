@@ -1,17 +1,21 @@
-%% @doc Keeps what the server knows of the store's processes: their numbers to come, and which of them a table may reach.
+%% @doc Keeps what the server knows of the store's processes: their numbers, their monitors, and the heirs of their tables.
 -module(yoyoash_processes).
--export([new/0, enrol/3, spawned/2, refused/2, waiters/1, is_live/2, live/1, owns/2, may_inherit/2, heirs/1, ended/2]).
+-export([
+    new/0, enrol/4, spawned/2, refused/2, waiters/1, number/2, monitor/2, live/1, may_inherit/3, has_heirs/2, copy_heirs/3,
+    take_heirs/2, ended/3
+]).
 -export_type([processes/0]).
+-compile({no_auto_import, [monitor/2]}).
 
 -record(processes, {
-    %% The processes that have not ended.
-    live = #{} :: #{pid() => true},
-    %% The processes that were named as heirs: the only ones to which a table may come when another process ends.
-    heirs = #{} :: #{pid() => true},
-    %% The processes that may have owned a table: the only ones whose end may send a table to an heir.
-    owners = #{} :: #{pid() => true},
-    %% The processes that are being spawned, with their numbers and those who wait for it.
-    spawning = #{} :: #{pid() => {non_neg_integer(), [gen_server:from()]}},
+    %% The processes that have not ended, with their monitors and numbers.
+    live = #{} :: #{pid() => {reference(), non_neg_integer()}},
+    %% The heirs that the tables of a process may have: when it ends, the store may have messages for them.
+    heirs = #{} :: #{Owner :: non_neg_integer() => #{pid() => true}},
+    %% The same the other way: whose tables may go to a process.
+    owners = #{} :: #{Heir :: pid() => #{non_neg_integer() => true}},
+    %% The processes that are being spawned, with their numbers, whether they are kept, and who waits for it.
+    spawning = #{} :: #{pid() => {non_neg_integer(), Keep :: boolean(), [gen_server:from()]}},
     %% The next number, and numbers that the store refused.
     next = 0 :: non_neg_integer(),
     spare = [] :: [non_neg_integer()]
@@ -22,58 +26,94 @@
 -spec new() -> processes().
 new() -> #processes{}.
 
-%% @doc Lets a caller wait until a process is spawned. Returns the number for a process that is new.
--spec enrol(pid(), gen_server:from(), processes()) -> {spawn, non_neg_integer(), processes()} | {waits, processes()}.
-enrol(Pid, From, P = #processes{spawning = Spawning}) when is_map_key(Pid, Spawning) ->
-    #{Pid := {N, Froms}} = Spawning,
-    {waits, P#processes{spawning = Spawning#{Pid := {N, [From | Froms]}}}};
-enrol(Pid, From, P = #processes{spare = [N | Spare]}) -> numbered(Pid, N, From, P#processes{spare = Spare});
-enrol(Pid, From, P = #processes{next = N}) -> numbered(Pid, N, From, P#processes{next = N + 1}).
+%% @doc Lets a caller wait until a process is spawned, and says whether its pid is kept. Returns the number for a process
+%% that is new.
+-spec enrol(pid(), Keep :: boolean(), gen_server:from(), processes()) ->
+    {spawn, non_neg_integer(), processes()} | {waits, processes()}.
+enrol(Pid, Keep, From, P = #processes{spawning = Spawning}) when is_map_key(Pid, Spawning) ->
+    #{Pid := {N, Kept, Froms}} = Spawning,
+    {waits, P#processes{spawning = Spawning#{Pid := {N, Kept orelse Keep, [From | Froms]}}}};
+enrol(Pid, Keep, From, P = #processes{spare = [N | Spare]}) -> numbered(Pid, N, Keep, From, P#processes{spare = Spare});
+enrol(Pid, Keep, From, P = #processes{next = N}) -> numbered(Pid, N, Keep, From, P#processes{next = N + 1}).
 
-numbered(Pid, N, From, P = #processes{spawning = Spawning}) ->
-    {spawn, N, P#processes{spawning = Spawning#{Pid => {N, [From]}}}}.
+numbered(Pid, N, Keep, From, P = #processes{spawning = Spawning}) ->
+    {spawn, N, P#processes{spawning = Spawning#{Pid => {N, Keep, [From]}}}}.
 
-%% @doc Remembers that the store has spawned a process. Returns its number and who waited for it.
--spec spawned(pid(), processes()) -> {non_neg_integer(), [gen_server:from()], processes()}.
+%% @doc Monitors a process that the store has spawned. Returns its number, whether it is kept, and who waited for it.
+-spec spawned(pid(), processes()) -> {non_neg_integer(), Keep :: boolean(), [gen_server:from()], processes()}.
 spawned(Pid, P = #processes{spawning = Spawning, live = Live}) ->
-    {{N, Froms}, Left} = maps:take(Pid, Spawning),
-    {N, Froms, P#processes{spawning = Left, live = Live#{Pid => true}}}.
+    {{N, Keep, Froms}, Left} = maps:take(Pid, Spawning),
+    {N, Keep, Froms, P#processes{spawning = Left, live = Live#{Pid => {erlang:monitor(process, Pid), N}}}}.
 
 %% @doc Remembers that the store has refused to spawn a process, which stays unknown. Returns who waited for it.
 -spec refused(pid(), processes()) -> {[gen_server:from()], processes()}.
 refused(Pid, P = #processes{spawning = Spawning, spare = Spare}) ->
-    {{N, Froms}, Left} = maps:take(Pid, Spawning),
+    {{N, _, Froms}, Left} = maps:take(Pid, Spawning),
     {Froms, P#processes{spawning = Left, spare = [N | Spare]}}.
 
 %% @doc Returns all who wait for a process.
 -spec waiters(processes()) -> [gen_server:from()].
-waiters(#processes{spawning = Spawning}) -> lists:flatmap(fun({_, Froms}) -> Froms end, maps:values(Spawning)).
+waiters(#processes{spawning = Spawning}) -> lists:flatmap(fun({_, _, Froms}) -> Froms end, maps:values(Spawning)).
 
-%% @doc Says whether a process of the store has not ended.
--spec is_live(pid(), processes()) -> boolean().
-is_live(Pid, #processes{live = Live}) -> is_map_key(Pid, Live).
+%% @doc Returns the number of a process that has not ended.
+-spec number(pid(), processes()) -> non_neg_integer() | none.
+number(Pid, #processes{live = Live}) ->
+    case Live of
+        #{Pid := {_, N}} -> N;
+        _ -> none
+    end.
+
+%% @doc Returns the monitor of a process that has not ended.
+-spec monitor(pid(), processes()) -> reference().
+monitor(Pid, #processes{live = Live}) ->
+    {Ref, _} = maps:get(Pid, Live),
+    Ref.
 
 %% @doc Returns the processes that have not ended.
 -spec live(processes()) -> [pid()].
 live(#processes{live = Live}) -> maps:keys(Live).
 
-%% @doc Remembers that a process may own a table.
--spec owns(pid(), processes()) -> processes().
-owns(Pid, P = #processes{owners = Owners}) -> P#processes{owners = Owners#{Pid => true}}.
+%% @doc Remembers that the tables of a process may have some heirs.
+-spec may_inherit([pid()], Owner :: non_neg_integer(), processes()) -> processes().
+may_inherit([], _Owner, P) -> P;
+may_inherit(Pids, Owner, P = #processes{heirs = Heirs, owners = Owners}) ->
+    Old = maps:get(Owner, Heirs, #{}),
+    Live = [Pid || Pid <- Pids, number(Pid, P) =/= none],
+    Named = fun(Pid, Of) -> Of#{Pid => (maps:get(Pid, Of, #{}))#{Owner => true}} end,
+    P#processes{
+        heirs = Heirs#{Owner => maps:merge(Old, maps:from_keys(Live, true))}, owners = lists:foldl(Named, Owners, Live)
+    }.
 
-%% @doc Remembers that processes were named as heirs.
--spec may_inherit([pid()], processes()) -> processes().
-may_inherit(Pids, P = #processes{heirs = Heirs}) -> P#processes{heirs = maps:merge(Heirs, maps:from_keys(Pids, true))}.
+%% @doc Says whether a table of a process may have an heir.
+-spec has_heirs(non_neg_integer(), processes()) -> boolean().
+has_heirs(Owner, #processes{heirs = Heirs}) -> is_map_key(Owner, Heirs).
 
-%% @doc Returns the processes that were named as heirs and have not ended.
--spec heirs(processes()) -> [pid()].
-heirs(#processes{heirs = Heirs, live = Live}) -> [Heir || Heir <- maps:keys(Heirs), is_map_key(Heir, Live)].
+%% @doc Remembers that a process may have got any table of another one.
+-spec copy_heirs(From :: non_neg_integer(), To :: non_neg_integer(), processes()) -> processes().
+copy_heirs(From, To, P = #processes{heirs = Heirs}) -> may_inherit(maps:keys(maps:get(From, Heirs, #{})), To, P).
 
-%% @doc Remembers that a process has ended, and says whether it may have owned a table; or that it was not live.
--spec ended(pid(), processes()) -> {ended, MayOwn :: boolean(), processes()} | not_live.
-ended(Pid, P = #processes{live = Live, heirs = Heirs, owners = Owners}) when is_map_key(Pid, Live) ->
-    Left = P#processes{
-        live = maps:remove(Pid, Live), heirs = maps:remove(Pid, Heirs), owners = maps:remove(Pid, Owners)
-    },
-    {ended, is_map_key(Pid, Owners), Left};
-ended(_Pid, _P) -> not_live.
+%% @doc Returns the live heirs of a process that ends, and forgets that they were its heirs.
+-spec take_heirs(non_neg_integer(), processes()) -> {[pid()], processes()}.
+take_heirs(Owner, P = #processes{heirs = Heirs, owners = Owners}) ->
+    Pids = maps:keys(maps:get(Owner, Heirs, #{})),
+    Left = lists:foldl(fun(Pid, Of) -> remove(Owner, Pid, Of) end, Owners, Pids),
+    {Pids, P#processes{heirs = maps:remove(Owner, Heirs), owners = Left}}.
+
+%% Removes a member from the set with a key, and the set if nothing is left.
+remove(Member, Key, Sets) ->
+    case maps:remove(Member, maps:get(Key, Sets, #{})) of
+        Left when map_size(Left) =:= 0 -> maps:remove(Key, Sets);
+        Left -> Sets#{Key => Left}
+    end.
+
+%% @doc Remembers that a process has ended if the reference is that of its monitor, and returns its number.
+-spec ended(pid(), reference(), processes()) -> {ended, non_neg_integer(), processes()} | not_live.
+ended(Pid, Ref, P = #processes{live = Live, heirs = Heirs, owners = Owners}) ->
+    case Live of
+        #{Pid := {Ref, N}} ->
+            Of = maps:keys(maps:get(Pid, Owners, #{})),
+            Left = lists:foldl(fun(Owner, Now) -> remove(Pid, Owner, Now) end, Heirs, Of),
+            {ended, N, P#processes{live = maps:remove(Pid, Live), heirs = Left, owners = maps:remove(Pid, Owners)}};
+        _ ->
+            not_live
+    end.

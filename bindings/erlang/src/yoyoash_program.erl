@@ -9,22 +9,19 @@
     | {not_executable, file:filename_all()}
     | {wrong_platform, string()}
     | no_nif
-    | {no_limit, string()}
+    | no_seed
+    | yoyoash_options:error()
     | {cannot_start, file:filename_all(), term()}
     | {program_ended, file:filename_all(), yoyoash:ended(), [binary()]}
     | {no_answer, file:filename_all(), [binary()]}.
 
-%% The greatest limit of the program. Its own limits are for scripts; callers in Erlang come and go, and a number is never
-%% used again.
--define(MOST, "4294967295").
-
 %% @doc Says whether the options or an environment name a program.
--spec is_named(yoyoash:options()) -> boolean().
+-spec is_named(yoyoash_options:complete()) -> boolean().
 is_named(#{program := _}) -> true;
 is_named(_Options) -> os:getenv("YOYOASH_PROGRAM", "") =/= "" orelse application:get_env(yoyoash, program) =/= undefined.
 
 %% @doc Returns the path of the program, from the options or from the first place that has one.
--spec find(yoyoash:options()) -> {ok, file:filename_all()} | {error, error()}.
+-spec find(yoyoash_options:complete()) -> {ok, file:filename_all()} | {error, error()}.
 find(#{program := Program}) -> usable(Program);
 find(_Options) ->
     case {os:getenv("YOYOASH_PROGRAM", ""), application:get_env(yoyoash, program)} of
@@ -85,26 +82,29 @@ executable(Path) -> os:find_executable(filename_string(Path)) =/= false.
 filename_string(Path) when is_list(Path) -> Path;
 filename_string(Path) -> unicode:characters_to_list(Path, file:native_name_encoding()).
 
-%% @doc Returns the arguments of the program: the caller's, and those that this binding needs.
--spec args([string()]) -> [string()].
-args(Given) ->
-    Added = [{"--external", []}, {"--max-processes", [?MOST]}, {"--max-tables", [?MOST]}],
-    Given ++ lists:append([[Option | Value] || {Option, Value} <- Added, not given(Option, Given)]).
-
-given(Option, Given) ->
-    lists:any(fun(Arg) -> hd(string:split(Arg, "=")) =:= Option end, Given).
+%% @doc Returns the arguments of the program. It draws a seed by itself if none is given.
+-spec args(yoyoash_options:complete()) -> [string()].
+args(#{max_processes := Processes, max_tables := Tables, max_objects := Objects, seed := Seed}) ->
+    Given = [{"--max-processes", Processes}, {"--max-tables", Tables}, {"--max-objects", Objects}, {"--seed", Seed}],
+    ["--external" | lists:append([[Option, integer_to_list(N)] || {Option, N} <- Given, is_integer(N)])].
 
 %% @doc Explains in one line why no store was started, and what to do.
 -spec format_error(error() | term()) -> string().
-format_error({yoyoash, {{shutdown, {failed_to_start_child, yoyoash, Reason}}, _Start}}) ->
+format_error({yoyoash, {{shutdown, {failed_to_start_child, _Name, Reason}}, _Start}}) ->
     format_error(Reason);
 format_error(no_program) ->
     "the program ets_script was not found: set YOYOASH_PROGRAM to its path";
 format_error(no_nif) ->
     "the NIF is not built: run c_src/build, or use #{backend => port}";
-format_error({no_limit, Arg}) ->
-    text("the option args has ~ts: the NIF takes --max-processes, --max-tables and --max-objects, each with a number",
-         [Arg]);
+format_error({unknown_option, args}) ->
+    "there is no option args any more: give the limits by the keys max_processes, max_tables and max_objects";
+format_error({unknown_option, Key}) ->
+    text("there is no option ~0tp: the options are name, backend, program, max_processes, max_tables, max_objects and seed",
+         [Key]);
+format_error({bad_option, Key, Value}) ->
+    text("the option ~0tp cannot be ~0tP: it is ~ts", [Key, Value, 20, wanted(Key)]);
+format_error(no_seed) ->
+    "the system gives no random seed: choose a number as the option seed";
 format_error(enomem) ->
     "there is no memory for a store: free some";
 format_error({no_program, Path}) ->
@@ -117,23 +117,41 @@ format_error({wrong_platform, Architecture}) ->
 format_error({cannot_start, Path, Reason}) ->
     text("~ts cannot be started (~0tp): run ~ts --version to see why", [Path, Reason, Path]);
 format_error({program_ended, Path, Ended, Notes}) ->
-    case [Note || Note <- Notes, binary:match(Note, <<"unexpected argument '--external'">>) =/= nomatch] of
+    Lacks = [Option || Option <- ["--external", "--seed"], Note <- Notes, lacks(Option, Note)],
+    case Lacks of
         [] -> not_started(Path, Ended, Notes);
-        _ -> text("~ts is older than this binding, since it has no option --external: "
-                  "set YOYOASH_PROGRAM to the ets_script of this version", [Path])
+        [Option | _] -> text("~ts is older than this binding, since it has no option ~ts: "
+                             "set YOYOASH_PROGRAM to the ets_script of this version", [Path, Option])
     end;
 format_error({no_answer, Path, Notes}) ->
     text("~ts does not answer~ts: set YOYOASH_PROGRAM to the path of ets_script", [Path, telling_note(Notes)]);
 format_error({already_started, Pid}) ->
     text("a store is running already, as process ~p: "
          "use it, or end it by yoyoash:stop() or application:stop(yoyoash)", [Pid]);
+format_error({shutdown, Reason}) ->
+    format_error(Reason);
 format_error({program_ended, Ended}) ->
     text("the program ended (~ts): start a store again", [ended(Ended)]);
+format_error(no_term) ->
+    "the store was ended, since a reply was no term: is the program that of this version? Start a store again";
+format_error(no_request) ->
+    "the store was ended, since the program answered without a request: start a store again";
+format_error({part_ended, Part}) ->
+    text("the store was ended, since its process ~p has ended: start a store again", [Part]);
 format_error(Other) ->
     text("~0tp", [Other]).
 
+%% Says what a value of an option is.
+wanted(name) -> "an atom, the name under which the store is registered";
+wanted(backend) -> "port or nif";
+wanted(program) -> "the path of ets_script, a string or a binary";
+wanted(seed) -> "random, or a number from 1 to 4,294,967,295";
+wanted(_Limit) -> "a number from 0 to 4,294,967,295".
+
+lacks(Option, Note) -> binary:match(Note, iolist_to_binary(["unexpected argument '", Option, "'"])) =/= nomatch.
+
 not_started(Path, Ended, Notes) ->
-    text("~ts ended before its first answer (~ts)~ts: correct the option args, or run ~ts --version to see why",
+    text("~ts ended before its first answer (~ts)~ts: run ~ts --version to see why",
          [Path, ended(Ended), telling_note(Notes), Path]).
 
 ended({status, Status}) -> text("status ~b", [Status]);

@@ -2,7 +2,7 @@
 %%
 %% Requests through the port wait until {@link flush/1} sends them all. The NIF answers each request at once.
 -module(yoyoash_requests).
--export([new/1, send/5, replies/2, flush/1, is_unsent/1, count/1, waiting/1, close/1]).
+-export([new/1, send/5, replies/2, flush/1, is_unsent/1, is_part/2, count/1, waiting/1, close/1]).
 -export_type([requests/0]).
 
 -record(requests, {
@@ -25,10 +25,10 @@ new(Backend) -> #requests{backend = Backend}.
 send(Kind, N, Bytes, Purpose, R = #requests{backend = {port, Connection}, count = Count, waiting = Waiting}) ->
     Now = yoyoash_port:send([<<Kind, N:32>> | Bytes], Connection),
     {waits, R#requests{backend = {port, Now}, count = Count + 1, waiting = queue:in(Purpose, Waiting)}};
-send(1, N, Bytes, _Purpose, R = #requests{backend = {nif, Handle}, count = Count}) ->
-    {reply, yoyoash_nif:ask_long(Handle, 1, N, Bytes), R#requests{count = Count + 1}};
-send(Kind, N, Bytes, _Purpose, R = #requests{backend = {nif, Handle}, count = Count}) ->
-    {reply, yoyoash_nif:ask(Handle, Kind, N, Bytes), R#requests{count = Count + 1}}.
+send(1, N, Bytes, _Purpose, R = #requests{backend = {nif, Inside}, count = Count}) ->
+    {reply, yoyoash_inside:ask_long(Inside, 1, N, Bytes), R#requests{count = Count + 1}};
+send(Kind, N, Bytes, _Purpose, R = #requests{backend = {nif, Inside}, count = Count}) ->
+    {reply, yoyoash_inside:ask(Inside, Kind, N, Bytes), R#requests{count = Count + 1}}.
 
 %% @doc Returns the replies that are complete with some bytes of the port, each with what it is for.
 -spec replies(binary(), requests()) -> {[{Purpose :: term(), binary()}], requests()}.
@@ -40,7 +40,7 @@ replies(Data, R = #requests{backend = {port, Connection}, waiting = Waiting}) ->
 oldest(Body, Waiting) ->
     case queue:out(Waiting) of
         {{value, Purpose}, Left} -> {{Purpose, Body}, Left};
-        {empty, _} -> throw({stop, {no_request, Body}})
+        {empty, _} -> throw({stop, no_request})
     end.
 
 %% @doc Sends all requests that were not sent.
@@ -52,6 +52,10 @@ flush(R) -> R.
 -spec is_unsent(requests()) -> boolean().
 is_unsent(#requests{backend = {port, Connection}}) -> yoyoash_port:is_pending(Connection);
 is_unsent(_) -> false.
+
+%% @doc Says whether the store cannot go on without this port or process.
+-spec is_part(port() | pid(), requests()) -> boolean().
+is_part(Part, #requests{backend = Backend}) -> yoyoash_backend:is_part(Part, Backend).
 
 %% @doc Returns the number of requests so far.
 -spec count(requests()) -> non_neg_integer().

@@ -30,7 +30,7 @@ plain(Name, Args) -> bytes({Name, Args}).
 
 bytes(Term) -> term_to_binary(Term, [{minor_version, 2}]).
 
-%% @doc Writes a call, or says for which argument the store has no term.
+%% @doc Writes a call, or says for which argument the store has no term. Throws `forgotten' for a pid without a number.
 -spec write(atom(), [term()], yoyoash_known:known()) -> {ok, binary()} | {error, yoyoash_errors:cause()}.
 write(Name, Args, Known) -> write(Name, Args, 1, Known, []).
 
@@ -63,6 +63,7 @@ leaf(Term) ->
 
 identifier(Identifier, Known) ->
     case yoyoash_known:number(Identifier, Known) of
+        none when is_pid(Identifier) -> throw(forgotten);
         none -> throw({no_term, unsupported(Identifier)});
         N -> N
     end.
@@ -113,7 +114,7 @@ are_ascii(_Other) -> true.
 %%
 %% No atom is made. Each atom of an answer came from this node or is one of the store's own, so it exists here. On a node
 %% without a name the runtime takes the store's pids and references for its own, and refuses some: such terms, and all
-%% others with pids or references, are read here.
+%% others with pids or references, are read here. Throws `forgotten' for the number of a pid that was forgotten.
 -spec read(binary(), yoyoash_known:known()) -> term().
 read(Bytes, Known) ->
     try binary_to_term(Bytes, [safe]) of

@@ -1,6 +1,6 @@
 %% Helpers of the tests.
 -module(yoyoash_help).
--export([backends/0, shown/1, contains/2, eventually/1, quietly/1, in_file/3]).
+-export([backends/0, shown/1, contains/2, eventually/1, quietly/1, logged/1, log/2, in_peer/3, in_file/3]).
 
 %% Returns the backends that can be tested here.
 -spec backends() -> [port | nif].
@@ -47,3 +47,37 @@ in_file(Text, Mode, Do) ->
     ok = file:write_file(File, Text),
     ok = file:change_mode(File, Mode),
     try Do(File) after file:delete(File) end.
+
+%% Runs what ends processes, and returns what is logged meanwhile and shortly after.
+-spec logged(fun(() -> term())) -> [string()].
+logged(Do) ->
+    {ok, Usual} = logger:get_handler_config(default),
+    ok = logger:remove_handler(default),
+    ok = logger:add_handler(?MODULE, ?MODULE, #{config => self()}),
+    try
+        _ = Do(),
+        lines(100)
+    after
+        ok = logger:remove_handler(?MODULE),
+        ok = logger:add_handler(default, maps:get(module, Usual), maps:without([id, module], Usual))
+    end.
+
+%% Receives the lines, until none has come for some milliseconds.
+lines(Milliseconds) ->
+    receive
+        {logged, Line} -> [Line | lines(Milliseconds)]
+    after Milliseconds -> []
+    end.
+
+%% Is the handler of the log: it sends each event as text.
+-spec log(logger:log_event(), logger:handler_config()) -> term().
+log(Event, #{config := Test}) -> Test ! {logged, lists:flatten(logger_formatter:format(Event, #{}))}.
+
+%% Runs a function in a node of its own, without distribution.
+-spec in_peer([string()], fun(), [term()]) -> term().
+in_peer(Flags, Function, Args) ->
+    {module, Module} = erlang:fun_info(Function, module),
+    {name, Name} = erlang:fun_info(Function, name),
+    Path = ["-pa", filename:dirname(code:which(yoyoash)), "-pa", filename:dirname(code:which(Module))],
+    {ok, Peer, _} = peer:start(#{connection => standard_io, args => Flags ++ Path}),
+    try peer:call(Peer, Module, Name, Args, 60_000) after peer:stop(Peer) end.

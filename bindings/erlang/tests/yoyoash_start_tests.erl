@@ -38,11 +38,9 @@ bad_programs() ->
     in_file("#!/bin/sh\necho \"error: unexpected argument '--external' found\" >&2; exit 2\n", 8#755, fun(File) ->
         bad_program(File, program_ended, "older than this binding")
     end),
-    {error, Reason} = yoyoash:start(#{backend => port, args => ["--no-such-option"]}),
-    contains(yoyoash:format_error(Reason), "unexpected argument '--no-such-option'"),
-    {error, Other} = yoyoash:start(#{backend => port, args => ["--why"]}),
-    contains(yoyoash:format_error(Other), "cannot be used with '--why'"),
-    contains(yoyoash:format_error(Reason), "correct the option args"),
+    in_file("#!/bin/sh\necho \"error: unexpected argument '--seed' found\" >&2; exit 2\n", 8#755, fun(File) ->
+        bad_program(File, program_ended, "no option --seed")
+    end),
     ok.
 
 bad_program(Program, Kind, Remedy) ->
@@ -62,16 +60,13 @@ platform() ->
 %% A program that is named is used, and no backend of another name.
 backend() ->
     {error, {no_program, _}} = yoyoash:start(#{program => "/no/such/program"}),
-    {badarg, _} = shown(fun() -> yoyoash:start(#{backend => socket}) end),
-    {error, {no_limit, "--why"}} = backend(yoyoash_nif:is_loaded(), ["--why"]),
-    {error, {no_limit, "--max-tables=x"}} = backend(yoyoash_nif:is_loaded(), ["--max-tables", "x"]),
-    contains(yoyoash:format_error({no_limit, "--why"}), "--max-objects"),
+    ok = without_nif(yoyoash_nif:is_loaded()),
     Program = os:getenv("YOYOASH_PROGRAM", ""),
-    ?assertMatch({ok, {port, _, ["--external" | _]}}, yoyoash_backend:find(#{program => "/bin/sh"})),
+    ?assertMatch({ok, {port, _, ["--external" | _]}}, plan(#{program => "/bin/sh"})),
     true = os:putenv("YOYOASH_PROGRAM", ""),
-    ?assertEqual(lists:last(backends()), chosen(yoyoash_backend:find(#{}))),
+    ?assertEqual(lists:last(backends()), chosen(plan(#{}))),
     ok = application:set_env(yoyoash, backend, port),
-    ?assertEqual(port, chosen(yoyoash_backend:find(#{}))),
+    ?assertEqual(port, chosen(plan(#{}))),
     ok = application:unset_env(yoyoash, backend),
     true = os:putenv("YOYOASH_PROGRAM", Program),
     ok.
@@ -81,28 +76,33 @@ chosen({ok, {port, _, _}}) -> port;
 chosen({error, {wrong_platform, _}}) -> port;
 chosen({error, no_program}) -> port.
 
+plan(Options) ->
+    {ok, Complete} = yoyoash_options:complete(Options),
+    yoyoash_backend:find(Complete).
+
 %% Without the NIF, the error says how to build it.
-backend(true, Args) -> yoyoash:start(#{backend => nif, args => Args});
-backend(false, Args) ->
-    {error, no_nif} = yoyoash:start(#{backend => nif, args => Args}),
-    contains(yoyoash:format_error(no_nif), "c_src/build"),
-    {error, {no_limit, case Args of [Only] -> Only; [Name, Value] -> Name ++ "=" ++ Value end}}.
+without_nif(true) -> ok;
+without_nif(false) ->
+    {error, no_nif} = yoyoash:start(#{backend => nif}),
+    contains(yoyoash:format_error(no_nif), "c_src/build").
 
 limits() -> lists:foreach(fun limits/1, backends()).
 
 limits(Backend) ->
-    {ok, _} = yoyoash:start(#{backend => Backend, args => ["--max-objects=1", "--max-tables", "1"]}),
+    {ok, _} = yoyoash:start(#{backend => Backend, max_objects => 1, max_tables => 1}),
     t = yoyoash:new(t, [named_table]),
     {system_limit, _} = shown(fun() -> yoyoash:insert(t, [{a}, {b}]) end),
     {system_limit, _} = shown(fun() -> yoyoash:new(u, []) end),
     yoyoash:stop(),
-    {ok, _} = yoyoash:start(#{backend => Backend, args => ["--max-processes=1"]}),
+    ok = application:set_env(yoyoash, max_processes, 1),
+    {ok, _} = yoyoash:start(#{backend => Backend}),
     t = yoyoash:new(t, [named_table]),
     Other = spawn(fun() -> receive stop -> ok end end),
     [{system_limit, _} = shown(fun() -> yoyoash:insert(t, {Other}) end) || _ <- [1, 2]],
     [] = yoyoash:tab2list(t),
     Other ! stop,
-    yoyoash:stop().
+    yoyoash:stop(),
+    ok = application:unset_env(yoyoash, max_processes).
 
 application() ->
     ok = application:load(yoyoash),
@@ -135,12 +135,27 @@ supervised() ->
     receive {'EXIT', Sup, shutdown} -> ok end,
     undefined = erlang:whereis(yoyoash).
 
+%% The error names the key that is unknown or has a wrong value. The old option `args' has a text of its own.
 options() ->
+    {badarg, _} = shown(fun() -> yoyoash:start([]) end),
+    fault(#{progam => "x"}, {unknown_option, progam}, "there is no option progam"),
+    fault(#{args => ["--max-objects", "5"]}, {unknown_option, args}, "max_objects"),
+    fault(#{max_objects => "5"}, {bad_option, max_objects, "5"}, "0 to 4,294,967,295"),
     [
-        {badarg, _} = shown(fun() -> yoyoash:start(Options) end)
-     || Options <- [#{progam => "x"}, [], #{args => "--why"}, #{args => [<<"--why">>]}, #{args => none}]
+        fault(Options, {bad_option, Key, Value}, atom_to_list(Key))
+     || Options <- [
+            #{max_tables => -1}, #{max_processes => 4_294_967_296}, #{seed => 0}, #{seed => 1 bsl 32}, #{seed => none}, #{name => "x"},
+            #{name => undefined}, #{backend => socket}, #{program => none}
+        ],
+        {Key, Value} <- maps:to_list(Options)
     ],
-    ok.
+    ok = application:set_env(yoyoash, args, []),
+    fault(#{}, {unknown_option, args}, "max_tables"),
+    application:unset_env(yoyoash, args).
+
+fault(Options, Fault, Text) ->
+    {error, Fault} = yoyoash:start(Options),
+    contains(yoyoash:format_error(Fault), Text).
 
 %% Runs a program that has no memory for the messages of a process at first: they are sent later.
 message_later() ->

@@ -15,7 +15,7 @@ great_numbers_test_() ->
 
 great_number(N) ->
     Known = yoyoash_known:new(),
-    true = yoyoash_known:add(self(), N, Known),
+    true = yoyoash_known:add(self(), N, false, Known),
     {ok, <<131, 104, 2, 119, 2, "ab", 108, 1:32, Pid:28/binary, 106>>} = yoyoash_term:write(ab, [self()], Known),
     Self = self(),
     Self = yoyoash_term:read(<<131, Pid/binary>>, Known),
@@ -32,7 +32,7 @@ tail(<<131, Rest/binary>>) -> Rest.
 %% Terms with pids are written here, and as the runtime reads them.
 translated_test() ->
     Known = yoyoash_known:new(),
-    true = yoyoash_known:add(self(), 7, Known),
+    true = yoyoash_known:add(self(), 7, false, Known),
     Self = self(),
     Args = [
         -1, 255, 256, -(1 bsl 127), (1 bsl 127) - 1, 1 bsl 31, [], "text", <<"b">>, 'A b', {},
@@ -59,3 +59,19 @@ cause_test_() ->
         ?_assertEqual({general, <<"arguments">>}, yoyoash_errors:cause(<<"arguments">>)),
         ?_assertEqual(none, yoyoash_errors:cause(<<>>))
     ].
+
+%% A pid is forgotten, unless it is kept. A number that was forgotten is an exception of its own.
+forgotten_test() ->
+    Known = yoyoash_known:new(),
+    Self = self(),
+    true = yoyoash_known:add(Self, 7, false, Known),
+    ok = yoyoash_known:forget(Self, 7, Known),
+    none = yoyoash_known:number(Self, Known),
+    ?assertThrow(forgotten, yoyoash_known:pid(7, Known)),
+    ?assertThrow(forgotten, yoyoash_term:write(ab, [Self], Known)),
+    0 = ets:info(Known, size),
+    true = yoyoash_known:add(Self, 8, false, Known),
+    8 = yoyoash_known:kept(Self, Known),
+    ok = yoyoash_known:forget(Self, 8, Known),
+    8 = yoyoash_known:number(Self, Known),
+    Self = yoyoash_known:pid(8, Known).

@@ -228,17 +228,19 @@ reader_ends() ->
     ok.
 
 %% Returns the number of requests that the server has made, from the field `requests' of its state.
-requests() -> yoyoash_requests:count(element(3, sys:get_state(yoyoash))).
+requests() -> yoyoash_requests:count(element(4, sys:get_state(yoyoash))).
 
 %% Returns the processes that have not ended, from the field `processes'.
-live() -> yoyoash_processes:live(element(4, sys:get_state(yoyoash))).
+live() -> yoyoash_processes:live(kept_processes()).
+
+kept_processes() -> element(5, sys:get_state(yoyoash)).
 
 %% Reports a lost connection of this process: it ends in the store, and its next call is that of a new process.
 comes_back() ->
     t = yoyoash:new(t, [named_table]),
     true = yoyoash:insert(t, {self()}),
     Self = self(),
-    yoyoash ! {'DOWN', make_ref(), process, Self, noconnection},
+    yoyoash ! {'DOWN', yoyoash_processes:monitor(Self, kept_processes()), process, Self, noconnection},
     ok = eventually(fun() -> yoyoash:whereis(t) =:= undefined end),
     t = yoyoash:new(t, [named_table]),
     Self = yoyoash:info(t, owner),
@@ -376,7 +378,7 @@ kill_program() ->
     Ref = monitor(process, Server),
     _ = os:cmd("kill -9 " ++ integer_to_list(OsPid)),
     receive
-        {'DOWN', Ref, process, _, {program_ended, Ended}} -> Ended
+        {'DOWN', Ref, process, _, {shutdown, {program_ended, Ended}}} -> Ended
     after 5_000 -> exit(Server, kill), error(server_hangs)
     end.
 
