@@ -21,7 +21,7 @@ def main():
     for name in PROVED:
         below = [proofs[it] for it in crates[name].uses if it in proofs]
         proofs[name] = Part(f"{name} proved", ["rt", "check", "--jobs", "1"], f"crates/{name}", after=below)
-    on_dist = [Part(it.removeprefix(f"{TOP}/"), [it]) for it in sorted(glob.glob(f"{TOP}/bindings/*/test"))]
+    on_dist = [Part(it.removeprefix(f"{TOP}/"), [it]) for it in sorted([*glob.glob(f"{TOP}/bindings/*/test"), *glob.glob(f"{TOP}/examples/*/test")])]
     on_dist += [Part("the snippets of the pages", [f"{TOP}/.ci/snippets", DIST])]
     tests = [Part(f"the tests of {name}", ["rt", "try", "--test", "--seconds", "300"], f"crates/{name}") for name in crates if name.startswith("test_")]
     with tempfile.TemporaryDirectory(prefix="quick-") as logs:

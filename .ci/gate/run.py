@@ -78,6 +78,7 @@ def on_the_files_of_dist(copy, log, words):
         *([] if write else committed),
         dist,
         *(Part(f"bindings/{it}", [f"{TOP}/bindings/{it}/test", built(copy)], after=[dist]) for it in ("c", "rust", "python", "erlang")),
+        *(Part(f"examples/{it}", [f"{TOP}/examples/{it}/test", built(copy)], after=[dist]) for it in ("c", "go", "node")),
         Part("the release", [f"{TOP}/.ci/release"], after=[dist], show=r"^release: "),
         Part("./ets_script", [f"{TOP}/.ci/wrapper", built(copy), "--build"], after=[dist], show=r"^wrapper: "),
     ]

@@ -1,0 +1,3 @@
+module yoyoash.example
+
+go 1.19
