@@ -1,6 +1,7 @@
 """Tries the mutants of crates/*/must-fail/*.edit: the prover must reject each.
 
     .ci/mutants [--libraries TREE] [--after LOG] [--all] [--write] [--lanes N] [CRATE[/EDIT]..]
+    .ci/mutants --dry-run [--all] [CRATE[/EDIT]..]
     .ci/mutants --self
 
 Mutants of a crate that change different functions are tried together, in one check: rounds.py says how, and why that rejects no
@@ -10,6 +11,7 @@ less. Crates run in parallel.
 --after      the output of `rt ci` there, as it runs: a crate is tried once a line reports it proved
 --all        ignores the record .ci/tried; otherwise only crates whose text it does not have are tried, and one other in turn
 --write      writes the record
+--dry-run    lists the crates that would be tried, and why; tries none
 --self       tests this program on weak mutants, which it must report
 
 The last lines are one for each crate with its CPU time, and 'N rejected, M not'."""
@@ -35,25 +37,45 @@ def say(text):
         print(f"mutants: {text}", flush=True)
 
 
-def main(options):
-    crates, prover = crates_of(TOP), Prover(os.path.realpath(options.libraries))
-    sums = sums_of(crates, [it for it in crates.values() if edits_of(it)], prover.line)
-    record, turn = Record(f"{TOP}/.ci/tried"), in_turn(sums)
+def reason_to_try(options, record, sums, turn, name):
+    """Returns why the mutants of a crate are tried, or None if the record has them and nothing asks for a trial."""
+    if options.all or options.crates:
+        return "asked for"
+    if not record.has(name, sums[name]):
+        return "the record does not have its text" if name in record.sums else "not in the record"
+    return "in turn" if name == turn else None
+
+
+def named_edits(options, sums):
+    """Returns the names of the edits that the command line has, by crate; all edits of a crate are an empty list."""
     named = {}
     for word in options.crates:
         crate, _, edit = word.partition("/")
         if crate not in sums:
             sys.exit(f"mutants: crates.txt has no crate {crate} with mutants")
         named.setdefault(crate, []).extend([edit.removesuffix(".edit")] if edit else [])
+    return named
+
+
+def main(options):
+    crates, prover = crates_of(TOP), Prover(os.path.realpath(options.libraries))
+    sums = sums_of(crates, [it for it in crates.values() if edits_of(it)], prover.line)
+    record, turn = Record(f"{TOP}/.ci/tried"), in_turn(sums)
+    named = named_edits(options, sums)
     todo, verdicts, times = [], [], {}
     for name in named or sums:
-        if record.has(name, sums[name]) and not (options.all or named or name == turn):
-            edits = edits_of(crates[name])
-            say(f"{name}: {len(edits)} mutants were rejected at this text, by the record")
-            # (the record does not depend on comments, in which an edit's text can occur a second time)
-            verdicts += [Verdict(it, "BAD EDIT", it.fault) for it in edits if it.fault]
-        else:
+        why = reason_to_try(options, record, sums, turn, name)
+        if why:
             todo.append(crates[name])
+            if options.dry_run:
+                print(f"{name}: {len(edits_of(crates[name]))} mutants: {why}")
+            continue
+        edits = edits_of(crates[name])
+        say(f"{name}: {len(edits)} mutants were rejected at this text, by the record")
+        # (the record does not depend on comments, in which an edit's text can occur a second time)
+        verdicts += [Verdict(it, "BAD EDIT", it.fault) for it in edits if it.fault]
+    if options.dry_run:
+        return 0
     todo.sort(key=lambda it: -len(edits_of(it)) * it.lines())
     planned = [it.name for it in todo]
     log = Log(options.after)
@@ -89,6 +111,7 @@ def words():
     parser.add_argument("--after")
     parser.add_argument("--all", action="store_true")
     parser.add_argument("--write", action="store_true")
+    parser.add_argument("--dry-run", action="store_true")
     parser.add_argument("--self", action="store_true", dest="tests_itself")
     parser.add_argument("--lanes", type=int, default=lanes())
     parser.add_argument("crates", nargs="*")

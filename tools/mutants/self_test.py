@@ -11,7 +11,7 @@ from .crates import without_comments
 from .functions import functions
 from .lanes import fate
 from .record import Record, logic_of
-from .visible import items_of_definitions, items_of_source
+from .visible import Item, items_of_definitions, items_of_source, origins_of
 
 # Each planted edit: its file, the text before and after, and the verdict that it must get.
 PLANTED = {
@@ -105,6 +105,15 @@ SEEN = [
 DEFINED = "abbrev pub most : ℕ\nmost = 3\n\npub record Shelf : Type 0 where\n  pub len : ℕ\n"
 DEFINED_NAMES = ["most", "Shelf"]
 
+# Lines that bring names in, and from where each name comes.
+IMPORTED = {
+    "use Rattle.ownership.specs.Tables": {"Tables": ["Rattle.ownership.specs.Tables"]},
+    "use Rattle.ownership.specs.Tables as tables": {"tables": ["Rattle.ownership.specs.Tables"]},
+    "use Rattle.ets_term.Term.{Int, List as ListOf}": {"Int": ["Rattle.ets_term.Term.Int"], "ListOf": ["Rattle.ets_term.Term.List"]},
+    "ghost use Rattle.ets_term.Term as term;": {"term": ["Rattle.ets_term.Term"]},
+    "pub use list::{List, Nodes as Places};": {"List": ["list.List"], "Places": ["list.Nodes"]},
+}
+
 
 class Room:
     """A tree of its own with the crate split_key and this program."""
@@ -153,6 +162,10 @@ def self_test(top):
     expect(seen == SEEN, "what is seen of a source", str(seen))
     names = [name for name, _ in items_of_definitions(DEFINED.split("\n"))]
     expect(names == DEFINED_NAMES, "what is seen of a specification", str(names))
+    for line, origins in IMPORTED.items():
+        expect(origins_of([line]) == origins, "from where names come", f"{line}: {origins_of([line])}")
+    one, other = (Item((), "start", "start = tables.of", origins_of([f"use specs.{it} as tables"])) for it in ("Tables", "Heirs"))
+    expect(one.origins != other.origins and "Heirs" in other.words, "an alias of another file is another item", str(other.origins))
     with tempfile.TemporaryDirectory(prefix="mutants-self-") as folder:
         room = Room(top, folder)
         true, tried = len(os.listdir(room.edits)), f"{folder}/.ci/tried"

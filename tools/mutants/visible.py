@@ -2,8 +2,8 @@
 
 A proof sees the contracts of the functions that it calls, not their bodies, and the definitions that these contracts use. So whether a
 mutant breaks its contract depends on no body and no lemma of another crate. An item is visible if its name is a word of the crate, or of
-another visible item. A name that two items share makes both visible. The contract of a method counts only if its type is visible too, and
-that of any function only if its crate exports the function or its type."""
+another visible item. A name that two items share makes both visible. An alias makes visible what it is an alias of. The contract of a method
+counts only if its type is visible too, and that of any function only if its crate exports the function or its type."""
 import re
 
 from .crates import read, without_comments
@@ -14,8 +14,8 @@ WORD = re.compile(r"[\w'-]*\w[\w'-]*")
 KEYWORDS = {"pub", "abbrev", "record", "data", "opaque", "rec", "mutual"}
 TYPE = re.compile(r"^(pub(?:\([^)]*\))? +)?(?:unsafe +)?(struct|enum|trait|const|static|type|mod) +(?:mut +)?(\w+)")
 IMPL = re.compile(r"^(?:unsafe +)?impl\b(.*)$")
-# A line that brings names in: from where, and which.
-IMPORT = re.compile(r"^\s*(?:pub(?:\([^)]*\))? +)?(?:ghost +)?use +([^\s{;]+?)(?:[.:]*\{([^}]*)\})?(?: as .*)?;?$")
+# A line that brings names in: from where, which, and the alias of a single one.
+IMPORT = re.compile(r"^\s*(?:pub(?:\([^)]*\))? +)?(?:ghost +)?use +([^\s{;]+?)(?:[.:]*\{([^}]*)\})?(?: as ([^;]*))?;?$")
 LONG_IMPORT = re.compile(r"^\s*(?:pub(?:\([^)]*\))? +)?(?:ghost +)?use +[^;{]*\{[^}]*\n[^}]*\};?$", re.M)
 MODULE = re.compile(r"^(?:pub(?:\([^)]*\))? +)?mod +\w+;?$")
 
@@ -30,6 +30,8 @@ class Item:
         owner, _, head = text.partition("\n")
         self.names = words(f"{name} {owner}" if FUNCTION.match(head) else name)
         self.origins = [(it, origins[it]) for it in sorted(self.words & origins.keys())]
+        # (the text has an alias, and the crate below has the name at the end of its origin)
+        self.words |= {WORD.findall(origin)[-1] for _, known in self.origins for origin in known}
 
 
 def words(text):
@@ -63,15 +65,18 @@ def is_exported(path, name, text, exports):
 
 
 def origins_of(lines):
-    """Returns from where a file has each name that it brings in."""
+    """Returns the paths from which a file has each name that it brings in. An alias is such a name."""
     found = {}
     for line in filter(IMPORT.match, lines):
-        place, names = IMPORT.match(line).groups()
+        place, names, alias = IMPORT.match(line).groups()
         place = place.replace("::", ".")
         if names is None:
-            place, _, names = place.rpartition(".")
-        for name in WORD.findall(names):
-            found[name] = f"{found.get(name, '')} {place}"
+            place, _, name = place.rpartition(".")
+            names = f"{name} as {alias}" if alias else name
+        for each in names.split(","):
+            name, _, alias = each.strip().partition(" as ")
+            for known_as in WORD.findall(alias or name):
+                found.setdefault(known_as, []).append(f"{place}.{name}")
     return found
 
 
