@@ -79,7 +79,7 @@ class Programs:
             if not (folder / "checked").exists():
                 print(f"bench: {crate} is left out, since {self.tree} has no library of it", file=sys.stderr)
                 return None
-            build(crate, [sys.executable, "-B", str(TOP / ".ci/gate/static_library.py"), str(self.tree), crate], TOP)
+            build(crate, [sys.executable, "-B", str(TOP / ".ci/modules/static_library.py"), str(self.tree), crate], TOP)
         return self._built(crate, f"lib{crate}.a", "lib")
 
     def _built(self, crate: str, file: str, verb: str) -> str:

@@ -1,4 +1,4 @@
-% Shows 57 misuses, one a line. Run it with `--why` to see the reasons; .ci/gate/reasons.txt has them too.
+% Shows 57 misuses, one a line. Run it with `--why` to see the reasons; tests/program/reasons.txt has them too.
 spawn p
 spawn q
 p new(t,[named_table])

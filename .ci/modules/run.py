@@ -1,4 +1,5 @@
 """The whole CI, which .ci/run describes."""
+import glob
 import os
 import re
 import resource
@@ -42,54 +43,66 @@ class Proved:
         return self.log.is_proved(self.name)
 
 
-def crates_with_refused_memory():
-    return [it.name for it in crates_of(TOP).values() if any(file.endswith("/refused.rt") for file in it.files("src"))]
+def names_with_refused_memory():
+    """Returns the crates that have tests of refused memory."""
+    return [crate.name for crate in crates_of(TOP).values() if any(path.endswith("/refused.rt") for path in crate.files("src"))]
 
 
 def on_the_program(copy, log):
     """Returns the parts that try the program, and the tests of refused memory, as soon as these are proved and built."""
     program, is_there = f"{copy}/{PROGRAM}/out/ets_script_cli", Proved("ets_script_cli", log)
     external = f"{copy}/crates/test_external/out/test_external"
-    with_tests = crates_with_refused_memory()
-    tests, are_there = [f"{copy}/crates/{it}/out/{it}_tests" for it in with_tests], [Proved(f"{it}: its tests are", log) for it in with_tests]
+    names = names_with_refused_memory()
+    tests = [f"{copy}/crates/{name}/out/{name}_tests" for name in names]
+    are_there = [Proved(f"{name}: its tests are", log) for name in names]
+
+    def tried(name, command, show=None):
+        return Part(name, [f"{TOP}/{command}", program], after=[is_there], show=show)
+
     return [
-        Part("the scripts by the proved program", [f"{TOP}/tests/run", program], after=[is_there]),
-        Part("the snippets of the pages", [f"{TOP}/.ci/snippets", program], after=[is_there]),
-        Part("command lines and reasons", [f"{TOP}/.ci/door", program], after=[is_there]),
-        Part("the examples, cut at every byte", [f"{TOP}/.ci/cuts", program], after=[is_there]),
-        Part("failing devices", [f"{TOP}/.ci/devices", program], after=[is_there]),
-        Part("packets", [f"{TOP}/.ci/packets", program], after=[is_there], show=r"^packets: "),
-        Part("refused memory", [f"{TOP}/.ci/refusals", program, *tests], after=[is_there, *are_there], show=r"^refusals: "),
+        tried("the scripts by the proved program", "tests/run"),
+        tried("the snippets of the pages", ".ci/snippets"),
+        tried("command lines and reasons", "tests/program/command_line"),
+        tried("the examples, cut at every byte", "tests/program/cuts"),
+        tried("failing devices", "tests/program/devices"),
+        tried("packets", "tests/program/packets", r"^packets: "),
+        tried("refused memory", "tests/program/refusals", r"^refusals: "),
+        Part("refused memory in tests", [f"{TOP}/.ci/refusals", *tests], after=are_there, show=r"^refusals: "),
         Part("terms compared with Erlang's", [f"{TOP}/.ci/external", external], after=[Proved("test_external", log)], show=r"^external: "),
     ]
 
 
+def with_tests(folder):
+    """Returns the folders of this folder that have a command `test`, each as a path from the top."""
+    return sorted(os.path.dirname(os.path.relpath(path, TOP)) for path in glob.glob(f"{TOP}/{folder}/*/test"))
+
+
 def on_the_files_of_dist(copy, log, words):
     """Returns the parts on the files of dist/, built from what is proved: the packages, the release and ./ets_script."""
-    write = [it for it in words if it == "--write"]
-    is_there = [Proved("ets_script_cli", log), Proved("ets_c", log)]
-    dist = Part("the files of dist", [f"{TOP}/.ci/dist", copy, *write], after=is_there, show=r"^dist: ")
+    write = [word for word in words if word == "--write"]
+    are_there = [Proved("ets_script_cli", log), Proved("ets_c", log)]
+    dist = Part("the files of dist", [f"{TOP}/.ci/dist", copy, *write], after=are_there, show=r"^dist: ")
     # (what is committed in dist/ must be of these sources, so its program can run the scripts before anything is proved)
     committed = [
         Part("the sources of dist", [f"{TOP}/.ci/dist", "--sources"], ends_all=True),
         Part("the scripts by the program in dist", [f"{TOP}/tests/run", f"{TOP}/dist/x86_64-linux/ets_script"], ends_all=True),
     ]
+    folders = [*with_tests("bindings"), *with_tests("examples")]
     return [
         *([] if write else committed),
         dist,
-        *(Part(f"bindings/{it}", [f"{TOP}/bindings/{it}/test", built(copy)], after=[dist]) for it in ("c", "rust", "python", "erlang")),
-        *(Part(f"examples/{it}", [f"{TOP}/examples/{it}/test", built(copy)], after=[dist]) for it in ("c", "go", "node")),
+        *(Part(folder, [f"{TOP}/{folder}/test", built(copy)], after=[dist]) for folder in folders),
         Part("the release", [f"{TOP}/.ci/release"], after=[dist], show=r"^release: "),
-        Part("./ets_script", [f"{TOP}/.ci/wrapper", built(copy), "--build"], after=[dist], show=r"^wrapper: "),
+        Part("./ets_script", [f"{TOP}/tests/program/wrapper", built(copy), "--build"], after=[dist], show=r"^wrapper: "),
     ]
 
 
 def parts_of(words, copy, logs):
     """Returns all parts: those that need no proof, the tests of CI itself, what is tried on the program; the proofs; and the mutants."""
     politely = ["nice", "-n", "10"]
-    order = Part("the order of checks", [sys.executable, "-B", f"{TOP}/.ci/gate/order_test.py"], ends_all=True)
+    order = Part("the order of checks", [sys.executable, "-B", f"{TOP}/.ci/modules/order_test.py"], ends_all=True)
     itself = Part("the program that tries mutants", [*politely, f"{TOP}/.ci/mutants", "--self"], ends_all=True)
-    proofs = Part("every proof, test and program (rt ci)", [sys.executable, "-B", f"{TOP}/.ci/gate/proofs.py", copy], show=r"^rt: ")
+    proofs = Part("every proof, test and program (rt ci)", [sys.executable, "-B", f"{TOP}/.ci/modules/proofs.py", copy], show=r"^rt: ")
     tried = [*politely, f"{TOP}/.ci/mutants", "--libraries", copy, "--after", proofs.file(logs), *words]
     mutants = Part("the mutants", tried, show=r"^mutants: ")
     log = Log(proofs.file(logs))
@@ -105,7 +118,7 @@ def report(mutants, costs):
 
 def main(words):
     end_on_signals()
-    with tempfile.TemporaryDirectory(prefix="gate-") as logs:
+    with tempfile.TemporaryDirectory(prefix="ci-") as logs:
         copy = f"{logs}/tree"
         os.mkdir(copy)
         copy_without_edits(copy)

@@ -1,6 +1,6 @@
 /* Runs a program repeatedly on one input (by LD_PRELOAD): first with no allocation refused, then once for each allocation
    that one line of the input takes, with that allocation refused. The program reads the input in three pieces: up to the line,
-   the line, and the rest. So the allocations between two reads are those of the line. .ci/refusals says how it must end.
+   the line, and the rest. So the allocations between two reads are those of the line. tests/program/refusals and .ci/refusals say how it must end.
 
    REFUSED is "FROM TO": the offsets of the first byte of the line and of the first byte after it. "0 0" means the allocations
    before the first read, "0 -1" all allocations of the program, and "-1 -1" none. For each run this prints a line

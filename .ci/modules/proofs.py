@@ -7,7 +7,7 @@ function, because the kit gives a proof a second processor only when nearly all 
 one. What is checked, how, and the verdict are the kit's. Three rules make the order:
 
 - A task starts once those that it waits for have ended. The first to start is the one before the longest chain of others, by the seconds
-  of docs/internals/ci.md.
+  of .ci/budget.txt.
 - The head of the longest chain gets three jobs. The others get one, at a low priority, since a check with more jobs takes more CPU time.
 - A task starts only if at most one job a processor runs, and if memory for it is free. Only one runs if there is never enough.
 

@@ -1,7 +1,8 @@
-"""Makes the scripts whose lines are refused memory, and lists the calls that take none and the lines that give back what they took,
-for .ci/refusals."""
+"""Makes the scripts whose lines are refused memory, for tests/program/refusals."""
 import re
 from dataclasses import dataclass
+
+from lines import is_answered
 
 KINDS = "set", "bag", "duplicate_bag"
 ITEMS = "name", "named_table", "owner", "protection", "heir", "size", "type", "keypos", "fixed"
@@ -21,20 +22,11 @@ class Script:
     asks: list
 
 
-def text_of(lines):
-    return b"".join(it + b"\n" for it in lines)
-
-
-def is_answered(line):
-    """Returns whether the program prints a reply to a line."""
-    return bool(line.strip(b" \t\r")) and not line.lstrip(b" \t").startswith(b"%")
-
-
 def spawned(script):
     return [found[1].decode() for it in script.lines if (found := SPAWN.fullmatch(it))]
 
 
-def look(script, answers):
+def reading_lines(script, answers):
     """Returns lines that read the store: each process reads each table of the script, whether it exists or not."""
     told = zip(filter(is_answered, script.lines), answers, strict=True)
     tables = dict.fromkeys(answer.decode() for line, answer in told if NEW.fullmatch(line) and not answer.startswith(b"**"))
@@ -42,7 +34,7 @@ def look(script, answers):
     return [f"{who} {call}".encode() for who in spawned(script) for call in calls] + script.asks
 
 
-def receives(script):
+def receiving_lines(script):
     """Returns lines that empty each mailbox."""
     return [f"{who} receive()".encode() for who in spawned(script)]
 
@@ -164,7 +156,7 @@ def of_numbers(count):
     return made(f"{count} processes, tables, fixes and messages", [], lines)
 
 
-def own():
+def made_here():
     """Yields the scripts that are made here."""
     for words in [], ["--hash", "same"]:
         for kind in KINDS:
@@ -174,81 +166,3 @@ def own():
         yield of_growth(words)
     yield of_ends()
     yield from (of_numbers(count) for count in (3, 4, 5, 8, 9))
-
-
-def free(kind, calls):
-    """Returns calls that take no memory, and the script before them, which leaves a table of this kind."""
-    lines = [*PROCESSES, f"p new(t,[{kind},named_table,{{heir,<0.1.0>,x}}])", "p insert(t,[{a,1},{b,2},{a,3}])", "p safe_fixtable(t,true)", "p delete(t,b)"]
-    return [it.encode() for it in lines], [it.encode() for it in calls]
-
-
-OF_ANY = """\
-member(t,a) member(t,c) lookup(t,b) take(t,b) first(t) next(t,a) delete(t,a) delete(t,c) delete_object(t,{a,3}) delete_all_objects(t)
-delete(t) insert_new(t,[{c,1},{a,1}]) safe_fixtable(t,true) safe_fixtable(t,false) setopts(t,{heir,none}) setopts(t,{heir,<0.2.0>,y})
-whereis(t) info(t,name) info(t,named_table) info(t,owner) info(t,protection) info(t,heir) info(t,id) info(t,size) info(t,type) info(t,keypos)
-info(t,fixed) receive() no_call(t)""".split()
-OF_SET = "lookup_element(t,a,2) update_counter(t,a,1) update_counter(t,a,{2,1,0,0}) update_element(t,a,{2,5}) update_element(t,c,{2,5})".split()
-FREE = [free("set", [*OF_ANY, *OF_SET]), free("bag", OF_ANY), free("duplicate_bag", OF_ANY)]
-
-
-TEXTS = listed(f'{{{it},"a text that has memory of its own"}}' for it in range(20))
-# Lines that delete each table, object, fix and message that they make: a name, the lines before them, the lines, in which NUMBER is that of the
-# round, and the number of blocks that a round may leave allocated: the name of a process, which is never forgotten.
-ROUNDS = [
-    ("a deleted table", ["spawn p"], ["p new(t,[named_table])", f"p insert(t,{TEXTS})", "p delete(t)"], 0),
-    ("a deleted table without a name", ["spawn p"], ["p new(t,[bag])", f"p insert(#Tid<NUMBER>,{TEXTS})", "p delete(#Tid<NUMBER>)"], 0),
-    ("deleted objects", ["spawn p", "p new(t,[named_table])"], [f"p insert(t,{TEXTS})", "p delete_all_objects(t)"], 0),
-    (
-        "objects that are taken or chosen",
-        ["spawn p", "p new(t,[named_table,bag])"],
-        [
-            f"p insert(t,{TEXTS})",
-            "p insert(t,[{1,2},{1,{1,2,[]}},{3,4}])",
-            "p take(t,1)",
-            "p match_delete(t,{3,'_'})",
-            "p select_delete(t,[{{'$1','_'},[{'<','$1',10}],[true]}])",
-            "p tab2list(t)",
-            "p match_delete(t,'_')",
-        ],
-        0,
-    ),
-    (
-        "updates",
-        ["spawn p", "p new(t,[named_table])"],
-        ["p insert(t,{a,1,[a,text]})", "p update_element(t,a,{3,[a,{b},c]})", "p update_counter(t,[b,{1}],{2,1},{x,0})", "p delete(t,[b,{1}])"],
-        0,
-    ),
-    (
-        "fixes",
-        ["spawn p", "p new(t,[named_table])"],
-        ["p safe_fixtable(t,true)", f"p insert(t,{TEXTS})", "p delete(t,1)", "p match_delete(t,'_')", "p safe_fixtable(t,false)"],
-        0,
-    ),
-    (
-        "messages",
-        ["spawn p", "spawn q"],
-        ["p new(t,[named_table,{heir,<0.1.0>,[some,data]}])", "p give_away(t,<0.1.0>,[other,data])", "q receive()", "q delete(t)"],
-        0,
-    ),
-    (
-        "processes that end",
-        ["spawn q"],
-        [
-            "spawn pNUMBER",
-            "pNUMBER new(t,[named_table,{heir,<0.0.0>,[some,data]}])",
-            "pNUMBER new(u,[])",
-            f"pNUMBER insert(t,{TEXTS})",
-            "q safe_fixtable(t,true)",
-            "exit pNUMBER",
-            "q receive()",
-            "q delete(t)",
-        ],
-        1,
-    ),
-    (
-        "refused lines",
-        ["spawn p", "p new(t,[named_table])"],
-        ["p lookup(t,[a,b,[c,", "p insert(t,[{a,b},{[c]},[]])", "p select(t,[{'_',[],[{a}]}])", "nobody lookup(t,{a,[b]})", f"p {'x' * 300}"],
-        0,
-    ),
-]

@@ -1,5 +1,5 @@
 /* Replaces the reads and writes of a program (by LD_PRELOAD): a read of standard input and a write to standard output move a
-   limited number of bytes, and one of the calls fails. .ci/devices says how the program must end.
+   limited number of bytes, and one of the calls fails. tests/program/devices says how the program must end.
 
    DEVICES is "MOST READ WRITE FAULT": the most bytes of a call; the number of the read and of the write that fails, from 1, or
    0 if none does; and the number of the error, or 0 if the call moves no byte. */

@@ -77,7 +77,7 @@ def proved(tree, crates):
     log = f"{OUT}/prove.log"
     with open(log, "w", encoding="utf-8") as it:
         how = {"stdin": subprocess.DEVNULL, "stdout": it, "stderr": subprocess.STDOUT, "start_new_session": True}
-        ran = subprocess.Popen([sys.executable, "-B", f"{TOP}/.ci/gate/proofs.py", tree], **how)
+        ran = subprocess.Popen([sys.executable, "-B", f"{TOP}/.ci/modules/proofs.py", tree], **how)
     try:
         follow(ran, Progress(crates, log))
     finally:

@@ -11,8 +11,8 @@ from tools import read
 
 TOP = os.path.realpath(f"{os.path.dirname(os.path.realpath(__file__))}/../..")
 PROGRAM = "crates/ets_script_cli"
-# The page with the budget of each crate.
-BUDGET = f"{TOP}/docs/internals/ci.md"
+# The budget of each crate.
+BUDGET = f"{TOP}/.ci/budget.txt"
 # Where the check of a static library leaves its result, from which the library is built.
 CHECKED = "out/checked"
 BEGAN = time.time()
