@@ -1,12 +1,13 @@
-"""The files of dist/x86_64-linux: builds them from a tree that `rt ci` has proved, and compares them bit for bit with the committed ones.
+"""The files of dist/x86_64-linux: builds them from a tree that `rt ci` has proved, and compares
+them bit for bit with the committed ones.
 
     .ci/dist TREE           builds them in TREE/built, and fails if a committed one differs
     .ci/dist TREE --write   replaces the committed ones
-    .ci/dist --sources      fails if the committed ones were built from other sources; builds nothing
+    .ci/dist --sources      fails if the committed ones are of other sources; builds nothing
 
-All tools are the kit's, so the files depend on the sources and the kit alone. SHA256SUMS names the kit that built the committed ones; a
-run with another kit must build the same files. `rt ci` left the program in its crate's out/, and the checked library for C, which is compiled
-here."""
+All tools are the kit's, so the files depend on the sources and the kit alone. SHA256SUMS names the
+kit that built the committed ones; a run with another kit must build the same files. `rt ci` left
+the program in its crate's out/, and the checked library for C, which is compiled here."""
 import filecmp
 import hashlib
 import os
@@ -22,6 +23,18 @@ from tools import Prover, crates_of, read
 DIST = f"{TOP}/dist/x86_64-linux"
 FILES = ["ets_script", "libyoyoash.a", "libyoyoash.so"]
 SONAME = "libyoyoash.so.0"
+# How the shared object is linked.
+SHARED = [
+    "-shared",
+    f"-soname={SONAME}",
+    "--no-undefined",
+    "--build-id=none",
+    "--gc-sections",
+    "--strip-all",
+    "-znow",
+    "-zrelro",
+    "-znoexecstack",
+]
 # All names that a program which links the library can use.
 EXPORTED = "yoyoash_*"
 
@@ -33,17 +46,19 @@ def built(tree):
 
 def sources(tree):
     """The checksum of a tree's sources, as ./ets_script computes it."""
-    return subprocess.run([f"{TOP}/dist/sources", tree], stdout=subprocess.PIPE, text=True, check=True).stdout.strip()
+    return subprocess.run(
+        [f"{TOP}/dist/sources", tree], stdout=subprocess.PIPE, text=True, check=True
+    ).stdout.strip()
 
 
 def checksum(file):
-    with open(file, "rb") as it:
-        return hashlib.sha256(it.read()).hexdigest()
+    with open(file, "rb") as opened:
+        return hashlib.sha256(opened.read()).hexdigest()
 
 
 def without_kit(file):
     """Returns the lines of a SHA256SUMS, without the name of the kit."""
-    return [it for it in read(file).split("\n") if not it.startswith("# kit ")]
+    return [line for line in read(file).split("\n") if not line.startswith("# kit ")]
 
 
 def is_committed(name, tree):
@@ -51,11 +66,19 @@ def is_committed(name, tree):
     committed, made = f"{DIST}/{name}", f"{built(tree)}/{name}"
     if not os.path.isfile(committed):
         return False
-    return without_kit(committed) == without_kit(made) if name == "SHA256SUMS" else filecmp.cmp(committed, made, shallow=False)
+    return (
+        without_kit(committed) == without_kit(made)
+        if name == "SHA256SUMS"
+        else filecmp.cmp(committed, made, shallow=False)
+    )
 
 
 def described(file):
-    return f"{os.path.getsize(file):,} bytes, sha256 {checksum(file)}" if os.path.isfile(file) else "missing"
+    return (
+        f"{os.path.getsize(file):,} bytes, sha256 {checksum(file)}"
+        if os.path.isfile(file)
+        else "missing"
+    )
 
 
 def run_tool(kit, name, *words):
@@ -64,18 +87,21 @@ def run_tool(kit, name, *words):
 
 
 def build_libraries(prover, tree, to):
-    """Makes the archive and the shared object, each of the library for C, the kit's C functions and what they need of libgcc, with the exported names alone."""
+    """Makes the archive and the shared object, each of the library for C, the kit's C functions
+    and what they need of libgcc, with the exported names alone."""
     crate, kit = crates_of(tree)["ets_c"], prover.kit
     build(prover, crate)
     with tempfile.TemporaryDirectory(prefix="dist-") as room:
         whole = f"{room}/yoyoash.o"
         # (libgcc has the division of integers of 128 bits)
         own, runtime = [archive_of(crate), f"{kit}/c/liblibc_c.a"], f"{kit}/toolchain/lib/libgcc.a"
-        run_tool(kit, "ld.lld", "-r", "-o", whole, "--whole-archive", *own, "--no-whole-archive", runtime)
-        run_tool(kit, "llvm-objcopy", "--strip-debug", "--wildcard", f"--keep-global-symbol={EXPORTED}", whole)
+        archives = ["--whole-archive", *own, "--no-whole-archive", runtime]
+        run_tool(kit, "ld.lld", "-r", "-o", whole, *archives)
+        names = ["--wildcard", f"--keep-global-symbol={EXPORTED}"]
+        run_tool(kit, "llvm-objcopy", "--strip-debug", *names, whole)
         run_tool(kit, "llvm-ar", "rcsD", f"{room}/libyoyoash.a", whole)
-        how = ["-shared", f"-soname={SONAME}", "--no-undefined", "--build-id=none", "--gc-sections", "--strip-all", "-znow", "-zrelro", "-znoexecstack"]
-        run_tool(kit, "ld.lld", *how, "-o", f"{room}/libyoyoash.so", whole, f"{kit}/toolchain/lib/libc.so.6")
+        linked = [whole, f"{kit}/toolchain/lib/libc.so.6"]
+        run_tool(kit, "ld.lld", *SHARED, "-o", f"{room}/libyoyoash.so", *linked)
         for name in FILES[1:]:
             shutil.copy(f"{room}/{name}", f"{to}/{name}")
 
@@ -89,14 +115,22 @@ def build_files(tree):
     build_libraries(prover, tree, to)
     for name, mode in zip(FILES, (0o755, 0o644, 0o755)):
         os.chmod(f"{to}/{name}", mode)
-    name, version = subprocess.run([f"{to}/ets_script", "--version"], stdout=subprocess.PIPE, text=True, check=True).stdout.split()
-    lines = [f"# version {version}", f"# kit {prover.line}", f"# sources {sources(tree)}", *(f"{checksum(f'{to}/{it}')}  {it}" for it in FILES)]
-    with open(f"{to}/SHA256SUMS", "w", encoding="utf-8") as it:
-        it.writelines(f"{line}\n" for line in lines)
+    name, version = subprocess.run(
+        [f"{to}/ets_script", "--version"], stdout=subprocess.PIPE, text=True, check=True
+    ).stdout.split()
+    lines = [
+        f"# version {version}",
+        f"# kit {prover.line}",
+        f"# sources {sources(tree)}",
+        *(f"{checksum(f'{to}/{file}')}  {file}" for file in FILES),
+    ]
+    with open(f"{to}/SHA256SUMS", "w", encoding="utf-8") as sums:
+        sums.writelines(f"{line}\n" for line in lines)
 
 
 def write(tree):
-    """Replaces the committed files by those of a tree, if that has the sources of this checkout."""
+    """Replaces the committed files by those of a tree, if that has the sources of this
+    checkout."""
     if sources(tree) != sources(TOP):
         sys.exit("dist: the tree has other sources than this checkout: run .ci/run --write again")
     os.makedirs(DIST, exist_ok=True)
@@ -110,13 +144,21 @@ def write(tree):
 
 def compare(tree):
     """Compares the committed files with those of a tree, bit for bit."""
-    differ = [it for it in [*FILES, "SHA256SUMS"] if not is_committed(it, tree)]
+    differ = [name for name in [*FILES, "SHA256SUMS"] if not is_committed(name, tree)]
     for name in differ:
-        print(f"dist: {name} differs: committed {described(f'{DIST}/{name}')}; built here {described(f'{built(tree)}/{name}')}")
+        print(
+            f"dist: {name} differs: committed {described(f'{DIST}/{name}')}; built here "
+            f"{described(f'{built(tree)}/{name}')}"
+        )
     if differ:
-        print("dist: '.ci/run --write' writes what it builds; commit dist/ with the change of the sources or the kit")
+        print(
+            "dist: '.ci/run --write' writes what it builds; commit dist/ with the change of the "
+            "sources or the kit"
+        )
         return 1
-    print(f"dist: {len(FILES)} files, built from these sources, are the committed ones bit for bit")
+    print(
+        f"dist: {len(FILES)} files, built from these sources, are the committed ones bit for bit"
+    )
     return 0
 
 
@@ -125,7 +167,10 @@ def compare_sources():
     file = f"{DIST}/SHA256SUMS"
     if os.path.isfile(file) and f"# sources {sources(TOP)}\n" in read(file):
         return 0
-    print("dist: the files of dist/ were built from other sources: '.ci/run --write' proves these and builds the files")
+    print(
+        "dist: the files of dist/ were built from other sources: '.ci/run --write' proves these "
+        "and builds the files"
+    )
     return 1
 
 

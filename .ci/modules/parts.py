@@ -1,4 +1,5 @@
-"""The parts of a CI run: commands that run in parallel, each with its output in a file and its time on the screen."""
+"""The parts of a CI run: commands that run in parallel, each with its output in a file and its
+time on the screen."""
 import os
 import re
 import shutil
@@ -27,11 +28,18 @@ def say(text):
 
 
 class Part:
-    """A command in a folder of the tree. It waits until the parts in `after` have passed. If a part with `ends_all` fails,
-    all others are stopped: it is cheap, and they are not."""
+    """A command in a folder of the tree. It waits until the parts in `after` have passed. If a
+    part with `ends_all` fails, all others are stopped: it is cheap, and they are not."""
 
     def __init__(self, name, words, folder="", after=(), show=None, ends_all=False):
-        self.name, self.words, self.folder, self.after, self.show, self.ends_all = name, words, folder, after, show, ends_all
+        self.name, self.words, self.folder, self.after, self.show, self.ends_all = (
+            name,
+            words,
+            folder,
+            after,
+            show,
+            ends_all,
+        )
         self.is_well, self.is_ended, self.text = None, False, ""
 
     def file(self, logs):
@@ -41,9 +49,14 @@ class Part:
     def run(self, logs):
         """Runs it and prints the lines of its output that `show` matches as they come."""
         file, began = self.file(logs), time.time()
-        how = {"cwd": os.path.join(TOP, self.folder), "stdin": subprocess.DEVNULL, "stderr": subprocess.STDOUT, "process_group": 0}
-        with open(file, "w", encoding="utf-8") as it:
-            self.ran = subprocess.Popen(self.words, stdout=it, **how)
+        how = {
+            "cwd": os.path.join(TOP, self.folder),
+            "stdin": subprocess.DEVNULL,
+            "stderr": subprocess.STDOUT,
+            "process_group": 0,
+        }
+        with open(file, "w", encoding="utf-8") as output:
+            self.ran = subprocess.Popen(self.words, stdout=output, **how)
         running.append(self)
         if is_over.is_set():
             end_running()
@@ -54,52 +67,71 @@ class Part:
         follower.join()
         self.text, self.is_well = read(file), self.ran.returncode == 0
         word = "ok" if self.is_well else "stopped" if self.is_ended else "FAILED"
-        say(f"{self.name}: {word}, {time.time() - began:.0f} s, {used.ru_utime + used.ru_stime:.0f} s of CPU")
+        say(
+            f"{self.name}: {word}, {time.time() - began:.0f} s, "
+            f"{used.ru_utime + used.ru_stime:.0f} s of CPU"
+        )
 
     def follow(self, file):
         rest, has_ended = "", not self.show
-        with open(file, encoding="utf-8", errors="replace") as it:
+        with open(file, encoding="utf-8", errors="replace") as output:
             while not has_ended:
                 has_ended = self.ran.returncode is not None
-                *whole, rest = (rest + it.read()).split("\n")
+                *whole, rest = (rest + output.read()).split("\n")
                 for line in whole:
                     if re.search(self.show, line):
                         say(line[:300])
                 time.sleep(0.5)
 
     def end_of_text(self):
-        told = [it for it in self.text.rstrip("\n").split("\n") if not PROVED.match(it)]
-        return f"== {self.name}\n" + "\n".join(told[-200:])
+        shown = [line for line in self.text.rstrip("\n").split("\n") if not PROVED.match(line)]
+        return f"== {self.name}\n" + "\n".join(shown[-200:])
 
 
 def scripts(to):
-    """Copies the scripts into one folder, so that the program is compiled once for all: the examples, and those of tests/scripts
-    with both hash functions."""
-    for prefix, folder, words in ("", "examples", ""), ("test_", "tests/scripts", ""), ("test_with_one_hash_", "tests/scripts", "--hash\nsame\n"):
-        files = [it for it in os.listdir(f"{TOP}/{folder}") if it.endswith((".ets", ".ets.args", ".ets.stdout"))]
-        for it in files:
-            shutil.copy(f"{TOP}/{folder}/{it}", f"{to}/{prefix}{it}")
-        for it in files if words else ():
-            if it.endswith(".ets"):
-                with open(f"{to}/{prefix}{it}.args", "a", encoding="utf-8") as args:
+    """Copies the scripts into one folder, so that the program is compiled once for all: the
+    examples, and those of tests/scripts with both hash functions."""
+    for prefix, folder, words in (
+        ("", "examples", ""),
+        ("test_", "tests/scripts", ""),
+        ("test_with_one_hash_", "tests/scripts", "--hash\nsame\n"),
+    ):
+        files = [
+            name
+            for name in os.listdir(f"{TOP}/{folder}")
+            if name.endswith((".ets", ".ets.args", ".ets.stdout"))
+        ]
+        for name in files:
+            shutil.copy(f"{TOP}/{folder}/{name}", f"{to}/{prefix}{name}")
+        for name in files if words else ():
+            if name.endswith(".ets"):
+                with open(f"{to}/{prefix}{name}.args", "a", encoding="utf-8") as args:
                     args.write(words)
 
 
 def cheap():
-    """Returns the parts that need no proof and no program: the tables of calls, the pages and the list of definitions."""
+    """Returns the parts that need no proof and no program: the tables of calls, the pages, the
+    list of definitions and the layout of Python."""
     return [
         Part("the tables of calls", [f"{TOP}/.ci/names"], ends_all=True),
         Part("the pages and comments", [f"{TOP}/.ci/prose"], ends_all=True),
         Part("the check of pages itself", [f"{TOP}/.ci/prose", "--self"], ends_all=True),
         Part("the list of definitions", [f"{TOP}/.ci/definitions"], ends_all=True),
+        Part("the layout of Python", [f"{TOP}/.ci/format"], ends_all=True),
     ]
 
 
 def scripts_by_sources(logs):
-    """Returns the part that runs the scripts by the sources, compiled unproved and with sanitizers."""
+    """Returns the part that runs the scripts by the sources, compiled unproved and with
+    sanitizers."""
     os.mkdir(f"{logs}/scripts")
     scripts(f"{logs}/scripts")
-    return Part("the scripts", ["rt", "try", "--seconds", "300", "--cases", f"{logs}/scripts"], PROGRAM, ends_all=True)
+    return Part(
+        "the scripts",
+        ["rt", "try", "--seconds", "300", "--cases", f"{logs}/scripts"],
+        PROGRAM,
+        ends_all=True,
+    )
 
 
 def side_by_side(parts, logs, at_once):
@@ -108,10 +140,10 @@ def side_by_side(parts, logs, at_once):
 
     def take():
         with lock:
-            for it in waiting:
-                if all(each.is_well for each in it.after):
-                    waiting.remove(it)
-                    return it
+            for part in waiting:
+                if all(each.is_well for each in part.after):
+                    waiting.remove(part)
+                    return part
             return None
 
     def lane():
@@ -129,24 +161,24 @@ def side_by_side(parts, logs, at_once):
                 time.sleep(0.5)
 
     lanes = [threading.Thread(target=lane) for _ in range(at_once)]
-    for it in lanes:
-        it.start()
-    for it in lanes:
-        it.join()
-    failed = [it for it in parts if not it.is_well]
-    for it in failed:
-        if it.text and not it.is_ended:
-            print(it.end_of_text(), flush=True)
+    for thread in lanes:
+        thread.start()
+    for thread in lanes:
+        thread.join()
+    failed = [part for part in parts if not part.is_well]
+    for part in failed:
+        if part.text and not part.is_ended:
+            print(part.end_of_text(), flush=True)
     return failed
 
 
 def end_running():
     """Stops every running part with all processes that it started."""
-    for it in running:
-        if it.ran.returncode is None:
-            it.is_ended = True
+    for part in running:
+        if part.ran.returncode is None:
+            part.is_ended = True
             try:
-                os.killpg(it.ran.pid, signal.SIGTERM)
+                os.killpg(part.ran.pid, signal.SIGTERM)
             except OSError:
                 pass
 
@@ -157,5 +189,5 @@ def end_with_all(*_):
 
 
 def end_on_signals():
-    for it in (signal.SIGTERM, signal.SIGINT, signal.SIGHUP):
-        signal.signal(it, end_with_all)
+    for number in (signal.SIGTERM, signal.SIGINT, signal.SIGHUP):
+        signal.signal(number, end_with_all)

@@ -14,6 +14,7 @@ from parts import BEGAN, BUDGET, PROGRAM, TOP, Part, cheap, end_on_signals, say,
 from tools import Log, crates_of
 
 
+POLITELY = ["nice", "-n", "10"]
 # Copies the files of the tree, with what is not committed yet, but no ignored file and no mutant.
 COPY = """set -o pipefail
 git ls-files -z --cached --others --exclude-standard -- ':(exclude,glob)crates/*/must-fail/**' |
@@ -21,7 +22,8 @@ git ls-files -z --cached --others --exclude-standard -- ':(exclude,glob)crates/*
 
 
 def copy_without_edits(to):
-    """Copies the tree, with a .git of its own and without must-fail folders, since `rt ci` would try mutants one by one."""
+    """Copies the tree, with a .git of its own and without must-fail folders, since `rt ci` would
+    try mutants one by one."""
     if subprocess.run(["bash", "-c", COPY, to], cwd=TOP, stdin=subprocess.DEVNULL).returncode:
         sys.exit("run: the tree could not be copied")
 
@@ -45,11 +47,16 @@ class Proved:
 
 def names_with_refused_memory():
     """Returns the crates that have tests of refused memory."""
-    return [crate.name for crate in crates_of(TOP).values() if any(path.endswith("/refused.rt") for path in crate.files("src"))]
+    return [
+        crate.name
+        for crate in crates_of(TOP).values()
+        if any(path.endswith("/refused.rt") for path in crate.files("src"))
+    ]
 
 
 def on_the_program(copy, log):
-    """Returns the parts that try the program, and the tests of refused memory, as soon as these are proved and built."""
+    """Returns the parts that try the program, and the tests of refused memory, as soon as these
+    are proved and built."""
     program, is_there = f"{copy}/{PROGRAM}/out/ets_script_cli", Proved("ets_script_cli", log)
     external = f"{copy}/crates/test_external/out/test_external"
     names = names_with_refused_memory()
@@ -67,25 +74,46 @@ def on_the_program(copy, log):
         tried("failing devices", "tests/program/devices"),
         tried("packets", "tests/program/packets", r"^packets: "),
         tried("refused memory", "tests/program/refusals", r"^refusals: "),
-        Part("refused memory in tests", [f"{TOP}/.ci/refusals", *tests], after=are_there, show=r"^refusals: "),
-        Part("terms compared with Erlang's", [f"{TOP}/.ci/external", external], after=[Proved("test_external", log)], show=r"^external: "),
+        Part(
+            "refused memory in tests",
+            [f"{TOP}/.ci/refusals", *tests],
+            after=are_there,
+            show=r"^refusals: ",
+        ),
+        Part(
+            "terms compared with Erlang's",
+            [f"{TOP}/.ci/external", external],
+            after=[Proved("test_external", log)],
+            show=r"^external: ",
+        ),
     ]
 
 
 def with_tests(folder):
-    """Returns the folders of this folder that have a command `test`, each as a path from the top."""
-    return sorted(os.path.dirname(os.path.relpath(path, TOP)) for path in glob.glob(f"{TOP}/{folder}/*/test"))
+    """Returns the folders of this folder that have a command `test`, each as a path from the
+    top."""
+    return sorted(
+        os.path.dirname(os.path.relpath(path, TOP)) for path in glob.glob(f"{TOP}/{folder}/*/test")
+    )
 
 
 def on_the_files_of_dist(copy, log, words):
-    """Returns the parts on the files of dist/, built from what is proved: the packages, the release and ./ets_script."""
+    """Returns the parts on the files of dist/, built from what is proved: the packages, the
+    release and ./ets_script."""
     write = [word for word in words if word == "--write"]
     are_there = [Proved("ets_script_cli", log), Proved("ets_c", log)]
-    dist = Part("the files of dist", [f"{TOP}/.ci/dist", copy, *write], after=are_there, show=r"^dist: ")
-    # (what is committed in dist/ must be of these sources, so its program can run the scripts before anything is proved)
+    dist = Part(
+        "the files of dist", [f"{TOP}/.ci/dist", copy, *write], after=are_there, show=r"^dist: "
+    )
+    # (what is committed in dist/ must be of these sources, so its program can run the scripts
+    # before anything is proved)
     committed = [
         Part("the sources of dist", [f"{TOP}/.ci/dist", "--sources"], ends_all=True),
-        Part("the scripts by the program in dist", [f"{TOP}/tests/run", f"{TOP}/dist/x86_64-linux/ets_script"], ends_all=True),
+        Part(
+            "the scripts by the program in dist",
+            [f"{TOP}/tests/run", f"{TOP}/dist/x86_64-linux/ets_script"],
+            ends_all=True,
+        ),
     ]
     folders = [*with_tests("bindings"), *with_tests("examples")]
     return [
@@ -93,25 +121,47 @@ def on_the_files_of_dist(copy, log, words):
         dist,
         *(Part(folder, [f"{TOP}/{folder}/test", built(copy)], after=[dist]) for folder in folders),
         Part("the release", [f"{TOP}/.ci/release"], after=[dist], show=r"^release: "),
-        Part("./ets_script", [f"{TOP}/tests/program/wrapper", built(copy), "--build"], after=[dist], show=r"^wrapper: "),
+        Part(
+            "./ets_script",
+            [f"{TOP}/tests/program/wrapper", built(copy), "--build"],
+            after=[dist],
+            show=r"^wrapper: ",
+        ),
+    ]
+
+
+def of_ci_itself():
+    """Returns the parts that test CI itself."""
+    order = [sys.executable, "-B", f"{TOP}/.ci/modules/order_test.py"]
+    return [
+        Part("the order of checks", order, ends_all=True),
+        Part(
+            "the program that tries mutants",
+            [*POLITELY, f"{TOP}/.ci/mutants", "--self"],
+            ends_all=True,
+        ),
     ]
 
 
 def parts_of(words, copy, logs):
-    """Returns all parts: those that need no proof, the tests of CI itself, what is tried on the program; the proofs; and the mutants."""
-    politely = ["nice", "-n", "10"]
-    order = Part("the order of checks", [sys.executable, "-B", f"{TOP}/.ci/modules/order_test.py"], ends_all=True)
-    itself = Part("the program that tries mutants", [*politely, f"{TOP}/.ci/mutants", "--self"], ends_all=True)
-    proofs = Part("every proof, test and program (rt ci)", [sys.executable, "-B", f"{TOP}/.ci/modules/proofs.py", copy], show=r"^rt: ")
-    tried = [*politely, f"{TOP}/.ci/mutants", "--libraries", copy, "--after", proofs.file(logs), *words]
-    mutants = Part("the mutants", tried, show=r"^mutants: ")
+    """Returns all parts: those that need no proof, the tests of CI itself, what is tried on the
+    program; the proofs; and the mutants."""
+    proving = [sys.executable, "-B", f"{TOP}/.ci/modules/proofs.py", copy]
+    proofs = Part("every proof, test and program (rt ci)", proving, show=r"^rt: ")
+    tried = [f"{TOP}/.ci/mutants", "--libraries", copy, "--after", proofs.file(logs), *words]
+    mutants = Part("the mutants", [*POLITELY, *tried], show=r"^mutants: ")
     log = Log(proofs.file(logs))
-    return [*cheap(), order, itself, *on_the_program(copy, log), *on_the_files_of_dist(copy, log, words)], proofs, mutants
+    single = [*cheap(), *of_ci_itself()]
+    single += [*on_the_program(copy, log), *on_the_files_of_dist(copy, log, words)]
+    return single, proofs, mutants
 
 
 def report(mutants, costs):
     """Returns the table of what each crate took, with its budget."""
-    took = {name: float(used) for name, used in re.findall(r"^mutants of (\w+): (\d+) s", mutants.text, re.M)}
+    took = {
+        name: float(used)
+        for name, used in re.findall(r"^mutants of (\w+): (\d+) s", mutants.text, re.M)
+    }
     measured = lambda name, kind: took.get(name, 0) if kind == "mutants" else costs.of(name, kind)
     return table(crates_of(TOP), measured, budget(BUDGET))
 
@@ -126,14 +176,20 @@ def main(words):
         single, proofs, mutants = parts_of(words, copy, logs)
         all_parts = [*single, proofs, mutants]
         side_by_side(all_parts, logs, len(all_parts))
-        counts = [(1, 0) if it.is_well else (0, 1) for it in single]
-        counts += [counted(r"(\d+) passed, (\d+) failed", proofs.text), counted(r"(\d+) rejected, (\d+) not", mutants.text)]
+        counts = [(1, 0) if part.is_well else (0, 1) for part in single]
+        counts += [
+            counted(r"(\d+) passed, (\d+) failed", proofs.text),
+            counted(r"(\d+) rejected, (\d+) not", mutants.text),
+        ]
         print(report(mutants, costs))
     passed, failed = map(sum, zip(*counts))
     # (a part can fail without a count of its own)
-    failed = failed or sum(not it.is_well for it in all_parts)
+    failed = failed or sum(not part.is_well for part in all_parts)
     used = resource.getrusage(resource.RUSAGE_CHILDREN)
-    say(f"total: {(time.time() - BEGAN) / 60:.0f} minutes, {(used.ru_utime + used.ru_stime) / 60:.0f} of CPU")
+    say(
+        f"total: {(time.time() - BEGAN) / 60:.0f} minutes, "
+        f"{(used.ru_utime + used.ru_stime) / 60:.0f} of CPU"
+    )
     print(f"{passed} passed, {failed} failed", flush=True)
     return 1 if failed else 0
 

@@ -1,5 +1,5 @@
-"""Builds a static library, which `rt ci` checks but does not build: from what the check in CI left in its out/, or, if that does
-not exist, by proving it first.
+"""Builds a static library, which `rt ci` checks but does not build: from what the check in CI left
+in its out/, or, if that does not exist, by proving it first.
 
     python3 static_library.py TREE CRATE"""
 import os
@@ -21,7 +21,17 @@ def build(prover, crate):
             at = words.index(word)
             words = [*words[:at], *words[at + 2 :]]
         words += ["--crate-checked", CHECKED]
-    words = [rattle, "build", *words, "--toolchain", f"{prover.kit}/toolchain", "--backend", "llvm", "-o", archive_of(crate)]
+    words = [
+        rattle,
+        "build",
+        *words,
+        "--toolchain",
+        f"{prover.kit}/toolchain",
+        "--backend",
+        "llvm",
+        "-o",
+        archive_of(crate),
+    ]
     os.makedirs(f"{crate.folder}/out", exist_ok=True)
     subprocess.run(words, cwd=crate.folder, stdin=subprocess.DEVNULL, check=True)
 

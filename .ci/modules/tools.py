@@ -1,4 +1,5 @@
-"""What CI uses of the tool tools/mutants: the crates of a tree, the prover, and the output of `rt ci`."""
+"""What CI uses of the tool tools/mutants: the crates of a tree, the prover, and the output of `rt
+ci`."""
 import os
 import sys
 

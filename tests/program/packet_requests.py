@@ -1,4 +1,5 @@
-"""Requests and replies in packets, and a list of the faults that were found, for the tests of `--external`."""
+"""Requests and replies in packets, and a list of the faults that were found, for the tests of
+`--external`."""
 import os
 import pathlib
 import struct
@@ -35,12 +36,12 @@ def call(pid, name, *arguments):
 
 def bodies(output):
     """Cuts output into the bodies of its packets."""
-    found = []
-    while len(output) >= 4:
-        (size,) = struct.unpack(">I", output[:4])
-        found.append(output[4 : 4 + size])
-        output = output[4 + size :]
-    check("bytes after the last packet", output, b"")
+    found, at = [], 0
+    while len(output) - at >= 4:
+        (size,) = struct.unpack_from(">I", output, at)
+        found.append(output[at + 4 : at + 4 + size])
+        at += 4 + size
+    check("bytes after the last packet", output[at:], b"")
     return found
 
 
@@ -51,13 +52,19 @@ def reply(body):
 
 def run(program, given, *options, **environment):
     """Returns the replies, the status and standard error of a run."""
-    ran = subprocess.run([program, "--external", *options], input=given, capture_output=True, timeout=60, env={**os.environ, **environment})
-    return [reply(it) for it in bodies(ran.stdout)], ran.returncode, ran.stderr.decode()
+    ran = subprocess.run(
+        [program, "--external", *options],
+        input=given,
+        capture_output=True,
+        timeout=60,
+        env={**os.environ, **environment},
+    )
+    return [reply(body) for body in bodies(ran.stdout)], ran.returncode, ran.stderr.decode()
 
 
-def compile_library(room, text):
-    """Compiles a library that is loaded into the program, and returns its path."""
-    source, library = pathlib.Path(room, "library.c"), pathlib.Path(room, "library.so")
-    source.write_text(text)
+def compile_library(room, name):
+    """Compiles a file of this folder to a library that is loaded into the program, and returns its
+    path."""
+    source, library = f"{TOP}/tests/program/{name}", pathlib.Path(room, "library.so")
     subprocess.run(["cc", "-O1", "-shared", "-fPIC", "-o", library, source], check=True)
     return str(library)

@@ -1,6 +1,7 @@
 /* Runs a program repeatedly on one input (by LD_PRELOAD): first with no allocation refused, then once for each allocation
    that one line of the input takes, with that allocation refused. The program reads the input in three pieces: up to the line,
-   the line, and the rest. So the allocations between two reads are those of the line. tests/program/refusals and .ci/refusals say how it must end.
+   the line, and the rest. So the allocations between two reads are those of the line. tests/program/refusals and .ci/refusals
+   say how it must end.
 
    REFUSED is "FROM TO": the offsets of the first byte of the line and of the first byte after it. "0 0" means the allocations
    before the first read, "0 -1" all allocations of the program, and "-1 -1" none. For each run this prints a line
@@ -46,7 +47,7 @@ static int counts_all;
    share it. */
 static struct { long before, end, marks, between; } *counted;
 /* The file that HELD names, or -1, and the number of blocks that were allocated and not freed. */
-static int told = -1;
+static int held_file = -1;
 static long held;
 
 static int refuses(size_t size) {
@@ -98,8 +99,8 @@ static ssize_t read_line(int file, char *buffer, size_t room) {
 
 /* Reads no further than the end of the piece. */
 ssize_t read(int file, void *buffer, size_t room) {
-    if (told >= 0 && file == 0) {
-        dprintf(told, "%ld\n", held);
+    if (held_file >= 0 && file == 0) {
+        dprintf(held_file, "%ld\n", held);
         return read_line(file, buffer, room);
     }
     long at = lseek(file, 0, SEEK_CUR), end = at < from ? from : at < to ? to : at + (long)room;
@@ -135,10 +136,10 @@ static int run(long which) {
     if (child < 0 || waitpid(child, &status, 0) < 0) fail("fork");
     if (from == -2 && counted->between) status = TAKEN;
     else if (from == -2 && (counted->marks == 0 || counted->marks % 2)) status = MISSING;
-    off_t written = lseek(output, 0, SEEK_END), said = lseek(errors, 0, SEEK_END);
-    dprintf(1, "%d %ld %ld\n", status, (long)written, (long)said);
+    off_t written = lseek(output, 0, SEEK_END), reported = lseek(errors, 0, SEEK_END);
+    dprintf(1, "%d %ld %ld\n", status, (long)written, (long)reported);
     copy(output, written);
-    copy(errors, said);
+    copy(errors, reported);
     close(output);
     close(errors);
     return 0;
@@ -146,7 +147,7 @@ static int run(long which) {
 
 __attribute__((constructor)) static void run_all(void) {
     const char *words = getenv("REFUSED"), *file = getenv("HELD");
-    if (file) told = atoi(file);
+    if (file) held_file = atoi(file);
     if (!words || sscanf(words, "%ld %ld", &from, &to) != 2) return;
     counted = mmap(NULL, sizeof *counted, PROT_READ | PROT_WRITE, MAP_SHARED | MAP_ANONYMOUS, -1, 0);
     if (counted == MAP_FAILED) fail("mmap");

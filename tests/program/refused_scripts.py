@@ -14,7 +14,8 @@ LARGE = 8_000
 
 @dataclass
 class Script:
-    """A script, the words of its command line, and the lines that are added when the store is read."""
+    """A script, the words of its command line, and the lines that are added when the store is
+    read."""
 
     name: str
     words: list
@@ -23,14 +24,27 @@ class Script:
 
 
 def spawned(script):
-    return [found[1].decode() for it in script.lines if (found := SPAWN.fullmatch(it))]
+    return [found[1].decode() for line in script.lines if (found := SPAWN.fullmatch(line))]
 
 
 def reading_lines(script, answers):
-    """Returns lines that read the store: each process reads each table of the script, whether it exists or not."""
-    told = zip(filter(is_answered, script.lines), answers, strict=True)
-    tables = dict.fromkeys(answer.decode() for line, answer in told if NEW.fullmatch(line) and not answer.startswith(b"**"))
-    calls = [call for it in tables for call in (f"tab2list({it})", f"first({it})", *(f"info({it},{item})" for item in ITEMS))]
+    """Returns lines that read the store: each process reads each table of the script, whether it
+    exists or not."""
+    answered = zip(filter(is_answered, script.lines), answers, strict=True)
+    tables = dict.fromkeys(
+        answer.decode()
+        for line, answer in answered
+        if NEW.fullmatch(line) and not answer.startswith(b"**")
+    )
+    calls = [
+        call
+        for table in tables
+        for call in (
+            f"tab2list({table})",
+            f"first({table})",
+            *(f"info({table},{item})" for item in ITEMS),
+        )
+    ]
     return [f"{who} {call}".encode() for who in spawned(script) for call in calls] + script.asks
 
 
@@ -40,7 +54,8 @@ def receiving_lines(script):
 
 
 def of_folder(folder, prefix):
-    """Yields the scripts of a folder, without large ones and those with --threads, which read all lines before the first reply."""
+    """Yields the scripts of a folder, without large ones and those with --threads, which read all
+    lines before the first reply."""
     for file in sorted(folder.glob("*.ets")):
         text, args = file.read_bytes(), file.with_name(file.name + ".args")
         words = args.read_text().splitlines() if args.exists() else []
@@ -49,7 +64,12 @@ def of_folder(folder, prefix):
 
 
 def made(name, words, lines, asks=()):
-    return Script(" ".join([name, *words]), words, [it.encode() for it in lines], [it.encode() for it in asks])
+    return Script(
+        " ".join([name, *words]),
+        words,
+        [line.encode() for line in lines],
+        [line.encode() for line in asks],
+    )
 
 
 def listed(objects):
@@ -123,36 +143,83 @@ KEYS = ["a", "b", "c", "d", "e", "f", "[g]", "last", LONG]
 
 
 def of_calls(kind, count, words, key=None):
-    """Makes a script of each call on a table of `count` objects: each with its own number, or all with one key."""
-    objects = listed(f"{{{it if key is None else key},{it}}}" for it in range(count))
-    lines = [*PROCESSES, f"p new(t,[{kind},named_table,public])", f"p insert(t,{objects})", *(it.replace("KIND", kind) for it in CALLS)]
+    """Makes a script of each call on a table of `count` objects: each with its own number, or all
+    with one key."""
+    objects = listed(
+        f"{{{key_number if key is None else key},{key_number}}}" for key_number in range(count)
+    )
+    lines = [
+        *PROCESSES,
+        f"p new(t,[{kind},named_table,public])",
+        f"p insert(t,{objects})",
+        *(line.replace("KIND", kind) for line in CALLS),
+    ]
     name = f"calls on a {kind} of {count}{'' if key is None else ' under one key'}"
-    return made(name, words, lines, [f"r lookup(t,{it})" for it in [*range(count), *KEYS]])
+    return made(
+        name, words, lines, [f"r lookup(t,{key_asked})" for key_asked in [*range(count), *KEYS]]
+    )
 
 
 def of_growth(words):
     """Makes a script that doubles a table from 2 buckets to 128, and makes buckets ready."""
-    lines = [*PROCESSES, "p new(t,[named_table])", f"p insert(t,{listed(f'{{{it}}}' for it in range(300))})", "ready t 1"]
+    lines = [
+        *PROCESSES,
+        "p new(t,[named_table])",
+        f"p insert(t,{listed(f'{{{key}}}' for key in range(300))})",
+        "ready t 1",
+    ]
     for size in 2, 4, 8, 16, 32, 64:
-        lines += ["grow t", f"ready t {size + 1}", f"ready t {size}", f"p insert(t,{{{size},new}})", f"ready t {2 * size - 1}"]
-    return made("2 to 128 buckets", words, lines, [f"r lookup(t,{it})" for it in range(0, 300, 7)])
+        lines += [
+            "grow t",
+            f"ready t {size + 1}",
+            f"ready t {size}",
+            f"p insert(t,{{{size},new}})",
+            f"ready t {2 * size - 1}",
+        ]
+    return made(
+        "2 to 128 buckets", words, lines, [f"r lookup(t,{key})" for key in range(0, 300, 7)]
+    )
 
 
 def of_ends():
-    """Makes a script in which owners end: of tables with three living heirs, of one whose heir has ended, of one without an heir."""
+    """Makes a script in which owners end: of tables with three living heirs, of one whose heir has
+    ended, of one without an heir."""
     lines = [*PROCESSES, "spawn s", "spawn u", "p new(e,[named_table])"]
-    lines += [f"p new({name},[named_table,{{heir,<0.{pid}.0>,{{data,of,{name}}}}}])" for pid, name in enumerate("abcd", 1)]
+    lines += [
+        f"p new({name},[named_table,{{heir,<0.{pid}.0>,{{data,of,{name}}}}}])"
+        for pid, name in enumerate("abcd", 1)
+    ]
     lines += [f"p insert({name},[{{1,{name}}},{{2,{name}}}])" for name in "abcd"]
-    lines += ["q safe_fixtable(a,true)", "p safe_fixtable(b,true)", "exit u", "exit p", "q receive()", "exit q", "r tab2list(b)", "exit r", "exit s"]
+    lines += [
+        "q safe_fixtable(a,true)",
+        "p safe_fixtable(b,true)",
+        "exit u",
+        "exit p",
+        "q receive()",
+        "exit q",
+        "r tab2list(b)",
+        "exit r",
+        "exit s",
+    ]
     return made("owners that end", [], lines)
 
 
 def of_numbers(count):
     """Makes a script with `count` processes, tables, fixes and messages."""
     each = range(count)
-    lines = [f"spawn p{it}" for it in each] + [f"p0 new(t{it},[named_table,public,{{heir,<0.1.0>,{it}}}])" for it in each]
-    lines += [f"p{it} safe_fixtable(t0,true)" for it in each] + [f"p0 give_away(t{it},<0.1.0>,{it})" for it in each]
-    lines += ["p1 insert(t0,[{1},{2}])", "p1 delete(t0,1)", f"exit p{count - 1}", "p1 receive()", "exit p1"]
+    lines = [f"spawn p{number}" for number in each] + [
+        f"p0 new(t{number},[named_table,public,{{heir,<0.1.0>,{number}}}])" for number in each
+    ]
+    lines += [f"p{number} safe_fixtable(t0,true)" for number in each] + [
+        f"p0 give_away(t{number},<0.1.0>,{number})" for number in each
+    ]
+    lines += [
+        "p1 insert(t0,[{1},{2}])",
+        "p1 delete(t0,1)",
+        f"exit p{count - 1}",
+        "p1 receive()",
+        "exit p1",
+    ]
     return made(f"{count} processes, tables, fixes and messages", [], lines)
 
 

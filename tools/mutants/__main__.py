@@ -4,12 +4,14 @@
     .ci/mutants --dry-run [--all] [CRATE[/EDIT]..]
     .ci/mutants --self
 
-Mutants of a crate that change different functions are tried together, in one check: rounds.py says how, and why that rejects no
-less. Crates run in parallel.
+Mutants of a crate that change different functions are tried together, in one check: rounds.py says
+how, and why that rejects no less. Crates run in parallel.
 
---libraries  the tree whose crates/*/out/rlib has the libraries below, as `rt ci` leaves them (this tree)
---after      the output of `rt ci` there, as it runs: a crate is tried once a line reports it proved
---all        ignores the record .ci/tried; otherwise only crates whose text it does not have are tried, and one other in turn
+--libraries the tree whose crates/*/out/rlib has the libraries below, as `rt ci` leaves them (this
+tree)
+--after the output of `rt ci` there, as it runs: a crate is tried once a line reports it proved
+--all ignores the record .ci/tried; otherwise only crates whose text it does not have are tried,
+and one other in turn
 --write      writes the record
 --dry-run    lists the crates that would be tried, and why; tries none
 --self       tests this program on weak mutants, which it must report
@@ -37,17 +39,9 @@ def say(text):
         print(f"mutants: {text}", flush=True)
 
 
-def reason_to_try(options, record, sums, turn, name):
-    """Returns why the mutants of a crate are tried, or None if the record has them and nothing asks for a trial."""
-    if options.all or options.crates:
-        return "asked for"
-    if not record.has(name, sums[name]):
-        return "the record does not have its text" if name in record.sums else "not in the record"
-    return "in turn" if name == turn else None
-
-
 def named_edits(options, sums):
-    """Returns the names of the edits that the command line has, by crate; all edits of a crate are an empty list."""
+    """Returns the names of the edits that the command line has, by crate; all edits of a crate are
+    an empty list."""
     named = {}
     for word in options.crates:
         crate, _, edit = word.partition("/")
@@ -57,56 +51,91 @@ def named_edits(options, sums):
     return named
 
 
-def main(options):
-    crates, prover = crates_of(TOP), Prover(os.path.realpath(options.libraries))
-    sums = sums_of(crates, [it for it in crates.values() if edits_of(it)], prover.line)
-    record, turn = Record(f"{TOP}/.ci/tried"), in_turn(sums)
-    named = named_edits(options, sums)
-    todo, verdicts, times = [], [], {}
-    for name in named or sums:
-        why = reason_to_try(options, record, sums, turn, name)
-        if why:
-            todo.append(crates[name])
-            if options.dry_run:
-                print(f"{name}: {len(edits_of(crates[name]))} mutants: {why}")
-            continue
-        edits = edits_of(crates[name])
+class Run:
+    """A run over the crates whose mutants are to be tried: what the record says of each, and the
+    verdicts."""
+
+    def __init__(self, options):
+        self.options, self.crates = options, crates_of(TOP)
+        self.prover = Prover(os.path.realpath(options.libraries))
+        with_edits = [crate for crate in self.crates.values() if edits_of(crate)]
+        self.sums = sums_of(self.crates, with_edits, self.prover.line)
+        self.record, self.turn = Record(f"{TOP}/.ci/tried"), in_turn(self.sums)
+        self.named = named_edits(options, self.sums)
+        self.verdicts, self.times = [], {}
+
+    def reason_to_try(self, name):
+        """Returns why the mutants of a crate are tried, or None if the record has them and nothing
+        asks for a trial."""
+        if self.options.all or self.named:
+            return "asked for"
+        if not self.record.has(name, self.sums[name]):
+            known = name in self.record.sums
+            return "the record does not have its text" if known else "not in the record"
+        return "in turn" if name == self.turn else None
+
+    def plan(self):
+        """Returns the crates to try, each with the reason."""
+        reasons = {name: self.reason_to_try(name) for name in self.named or self.sums}
+        return {name: why for name, why in reasons.items() if why}
+
+    def skip(self, name):
+        """Takes the verdict on the mutants of a crate from the record."""
+        edits = edits_of(self.crates[name])
         say(f"{name}: {len(edits)} mutants were rejected at this text, by the record")
         # (the record does not depend on comments, in which an edit's text can occur a second time)
-        verdicts += [Verdict(it, "BAD EDIT", it.fault) for it in edits if it.fault]
-    if options.dry_run:
-        return 0
-    todo.sort(key=lambda it: -len(edits_of(it)) * it.lines())
-    planned = [it.name for it in todo]
-    log = Log(options.after)
-    work = Lanes(todo, log, options.lanes)
+        self.verdicts += [Verdict(edit, "BAD EDIT", edit.fault) for edit in edits if edit.fault]
 
-    def try_crate(crate, is_proved):
-        if not is_proved:
-            say(f"{crate.name}: not proved, so its mutants cannot be tried")
-            return
-        trial = Trial(crate, prover, say, work.jobs, log.paths(crate.name))
-        found = trial.verdicts(named.get(crate.name, ()))
+    def try_all(self, names):
+        todo = [self.crates[name] for name in names]
+        todo.sort(key=lambda crate: -len(edits_of(crate)) * crate.lines())
+        log = Log(self.options.after)
+        work = Lanes(todo, log, self.options.lanes)
+
+        def try_crate(crate, is_proved):
+            if not is_proved:
+                say(f"{crate.name}: not proved, so its mutants cannot be tried")
+                return
+            trial = Trial(crate, self.prover, say, work.jobs, log.paths(crate.name))
+            self.keep(crate.name, trial, trial.verdicts(self.named.get(crate.name, ())))
+
+        work.run(try_crate)
+
+    def keep(self, name, trial, found):
         with recording:
-            verdicts.extend(found)
-            times[crate.name] = trial.used
-            if options.write and not named.get(crate.name):
+            self.verdicts.extend(found)
+            self.times[name] = trial.used
+            if self.options.write and not self.named.get(name):
                 # (at once, so that nothing is lost if this is stopped)
-                record.write(sums, crate.name, all(it.is_rejected for it in found))
+                is_rejected = all(verdict.is_rejected for verdict in found)
+                self.record.write(self.sums, name, is_rejected)
 
-    work.run(try_crate)
-    bad = [it for it in verdicts if not it.is_rejected]
-    failed = len(bad) + len(planned) - len(times)
-    for it in bad:
-        say(f"must-fail {it.edit}: {it.word}: {it.why}")
-    for name in times:
-        print(f"mutants of {name}: {times[name]:.0f} s of CPU")
-    print(f"{len(verdicts) - len(bad)} rejected, {failed} not", flush=True)
+
+def main(options):
+    run = Run(options)
+    plan = run.plan()
+    if options.dry_run:
+        for name, why in plan.items():
+            print(f"{name}: {len(edits_of(run.crates[name]))} mutants: {why}")
+        return 0
+    for name in run.named or run.sums:
+        if name not in plan:
+            run.skip(name)
+    run.try_all(plan)
+    bad = [verdict for verdict in run.verdicts if not verdict.is_rejected]
+    failed = len(bad) + len(plan) - len(run.times)
+    for verdict in bad:
+        say(f"must-fail {verdict.edit}: {verdict.word}: {verdict.why}")
+    for name, used in run.times.items():
+        print(f"mutants of {name}: {used:.0f} s of CPU")
+    print(f"{len(run.verdicts) - len(bad)} rejected, {failed} not", flush=True)
     return 1 if failed else 0
 
 
 def words():
-    parser = argparse.ArgumentParser(prog="mutants", description=__doc__, formatter_class=argparse.RawDescriptionHelpFormatter)
+    parser = argparse.ArgumentParser(
+        prog="mutants", description=__doc__, formatter_class=argparse.RawDescriptionHelpFormatter
+    )
     parser.add_argument("--libraries", default=TOP)
     parser.add_argument("--after")
     parser.add_argument("--all", action="store_true")

@@ -7,7 +7,8 @@ from .functions import functions
 
 
 class Edit:
-    """Lines 'file: PATH', and then pairs 'old: TEXT', 'new: TEXT', where each old text occurs once in the file."""
+    """Lines 'file: PATH', and then pairs 'old: TEXT', 'new: TEXT', where each old text occurs once
+    in the file."""
 
     def __init__(self, crate, path):
         self.crate, self.name = crate, os.path.basename(path)[: -len(".edit")]
@@ -27,8 +28,12 @@ class Edit:
                 self.pairs.append((file, old, text))
                 old = None
         paths = [file for file, _, _ in self.pairs]
-        if not paths or any(os.path.normpath(it) != it or it.split("/")[0] not in PARTS for it in paths):
-            self.fault = "a 'file:' line names no file below src/, specs/ or proofs/, or there is no pair"
+        if not paths or any(
+            os.path.normpath(path) != path or path.split("/")[0] not in PARTS for path in paths
+        ):
+            self.fault = (
+                "a 'file:' line names no file below src/, specs/ or proofs/, or there is no pair"
+            )
         elif self.made_in({}) is None:
             self.fault = "an 'old:' text does not occur in its file exactly once"
         self.touched = None if self.fault else self.functions_touched()
@@ -51,7 +56,8 @@ class Edit:
         return made
 
     def functions_touched(self):
-        """Returns the functions whose text it changes, or None if it changes anything else, or the number of lines."""
+        """Returns the functions whose text it changes, or None if it changes anything else, or the
+        number of lines."""
         found = []
         for file, text in self.made_in({}).items():
             whole = read(f"{self.crate.folder}/{file}")
@@ -60,11 +66,11 @@ class Edit:
                 return None
             known = functions(file, whole)
             for row, (was, is_now) in enumerate(zip(before, after), 1):
-                around = [it for it in known if it.holds(file, row)]
+                around = [function for function in known if function.holds(file, row)]
                 if was != is_now and not around:
                     return None
                 if was != is_now:
-                    inner = max(around, key=lambda it: it.lines.start)
+                    inner = max(around, key=lambda function: function.lines.start)
                     found += [inner] if inner not in found else []
         return found or None
 
@@ -76,5 +82,5 @@ def edits_of(crate):
 
 
 def functions_of(crate):
-    paths = [it for it in crate.files("src") if it.endswith(".rt")]
+    paths = [path for path in crate.files("src") if path.endswith(".rt")]
     return [each for path in paths for each in functions(path, read(f"{crate.folder}/{path}"))]

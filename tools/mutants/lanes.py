@@ -14,8 +14,9 @@ def lanes():
 
 
 def fate(name, text):
-    """Returns whether the output of `rt ci` says so far that a crate is proved, in this run or in one before; None if it says
-    nothing yet. A name may be that of a crate's tests, `NAME: its tests are`."""
+    """Returns whether the output of `rt ci` says so far that a crate is proved, in this run or in
+    one before; None if it says nothing yet. A name may be that of a crate's tests, `NAME: its
+    tests are`."""
     if re.search(rf"^rt: {name} (proved$|is kept: )|^\d+ passed, 0 failed$", text, re.M):
         return True
     has_ended = re.search(rf"^rt: {name} NOT PROVED|^\d+ passed, \d+ failed$", text, re.M)
@@ -42,7 +43,8 @@ class Log:
         return fates[name]
 
     def paths(self, name):
-        """Returns the prover's names of a crate's functions, as far as `rt ci` has printed them."""
+        """Returns the prover's names of a crate's functions, as far as `rt ci` has printed
+        them."""
         text = read(self.file) if self.file else ""
         return re.findall(rf"^fn ({name}::\S+): ", text, re.M)
 
@@ -69,7 +71,8 @@ class Lanes:
             time.sleep(1)
 
     def jobs(self):
-        """Returns the number of jobs for a check: two if there are lanes that no other crate needs. More would end sooner, but take more CPU time."""
+        """Returns the number of jobs for a check: two if there are lanes that no other crate
+        needs. More would end sooner, but take more CPU time."""
         with self.lock:
             return max(1, min(2, self.number // max(1, self.running + len(self.todo))))
 
@@ -85,7 +88,7 @@ class Lanes:
                         self.running -= 1
 
         threads = [threading.Thread(target=lane) for _ in range(self.number)]
-        for it in threads:
-            it.start()
-        for it in threads:
-            it.join()
+        for thread in threads:
+            thread.start()
+        for thread in threads:
+            thread.join()

@@ -16,11 +16,26 @@ from .visible import Item, items_of_definitions, items_of_source, origins_of
 # Each planted edit: its file, the text before and after, and the verdict that it must get.
 PLANTED = {
     "a_comment": ("src/keys.rt", "in reverse order.", "in the reverse order.", "NOT REJECTED"),
-    "a_mask_by_name": ("src/buckets.rt", "hash & (size - 1)", "{ let mask = size - 1; hash & mask }", "NOT REJECTED"),
+    "a_mask_by_name": (
+        "src/buckets.rt",
+        "hash & (size - 1)",
+        "{ let mask = size - 1; hash & mask }",
+        "NOT REJECTED",
+    ),
     # (the function that it calls is changed in the same round, so it has no goal of its own there)
-    "a_sum_turned_round": ("src/keys.rt", "2 * u64::from(rev32(hash)) + 1", "1 + 2 * u64::from(rev32(hash))", "NOT REJECTED"),
+    "a_sum_turned_round": (
+        "src/keys.rt",
+        "2 * u64::from(rev32(hash)) + 1",
+        "1 + 2 * u64::from(rev32(hash))",
+        "NOT REJECTED",
+    ),
     "a_text_that_is_gone": ("src/keys.rt", "number.swap_bits()", "number", "BAD EDIT"),
-    "a_word_that_is_none": ("src/buckets.rt", "bucket - (1 << top)", "bucket - (1 << tip)", "BAD EDIT"),
+    "a_word_that_is_none": (
+        "src/buckets.rt",
+        "bucket - (1 << top)",
+        "bucket - (1 << tip)",
+        "BAD EDIT",
+    ),
 }
 
 
@@ -30,12 +45,16 @@ VERDICTS = {
     "fn keys::rev32: no proof: 1 goal is open": True,
     "fn keys::rev32: no proof: in `keys::item`, of this cycle of calls: 1 goal is open": True,
     "fn keys::rev32: no proof: it calls `keys::item`, which is not proved": False,
-    "fn keys::rev32: no proof: in `keys::item`, of this cycle of calls: it calls `keys::key`, which is not proved": False,
+    "fn keys::rev32: no proof: in `keys::item`, of this cycle of calls: "
+    "it calls `keys::key`, which is not proved": False,
     "fn keys::rev32: proved": False,
 }
 
 # A line that reports a goal without an answer, and the folder in which that is missing.
-NO_ANSWER = "fn keys::rev32: no proof: expected answers in ./proofs/keys/rev32/Answers.antt; `search` did not prove `returns`"
+NO_ANSWER = (
+    "fn keys::rev32: no proof: expected answers in ./proofs/keys/rev32/Answers.antt; "
+    "`search` did not prove `returns`"
+)
 NO_ANSWER_IN = "proofs/keys/rev32"
 
 # Folders of proofs, and whether each is that of a cycle of calls with `workers::run_from`.
@@ -97,7 +116,11 @@ SEEN = [
     ("get", "Box\n    fn get(&self) -> u32\n        ensures { result ≡ most }"),
     ("len", "Shelf\n    fn len(&self) -> usize\n        ensures { result ≡ 0 };"),
     ("MOST", "pub const MOST: u32 = 3;"),
-    ("Box", "#[derive(Drop)]\npub struct Box<T> {\n    pub first: T,\n}\nimpl<T> Shelf for Box<T> {\n    ghost content = { b };\n}"),
+    (
+        "Box",
+        "#[derive(Drop)]\npub struct Box<T> {\n    pub first: T,\n}\nimpl<T> Shelf for Box<T> "
+        "{\n    ghost content = { b };\n}",
+    ),
     ("Shelf", "pub trait Shelf {\n}"),
 ]
 
@@ -109,7 +132,10 @@ DEFINED_NAMES = ["most", "Shelf"]
 IMPORTED = {
     "use Rattle.ownership.specs.Tables": {"Tables": ["Rattle.ownership.specs.Tables"]},
     "use Rattle.ownership.specs.Tables as tables": {"tables": ["Rattle.ownership.specs.Tables"]},
-    "use Rattle.ets_term.Term.{Int, List as ListOf}": {"Int": ["Rattle.ets_term.Term.Int"], "ListOf": ["Rattle.ets_term.Term.List"]},
+    "use Rattle.ets_term.Term.{Int, List as ListOf}": {
+        "Int": ["Rattle.ets_term.Term.Int"],
+        "ListOf": ["Rattle.ets_term.Term.List"],
+    },
     "ghost use Rattle.ets_term.Term as term;": {"term": ["Rattle.ets_term.Term"]},
     "pub use list::{List, Nodes as Places};": {"List": ["list.List"], "Places": ["list.Nodes"]},
 }
@@ -120,64 +146,104 @@ class Room:
 
     def __init__(self, top, folder):
         self.folder, self.edits = folder, f"{folder}/crates/split_key/must-fail"
-        shutil.copytree(f"{top}/tools", f"{folder}/tools", ignore=shutil.ignore_patterns("__pycache__"))
+        shutil.copytree(
+            f"{top}/tools", f"{folder}/tools", ignore=shutil.ignore_patterns("__pycache__")
+        )
         os.mkdir(f"{folder}/.ci")
         shutil.copy(f"{top}/.ci/mutants", f"{folder}/.ci")
-        shutil.copytree(f"{top}/crates/split_key", f"{folder}/crates/split_key", ignore=shutil.ignore_patterns("out"))
-        with open(f"{folder}/crates.txt", "w", encoding="utf-8") as it:
-            it.write("split_key:\n")
+        shutil.copytree(
+            f"{top}/crates/split_key",
+            f"{folder}/crates/split_key",
+            ignore=shutil.ignore_patterns("out"),
+        )
+        with open(f"{folder}/crates.txt", "w", encoding="utf-8") as listed:
+            listed.write("split_key:\n")
 
     def plant(self):
         for name, (file, old, new, _) in PLANTED.items():
-            with open(f"{self.edits}/{name}.edit", "w", encoding="utf-8") as it:
-                it.write(f"file: {file}\nold: {old}\nnew: {new}\n")
+            with open(f"{self.edits}/{name}.edit", "w", encoding="utf-8") as written:
+                written.write(f"file: {file}\nold: {old}\nnew: {new}\n")
 
     def tried(self, *words):
-        """Returns the status of a run and its output. Its checks have one job, which takes the least CPU time."""
-        ran = subprocess.run([f"{self.folder}/.ci/mutants", "--lanes", "1", *words], stdout=subprocess.PIPE, text=True)
+        """Returns the status of a run and its output. Its checks have one job, which takes the
+        least CPU time."""
+        ran = subprocess.run(
+            [f"{self.folder}/.ci/mutants", "--lanes", "1", *words],
+            stdout=subprocess.PIPE,
+            text=True,
+        )
         return ran.returncode, ran.stdout
 
 
-def self_test(top):
-    faults = []
+class Faults:
+    """What was found not to be so."""
 
-    def expect(is_so, what, text):
+    def __init__(self):
+        self.count = 0
+
+    def expect(self, is_so, what, text):
         if not is_so:
-            faults.append(what)
+            self.count += 1
             print(f"not so: {what}:\n{text}", file=sys.stderr)
 
+
+def test_prover_lines(faults):
     for line, is_own in VERDICTS.items():
-        expect(bool(OWN.match(line)) == is_own, "a line of the prover", line)
-    expect((found := UNANSWERED.match(NO_ANSWER)) and found[1] == NO_ANSWER_IN, "a goal without an answer", NO_ANSWER)
+        faults.expect(bool(OWN.match(line)) == is_own, "a line of the prover", line)
+    found = UNANSWERED.match(NO_ANSWER)
+    faults.expect(found and found[1] == NO_ANSWER_IN, "a goal without an answer", NO_ANSWER)
     member = functions("src/workers.rt", "fn run_from() {\n}\n")[0]
     for folder, is_its in CYCLES.items():
-        expect(member.has_cycle(folder) == is_its, "a cycle of calls", folder)
+        faults.expect(member.has_cycle(folder) == is_its, "a cycle of calls", folder)
     for text, is_proved in FATES.items():
-        expect(fate("split_key", text) == is_proved, "what rt ci says", text)
+        faults.expect(fate("split_key", text) == is_proved, "what rt ci says", text)
     for line, logic in KITS.items():
-        expect(logic_of(line) == logic, "the logic of a kit", line)
+        faults.expect(logic_of(line) == logic, "the logic of a kit", line)
     for path, text, left in COMMENTED:
-        expect(without_comments(path, text) == left, "a text without comments", text)
+        faults.expect(without_comments(path, text) == left, "a text without comments", text)
+
+
+def test_what_is_visible(faults):
     seen = list(items_of_source(SOURCE.split("\n")))
-    expect(seen == SEEN, "what is seen of a source", str(seen))
+    faults.expect(seen == SEEN, "what is seen of a source", str(seen))
     names = [name for name, _ in items_of_definitions(DEFINED.split("\n"))]
-    expect(names == DEFINED_NAMES, "what is seen of a specification", str(names))
+    faults.expect(names == DEFINED_NAMES, "what is seen of a specification", str(names))
     for line, origins in IMPORTED.items():
-        expect(origins_of([line]) == origins, "from where names come", f"{line}: {origins_of([line])}")
-    one, other = (Item((), "start", "start = tables.of", origins_of([f"use specs.{it} as tables"])) for it in ("Tables", "Heirs"))
-    expect(one.origins != other.origins and "Heirs" in other.words, "an alias of another file is another item", str(other.origins))
+        found = origins_of([line])
+        faults.expect(found == origins, "from where names come", f"{line}: {found}")
+    one, other = (
+        Item((), "start", "start = tables.of", origins_of([f"use specs.{module} as tables"]))
+        for module in ("Tables", "Heirs")
+    )
+    is_other = one.origins != other.origins and "Heirs" in other.words
+    faults.expect(is_other, "an alias of another file is another item", str(other.origins))
+
+
+def test_trials(faults, room):
+    true, tried = len(os.listdir(room.edits)), f"{room.folder}/.ci/tried"
+    Record(tried).write({"split_key": "a_checksum"}, "split_key", True)
+    faults.expect(Record(tried).has("split_key", "a_checksum"), "the record has a line", tried)
+    status, text = room.tried("--dry-run")
+    listed = f"split_key: {true} mutants: the record does not have its text\n"
+    faults.expect((status, text) == (0, listed), "a dry run lists what would be tried", text)
+    room.plant()
+    status, text = room.tried("--write")
+    ends = text.endswith(f"\n{true} rejected, {len(PLANTED)} not\n")
+    faults.expect(status == 1 and ends, "among others, all planted edits are reported", text)
+    for name, (_, _, _, word) in PLANTED.items():
+        line = rf"^mutants: must-fail split_key/{name}.edit: {word}: "
+        faults.expect(re.search(line, text, re.M), f"{name} is {word}", text)
+    faults.expect(not Record(tried).sums, "the record has no line of it any more", text)
+    status, text = room.tried("split_key/a_mask_by_name")
+    ends = text.endswith("\n0 rejected, 1 not\n")
+    faults.expect(status == 1 and ends, "a weak edit by itself is reported", text)
+
+
+def self_test(top):
+    faults = Faults()
+    test_prover_lines(faults)
+    test_what_is_visible(faults)
     with tempfile.TemporaryDirectory(prefix="mutants-self-") as folder:
-        room = Room(top, folder)
-        true, tried = len(os.listdir(room.edits)), f"{folder}/.ci/tried"
-        Record(tried).write({"split_key": "a_checksum"}, "split_key", True)
-        expect(Record(tried).has("split_key", "a_checksum"), "the record has a line", tried)
-        room.plant()
-        status, text = room.tried("--write")
-        expect(status == 1 and text.endswith(f"\n{true} rejected, {len(PLANTED)} not\n"), "among others, all planted edits are reported", text)
-        for name, (_, _, _, word) in PLANTED.items():
-            expect(re.search(rf"^mutants: must-fail split_key/{name}.edit: {word}: ", text, re.M), f"{name} is {word}", text)
-        expect(not Record(tried).sums, "the record has no line of it any more", text)
-        status, text = room.tried("split_key/a_mask_by_name")
-        expect(status == 1 and text.endswith("\n0 rejected, 1 not\n"), "a weak edit by itself is reported", text)
-    print(f"mutants --self: {len(faults)} faults")
-    return 1 if faults else 0
+        test_trials(faults, Room(top, folder))
+    print(f"mutants --self: {faults.count} faults")
+    return 1 if faults.count else 0

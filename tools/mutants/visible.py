@@ -1,9 +1,12 @@
-"""What a crate sees of the crates below it: the definitions, types and contracts whose names it uses.
+"""What a crate sees of the crates below it: the definitions, types and contracts whose names it
+uses.
 
-A proof sees the contracts of the functions that it calls, not their bodies, and the definitions that these contracts use. So whether a
-mutant breaks its contract depends on no body and no lemma of another crate. An item is visible if its name is a word of the crate, or of
-another visible item. A name that two items share makes both visible. An alias makes visible what it is an alias of. The contract of a method
-counts only if its type is visible too, and that of any function only if its crate exports the function or its type."""
+A proof sees the contracts of the functions that it calls, not their bodies, and the definitions
+that these contracts use. So whether a mutant breaks its contract depends on no body and no lemma
+of another crate. An item is visible if its name is a word of the crate, or of another visible
+item. A name that two items share makes both visible. An alias makes visible what it is an alias
+of. The contract of a method counts only if its type is visible too, and that of any function only
+if its crate exports the function or its type."""
 import re
 
 from .crates import read, without_comments
@@ -12,16 +15,25 @@ from .functions import FUNCTION, owner_of
 WORD = re.compile(r"[\w'-]*\w[\w'-]*")
 # What may stand before a name at the start of a definition.
 KEYWORDS = {"pub", "abbrev", "record", "data", "opaque", "rec", "mutual"}
-TYPE = re.compile(r"^(pub(?:\([^)]*\))? +)?(?:unsafe +)?(struct|enum|trait|const|static|type|mod) +(?:mut +)?(\w+)")
+TYPE = re.compile(
+    r"^(pub(?:\([^)]*\))? +)?(?:unsafe +)?(struct|enum|trait|const|static|type|mod) +(?:mut "
+    r"+)?(\w+)"
+)
 IMPL = re.compile(r"^(?:unsafe +)?impl\b(.*)$")
 # A line that brings names in: from where, which, and the alias of a single one.
-IMPORT = re.compile(r"^\s*(?:pub(?:\([^)]*\))? +)?(?:ghost +)?use +([^\s{;]+?)(?:[.:]*\{([^}]*)\})?(?: as ([^;]*))?;?$")
-LONG_IMPORT = re.compile(r"^\s*(?:pub(?:\([^)]*\))? +)?(?:ghost +)?use +[^;{]*\{[^}]*\n[^}]*\};?$", re.M)
+IMPORT = re.compile(
+    r"^\s*(?:pub(?:\([^)]*\))? +)?(?:ghost +)?use +([^\s{;]+?)(?:[.:]*\{([^}]*)\})?(?: as "
+    r"([^;]*))?;?$"
+)
+LONG_IMPORT = re.compile(
+    r"^\s*(?:pub(?:\([^)]*\))? +)?(?:ghost +)?use +[^;{]*\{[^}]*\n[^}]*\};?$", re.M
+)
 MODULE = re.compile(r"^(?:pub(?:\([^)]*\))? +)?mod +\w+;?$")
 
 
 class Item:
-    """A definition, a type, a block or the contract of a function: its name, its text, the words of that, and from where those come."""
+    """A definition, a type, a block or the contract of a function: its name, its text, the words
+    of that, and from where those come."""
 
     def __init__(self, place, name, text, origins):
         self.place, self.name, self.text = place, name, text
@@ -29,7 +41,7 @@ class Item:
         # (the first line of a function's item is the type that it belongs to)
         owner, _, head = text.partition("\n")
         self.names = words(f"{name} {owner}" if FUNCTION.match(head) else name)
-        self.origins = [(it, origins[it]) for it in sorted(self.words & origins.keys())]
+        self.origins = [(word, origins[word]) for word in sorted(self.words & origins.keys())]
         # (the text has an alias, and the crate below has the name at the end of its origin)
         self.words |= {WORD.findall(origin)[-1] for _, known in self.origins for origin in known}
 
@@ -43,29 +55,44 @@ def items_of(crate):
     found, exports = [], exports_of(crate)
     for path in crate.files("src", "specs"):
         text = without_comments(path, read(f"{crate.folder}/{path}").encode()).decode()
-        lines = LONG_IMPORT.sub(lambda it: " ".join(it[0].split()), text).split("\n")
-        origins, left = origins_of(lines), [it for it in lines if not IMPORT.match(it) and not MODULE.match(it)]
+        lines = LONG_IMPORT.sub(
+            lambda found_import: " ".join(found_import[0].split()), text
+        ).split("\n")
+        origins, left = origins_of(lines), [
+            line for line in lines if not IMPORT.match(line) and not MODULE.match(line)
+        ]
         made = items_of_source(left) if path.endswith(".rt") else items_of_definitions(left)
-        found += [Item((crate.name, path), name, text, origins) for name, text in made if is_exported(path, name, text, exports)]
+        found += [
+            Item((crate.name, path), name, text, origins)
+            for name, text in made
+            if is_exported(path, name, text, exports)
+        ]
     return found
 
 
 def exports_of(crate):
-    """Returns the names that a crate exports, and its source files of which it exports everything."""
+    """Returns the names that a crate exports, and its source files of which it exports
+    everything."""
     text = read(f"{crate.folder}/{crate.root()}")
     used = re.findall(r"^pub use ([^;]*);", text, re.M)
-    return words(" ".join(used)), {f"src/{it}.rt" for it in re.findall(r"^pub mod (\w+);", text, re.M)} | {crate.root()}
+    return words(" ".join(used)), {
+        f"src/{module}.rt" for module in re.findall(r"^pub mod (\w+);", text, re.M)
+    } | {crate.root()}
 
 
 def is_exported(path, name, text, exports):
-    """Returns whether other crates can call a function, given the line of its owner and its contract. All other items are exported."""
+    """Returns whether other crates can call a function, given the line of its owner and its
+    contract. All other items are exported."""
     owner, _, head = text.partition("\n")
     names, files = exports
-    return not FUNCTION.match(head) or path in files or bool({owner or name, *owner.split()} & names)
+    return (
+        not FUNCTION.match(head) or path in files or bool({owner or name, *owner.split()} & names)
+    )
 
 
 def origins_of(lines):
-    """Returns the paths from which a file has each name that it brings in. An alias is such a name."""
+    """Returns the paths from which a file has each name that it brings in. An alias is such a
+    name."""
     found = {}
     for line in filter(IMPORT.match, lines):
         place, names, alias = IMPORT.match(line).groups()
@@ -83,15 +110,15 @@ def origins_of(lines):
 def items_of_definitions(lines):
     """Yields the blocks between blank lines, each under every name that starts a line of it."""
     for block in re.split(r"\n\s*\n", "\n".join(lines)):
-        starts = [it.split() for it in block.split("\n") if it[:1].strip()]
-        names = {next((word for word in it if word not in KEYWORDS), "") for it in starts}
-        for name in sorted(it.rstrip(":") for it in names):
+        starts = [line.split() for line in block.split("\n") if line[:1].strip()]
+        names = {next((word for word in start if word not in KEYWORDS), "") for start in starts}
+        for name in sorted(name.rstrip(":") for name in names):
             yield name, block.strip()
 
 
 def items_of_source(lines):
-    """Yields the contract of each function, and what else each block has, under the name of its type. Private types and fields of a
-    struct are left out."""
+    """Yields the contract of each function, and what else each block has, under the name of its
+    type. Private types and fields of a struct are left out."""
     owner, kind, rest, row, own, marks = "", "", {}, 0, [], []
     while row < len(lines):
         line = lines[row]
@@ -109,41 +136,67 @@ def items_of_source(lines):
             block, named = IMPL.match(line), TYPE.match(line)
             owner = owner_of(block[1]) if block else named[3] if named else ""
             kind = "impl" if block else named[2] if named and named[1] == "pub " else "private"
-        is_hidden = kind == "private" or kind == "struct" and line.startswith("    ") and not line.startswith("    pub ")
+        is_hidden = (
+            kind == "private"
+            or kind == "struct"
+            and line.startswith("    ")
+            and not line.startswith("    pub ")
+        )
         if line.strip() and not is_hidden:
             rest.setdefault(owner, []).extend([*marks, line])
         marks = []
     yield from own
     for name, text in rest.items():
         # (the head of a block of functions says nothing)
-        if any(not IMPL.match(it) and it.strip() != "}" for it in text):
+        if any(not IMPL.match(line) and line.strip() != "}" for line in text):
             yield name, "\n".join(text)
 
 
 def contract_of(lines, row, indent):
-    """Returns the row after the head and the clauses of the function whose head is in a row, and the row after its body."""
+    """Returns the row after the head and the clauses of the function whose head is in a row, and
+    the row after its body."""
     for at in range(row, len(lines)):
         line = lines[at].rstrip()
         if line == f"{indent}{{":
-            return at, next(it for it in range(at, len(lines)) if lines[it].rstrip() == f"{indent}}}") + 1
-        if line.endswith(";") or line.endswith("}") and line.startswith(f"{indent}fn ") and "{" in line:
+            return (
+                at,
+                next(
+                    last for last in range(at, len(lines)) if lines[last].rstrip() == f"{indent}}}"
+                )
+                + 1,
+            )
+        if (
+            line.endswith(";")
+            or line.endswith("}")
+            and line.startswith(f"{indent}fn ")
+            and "{" in line
+        ):
             return at + 1, at + 1
         if line.endswith("{") and line.startswith(indent) and not line.startswith(f"{indent} "):
-            return at + 1, next(it for it in range(at + 1, len(lines)) if lines[it].rstrip() == f"{indent}}}") + 1
+            return (
+                at + 1,
+                next(
+                    last
+                    for last in range(at + 1, len(lines))
+                    if lines[last].rstrip() == f"{indent}}}"
+                )
+                + 1,
+            )
     return len(lines), len(lines)
 
 
 def visible(crate, items):
-    """Returns the text of the items of the crates below that a crate sees. `items` has the items of each crate by its name."""
+    """Returns the text of the items of the crates below that a crate sees. `items` has the items
+    of each crate by its name."""
     known, found = set(), []
     for path in crate.files("src", "specs", "proofs", "must-fail"):
         known |= words(without_comments(path, read(f"{crate.folder}/{path}").encode()).decode())
-    left = [it for lower in crate.below for it in items[lower.name]]
+    left = [item for lower in crate.below for item in items[lower.name]]
     while True:
-        seen = [it for it in left if it.names <= known]
+        seen = [item for item in left if item.names <= known]
         if not seen:
-            return sorted((*it.place, it.name, it.text, it.origins) for it in found)
+            return sorted((*item.place, item.name, item.text, item.origins) for item in found)
         found += seen
-        left = [it for it in left if it not in seen]
-        for it in seen:
-            known |= it.words
+        left = [item for item in left if item not in seen]
+        for item in seen:
+            known |= item.words
