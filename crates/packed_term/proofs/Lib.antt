@@ -1,0 +1,3 @@
+mod FormLaws
+mod SizeLaws
+mod TupleLaws
