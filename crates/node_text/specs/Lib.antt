@@ -4,5 +4,6 @@ pub mod Texts
 pub mod Answers
 pub mod Calls
 pub mod RunsCall
+pub mod Requests
 pub mod Printed
 pub mod inside

@@ -11,7 +11,8 @@
 //!
 //! *Mechanism.* A store keeps the last reply, and the reason of the last refusal in a few machine words. It makes the
 //! reason's text on demand. It keeps two replies: a step writes its reply over the older one and uses its memory again,
-//! so the last reply stays if memory runs out. The keys of its tables have the hash FNV-1a, or one with a seed, so that
+//! so the last reply stays if memory runs out. A `Request` is read, and its reply is written, without the store, so that
+//! threads need a lock only while `Store::run` runs it. The keys of its tables have the hash FNV-1a, or one with a seed, so that
 //! users cannot choose keys of one bucket.
 //!
 //! *Limits.* The tuple of a call counts as one of the 128 levels that a text may have, so an argument may have 127; in
@@ -34,3 +35,4 @@ pub use last_refusal::LastRefusal;
 pub use print::{call_text, reply_text, step_text, term_text};
 pub use status::{BADARG, CLOSED, NO_MEMORY, NO_PROCESS, SYNTAX, SYSTEM_LIMIT, UNTOLD, VALUE};
 pub use store::Store;
+pub use store::request::Request;

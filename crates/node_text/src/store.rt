@@ -11,6 +11,7 @@ ghost use Rattle.node_text.specs.declared.call_fault.CallFault.TheVariants.{Memo
 ghost use Rattle.node_text.specs.declared.last_refusal.LastRefusal.TheVariants as refusal;
 
 mod replies;
+pub(crate) mod request;
 
 use crate::call_fault::CallFault;
 use crate::growth::growth_steps;

@@ -38,17 +38,7 @@ impl Store {
     pub fn write_reply(&self, alloc: Global, out: &mut [u8], len: &mut usize) -> i32
         ensures { WritesReply text_of_term self.now.reply (written_reply result len.new out.old out.new) }
     {
-        *len = 0;
-        let Reply::Value(term) = &self.reply else {
-            return status_of(&self.reply);
-        };
-        let mut text = String::new(alloc);
-        if print_term(alloc, term, &mut text).is_err() {
-            return UNTOLD;
-        }
-        *len = text.len();
-        copy_prefix(text.as_bytes(), out);
-        VALUE
+        write_text(alloc, &self.reply, out, len)
     }
 
     /// Returns the status of the last reply. If it is `VALUE`, writes as many of the reply's bytes in the external
@@ -58,16 +48,7 @@ impl Store {
         ensures same { self.new ≡ self.old }
         ensures writes { WritesReply encode_with_version self.old.reply (written_reply result len.new out.old out.new) }
     {
-        *len = 0;
-        let Reply::Value(term) = &self.reply else {
-            return status_of(&self.reply);
-        };
-        let status = write_term_external(term, &mut self.bytes, out, len);
-        if self.bytes.capacity() > MAX_KEPT {
-            self.bytes.clear();
-            self.bytes.shrink_to_fit();
-        }
-        status
+        write_bytes(&self.reply, &mut self.bytes, out, len)
     }
 
     /// Writes why the last call was refused: as much of the text as fits into `out`, and its full length to `len`. The
@@ -75,17 +56,65 @@ impl Store {
     pub fn write_reason(&self, alloc: Global, out: &mut [u8], len: &mut usize) -> i32
         ensures { WritesReason self.now.refusal (written_reply result len.new out.old out.new) }
     {
-        *len = 0;
-        let Some(refusal) = self.refusal else {
-            return VALUE;
-        };
-        let Ok(words) = refusal.text(alloc) else {
-            return UNTOLD;
-        };
-        *len = words.len();
-        copy_prefix(words.as_bytes(), out);
-        VALUE
+        write_refusal(alloc, self.refusal, out, len)
     }
+}
+
+/// Returns the status of a reply. If it is `VALUE`, writes as much of the reply's text as fits into `out`, and its full
+/// length to `len`.
+pub(crate) fn write_text(alloc: Global, reply: &Reply, out: &mut [u8], len: &mut usize) -> i32
+    ensures { WritesReply text_of_term reply.now (written_reply result len.new out.old out.new) }
+{
+    *len = 0;
+    let Reply::Value(term) = reply else {
+        return status_of(reply);
+    };
+    let mut text = String::new(alloc);
+    if print_term(alloc, term, &mut text).is_err() {
+        return UNTOLD;
+    }
+    *len = text.len();
+    copy_prefix(text.as_bytes(), out);
+    VALUE
+}
+
+/// Returns the status of a reply. If it is `VALUE`, writes as many of the reply's bytes in the external format as fit
+/// into `out`, and their number to `len`. Makes the bytes in `kept`, and frees its memory if it is large.
+pub(crate) fn write_bytes(reply: &Reply, kept: &mut Vec<u8>, out: &mut [u8], len: &mut usize) -> i32
+    ensures { WritesReply encode_with_version reply.now (written_reply result len.new out.old out.new) }
+{
+    *len = 0;
+    let Reply::Value(term) = reply else {
+        return status_of(reply);
+    };
+    let status = write_term_external(term, kept, out, len);
+    if kept.capacity() > MAX_KEPT {
+        kept.clear();
+        kept.shrink_to_fit();
+    }
+    status
+}
+
+/// Writes the reason of a refusal: as much of the text as fits into `out`, and its full length to `len`. The length is
+/// 0 if there is no refusal.
+pub(crate) fn write_refusal(
+    alloc: Global,
+    refusal: Option<LastRefusal>,
+    out: &mut [u8],
+    len: &mut usize,
+) -> i32
+    ensures { WritesReason refusal (written_reply result len.new out.old out.new) }
+{
+    *len = 0;
+    let Some(refusal) = refusal else {
+        return VALUE;
+    };
+    let Ok(words) = refusal.text(alloc) else {
+        return UNTOLD;
+    };
+    *len = words.len();
+    copy_prefix(words.as_bytes(), out);
+    VALUE
 }
 
 /// Writes as many of a term's bytes in the external format as fit into `out`, and their number to `len`. Makes the
