@@ -2,9 +2,9 @@
 
    Rules for callers. Nothing checks them, and the guarantees hold only if you keep them:
    - Start with `yoyoash_store store = {0};`, which is a closed store. Move the struct, never copy it. Only the library
-     reads or writes its contents.
-   - One call at a time may use a store. Any thread may make the call, if a lock, or the start or end of a thread, orders the calls.
-     Never use a store in a signal handler, or in a child forked from a process with threads.
+     reads or writes its contents. The same holds for a yoyoash_request.
+   - One call at a time may use a store, and one a request. Any thread may make the call, if a lock, or the start or end of a thread,
+     orders the calls. Never use them in a signal handler, or in a child forked from a process with threads.
    - The stack of a thread that makes calls has room for YOYOASH_STACK bytes, which the deepest terms need.
    - Pass no NULL pointer, also when the length is 0. The memory that the arguments of one call point to must not overlap.
      Lengths must be below 2^63. */
@@ -41,6 +41,11 @@ typedef struct yoyoash_store {
     void *opaque[2];
 } yoyoash_store;
 
+/* A call that is read, run and answered by three functions. Only yoyoash_request_run uses a store. {0} is a closed request. */
+typedef struct yoyoash_request {
+    void *opaque[2];
+} yoyoash_request;
+
 /* The status of a call. After every status except VALUE and UNTOLD the call was not made and no table has changed. */
 typedef enum yoyoash_status {
     YOYOASH_VALUE = 0,        /* the call was made, and its reply is a term */
@@ -49,7 +54,7 @@ typedef enum yoyoash_status {
     YOYOASH_NO_PROCESS = 3,   /* refused: the process was never spawned, or has exited */
     YOYOASH_NO_MEMORY = 4,    /* out of memory */
     YOYOASH_SYNTAX = 5,       /* the text, or the term, is not a call; *len is the offset of its first fault */
-    YOYOASH_CLOSED = 6,       /* the store is closed */
+    YOYOASH_CLOSED = 6,       /* the store is closed, or the request is or has no call */
     YOYOASH_UNTOLD = 7        /* the call was made, but there was no memory for its reply's bytes: try yoyoash_reply or
                                  yoyoash_reply_external */
 } yoyoash_status;
@@ -92,6 +97,25 @@ int32_t yoyoash_why(yoyoash_store *store, char *out, size_t out_size, size_t *le
 
 /* Closes a store and frees its memory. A closed store stays closed. */
 void yoyoash_close(yoyoash_store *store);
+
+/* Reads the call of a process into a request, from a text or from bytes, without a store. A closed request is opened. Returns VALUE, and
+   *len is 0; SYNTAX, and *len is the offset of the fault; or NO_MEMORY. After these two the request has no call. Its last reply stays. */
+int32_t yoyoash_request_read(yoyoash_request *request, uint32_t pid, const char *text, size_t text_len, size_t *len);
+int32_t yoyoash_request_read_external(yoyoash_request *request, uint32_t pid, const uint8_t *call, size_t call_len, size_t *len);
+
+/* Makes the call of a request. The reply and the reason of a refusal go to the request; those of the store stay. Each further run
+   makes the call again. After NO_MEMORY the reply of the request is NO_PROCESS. If threads share the store, only this function needs the lock. */
+int32_t yoyoash_request_run(yoyoash_store *store, yoyoash_request *request);
+
+/* Copies the reply to the last call of a request that was run, as yoyoash_reply and yoyoash_reply_external do, without a store. */
+int32_t yoyoash_request_reply(yoyoash_request *request, char *out, size_t out_size, size_t *len);
+int32_t yoyoash_request_reply_external(yoyoash_request *request, uint8_t *out, size_t out_size, size_t *len);
+
+/* Copies the reason why the last run was refused, or why the last text or bytes are not a call, as yoyoash_why does. */
+int32_t yoyoash_request_why(yoyoash_request *request, char *out, size_t out_size, size_t *len);
+
+/* Closes a request and frees its memory. */
+void yoyoash_request_close(yoyoash_request *request);
 
 /* Makes a call whose text ends with a NUL, such as a literal. */
 static inline int32_t yoyoash_call_text(yoyoash_store *store, uint32_t pid, const char *text, char *out, size_t out_size, size_t *len) {

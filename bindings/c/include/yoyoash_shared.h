@@ -1,5 +1,5 @@
 /* Yoyoash for C: a store that any thread may call. One call runs at a time, and its reply and its reason belong to the thread that made it.
-   Link with -pthread. See docs/c.md.
+   The lock is held only while the call runs: it is read before, and its reply is written after. Link with -pthread. See docs/c.md.
 
    Rules for callers, besides those of yoyoash.h: open a shared store once, before other threads use it, and close it once, after
    they have. Never move or copy it. An answer belongs to one thread. */
@@ -27,6 +27,7 @@ typedef struct yoyoash_answer {
     size_t len;     /* after VALUE: the number of bytes of the reply; after SYNTAX the offset of the fault; else 0 */
     size_t size;    /* the size of the memory at `bytes` */
     char why[128];  /* the reason of a refusal, ended by a NUL; empty if there is none */
+    yoyoash_request request; /* the call and its reply, for the functions below */
 } yoyoash_answer;
 
 /* Closes the store of a new shared store, and makes its lock. Returns VALUE, or NO_MEMORY, after which there is no lock. */
@@ -52,8 +53,19 @@ static inline int32_t yoyoash_shared_open_with_seed(yoyoash_shared *shared, uint
     return status;
 }
 
-/* Copies the last reply of a store to an answer whose memory is too small for it. */
-static inline void yoyoash_answer_grow(yoyoash_answer *answer, yoyoash_store *store, int is_external) {
+/* Copies the reply of the request of an answer to its bytes, as far as they have room. */
+static inline void yoyoash_answer_copy(yoyoash_answer *answer, int is_external) {
+    char none[1];
+    char *out = answer->bytes ? answer->bytes : none;
+    size_t size = answer->bytes ? answer->size : 0;
+    answer->status = is_external ? yoyoash_request_reply_external(&answer->request, (uint8_t *)out, size, &answer->len)
+                                 : yoyoash_request_reply(&answer->request, out, size, &answer->len);
+}
+
+/* Copies the reply of the request of an answer to its bytes, which grow if they have no room for it. */
+static inline void yoyoash_answer_write(yoyoash_answer *answer, int is_external) {
+    yoyoash_answer_copy(answer, is_external);
+    if (answer->status != YOYOASH_VALUE || answer->len <= answer->size) return;
     char *grown = (char *)realloc(answer->bytes, answer->len);
     if (!grown) {
         answer->status = YOYOASH_UNTOLD;
@@ -62,29 +74,31 @@ static inline void yoyoash_answer_grow(yoyoash_answer *answer, yoyoash_store *st
     }
     answer->bytes = grown;
     answer->size = answer->len;
-    answer->status = is_external ? yoyoash_reply_external(store, (uint8_t *)grown, answer->size, &answer->len)
-                                 : yoyoash_reply(store, grown, answer->size, &answer->len);
+    yoyoash_answer_copy(answer, is_external);
 }
 
-/* Copies the reason of the last refusal of a store to an answer. */
-static inline void yoyoash_answer_why(yoyoash_answer *answer, yoyoash_store *store) {
-    size_t len = 0;
-    yoyoash_why(store, answer->why, sizeof answer->why - 1, &len);
+/* Ends the reason of an answer, of this length, by a NUL. */
+static inline void yoyoash_answer_end_why(yoyoash_answer *answer, size_t len) {
     answer->why[len < sizeof answer->why ? len : sizeof answer->why - 1] = 0;
 }
 
 /* Makes a call for a process, as yoyoash_call or, if `is_external`, as yoyoash_call_external does. Returns the status. */
 static inline int32_t yoyoash_shared_make(yoyoash_shared *shared, uint32_t pid, const void *call, size_t call_len, int is_external, yoyoash_answer *answer) {
-    char none[1];
-    char *out = answer->bytes ? answer->bytes : none;
-    size_t size = answer->bytes ? answer->size : 0;
+    size_t why_len = 0;
     answer->why[0] = 0;
-    pthread_mutex_lock(&shared->lock);
-    answer->status = is_external ? yoyoash_call_external(&shared->store, pid, (const uint8_t *)call, call_len, (uint8_t *)out, size, &answer->len)
-                                 : yoyoash_call(&shared->store, pid, (const char *)call, call_len, out, size, &answer->len);
-    if (answer->status == YOYOASH_VALUE && answer->len > size) yoyoash_answer_grow(answer, &shared->store, is_external);
-    if (answer->status != YOYOASH_VALUE) yoyoash_answer_why(answer, &shared->store);
-    pthread_mutex_unlock(&shared->lock);
+    answer->status = is_external ? yoyoash_request_read_external(&answer->request, pid, (const uint8_t *)call, call_len, &answer->len)
+                                 : yoyoash_request_read(&answer->request, pid, (const char *)call, call_len, &answer->len);
+    if (answer->status == YOYOASH_VALUE) {
+        pthread_mutex_lock(&shared->lock);
+        answer->status = yoyoash_request_run(&shared->store, &answer->request);
+        pthread_mutex_unlock(&shared->lock);
+    }
+    if (answer->status == YOYOASH_VALUE) {
+        yoyoash_answer_write(answer, is_external);
+    } else {
+        yoyoash_request_why(&answer->request, answer->why, sizeof answer->why - 1, &why_len);
+        yoyoash_answer_end_why(answer, why_len);
+    }
     return answer->status;
 }
 
@@ -100,12 +114,13 @@ static inline int32_t yoyoash_shared_call_external(yoyoash_shared *shared, uint3
 
 /* Starts and ends a process, as yoyoash_spawn and yoyoash_exit do. The answer has no reply, but the reason of a refusal. */
 static inline int32_t yoyoash_shared_step(yoyoash_shared *shared, uint32_t pid, int32_t (*step)(yoyoash_store *, uint32_t), yoyoash_answer *answer) {
-    answer->why[0] = 0;
+    size_t why_len = 0;
     answer->len = 0;
     pthread_mutex_lock(&shared->lock);
     answer->status = step(&shared->store, pid);
-    if (answer->status != YOYOASH_VALUE) yoyoash_answer_why(answer, &shared->store);
+    if (answer->status != YOYOASH_VALUE) yoyoash_why(&shared->store, answer->why, sizeof answer->why - 1, &why_len);
     pthread_mutex_unlock(&shared->lock);
+    yoyoash_answer_end_why(answer, why_len);
     return answer->status;
 }
 
@@ -125,7 +140,8 @@ static inline void yoyoash_shared_close(yoyoash_shared *shared) {
 
 /* Frees the memory of an answer, which is empty then. */
 static inline void yoyoash_answer_free(yoyoash_answer *answer) {
-    yoyoash_answer empty = {0, NULL, 0, 0, {0}};
+    yoyoash_answer empty = {0, NULL, 0, 0, {0}, {{0, 0}}};
+    yoyoash_request_close(&answer->request);
     free(answer->bytes);
     *answer = empty;
 }

@@ -1,5 +1,6 @@
 //! The store as a C library: a call on a handle runs one step of the store, and returns a status and the reply, as a
 //! text or in Erlang's External Term Format. Other functions open and close a handle, or return the last reply again.
+//! Those of `requests` read a call, run it and return its reply one by one; only the run uses the handle of a store.
 //!
 //! bindings/c/include/yoyoash.h declares these functions.
 //!
@@ -28,6 +29,9 @@ ghost use Rattle.node_text.specs.Answers.{written_reply};
 ghost use Rattle.node_text.specs.Calls.{HandleOpens, HandleGets, HandleSteps, HandleCalls, HandleCallsExternal, RewritesReply, WritesLastReason};
 
 mod handle;
+mod request_handle;
+mod request_ptr;
+pub mod requests;
 mod store_ptr;
 
 use crate::handle::Handle;

@@ -11,8 +11,8 @@ use std::marker::Model;
 
 /// What a box consists of, its pointer and its allocator. It owns what the box owned.
 pub(crate) struct RawBox<T, A: Allocator> {
-    at: *mut T,
-    alloc: A,
+    pub(crate) at: *mut T,
+    pub(crate) alloc: A,
     ghost value: { T },
 }
 
