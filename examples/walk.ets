@@ -1,5 +1,5 @@
-% Shows a traversal that deletes keys while another process inserts and deletes. With `--hash same` keys come in the
-% order of their insertion, until one is deleted.
+% Shows a traversal that deletes keys while another process inserts and deletes. Keys come in the order of their
+% insertion, until one is deleted.
 spawn walker
 spawn other
 walker new(jobs,[named_table,public])
