@@ -22,7 +22,7 @@ OPERATIONS = {
     "longest": "the longest insertion, its growth included, ns",
     "doubling": "a doubling of its buckets, ns",
 }
-COUNTS = (1_000, 100_000, 1_000_000, 4_000_000)  # objects in a table
+COUNTS = (1_000, 20_000, 100_000, 1_000_000, 4_000_000)  # objects in a table
 FIELD = ("Mutex<HashMap>", "HashMap", "cds_lfht", "oneTBB")
 OURS = {"calls": "Node::step", "calls-into": "Node::step_into", "calls-run": "Node::run, lists of 64", "table": "Table<SplitRows<Fnv>>", "rows": "SplitRows<Fnv>"}
 WHOLE = ("Mutex<HashMap>,copies", "HashMap,copies", "ets", "ets,pinned")
