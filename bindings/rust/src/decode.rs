@@ -6,9 +6,9 @@ use crate::term::Term;
 type Read<T> = Result<T, ExternalTermError>;
 
 impl Term {
-    /// Returns the term whose bytes these are, such as those of Erlang's `term_to_binary`. Reads what the store reads: no floats,
-    /// maps, funs or improper lists, and of pids and references only those of the node `nonode@nohost`. Nothing may follow the
-    /// term.
+    /// Returns the term whose bytes these are, such as those of Erlang's `term_to_binary`. Reads what the store reads:
+    /// no floats, maps, funs or improper lists, and of pids and references only those of the node `nonode@nohost`.
+    /// Nothing may follow the term.
     ///
     /// ```
     /// use yoyoash::Term;
@@ -122,7 +122,12 @@ impl<'a> Reader<'a> {
             return Err(too_large);
         }
         let magnitude = digits.iter().rev().fold(0u128, |number, digit| number << 8 | u128::from(*digit));
-        let number = if sign == 0 { i128::try_from(magnitude).ok() } else { 0i128.checked_sub_unsigned(magnitude) };
+        let number = match sign {
+            0 => i128::try_from(magnitude).ok(),
+            // (the least number is not the opposite of an i128)
+            _ if magnitude == i128::MIN.unsigned_abs() => Some(i128::MIN),
+            _ => i128::try_from(magnitude).ok().map(|number| -number),
+        };
         number.map(Term::Int).ok_or(too_large)
     }
 
@@ -134,7 +139,8 @@ impl<'a> Reader<'a> {
         }
     }
 
-    /// Reads a node, `before` bytes, a number and `behind` bytes. Only the number of our own identifiers differs from 0.
+    /// Reads a node, `before` bytes, a number and `behind` bytes. Only the number of our own identifiers differs from
+    /// 0.
     fn identifier(&mut self, start: usize, before: usize, behind: usize) -> Read<u32> {
         let place = self.at;
         let node = match self.number::<1>()? {

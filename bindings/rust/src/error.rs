@@ -1,7 +1,16 @@
 //! Why a call was refused.
+use crate::reason::Reason;
+use crate::term::Term;
 use std::fmt;
 
 /// The kind of an [`Error`]. New kinds may be added.
+///
+/// ```
+/// use yoyoash::{ErrorKind, Store};
+///
+/// let process = Store::new().unwrap().spawn().unwrap();
+/// assert_eq!(process.table("prices").lookup("apple").unwrap_err().kind(), ErrorKind::BadArg);
+/// ```
 #[derive(Clone, Copy, Debug, PartialEq, Eq, Hash)]
 #[non_exhaustive]
 pub enum ErrorKind {
@@ -24,34 +33,94 @@ pub enum ErrorKind {
     Unknown,
 }
 
-/// A call that was refused. It changed nothing, unless its kind is [`ErrorKind::Untold`].
+/// A call that was refused. It changed nothing, unless its kind is [`ErrorKind::Untold`] or [`ErrorKind::Unknown`].
+///
+/// ```
+/// use yoyoash::{Reason, Store};
+///
+/// let process = Store::new().unwrap().spawn().unwrap();
+/// let error = process.table("prices").lookup("apple").unwrap_err();
+/// assert_eq!(error.reason(), Reason::NoTable);
+/// assert_eq!(error.to_string(), "badarg: argument 1: no such table");
+/// ```
 #[derive(Clone, Debug, PartialEq, Eq)]
 pub struct Error {
     kind: ErrorKind,
-    reason: String,
+    reason: Reason,
+    argument: Option<usize>,
+    text: String,
 }
 
 impl Error {
-    pub(crate) fn new(kind: ErrorKind, reason: String) -> Error {
-        Error { kind, reason }
+    pub(crate) fn new(kind: ErrorKind, text: String) -> Error {
+        let (reason, argument) = Reason::of_text(&text);
+        Error { kind, reason, argument, text }
+    }
+
+    /// Returns the error of a reply that is not of the call's form.
+    pub(crate) fn unexpected(reply: &Term) -> Error {
+        Error::new(ErrorKind::Unknown, format!("the reply is {reply}"))
     }
 
     /// Returns the kind of refusal.
+    ///
+    /// ```
+    /// # let process = yoyoash::Store::new().unwrap().spawn().unwrap();
+    /// let error = process.table("prices").lookup("apple").unwrap_err();
+    /// assert_eq!(error.kind(), yoyoash::ErrorKind::BadArg);
+    /// ```
     pub fn kind(&self) -> ErrorKind {
         self.kind
     }
 
-    /// Returns the reason in words, such as `argument 1: no such table`. It may be empty.
-    pub fn reason(&self) -> &str {
-        &self.reason
+    /// Returns the reason: the rule that the call broke.
+    ///
+    /// ```
+    /// # let process = yoyoash::Store::new().unwrap().spawn().unwrap();
+    /// let error = process.table("prices").lookup("apple").unwrap_err();
+    /// assert_eq!(error.reason(), yoyoash::Reason::NoTable);
+    /// ```
+    pub fn reason(&self) -> Reason {
+        self.reason
+    }
+
+    /// Returns the number of the argument that the reason is about. The table is argument 1.
+    ///
+    /// ```
+    /// # let process = yoyoash::Store::new().unwrap().spawn().unwrap();
+    /// let error = process.table("prices").lookup("apple").unwrap_err();
+    /// assert_eq!(error.argument(), Some(1));
+    /// ```
+    pub fn argument(&self) -> Option<usize> {
+        self.argument
+    }
+
+    /// Returns the reason in words, with the number of its argument. It may be empty.
+    ///
+    /// ```
+    /// # let process = yoyoash::Store::new().unwrap().spawn().unwrap();
+    /// let error = process.table("prices").lookup("apple").unwrap_err();
+    /// assert_eq!(error.text(), "argument 1: no such table");
+    /// ```
+    pub fn text(&self) -> &str {
+        &self.text
     }
 
     /// Returns what to do if a limit of the store was reached.
+    ///
+    /// ```
+    /// use yoyoash::{Limits, Store};
+    ///
+    /// let store = Store::with_limits(Limits { processes: 1, ..Limits::default() }).unwrap();
+    /// store.spawn().unwrap();
+    /// let remedy = store.spawn().unwrap_err().remedy();
+    /// assert_eq!(remedy, Some("open the store with a larger Limits::processes"));
+    /// ```
     pub fn remedy(&self) -> Option<&'static str> {
-        match self.reason.as_str() {
-            "object limit reached" => Some("open the store with a larger Limits::objects"),
-            "table limit reached" => Some("open the store with a larger Limits::tables"),
-            "process limit reached" => Some("open the store with a larger Limits::processes"),
+        match self.reason {
+            Reason::ObjectLimit => Some("open the store with a larger Limits::objects"),
+            Reason::TableLimit => Some("open the store with a larger Limits::tables"),
+            Reason::ProcessLimit => Some("open the store with a larger Limits::processes"),
             _ => None,
         }
     }
@@ -74,8 +143,8 @@ impl fmt::Display for ErrorKind {
 impl fmt::Display for Error {
     fn fmt(&self, f: &mut fmt::Formatter<'_>) -> fmt::Result {
         self.kind.fmt(f)?;
-        if !self.reason.is_empty() && self.kind != ErrorKind::NoMemory {
-            write!(f, ": {}", self.reason)?;
+        if !self.text.is_empty() && self.kind != ErrorKind::NoMemory {
+            write!(f, ": {}", self.text)?;
         }
         match self.remedy() {
             Some(remedy) => write!(f, "; {remedy}"),

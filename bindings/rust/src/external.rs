@@ -1,4 +1,5 @@
 //! Terms in Erlang's External Term Format, as `term_to_binary` writes them.
+use crate::id::TableId;
 use crate::term::Term;
 use crate::walk::{Visit, Walk};
 use std::fmt;
@@ -13,6 +14,11 @@ const LIST_END: u8 = 106;
 pub(crate) const MAX_ATOM: usize = 255;
 
 /// Bytes that are not a term of the store, or a term without bytes. It says what is wrong and where.
+///
+/// ```
+/// let error = yoyoash::Term::from_external(b"\x83F").unwrap_err();
+/// assert_eq!(error.to_string(), "not a term: unsupported tag at offset 1");
+/// ```
 #[derive(Clone, Copy, Debug, PartialEq, Eq)]
 pub struct ExternalTermError {
     problem: &'static str,
@@ -24,12 +30,20 @@ impl ExternalTermError {
         ExternalTermError { problem, offset }
     }
 
-    /// Returns what is wrong, such as `unsupported tag`.
+    /// Returns what is wrong.
+    ///
+    /// ```
+    /// assert_eq!(yoyoash::Term::from_external(b"\x83F").unwrap_err().problem(), "unsupported tag");
+    /// ```
     pub fn problem(&self) -> &'static str {
         self.problem
     }
 
     /// Returns the offset of the fault in bytes, from 0.
+    ///
+    /// ```
+    /// assert_eq!(yoyoash::Term::from_external(b"\x83F").unwrap_err().offset(), 1);
+    /// ```
     pub fn offset(&self) -> usize {
         self.offset
     }
@@ -44,14 +58,13 @@ impl fmt::Display for ExternalTermError {
 impl std::error::Error for ExternalTermError {}
 
 impl Term {
-    /// Returns the bytes that Erlang's `term_to_binary` writes for this term. Refuses an atom that the store cannot have,
-    /// and 2^32 or more elements or bytes.
+    /// Returns the bytes that Erlang's `term_to_binary` writes for this term. Refuses an atom that the store cannot
+    /// have, and 2^32 or more elements or bytes.
     ///
     /// ```
-    /// use yoyoash::Term;
+    /// use yoyoash::term;
     ///
-    /// let term = Term::Tuple(vec!["apple".into(), Term::Int(30)]);
-    /// assert_eq!(term.to_external().unwrap(), b"\x83h\x02w\x05applea\x1e");
+    /// assert_eq!(term!({:apple, 30}).to_external().unwrap(), b"\x83h\x02w\x05applea\x1e");
     /// ```
     pub fn to_external(&self) -> Result<Vec<u8>, ExternalTermError> {
         let mut bytes = vec![VERSION];
@@ -68,6 +81,25 @@ pub(crate) fn put_call(bytes: &mut Vec<u8>, name: &str, arguments: &[Term]) -> R
         put_terms(bytes, Walk::over(arguments))?;
         bytes.push(LIST_END);
     }
+    Ok(())
+}
+
+/// Appends the bytes of a call whose first argument is a table.
+pub(crate) fn put_call_on(
+    bytes: &mut Vec<u8>,
+    name: &str,
+    table: &TableId,
+    others: &[Term],
+) -> Result<(), ExternalTermError> {
+    bytes.extend_from_slice(&[VERSION, 104, 2]);
+    put_atom(bytes, name)?;
+    put_count(bytes, 108, 1 + others.len())?;
+    match table {
+        TableId::Name(name) => put_atom(bytes, name.as_str())?,
+        TableId::Number(number) => put_reference(bytes, *number),
+    }
+    put_terms(bytes, Walk::over(others))?;
+    bytes.push(LIST_END);
     Ok(())
 }
 
@@ -140,8 +172,8 @@ fn begin_tuple(bytes: &mut Vec<u8>, count: usize) -> Result<(), ExternalTermErro
     Ok(())
 }
 
-/// Begins a list, and returns whether its elements and its end must follow. A list of bytes is written whole, as a string, and
-/// so is an empty one.
+/// Begins a list, and returns whether its elements and its end must follow. A list of bytes is written whole, as a
+/// string, and so is an empty one.
 fn begin_list(bytes: &mut Vec<u8>, elements: &[Term]) -> Result<bool, ExternalTermError> {
     if elements.is_empty() {
         bytes.push(LIST_END);
@@ -165,7 +197,8 @@ fn codes_of(elements: &[Term]) -> Option<Vec<u8>> {
 
 /// Appends a tag and a count of four bytes.
 fn put_count(bytes: &mut Vec<u8>, tag: u8, count: usize) -> Result<(), ExternalTermError> {
-    let count = u32::try_from(count).map_err(|_| ExternalTermError::new("2^32 or more elements or bytes", bytes.len()))?;
+    let count =
+        u32::try_from(count).map_err(|_| ExternalTermError::new("2^32 or more elements or bytes", bytes.len()))?;
     bytes.push(tag);
     bytes.extend_from_slice(&count.to_be_bytes());
     Ok(())

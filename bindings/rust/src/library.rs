@@ -1,6 +1,7 @@
 //! A store of the C library, for one caller at a time.
 use crate::error::{Error, ErrorKind};
 use crate::ffi::{self, RawStore};
+use crate::reason::Reason;
 use crate::store::Limits;
 use std::fmt;
 use std::ptr::null_mut;
@@ -18,9 +19,12 @@ type CopyReply = unsafe extern "C" fn(*mut RawStore, *mut u8, usize, *mut usize)
 pub struct Library {
     raw: Box<RawStore>,
     buffer: Vec<u8>,
+    /// The number that `spawn_next` tries next: all below were used. There is none after the last number.
+    next_pid: Option<u32>,
 }
 
-// A store may be used by any thread, one at a time: the library keeps no thread's identity, and a `&mut Library` is exclusive.
+// A store may be used by any thread, one at a time: the library keeps no thread's identity, and a `&mut Library` is
+// exclusive.
 unsafe impl Send for Library {}
 
 impl fmt::Debug for Library {
@@ -31,8 +35,11 @@ impl fmt::Debug for Library {
 
 impl Library {
     pub fn open(limits: Limits, seed: u64) -> Result<Library, Error> {
-        let mut library = Library { raw: Box::new(RawStore { opaque: [null_mut(); 2] }), buffer: vec![0; 256] };
-        let status = unsafe { ffi::yoyoash_open_with_seed(&mut *library.raw, limits.processes, limits.tables, limits.objects, seed) };
+        let mut library =
+            Library { raw: Box::new(RawStore { opaque: [null_mut(); 2] }), buffer: vec![0; 256], next_pid: Some(0) };
+        let status = unsafe {
+            ffi::yoyoash_open_with_seed(&mut *library.raw, limits.processes, limits.tables, limits.objects, seed)
+        };
         library.check(status, 0)?;
         Ok(library)
     }
@@ -40,6 +47,21 @@ impl Library {
     pub fn spawn(&mut self, pid: u32) -> Result<(), Error> {
         let status = unsafe { ffi::yoyoash_spawn(&mut *self.raw, pid) };
         self.check(status, 0)
+    }
+
+    /// Starts a process with the least number that was never used, and returns the number.
+    pub fn spawn_next(&mut self) -> Result<u32, Error> {
+        while let Some(pid) = self.next_pid {
+            match self.spawn(pid) {
+                Ok(()) => {
+                    self.next_pid = pid.checked_add(1);
+                    return Ok(pid);
+                }
+                Err(error) if error.reason() == Reason::ProcessUsed => self.next_pid = pid.checked_add(1),
+                Err(error) => return Err(error),
+            }
+        }
+        Err(Error::new(ErrorKind::SystemLimit, "process limit reached".to_owned()))
     }
 
     pub fn exit(&mut self, pid: u32) -> Result<(), Error> {
@@ -59,7 +81,9 @@ impl Library {
 
     fn send(&mut self, pid: u32, call: &[u8], make: MakeCall, copy: CopyReply) -> Result<Vec<u8>, Error> {
         let mut len = 0;
-        let status = unsafe { make(&mut *self.raw, pid, call.as_ptr(), call.len(), self.buffer.as_mut_ptr(), self.buffer.len(), &mut len) };
+        let status = unsafe {
+            make(&mut *self.raw, pid, call.as_ptr(), call.len(), self.buffer.as_mut_ptr(), self.buffer.len(), &mut len)
+        };
         self.check(status, len)?;
         if len <= self.buffer.len() {
             return Ok(self.buffer[..len].to_vec());

@@ -9,6 +9,11 @@ pub(crate) const MAX_DEPTH: usize = 256;
 const MAX_ATOM: usize = 255;
 
 /// A text that is not a term. The offset is that of the first byte that does not fit.
+///
+/// ```
+/// let error = "{apple".parse::<yoyoash::Term>().unwrap_err();
+/// assert_eq!(error.to_string(), "not a term: unexpected byte at offset 6");
+/// ```
 #[derive(Clone, Copy, Debug, PartialEq, Eq)]
 pub struct ParseTermError {
     offset: usize,
@@ -16,6 +21,10 @@ pub struct ParseTermError {
 
 impl ParseTermError {
     /// Returns the offset of the fault in bytes, from 0.
+    ///
+    /// ```
+    /// assert_eq!("{apple".parse::<yoyoash::Term>().unwrap_err().offset(), 6);
+    /// ```
     pub fn offset(&self) -> usize {
         self.offset
     }
@@ -118,7 +127,7 @@ impl Cursor<'_> {
 
     fn plain_atom(&mut self) -> Result<Term, ParseTermError> {
         let start = self.at;
-        while self.peek().is_some_and(is_name_byte) {
+        while self.peek().map_or(false, is_name_byte) {
             self.at += 1;
         }
         atom(&self.text[start..self.at], start)
@@ -162,7 +171,12 @@ impl Cursor<'_> {
     }
 
     /// Reads a row of parts between two signs, separated by commas.
-    fn row<T>(&mut self, opening: &[u8], closing: &[u8], part: impl Fn(&mut Self) -> Result<T, ParseTermError>) -> Result<Vec<T>, ParseTermError> {
+    fn row<T>(
+        &mut self,
+        opening: &[u8],
+        closing: &[u8],
+        part: impl Fn(&mut Self) -> Result<T, ParseTermError>,
+    ) -> Result<Vec<T>, ParseTermError> {
         let mut row = Vec::new();
         self.expect(opening)?;
         self.skip_blanks();

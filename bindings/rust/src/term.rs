@@ -1,20 +1,30 @@
 //! Erlang terms, as the store knows them.
 use crate::walk::{Visit, Walk};
-use std::{fmt, mem};
+use std::fmt;
 
-/// A term. `Display` and `Debug` print it as the store does, and `FromStr` reads what the store reads.
+/// A term: a value of Erlang. `Display` and `Debug` print it as the store does, and `FromStr` reads what the store
+/// reads.
 ///
-/// A term may be of any depth; none of its methods overflows the stack. The store itself refuses an argument with more than
-/// 128 levels.
+/// Integers, `bool`, texts, byte strings, tuples, vectors and options of Rust convert into terms with `into`, and back
+/// with `try_into`. A text is a binary; an [`Atom`](crate::Atom) is an atom. The macro [`term!`](crate::term!) writes
+/// any term.
 ///
 /// ```
-/// use yoyoash::Term;
+/// use yoyoash::{term, Term};
 ///
-/// let term: Term = "{apple,[1,-2],'Big atom',<<97,98>>,\"ab\"}".parse().unwrap();
-/// assert_eq!(term.to_string(), "{apple,[1,-2],'Big atom',<<97,98>>,[97,98]}");
+/// let term = term!({:apple, [1, -2], :"Big atom", "ab"});
+/// assert_eq!(term.to_string(), "{apple,[1,-2],'Big atom',<<97,98>>}");
+/// assert_eq!(term.to_string().parse(), Ok(term));
+///
+/// let (name, price): (String, i64) = Term::from(("apple", 30)).try_into().unwrap();
+/// assert_eq!((name.as_str(), price), ("apple", 30));
 /// ```
-/// As a term has a `Drop`, a pattern borrows what is in it: `match &term`. `into_elements`, `into_binary` and `into_atom` move it
-/// out:
+///
+/// A term may be of any depth; none of its methods overflows the stack. The store itself refuses an argument with more
+/// than 128 levels.
+///
+/// As a term has a `Drop`, a pattern borrows what is in it: `match &term`. `into_elements`, `into_binary` and
+/// `into_atom` move it out:
 ///
 /// ```
 /// use yoyoash::Term;
@@ -38,64 +48,6 @@ pub enum Term {
     List(Vec<Term>),
     /// A binary.
     Binary(Vec<u8>),
-}
-
-impl Term {
-    /// Returns whether this is the atom `true`.
-    pub fn is_true(&self) -> bool {
-        matches!(self, Term::Atom(text) if text == "true")
-    }
-
-    /// Returns the elements of a tuple or list.
-    pub fn elements(&self) -> Option<&[Term]> {
-        match self {
-            Term::Tuple(elements) | Term::List(elements) => Some(elements),
-            _ => None,
-        }
-    }
-
-    /// Returns the elements of a tuple or list, without a copy.
-    pub fn into_elements(mut self) -> Option<Vec<Term>> {
-        match &mut self {
-            Term::Tuple(elements) | Term::List(elements) => Some(mem::take(elements)),
-            _ => None,
-        }
-    }
-
-    /// Returns the bytes of a binary, without a copy.
-    pub fn into_binary(mut self) -> Option<Vec<u8>> {
-        match &mut self {
-            Term::Binary(bytes) => Some(mem::take(bytes)),
-            _ => None,
-        }
-    }
-
-    /// Returns the text of an atom, without a copy.
-    pub fn into_atom(mut self) -> Option<String> {
-        match &mut self {
-            Term::Atom(text) => Some(mem::take(text)),
-            _ => None,
-        }
-    }
-}
-
-/// An atom with this text.
-impl From<&str> for Term {
-    fn from(text: &str) -> Term {
-        Term::Atom(text.to_owned())
-    }
-}
-
-impl From<i128> for Term {
-    fn from(number: i128) -> Term {
-        Term::Int(number)
-    }
-}
-
-impl From<Vec<u8>> for Term {
-    fn from(bytes: Vec<u8>) -> Term {
-        Term::Binary(bytes)
-    }
 }
 
 impl fmt::Display for Term {
@@ -147,7 +99,7 @@ fn write_binary(f: &mut fmt::Formatter<'_>, bytes: &[u8]) -> fmt::Result {
 }
 
 /// Writes an atom, in quotes if it needs them.
-fn write_atom(f: &mut fmt::Formatter<'_>, text: &str) -> fmt::Result {
+pub(crate) fn write_atom(f: &mut fmt::Formatter<'_>, text: &str) -> fmt::Result {
     let is_plain = text.starts_with(|c: char| c.is_ascii_lowercase()) && text.bytes().all(is_name_byte);
     if is_plain {
         return f.write_str(text);

@@ -37,8 +37,9 @@ impl<'a> Iterator for Walk<'a> {
 
     fn next(&mut self) -> Option<Visit<'a>> {
         let rest = self.open.last_mut().map_or(&mut self.rest, |(_, rest)| rest);
-        let Some(term) = rest.next() else {
-            return self.open.pop().map(|(term, _)| Visit::Leave(term));
+        let term = match rest.next() {
+            Some(term) => term,
+            None => return self.open.pop().map(|(term, _)| Visit::Leave(term)),
         };
         if let Some(elements) = term.elements() {
             self.open.push((term, elements.iter()));
@@ -101,7 +102,10 @@ impl Eq for Term {}
 impl Hash for Term {
     fn hash<H: Hasher>(&self, state: &mut H) {
         for visit in Walk::of(self) {
-            let Visit::Enter(term) = visit else { continue };
+            let term = match visit {
+                Visit::Enter(term) => term,
+                Visit::Leave(_) => continue,
+            };
             discriminant(term).hash(state);
             match term {
                 Term::Int(number) => number.hash(state),

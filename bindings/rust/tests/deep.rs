@@ -1,7 +1,7 @@
 //! Tests of terms with 100,000 levels, which no stack of a test has room for.
 use std::collections::hash_map::DefaultHasher;
 use std::hash::{Hash, Hasher};
-use yoyoash::{ErrorKind, Store, Term};
+use yoyoash::{term, ErrorKind, Store, Term};
 
 const LEVELS: usize = 100_000;
 
@@ -12,7 +12,7 @@ fn list(levels: usize) -> Term {
 /// Returns a term of this depth in which tuples and lists alternate, and whose deep element has neighbours.
 fn mixed(levels: usize) -> Term {
     (1..levels).fold(Term::Int(0), |inner, level| match level % 2 {
-        0 => Term::Tuple(vec!["a".into(), inner]),
+        0 => Term::Tuple(vec![term!(:a), inner]),
         _ => Term::List(vec![inner, Term::List(vec![Term::Int(1)])]),
     })
 }
@@ -26,15 +26,15 @@ fn hash_of(term: &Term) -> u64 {
 #[test]
 fn a_call_with_a_deep_term_is_refused() {
     let store = Store::new().unwrap();
-    store.spawn(0).unwrap();
+    store.spawn_as(0).unwrap();
     store.call(0, "{new,t,[named_table]}").unwrap();
     for deep in [list(LEVELS), mixed(LEVELS)] {
-        let arguments = ["t".into(), deep];
+        let arguments = [term!(:t), deep];
         for refused in [store.ask(0, "lookup", &arguments), store.call_with(0, "lookup", &arguments)] {
             assert!(matches!(refused.unwrap_err().kind(), ErrorKind::Syntax { .. }));
         }
     }
-    assert_eq!(store.ask(0, "info", &["t".into(), "size".into()]), Ok(Term::Int(0)));
+    assert_eq!(store.ask(0, "info", &[term!(:t), term!(:size)]), Ok(Term::Int(0)));
 }
 
 #[test]

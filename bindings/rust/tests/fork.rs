@@ -1,14 +1,14 @@
 //! Tests of a store after `fork`: each process has a store of its own.
-use yoyoash::{Error, Store, Term};
+use yoyoash::{term, Error, Store, Term};
 
-unsafe extern "C" {
+extern "C" {
     fn fork() -> i32;
     fn waitpid(pid: i32, status: *mut i32, options: i32) -> i32;
     fn _exit(status: i32) -> !;
 }
 
 fn count(store: &Store) -> Result<Term, Error> {
-    store.ask(0, "update_counter", &["t".into(), "count".into(), Term::Int(1)])
+    store.ask(0, "update_counter", &[term!(:t), term!(:count), Term::Int(1)])
 }
 
 /// Counts to a thousand in a store that was open before the fork, and reads nothing that another process wrote.
@@ -19,7 +19,7 @@ fn counts_alone(store: &Store) -> bool {
 #[test]
 fn a_child_has_a_store_of_its_own() -> Result<(), Error> {
     let store = Store::new()?;
-    store.spawn(0)?;
+    store.spawn_as(0)?;
     store.call(0, "{new,t,[named_table]}")?;
     store.call(0, "{insert,t,{count,0}}")?;
     let child = unsafe { fork() };

@@ -1,6 +1,7 @@
-//! Tests of the seed of a store's hash: without it, a stranger could choose keys with one hash, and slow the store down.
+//! Tests of the seed of a store's hash: without it, a stranger could choose keys with one hash, and slow the store
+//! down.
 use std::collections::HashMap;
-use yoyoash::{Limits, Store, Term};
+use yoyoash::{term, Store, Term};
 
 /// The number of blocks of a chosen key. Each doubles the number of keys.
 const BLOCKS: usize = 12;
@@ -13,7 +14,7 @@ struct Time {
     nanoseconds: i64,
 }
 
-unsafe extern "C" {
+extern "C" {
     fn clock_gettime(clock: i32, time: *mut Time) -> i32;
 }
 
@@ -53,7 +54,8 @@ fn chosen_keys() -> Vec<Term> {
     let mut hash = fnv(2_166_136_261, &[2, (BLOCKS * LETTERS) as u8]);
     for _ in 0..BLOCKS {
         let (blocks, next) = pair(hash);
-        keys = keys.iter().flat_map(|key: &Vec<u8>| blocks.iter().map(move |block| [key, &block[..]].concat())).collect();
+        keys =
+            keys.iter().flat_map(|key: &Vec<u8>| blocks.iter().map(move |block| [key, &block[..]].concat())).collect();
         hash = next;
     }
     keys.into_iter().map(|key| Term::Atom(String::from_utf8(key).unwrap())).collect()
@@ -65,13 +67,13 @@ fn ordinary_keys() -> Vec<Term> {
 }
 
 fn insertion(key: &Term) -> Vec<u8> {
-    let arguments = Term::List(vec!["t".into(), Term::Tuple(vec![key.clone(), Term::Int(1)])]);
-    Term::Tuple(vec!["insert".into(), arguments]).to_external().unwrap()
+    let arguments = Term::List(vec![term!(:t), Term::Tuple(vec![key.clone(), Term::Int(1)])]);
+    Term::Tuple(vec![term!(:insert), arguments]).to_external().unwrap()
 }
 
 /// Returns the seconds of processor time in which a store takes an object for each key.
 fn time_of(store: &Store, keys: &[Term]) -> f64 {
-    store.spawn(0).unwrap();
+    store.spawn_as(0).unwrap();
     store.call(0, "{new,t,[named_table]}").unwrap();
     let calls: Vec<_> = keys.iter().map(insertion).collect();
     let start = spent();

@@ -35,7 +35,18 @@ fn other_spellings_are_read() {
 
 #[test]
 fn faults_have_their_offset() {
-    for (text, offset) in [("", 0), ("{a", 2), ("[a|b]", 2), ("Apple", 0), ("'a", 2), ("'\\x'", 2), ("<<256>>", 2), ("a b", 2), ("1.5", 1), ("{a,}", 3)] {
+    for (text, offset) in [
+        ("", 0),
+        ("{a", 2),
+        ("[a|b]", 2),
+        ("Apple", 0),
+        ("'a", 2),
+        ("'\\x'", 2),
+        ("<<256>>", 2),
+        ("a b", 2),
+        ("1.5", 1),
+        ("{a,}", 3),
+    ] {
         assert_eq!(text.parse::<Term>().unwrap_err().offset(), offset, "{text}");
     }
 }
