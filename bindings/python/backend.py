@@ -33,16 +33,26 @@ EARLIEST = (1980, 1, 1, 0, 0, 0)
 
 def project():
     """Returns the keys of [project] whose values are strings or lists. (Python 3.10 has no reader of TOML.)"""
-    section = (HERE / "pyproject.toml").read_text().partition("[project]\n")[2].partition("\n[")[0]
-    pairs = re.findall(r'^([a-z-]+) = (".*?"$|\[.*?\]$)', section, re.M | re.S)
+    pairs = re.findall(r'^([a-z_-]+) = (?:\{ text = )?(".*?"|\[.*?\])(?: \})?$', section("project"), re.M | re.S)
     return {key: ast.literal_eval(value) for key, value in pairs}
+
+
+def section(name):
+    """Returns the lines of a section of pyproject.toml."""
+    return (HERE / "pyproject.toml").read_text().partition(f"[{name}]\n")[2].partition("\n[")[0]
+
+
+def commands():
+    """Returns the text of entry_points.txt: the commands that pip makes of functions."""
+    pairs = re.findall(r'^([a-z_]+) = "(.*)"$', section("project.scripts"), re.M)
+    return "".join(["[console_scripts]\n", *(f"{name} = {function}\n" for name, function in pairs)])
 
 
 def metadata(about):
     """Returns the text of METADATA."""
     lines = ["Metadata-Version: 2.1", f"Name: {about['name']}", f"Version: {about['version']}"]
     lines += [f"Summary: {about['description']}", f"Requires-Python: {about['requires-python']}"]
-    lines += [f"Keywords: {','.join(about['keywords'])}"]
+    lines += [f"License: {about['license']}", f"Keywords: {','.join(about['keywords'])}"]
     lines += [f"Classifier: {it}" for it in about["classifiers"]]
     return "\n".join([*lines, "Description-Content-Type: text/markdown", "", (HERE / about["readme"]).read_text()])
 
@@ -103,6 +113,7 @@ def write_wheel(folder, files, tag):
     files = dict(sorted(files.items()))
     files[f"{info}/METADATA"] = (metadata(about).encode(), 0o644)
     files[f"{info}/WHEEL"] = (wheel.encode(), 0o644)
+    files[f"{info}/entry_points.txt"] = (commands().encode(), 0o644)
     record = [f"{name},sha256={checksum(content)},{len(content)}\n" for name, (content, _) in files.items()]
     files[f"{info}/RECORD"] = ("".join([*record, f"{info}/RECORD,,\n"]).encode(), 0o644)
     with zipfile.ZipFile(folder / f"{stem}-{tag}.whl", "w", zipfile.ZIP_STORED) as archive:

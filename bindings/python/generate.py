@@ -15,18 +15,46 @@ MODULE = HERE / "yoyoash/calls.py"
 # The parameters of the page as Python names and types. Another one becomes its lower-case name and a Term.
 PARAMETERS = {
     "T": ("table", "Table"),
-    "Name": ("name", "Atom"),
+    "Name": ("name", "Atom | str"),
     "Pos": ("pos", "int"),
     "Pid": ("pid", "Pid"),
-    "Item": ("item", "Atom"),
-    "Fix": ("fix", "Atom"),
+    "Item": ("item", "Atom | str"),
+    "Fix": ("fix", "bool | Atom"),
     "Object": ("object", "tuple[Any, ...]"),
     "Objects": ("objects", "tuple[Any, ...] | list[Any]"),
+    "Options": ("options", "Term | None = None"),
+    "Pattern": ("pattern", "Pattern"),
+    "Spec": ("spec", "Spec"),
+}
+# What a parameter is sent as, by its Python name, or its name and its call. Any other is sent as it is.
+SENT = {
+    **{name: f"Atom({name}) if isinstance({name}, str) else {name}" for name in ("table", "name", "item")},
+    "fix": "atom_of(fix)",
+    "pattern": "pattern_of(pattern)",
+    "select spec": "spec_of(spec, OBJECT)",
+    "select_count spec": "spec_of(spec, ALWAYS)",
+    "select_delete spec": "spec_of(spec, ALWAYS)",
+    "new options": 'new_options(options, (type, protection, "named_table" if named else None), keypos, heir)',
+    "setopts options": "heir_options(options, heir)",
+}
+# Options by keyword, and what a docstring says of them.
+KEYWORDS = {
+    "new": (
+        [
+            "type: TableType | None = None",
+            "protection: Protection | None = None",
+            "named: bool = False",
+            "keypos: int | None = None",
+            "heir: Heir | None = None",
+        ],
+        "The options are a list of terms, or keywords, which override the list.",
+    ),
+    "setopts": (["heir: Heir | None | Absent = ABSENT"], "The heir is an option as a term or by keyword. None is no heir."),
 }
 # The types of the replies. Another call replies with Any.
 REPLIES = {
-    "bool": "insert_new member",
-    "Atom": "insert delete delete_object delete_all_objects update_element match_delete safe_fixtable give_away setopts",
+    "bool": "insert insert_new member delete delete_object delete_all_objects update_element match_delete safe_fixtable "
+    "give_away setopts",
     "Tid | Atom": "new whereis",
     "int": "select_count select_delete",
     "list[Any]": "match select",
@@ -38,8 +66,12 @@ HEAD = '''"""The calls of docs/calls.md as methods. Made by generate.py: do not 
 
 from __future__ import annotations
 
+from collections.abc import Awaitable, Callable
 from typing import Any
 
+from .clauses import ALWAYS, Pattern, Spec, pattern_of, spec_of
+from .expressions import OBJECT
+from .options import Heir, Protection, TableType, as_bool, atom_of, heir_options, is_boolean, new_options
 from .terms import ABSENT, Absent, Atom, Pid, Table, Term, Tid
 
 '''
@@ -48,21 +80,13 @@ ABOUT = {
     "CollectedCalls": "Calls whose method collects the call and returns nothing.",
     "AwaitedCalls": "Calls whose method is awaited: it returns the reply or raises a Fault.",
 }
-# How the methods of each class begin, what they return, and what they do; and what they do for a reply that is a bool.
-KINDS = {
-    "Calls": ("def", "{reply}", "return self._call({words})", "return bool(self._call({words}))"),
-    "CollectedCalls": ("def", "None", "self._collect({words})", "self._collect_truth({words})"),
-    "AwaitedCalls": ("async def", "{reply}", "return await self._call({words})", "return bool(await self._call({words}))"),
-}
-# What a class that inherits the methods defines.
+# What a class that inherits the methods has: what makes or collects a call of a name and terms.
 HOOKS = {
-    "Calls": ["def _call(self, call: str, *terms: Term) -> Any:"],
-    "CollectedCalls": [
-        "def _collect(self, call: str, *terms: Term) -> None:",
-        "def _collect_truth(self, call: str, *terms: Term) -> None:",
-    ],
-    "AwaitedCalls": ["async def _call(self, call: str, *terms: Term) -> Any:"],
+    "Calls": ["_call: Callable[..., Any]"],
+    "CollectedCalls": ["_collect: Callable[..., None]", "_collect_truth: Callable[..., None]"],
+    "AwaitedCalls": ["_call: Callable[..., Awaitable[Any]]"],
 }
+WIDEST = 120
 
 
 def calls_of(page):
@@ -88,27 +112,60 @@ def named(parameter):
 
 
 def method_of(name, forms, kind):
-    """Returns the lines of a method. A parameter that the shortest form lacks has a default."""
-    defined, returns, body, truth = KINDS[kind]
-    body = truth if TYPE_OF.get(name) == "bool" else body
+    """Yields the lines of a method. A parameter that the shortest form lacks has a default."""
     shortest, longest = forms[0][0], forms[-1][0]
     if any(it != longest[: len(it)] for it, _ in forms) or len(longest) - len(shortest) > 1:
         raise SystemExit(f"generate.py: the forms of {name} are not each other's beginnings")
-    names = [named(it)[0] for it in longest]
-    types = [named(it)[1] for it in longest]
-    parts = [f"{it}: {kind}" for it, kind in zip(names, types)]
+    pairs = [named(it) for it in longest]
+    parts = ["self", *(f"{it}: {kind}" for it, kind in pairs)]
     if len(longest) > len(shortest):
-        parts[-1] = f"{names[-1]}: {types[-1]} | Absent = ABSENT"
-    yield f"    {defined} {name}({', '.join(['self', *parts])}) -> {returns.format(reply=TYPE_OF.get(name, 'Any'))}:"
+        parts[-1] += " | Absent = ABSENT"
+    parts += ["*", *KEYWORDS[name][0]] if name in KEYWORDS else []
+    yield from signature(name, parts, kind)
     yield from documented(name, forms)
-    quoted = f'"{name}"'
+    terms = [SENT.get(f"{name} {it}") or SENT.get(it) or it for it, _ in pairs]
     if len(longest) > len(shortest):
-        yield f"        if {names[-1]} is not ABSENT:"
-        yield f"            {body.format(words=', '.join([quoted, *names]))}"
-        if not body.startswith("return"):
+        yield f"        if {pairs[-1][0]} is not ABSENT:"
+        yield from body(name, terms, kind, 12)
+        if kind == "CollectedCalls":
             yield "            return"
-        names.pop()
-    yield f"        {body.format(words=', '.join([quoted, *names]))}"
+        terms.pop()
+    yield from body(name, terms, kind, 8)
+
+
+def signature(name, parts, kind):
+    """Returns the lines with which a method begins: one, or one for each parameter if that is too wide."""
+    returns = "None" if kind == "CollectedCalls" else TYPE_OF.get(name, "Any")
+    head = f"    {'async def' if kind == 'AwaitedCalls' else 'def'} {name}("
+    line = f"{head}{', '.join(parts)}) -> {returns}:"
+    return [line] if len(line) <= WIDEST else [head, *(f"        {it}," for it in parts), f"    ) -> {returns}:"]
+
+
+def body(name, terms, kind, indent):
+    """Yields the lines that make a call with these terms, or collect it."""
+    words, reply = [f'"{name}"', *terms], TYPE_OF.get(name, "Any")
+    if kind == "CollectedCalls":
+        if name == "info":
+            yield f"{' ' * indent}collect = self._collect_truth if is_boolean(item) else self._collect"
+        hook = "collect" if name == "info" else "self._collect_truth" if reply == "bool" else "self._collect"
+        yield from wrapped(f"{hook}(", words, ")", indent)
+        return
+    call = "await self._call(" if kind == "AwaitedCalls" else "self._call("
+    if reply == "bool":
+        yield from wrapped(f"return bool({call}", words, "))", indent)
+    elif reply == "Any" and name != "info":
+        yield from wrapped(f"return {call}", words, ")", indent)
+    else:
+        yield from wrapped(f"reply: {reply} = {call}", words, ")", indent)
+        yield f"{' ' * indent}return {'as_bool(reply) if is_boolean(item) else reply' if name == 'info' else 'reply'}"
+
+
+def wrapped(head, words, tail, indent):
+    """Returns the lines of a call: one, or one for each argument if that is too wide."""
+    margin, line = " " * indent, f"{head}{', '.join(words)}{tail}"
+    if indent + len(line) <= WIDEST:
+        return [margin + line]
+    return [margin + head, *(f"{margin}    {it}," for it in words), margin + tail]
 
 
 def documented(name, forms):
@@ -116,9 +173,12 @@ def documented(name, forms):
     texts = {}
     for parameters, text in forms:
         texts.setdefault(text, []).append(f"`{name}({','.join(parameters)})`")
-    texts = [f"Calls {' or '.join(spelled)}. {text[0].upper()}{text[1:].rstrip('.')}." for text, spelled in texts.items()]
-    wrapped = [textwrap.wrap(text, 108, break_long_words=False, break_on_hyphens=False) for text in texts]
-    lines = [line for text in wrapped for line in [*text, ""]][:-1]
+    if TYPE_OF.get(name) == "bool":
+        texts = {text.replace("`true`", "True").replace("`false`", "False"): spelled for text, spelled in texts.items()}
+    texts = [f"Calls {' or '.join(forms)}. {text[0].upper()}{text[1:].rstrip('.')}." for text, forms in texts.items()]
+    texts += [KEYWORDS[name][1]] if name in KEYWORDS else []
+    wraps = [textwrap.wrap(text, 108, break_long_words=False, break_on_hyphens=False) for text in texts]
+    lines = [line for text in wraps for line in [*text, ""]][:-1]
     lines[0] = f'"""{lines[0]}'
     lines[-1] += '"""'
     return [f"        {line}" if line else "" for line in lines]
@@ -127,15 +187,14 @@ def documented(name, forms):
 def module_of(page):
     """Returns the text of the module."""
     calls = calls_of(page)
-    unknown = set(TYPE_OF) - set(calls)
+    unknown = {*TYPE_OF, *KEYWORDS} - set(calls)
     if unknown:
         raise SystemExit(f"generate.py: {PAGE.name} has no call {' '.join(sorted(unknown))}")
     names = textwrap.wrap(" ".join(f'"{name}",' for name in calls), 108)
     lines = ["CALLS = (", *[f"    {line}" for line in names], ")"]
     for kind, about in ABOUT.items():
         lines += ["", "", f"class {kind}:", f'    """{about}"""', ""]
-        for place, hook in enumerate(HOOKS[kind]):
-            lines += [""] * (place > 0) + [f"    {hook}", "        raise NotImplementedError"]
+        lines += [f"    {it}" for it in HOOKS[kind]]
         for name, forms in calls.items():
             lines += ["", *method_of(name, forms, kind)]
     return HEAD + "\n".join(lines) + "\n"

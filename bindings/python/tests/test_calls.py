@@ -20,7 +20,7 @@ class ByPipe(unittest.TestCase):
             self.assertEqual((anna.pid, ben.pid), (Pid(0), Pid(1)))
             prices = anna.new(PRICES, [Atom("named_table")])
             self.assertEqual(prices, PRICES)
-            self.assertEqual(anna.insert(prices, (APPLE, [30, b"kg"])), Atom("true"))
+            self.assertEqual(anna.insert(prices, (APPLE, [30, b"kg"])), True)
             self.assertEqual(ben.lookup(prices, APPLE), [(APPLE, [30, b"kg"])])
             with self.assertRaises(BadArg) as refused:
                 ben.insert(prices, (Atom("pear"), 1))
@@ -28,7 +28,7 @@ class ByPipe(unittest.TestCase):
             self.assertRegex(refused.exception.reason, "^argument 1: ")
             self.assertEqual(ben.new(Atom("x"), []), Tid(1))
             self.assertEqual(anna.lookup(prices, Atom("Golden 'Delicious'")), [])
-            self.assertEqual(anna.exit(), Atom("true"))
+            self.assertIs(anna.exit(), True)
             with self.assertRaises(NoProcess):
                 anna.lookup(prices, APPLE)
 
@@ -48,7 +48,7 @@ class ByPipe(unittest.TestCase):
                 calls.member(Atom("nowhere"), 1)
                 calls.insert(table, (1, 2))
             self.assertEqual(calls.answers[:4], [False, False, True, False])
-            self.assertEqual([type(it) for it in calls.answers[4:]], [BadArg, Atom])
+            self.assertEqual([type(it) for it in calls.answers[4:]], [BadArg, bool])
 
     def test_lines_of_the_script_language(self):
         lines = {
@@ -117,6 +117,6 @@ class Awaited(unittest.IsolatedAsyncioTestCase):
             with self.assertRaises(BadArg) as refused:
                 await ben.lookup(Atom("shops"), APPLE)
             self.assertEqual(str(refused.exception), "badarg: ben lookup('shops','apple') (argument 1: no such table)")
-            self.assertEqual(await anna.exit(), Atom("true"))
+            self.assertIs(await anna.exit(), True)
             with self.assertRaises(NoProcess):
                 await anna.lookup(prices, APPLE)

@@ -207,4 +207,4 @@ class WithoutExtension(ByPipe):
 @unittest.skipUnless(PROGRAM, "no ets_script found: set YOYOASH_PROGRAM")
 class Awaited(unittest.TestCase):
     def test_children_of_an_event_loop_leave_the_store_alone(self):
-        self.assertEqual(ran(AWAITED), ("0 Atom('true') [[(1, 2)], [(1, 2)], [(1, 2)]]\n" * 3, 0, ""))
+        self.assertEqual(ran(AWAITED), ("0 True [[(1, 2)], [(1, 2)], [(1, 2)]]\n" * 3, 0, ""))

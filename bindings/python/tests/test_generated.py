@@ -51,6 +51,8 @@ class Generated(unittest.TestCase):
             def _collect(self, *words):
                 self.sent.append(words)
 
+            _collect_truth = _collect
+
         it = Recorder()
         it.delete(1)
         it.delete(1, 2)

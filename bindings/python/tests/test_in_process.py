@@ -181,7 +181,7 @@ class InProcess(unittest.TestCase):
         thread.join()
         with opened[0] as store:
             p, t = self.table(store)
-            self.assertEqual(p.insert(t, (1, 2)), Atom("true"))
+            self.assertIs(p.insert(t, (1, 2)), True)
 
     def test_a_pipeline(self):
         with self.open() as store:
@@ -189,7 +189,7 @@ class InProcess(unittest.TestCase):
             with p.pipeline() as calls:
                 for number in range(100):
                     calls.insert(t, (number,))
-            self.assertEqual(calls.answers, [Atom("true")] * 100)
+            self.assertEqual(calls.answers, [True] * 100)
 
     def test_a_pipeline_sends_what_it_collected(self):
         with self.open() as store:
@@ -200,7 +200,7 @@ class InProcess(unittest.TestCase):
                 numbers.append(3)
                 calls.lookup(Atom("nowhere"), 0)
                 calls.lookup(t, 0)
-            self.assertEqual([type(it) for it in calls.answers], [Atom, BadArg, list])
+            self.assertEqual([type(it) for it in calls.answers], [bool, BadArg, list])
             self.assertEqual(calls.answers[1].line, "p lookup('nowhere',0)")
             self.assertEqual((calls.answers[1].reason, calls.answers[2]), ("argument 1: no such table", [(0, [1, 2])]))
 

@@ -1,12 +1,13 @@
 """Fixed tables and their traversals: by pipe, in this process and with asyncio."""
 
+import asyncio
 import contextlib
 import unittest
 
 from helpers import LIBRARY, PROGRAM
-from yoyoash import Atom, BadArg, Store, aio
+from yoyoash import Atom, BadArg, Gone, Store, aio
 
-FIXED, TRUE, FALSE = Atom("fixed"), Atom("true"), Atom("false")
+FIXED = Atom("fixed")
 
 
 @unittest.skipUnless(PROGRAM, "no ets_script found: set YOYOASH_PROGRAM")
@@ -22,7 +23,7 @@ class ByPipe(unittest.TestCase):
         self.anna.insert(self.table, [(number, 0) for number in range(50)])
 
     def is_fixed(self):
-        return self.anna.info(self.table, FIXED) == TRUE
+        return self.anna.info(self.table, FIXED)
 
     def test_a_table_is_fixed_within_the_with(self):
         with self.anna.fixed(self.table) as table:
@@ -63,6 +64,58 @@ class ByPipe(unittest.TestCase):
             break
         self.assertFalse(self.is_fixed())
 
+    def test_a_traversal_is_a_context_manager(self):
+        for begin in self.anna.walk, self.anna.objects:
+            with begin(self.table) as found:
+                self.assertTrue(self.is_fixed())
+                self.assertIn(next(found), [*range(50), *[(number, 0) for number in range(50)]])
+            self.assertFalse(self.is_fixed())
+            with begin(self.table) as found:
+                self.assertEqual(len(list(found)), 50)
+                self.assertFalse(self.is_fixed())
+            with self.assertRaises(ZeroDivisionError), begin(self.table) as found:
+                for _ in found:
+                    raise ZeroDivisionError
+            self.assertFalse(self.is_fixed())
+
+    def test_a_traversal_is_used_once(self):
+        found = self.anna.objects(self.table)
+        next(found)
+        with found:
+            self.assertEqual(len(list(found)), 49)
+        for used in found, self.anna.walk(self.table), self.anna.walk(self.table):
+            used.close()
+            used.close()
+            self.assertEqual(list(used), [])
+            with self.assertRaisesRegex(ValueError, "begin another"), used:
+                self.fail("the traversal has ended")
+        self.assertFalse(self.is_fixed())
+
+    def test_a_traversal_that_is_dropped_releases_the_table(self):
+        found = self.anna.walk(self.table)
+        self.assertFalse(self.is_fixed())
+        next(found)
+        self.assertTrue(self.is_fixed())
+        del found
+        self.assertFalse(self.is_fixed())
+
+    def test_a_table_or_a_store_may_end_within_a_traversal(self):
+        with self.anna.objects(self.table) as found:
+            next(found)
+            self.anna.delete(self.table)
+        with self.assertRaises(BadArg), self.anna.objects(self.table):
+            self.fail("the table does not exist")
+        with self.assertRaises(BadArg):
+            next(self.anna.walk(self.table))
+        other = self.anna.new(Atom("u"), [])
+        self.anna.insert(other, [(number,) for number in range(9)])
+        with self.assertRaises(Gone), self.anna.walk(other) as keys:
+            next(keys)
+            self.anna.store.close()
+            next(keys)
+        with self.anna.store:
+            pass
+
     def test_objects(self):
         bag = self.anna.new(Atom("b"), [Atom("bag")])
         self.anna.insert(bag, [(key, value) for key in range(9) for value in range(3)])
@@ -84,11 +137,40 @@ class Awaited(unittest.IsolatedAsyncioTestCase):
             table = await anna.new(Atom("t"), [])
             await anna.insert(table, [(number, 0) for number in range(50)])
             async with anna.fixed(table):
-                self.assertEqual(await anna.info(table, FIXED), TRUE)
-            self.assertEqual(await anna.info(table, FIXED), FALSE)
+                self.assertIs(await anna.info(table, FIXED), True)
+            self.assertIs(await anna.info(table, FIXED), False)
             self.assertEqual(sorted([key async for key in anna.walk(table)]), list(range(50)))
             self.assertEqual(sorted([it async for it in anna.objects(table)]), [(number, 0) for number in range(50)])
             async with contextlib.aclosing(anna.walk(table)) as keys:
                 async for _ in keys:
                     break
-            self.assertEqual(await anna.info(table, FIXED), FALSE)
+            self.assertIs(await anna.info(table, FIXED), False)
+            for begin in anna.walk, anna.objects:
+                async with begin(table) as found:
+                    self.assertIs(await anna.info(table, FIXED), True)
+                    async for _ in found:
+                        break
+                self.assertIs(await anna.info(table, FIXED), False)
+                self.assertEqual([it async for it in found], [])
+                with self.assertRaisesRegex(ValueError, "begin another"):
+                    async with found:
+                        self.fail("the traversal has ended")
+
+    async def test_a_cancelled_traversal_releases_the_table(self):
+        async with aio.Store() as store:
+            anna = await store.spawn("anna")
+            table = await anna.new("t")
+            await anna.insert(table, [(number, 0) for number in range(50)])
+
+            async def visit():
+                async with anna.walk(table) as keys:
+                    async for _ in keys:
+                        await asyncio.sleep(60)
+
+            task = asyncio.create_task(visit())
+            while not await anna.info(table, "fixed"):
+                await asyncio.sleep(0)
+            task.cancel()
+            with self.assertRaises(asyncio.CancelledError):
+                await task
+            self.assertIs(await anna.info(table, "fixed"), False)

@@ -81,10 +81,12 @@ class Wheel(unittest.TestCase):
                     digest = base64.urlsafe_b64encode(hashlib.sha256(content).digest()).rstrip(b"=").decode()
                     self.assertEqual((checksum, int(size)), (f"sha256={digest}", len(content)))
             self.assertEqual(names, set())
-            metadata = wheel.read(f"{info}/METADATA").decode()
+            metadata, commands = wheel.read(f"{info}/METADATA").decode(), wheel.read(f"{info}/entry_points.txt").decode()
         self.assertIn(f"\nVersion: {yoyoash.__version__}\n", metadata)
         self.assertIn("\nRequires-Python: >=3.10\n", metadata)
-        self.assertIn("License: not chosen yet, all rights reserved", metadata)
+        self.assertIn("\nLicense: No license is chosen yet: all rights reserved\n", metadata)
+        self.assertIn("\nClassifier: Development Status :: 3 - Alpha\n", metadata)
+        self.assertEqual(commands, "[console_scripts]\nets_script = yoyoash.command:main\n")
 
     def test_a_wheel_has_the_package_and_the_copies_and_two_builds_are_the_same_bytes(self):
         dist = self.dist()

@@ -19,12 +19,13 @@ from typing import Any
 from . import calling, finding
 from .calls import AwaitedCalls
 from .exchange import Body, Exchange
-from .faults import BadArg, Fault, NoProcess, gone, line_of_terms, raised
+from .faults import BadArg, Fault, Gone, NoProcess, gone, line_of_terms, raised
 from .packets import CALL, Names, Request, fits, packet, result_of, too_long
+from .reasons import Reason
 from .store import Uncopied, checked_line, checked_name
-from .terms import END_OF_TABLE, FALSE, TRUE, Pid, Table, Term
+from .terms import FALSE, Atom, Pid, Table, Term
+from .traversals import AsyncTraversal, awaited_keys_of, awaited_objects_of
 
-UNOPENED = "the store is not open: use `async with`, or call open()"
 
 
 class Store(Uncopied):
@@ -62,7 +63,7 @@ class Store(Uncopied):
     async def ask_all(self, lines: Sequence[str]) -> list[Any]:
         """Sends all lines, then returns for each its reply or its Fault, in order."""
         sent = [self._request(line) for line in [checked_line(it) for it in lines]]
-        answers = await asyncio.gather(*[self._answer(*it) for it in sent], return_exceptions=True)
+        answers: list[Any] = await asyncio.gather(*[self._answer(*it) for it in sent], return_exceptions=True)
         for answer in answers:
             if isinstance(answer, BaseException) and not isinstance(answer, Fault):
                 raise answer
@@ -95,7 +96,7 @@ class Store(Uncopied):
         return await body
 
     def _why_gone(self) -> str:
-        return self._exchange.ended if self._exchange else UNOPENED
+        return self._exchange.ended if self._exchange else Reason.NOT_OPEN.value
 
     def _request(self, line: str) -> tuple[Request, Body | None]:
         request = Request(checked_line(line), self._names)
@@ -122,45 +123,36 @@ class Process(Uncopied, AwaitedCalls):
     def __init__(self, store: Store, name: str, pid: Pid):
         self.store, self.name, self.pid = store, name, pid
 
-    async def exit(self) -> Any:
-        """Ends the process. Its tables go to their heirs, or are deleted."""
-        return await self.store.ask(f"exit {self.name}")
+    async def exit(self) -> bool:
+        """Ends the process. Its tables go to their heirs, or are deleted. Returns True."""
+        return bool(await self.store.ask(f"exit {self.name}"))
 
     @contextlib.asynccontextmanager
     async def fixed(self, table: Table) -> AsyncIterator[Table]:
         """Fixes the table for the time of an `async with`, so that a traversal visits each key that stays exactly
         once."""
         try:
-            await self.safe_fixtable(table, TRUE)
+            await self.safe_fixtable(table, True)
         except asyncio.CancelledError:
             # The fix was sent, so its release is sent too.
-            self.store._send(self._packet("safe_fixtable", table, FALSE))
+            self.store._send(self._packet("safe_fixtable", Atom(table) if isinstance(table, str) else table, FALSE))
             raise
         try:
             yield table
         finally:
-            # A table that was deleted has no fixes, and a process that has ended has none.
-            with contextlib.suppress(BadArg, NoProcess):
-                await self.safe_fixtable(table, FALSE)
+            # A table that was deleted, a process that has ended and a store that is gone have no fixes.
+            with contextlib.suppress(BadArg, NoProcess, Gone):
+                await self.safe_fixtable(table, False)
 
-    async def walk(self, table: Table) -> AsyncIterator[Any]:
-        """Yields each key of the table. The table is fixed until the iterator ends or is closed
-        (contextlib.aclosing)."""
-        async with self.fixed(table):
-            key = await self.first(table)
-            while key != END_OF_TABLE:
-                yield key
-                key = await self.next(table, key)
+    def walk(self, table: Table) -> AsyncTraversal[Any]:
+        """Returns an iterator over the keys of the table, which fixes the table. It is a context manager too, for
+        `async with`."""
+        return AsyncTraversal(awaited_keys_of(self, table))
 
-    async def objects(self, table: Table) -> AsyncIterator[tuple[Any, ...]]:
-        """Yields each object of the table, one key at a time. The table is fixed as in `walk`."""
-        async with self.fixed(table):
-            found = await self.first_lookup(table)
-            while found != END_OF_TABLE:
-                key, objects = found
-                for it in objects:
-                    yield it
-                found = await self.next_lookup(table, key)
+    def objects(self, table: Table) -> AsyncTraversal[tuple[Any, ...]]:
+        """Returns an iterator over the objects of the table, one key at a time, which fixes the table. It is a context
+        manager too, for `async with`."""
+        return AsyncTraversal(awaited_objects_of(self, table))
 
     async def _call(self, call: str, *terms: Term) -> Any:
         body = await self.store._body(self.store._send(self._packet(call, *terms)))

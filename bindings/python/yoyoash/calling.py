@@ -2,7 +2,9 @@
 
 from __future__ import annotations
 
+import contextlib
 import ctypes
+import importlib
 import os
 from collections.abc import Callable, Sequence
 from ctypes import byref, c_size_t, c_void_p
@@ -14,12 +16,10 @@ from .external import encode_call
 from .faults import GONE, VALUE, line_of_terms
 from .terms import Term
 
-try:
-    from . import _external as extension  # type: ignore[attr-defined]
-except ImportError:
-    # It was not built, or for another Python.
-    extension = None
-
+# The extension, or None if it was not built, or for another Python.
+extension: Any = None
+with contextlib.suppress(ImportError):
+    extension = importlib.import_module("yoyoash._external")
 
 
 class Handle(ctypes.Structure):
@@ -28,10 +28,10 @@ class Handle(ctypes.Structure):
     _fields_ = [("opaque", c_void_p * 2)]
 
 
-class Sizes(dict):
+class Sizes(dict[int, Any]):
     """Sizes as the library's functions take them. Small ones are kept."""
 
-    def __missing__(self, size: int):
+    def __missing__(self, size: int) -> Any:
         return c_size_t.from_param(size)
 
 
@@ -48,7 +48,8 @@ class Buffer:
 
     def read(self) -> bytes:
         """Returns what was written."""
-        return self.bytes[: self.length.value]
+        written: Any = self.bytes[: self.length.value]
+        return bytes(written)
 
 
 def encoded(name: str, terms: Sequence[Term]) -> bytes:
@@ -64,8 +65,8 @@ def decoded(data: bytes) -> Term:
 
 def line_of_call(process: str, call: bytes) -> str:
     """Returns the line of a process's call with these bytes."""
-    name, terms = decode(call)
-    return line_of_terms(process, name.text, terms)
+    found: Any = decode(call)
+    return line_of_terms(process, found[0].text, found[1])
 
 
 def caller(library: ctypes.CDLL, handle: Handle) -> tuple[Any, Any]:
@@ -109,7 +110,7 @@ class Caller:
                 buffer = Buffer(length)
                 status = self._again(self._store, *buffer.words)
             if status == VALUE:
-                reply = buffer.bytes[:length]
+                reply: Any = buffer.bytes[:length]
             elif self._why(self._store, *self._reason.words) == VALUE:
                 why = self._reason.read().decode()
         return report(process, pid, call, status, length, why) if status else decode(reply)

@@ -2,8 +2,12 @@
 
 from __future__ import annotations
 
+from collections.abc import Awaitable, Callable
 from typing import Any
 
+from .clauses import ALWAYS, Pattern, Spec, pattern_of, spec_of
+from .expressions import OBJECT
+from .options import Heir, Protection, TableType, as_bool, atom_of, heir_options, is_boolean, new_options
 from .terms import ABSENT, Absent, Atom, Pid, Table, Term, Tid
 
 CALLS = (
@@ -17,280 +21,353 @@ CALLS = (
 class Calls:
     """Calls whose method returns the reply or raises a Fault."""
 
-    def _call(self, call: str, *terms: Term) -> Any:
-        raise NotImplementedError
+    _call: Callable[..., Any]
 
-    def new(self, name: Atom, options: Term) -> Tid | Atom:
-        """Calls `new(Name,Options)`. Makes a table. Returns its name if it is a named table, otherwise its identifier."""
-        return self._call("new", name, options)
+    def new(
+        self,
+        name: Atom | str,
+        options: Term | None = None,
+        *,
+        type: TableType | None = None,
+        protection: Protection | None = None,
+        named: bool = False,
+        keypos: int | None = None,
+        heir: Heir | None = None,
+    ) -> Tid | Atom:
+        """Calls `new(Name,Options)`. Makes a table. Returns its name if it is a named table, otherwise its identifier.
 
-    def delete(self, table: Table, key: Term | Absent = ABSENT) -> Atom:
-        """Calls `delete(T)`. Deletes the table, its name and its fixes. Returns `true`.
+        The options are a list of terms, or keywords, which override the list."""
+        reply: Tid | Atom = self._call(
+            "new",
+            Atom(name) if isinstance(name, str) else name,
+            new_options(options, (type, protection, "named_table" if named else None), keypos, heir),
+        )
+        return reply
 
-        Calls `delete(T,Key)`. Deletes the key's objects. Returns `true`."""
+    def delete(self, table: Table, key: Term | Absent = ABSENT) -> bool:
+        """Calls `delete(T)`. Deletes the table, its name and its fixes. Returns True.
+
+        Calls `delete(T,Key)`. Deletes the key's objects. Returns True."""
         if key is not ABSENT:
-            return self._call("delete", table, key)
-        return self._call("delete", table)
+            return bool(self._call("delete", Atom(table) if isinstance(table, str) else table, key))
+        return bool(self._call("delete", Atom(table) if isinstance(table, str) else table))
 
-    def whereis(self, name: Atom) -> Tid | Atom:
+    def whereis(self, name: Atom | str) -> Tid | Atom:
         """Calls `whereis(Name)`. Returns the identifier of the table with this name, or `undefined`."""
-        return self._call("whereis", name)
+        reply: Tid | Atom = self._call("whereis", Atom(name) if isinstance(name, str) else name)
+        return reply
 
-    def info(self, table: Table, item: Atom) -> Any:
+    def info(self, table: Table, item: Atom | str) -> Any:
         """Calls `info(T,Item)`. Returns the value of an item, or `undefined` if there is no such table."""
-        return self._call("info", table, item)
+        reply: Any = self._call(
+            "info",
+            Atom(table) if isinstance(table, str) else table,
+            Atom(item) if isinstance(item, str) else item,
+        )
+        return as_bool(reply) if is_boolean(item) else reply
 
-    def insert(self, table: Table, objects: tuple[Any, ...] | list[Any]) -> Atom:
-        """Calls `insert(T,Objects)`. Inserts an object, or all objects of a list, one after another. Returns `true`."""
-        return self._call("insert", table, objects)
+    def insert(self, table: Table, objects: tuple[Any, ...] | list[Any]) -> bool:
+        """Calls `insert(T,Objects)`. Inserts an object, or all objects of a list, one after another. Returns True."""
+        return bool(self._call("insert", Atom(table) if isinstance(table, str) else table, objects))
 
     def insert_new(self, table: Table, objects: tuple[Any, ...] | list[Any]) -> bool:
-        """Calls `insert_new(T,Objects)`. Returns `false`, and inserts nothing, if the key of one of the objects has
+        """Calls `insert_new(T,Objects)`. Returns False, and inserts nothing, if the key of one of the objects has
         objects in T. Otherwise as `insert`."""
-        return bool(self._call("insert_new", table, objects))
+        return bool(self._call("insert_new", Atom(table) if isinstance(table, str) else table, objects))
 
     def lookup(self, table: Table, key: Term) -> list[tuple[Any, ...]]:
         """Calls `lookup(T,Key)`. Returns the list of the key's objects, oldest first."""
-        return self._call("lookup", table, key)
+        reply: list[tuple[Any, ...]] = self._call("lookup", Atom(table) if isinstance(table, str) else table, key)
+        return reply
 
     def member(self, table: Table, key: Term) -> bool:
         """Calls `member(T,Key)`. Returns whether the key has objects."""
-        return bool(self._call("member", table, key))
+        return bool(self._call("member", Atom(table) if isinstance(table, str) else table, key))
 
     def lookup_element(self, table: Table, key: Term, pos: int, default: Term | Absent = ABSENT) -> Any:
         """Calls `lookup_element(T,Key,Pos)` or `lookup_element(T,Key,Pos,Default)`. Returns element Pos of the object
         of a set; for a bag, the list of these elements of all objects. Returns Default if the key has no object."""
         if default is not ABSENT:
-            return self._call("lookup_element", table, key, pos, default)
-        return self._call("lookup_element", table, key, pos)
+            return self._call("lookup_element", Atom(table) if isinstance(table, str) else table, key, pos, default)
+        return self._call("lookup_element", Atom(table) if isinstance(table, str) else table, key, pos)
 
     def take(self, table: Table, key: Term) -> list[tuple[Any, ...]]:
         """Calls `take(T,Key)`. Deletes the key's objects and returns the list of them."""
-        return self._call("take", table, key)
+        reply: list[tuple[Any, ...]] = self._call("take", Atom(table) if isinstance(table, str) else table, key)
+        return reply
 
-    def delete_object(self, table: Table, object: tuple[Any, ...]) -> Atom:
-        """Calls `delete_object(T,Object)`. Deletes every instance of the object. Returns `true`."""
-        return self._call("delete_object", table, object)
+    def delete_object(self, table: Table, object: tuple[Any, ...]) -> bool:
+        """Calls `delete_object(T,Object)`. Deletes every instance of the object. Returns True."""
+        return bool(self._call("delete_object", Atom(table) if isinstance(table, str) else table, object))
 
-    def delete_all_objects(self, table: Table) -> Atom:
-        """Calls `delete_all_objects(T)`. Deletes all objects. Returns `true`."""
-        return self._call("delete_all_objects", table)
+    def delete_all_objects(self, table: Table) -> bool:
+        """Calls `delete_all_objects(T)`. Deletes all objects. Returns True."""
+        return bool(self._call("delete_all_objects", Atom(table) if isinstance(table, str) else table))
 
     def tab2list(self, table: Table) -> list[tuple[Any, ...]]:
         """Calls `tab2list(T)`. Returns the list of all objects."""
-        return self._call("tab2list", table)
+        reply: list[tuple[Any, ...]] = self._call("tab2list", Atom(table) if isinstance(table, str) else table)
+        return reply
 
     def update_counter(self, table: Table, key: Term, updates: Term, default: Term | Absent = ABSENT) -> Any:
         """Calls `update_counter(T,Key,Updates)` or `update_counter(T,Key,Updates,Default)`. Adds to elements. Returns
         the new value, or the list of new values."""
         if default is not ABSENT:
-            return self._call("update_counter", table, key, updates, default)
-        return self._call("update_counter", table, key, updates)
+            return self._call("update_counter", Atom(table) if isinstance(table, str) else table, key, updates, default)
+        return self._call("update_counter", Atom(table) if isinstance(table, str) else table, key, updates)
 
-    def update_element(self, table: Table, key: Term, values: Term, default: Term | Absent = ABSENT) -> Atom:
+    def update_element(self, table: Table, key: Term, values: Term, default: Term | Absent = ABSENT) -> bool:
         """Calls `update_element(T,Key,Values)` or `update_element(T,Key,Values,Default)`. Replaces elements. Returns
-        `true`, or `false` if the key has no object and there is no Default."""
+        True, or False if the key has no object and there is no Default."""
         if default is not ABSENT:
-            return self._call("update_element", table, key, values, default)
-        return self._call("update_element", table, key, values)
+            return bool(self._call(
+                "update_element",
+                Atom(table) if isinstance(table, str) else table,
+                key,
+                values,
+                default,
+            ))
+        return bool(self._call("update_element", Atom(table) if isinstance(table, str) else table, key, values))
 
-    def match(self, table: Table, pattern: Term) -> list[Any]:
+    def match(self, table: Table, pattern: Pattern) -> list[Any]:
         """Calls `match(T,Pattern)`. Returns, for each object that matches, the list of its bindings."""
-        return self._call("match", table, pattern)
+        reply: list[Any] = self._call("match", Atom(table) if isinstance(table, str) else table, pattern_of(pattern))
+        return reply
 
-    def match_object(self, table: Table, pattern: Term) -> list[tuple[Any, ...]]:
+    def match_object(self, table: Table, pattern: Pattern) -> list[tuple[Any, ...]]:
         """Calls `match_object(T,Pattern)`. Returns the objects that match."""
-        return self._call("match_object", table, pattern)
+        reply: list[tuple[Any, ...]] = self._call(
+            "match_object",
+            Atom(table) if isinstance(table, str) else table,
+            pattern_of(pattern),
+        )
+        return reply
 
-    def match_delete(self, table: Table, pattern: Term) -> Atom:
-        """Calls `match_delete(T,Pattern)`. Deletes the objects that match. Returns `true`."""
-        return self._call("match_delete", table, pattern)
+    def match_delete(self, table: Table, pattern: Pattern) -> bool:
+        """Calls `match_delete(T,Pattern)`. Deletes the objects that match. Returns True."""
+        return bool(self._call("match_delete", Atom(table) if isinstance(table, str) else table, pattern_of(pattern)))
 
-    def select(self, table: Table, spec: Term) -> list[Any]:
+    def select(self, table: Table, spec: Spec) -> list[Any]:
         """Calls `select(T,Spec)`. Returns the results of the specification."""
-        return self._call("select", table, spec)
+        reply: list[Any] = self._call("select", Atom(table) if isinstance(table, str) else table, spec_of(spec, OBJECT))
+        return reply
 
-    def select_count(self, table: Table, spec: Term) -> int:
+    def select_count(self, table: Table, spec: Spec) -> int:
         """Calls `select_count(T,Spec)`. Returns the number of objects whose result is `true`."""
-        return self._call("select_count", table, spec)
+        reply: int = self._call("select_count", Atom(table) if isinstance(table, str) else table, spec_of(spec, ALWAYS))
+        return reply
 
-    def select_delete(self, table: Table, spec: Term) -> int:
+    def select_delete(self, table: Table, spec: Spec) -> int:
         """Calls `select_delete(T,Spec)`. Deletes the objects whose result is `true`. Returns their number."""
-        return self._call("select_delete", table, spec)
+        reply: int = self._call(
+            "select_delete",
+            Atom(table) if isinstance(table, str) else table,
+            spec_of(spec, ALWAYS),
+        )
+        return reply
 
     def first(self, table: Table) -> Any:
         """Calls `first(T)`. Returns the first key that has objects, or `'$end_of_table'`."""
-        return self._call("first", table)
+        return self._call("first", Atom(table) if isinstance(table, str) else table)
 
     def next(self, table: Table, key: Term) -> Any:
         """Calls `next(T,Key)`. Returns the next key after Key that has objects, or `'$end_of_table'`."""
-        return self._call("next", table, key)
+        return self._call("next", Atom(table) if isinstance(table, str) else table, key)
 
     def first_lookup(self, table: Table) -> Any:
         """Calls `first_lookup(T)`. Returns `{Key,Objects}` for the key of `first`, or `'$end_of_table'`."""
-        return self._call("first_lookup", table)
+        return self._call("first_lookup", Atom(table) if isinstance(table, str) else table)
 
     def next_lookup(self, table: Table, key: Term) -> Any:
         """Calls `next_lookup(T,Key)`. Returns `{Key,Objects}` for the key of `next`, or `'$end_of_table'`."""
-        return self._call("next_lookup", table, key)
+        return self._call("next_lookup", Atom(table) if isinstance(table, str) else table, key)
 
-    def safe_fixtable(self, table: Table, fix: Atom) -> Atom:
-        """Calls `safe_fixtable(T,Fix)`. With `true`, adds a fix of the caller. With `false`, removes one, if there is
-        any. Returns `true`."""
-        return self._call("safe_fixtable", table, fix)
+    def safe_fixtable(self, table: Table, fix: bool | Atom) -> bool:
+        """Calls `safe_fixtable(T,Fix)`. With True, adds a fix of the caller. With False, removes one, if there is any.
+        Returns True."""
+        return bool(self._call("safe_fixtable", Atom(table) if isinstance(table, str) else table, atom_of(fix)))
 
-    def give_away(self, table: Table, pid: Pid, gift: Term) -> Atom:
-        """Calls `give_away(T,Pid,Gift)`. Makes Pid the owner, and sends it the message. Returns `true`."""
-        return self._call("give_away", table, pid, gift)
+    def give_away(self, table: Table, pid: Pid, gift: Term) -> bool:
+        """Calls `give_away(T,Pid,Gift)`. Makes Pid the owner, and sends it the message. Returns True."""
+        return bool(self._call("give_away", Atom(table) if isinstance(table, str) else table, pid, gift))
 
-    def setopts(self, table: Table, options: Term) -> Atom:
-        """Calls `setopts(T,Options)`. Sets the heir. Returns `true`."""
-        return self._call("setopts", table, options)
+    def setopts(self, table: Table, options: Term | None = None, *, heir: Heir | None | Absent = ABSENT) -> bool:
+        """Calls `setopts(T,Options)`. Sets the heir. Returns True.
+
+        The heir is an option as a term or by keyword. None is no heir."""
+        return bool(self._call(
+            "setopts",
+            Atom(table) if isinstance(table, str) else table,
+            heir_options(options, heir),
+        ))
 
     def receive(self) -> list[tuple[Any, ...]]:
         """Calls `receive()`. Returns the messages of the caller, oldest first, and empties its mailbox (own)."""
-        return self._call("receive")
+        reply: list[tuple[Any, ...]] = self._call("receive")
+        return reply
 
 
 class CollectedCalls:
     """Calls whose method collects the call and returns nothing."""
 
-    def _collect(self, call: str, *terms: Term) -> None:
-        raise NotImplementedError
+    _collect: Callable[..., None]
+    _collect_truth: Callable[..., None]
 
-    def _collect_truth(self, call: str, *terms: Term) -> None:
-        raise NotImplementedError
+    def new(
+        self,
+        name: Atom | str,
+        options: Term | None = None,
+        *,
+        type: TableType | None = None,
+        protection: Protection | None = None,
+        named: bool = False,
+        keypos: int | None = None,
+        heir: Heir | None = None,
+    ) -> None:
+        """Calls `new(Name,Options)`. Makes a table. Returns its name if it is a named table, otherwise its identifier.
 
-    def new(self, name: Atom, options: Term) -> None:
-        """Calls `new(Name,Options)`. Makes a table. Returns its name if it is a named table, otherwise its identifier."""
-        self._collect("new", name, options)
+        The options are a list of terms, or keywords, which override the list."""
+        self._collect(
+            "new",
+            Atom(name) if isinstance(name, str) else name,
+            new_options(options, (type, protection, "named_table" if named else None), keypos, heir),
+        )
 
     def delete(self, table: Table, key: Term | Absent = ABSENT) -> None:
-        """Calls `delete(T)`. Deletes the table, its name and its fixes. Returns `true`.
+        """Calls `delete(T)`. Deletes the table, its name and its fixes. Returns True.
 
-        Calls `delete(T,Key)`. Deletes the key's objects. Returns `true`."""
+        Calls `delete(T,Key)`. Deletes the key's objects. Returns True."""
         if key is not ABSENT:
-            self._collect("delete", table, key)
+            self._collect_truth("delete", Atom(table) if isinstance(table, str) else table, key)
             return
-        self._collect("delete", table)
+        self._collect_truth("delete", Atom(table) if isinstance(table, str) else table)
 
-    def whereis(self, name: Atom) -> None:
+    def whereis(self, name: Atom | str) -> None:
         """Calls `whereis(Name)`. Returns the identifier of the table with this name, or `undefined`."""
-        self._collect("whereis", name)
+        self._collect("whereis", Atom(name) if isinstance(name, str) else name)
 
-    def info(self, table: Table, item: Atom) -> None:
+    def info(self, table: Table, item: Atom | str) -> None:
         """Calls `info(T,Item)`. Returns the value of an item, or `undefined` if there is no such table."""
-        self._collect("info", table, item)
+        collect = self._collect_truth if is_boolean(item) else self._collect
+        collect("info", Atom(table) if isinstance(table, str) else table, Atom(item) if isinstance(item, str) else item)
 
     def insert(self, table: Table, objects: tuple[Any, ...] | list[Any]) -> None:
-        """Calls `insert(T,Objects)`. Inserts an object, or all objects of a list, one after another. Returns `true`."""
-        self._collect("insert", table, objects)
+        """Calls `insert(T,Objects)`. Inserts an object, or all objects of a list, one after another. Returns True."""
+        self._collect_truth("insert", Atom(table) if isinstance(table, str) else table, objects)
 
     def insert_new(self, table: Table, objects: tuple[Any, ...] | list[Any]) -> None:
-        """Calls `insert_new(T,Objects)`. Returns `false`, and inserts nothing, if the key of one of the objects has
+        """Calls `insert_new(T,Objects)`. Returns False, and inserts nothing, if the key of one of the objects has
         objects in T. Otherwise as `insert`."""
-        self._collect_truth("insert_new", table, objects)
+        self._collect_truth("insert_new", Atom(table) if isinstance(table, str) else table, objects)
 
     def lookup(self, table: Table, key: Term) -> None:
         """Calls `lookup(T,Key)`. Returns the list of the key's objects, oldest first."""
-        self._collect("lookup", table, key)
+        self._collect("lookup", Atom(table) if isinstance(table, str) else table, key)
 
     def member(self, table: Table, key: Term) -> None:
         """Calls `member(T,Key)`. Returns whether the key has objects."""
-        self._collect_truth("member", table, key)
+        self._collect_truth("member", Atom(table) if isinstance(table, str) else table, key)
 
     def lookup_element(self, table: Table, key: Term, pos: int, default: Term | Absent = ABSENT) -> None:
         """Calls `lookup_element(T,Key,Pos)` or `lookup_element(T,Key,Pos,Default)`. Returns element Pos of the object
         of a set; for a bag, the list of these elements of all objects. Returns Default if the key has no object."""
         if default is not ABSENT:
-            self._collect("lookup_element", table, key, pos, default)
+            self._collect("lookup_element", Atom(table) if isinstance(table, str) else table, key, pos, default)
             return
-        self._collect("lookup_element", table, key, pos)
+        self._collect("lookup_element", Atom(table) if isinstance(table, str) else table, key, pos)
 
     def take(self, table: Table, key: Term) -> None:
         """Calls `take(T,Key)`. Deletes the key's objects and returns the list of them."""
-        self._collect("take", table, key)
+        self._collect("take", Atom(table) if isinstance(table, str) else table, key)
 
     def delete_object(self, table: Table, object: tuple[Any, ...]) -> None:
-        """Calls `delete_object(T,Object)`. Deletes every instance of the object. Returns `true`."""
-        self._collect("delete_object", table, object)
+        """Calls `delete_object(T,Object)`. Deletes every instance of the object. Returns True."""
+        self._collect_truth("delete_object", Atom(table) if isinstance(table, str) else table, object)
 
     def delete_all_objects(self, table: Table) -> None:
-        """Calls `delete_all_objects(T)`. Deletes all objects. Returns `true`."""
-        self._collect("delete_all_objects", table)
+        """Calls `delete_all_objects(T)`. Deletes all objects. Returns True."""
+        self._collect_truth("delete_all_objects", Atom(table) if isinstance(table, str) else table)
 
     def tab2list(self, table: Table) -> None:
         """Calls `tab2list(T)`. Returns the list of all objects."""
-        self._collect("tab2list", table)
+        self._collect("tab2list", Atom(table) if isinstance(table, str) else table)
 
     def update_counter(self, table: Table, key: Term, updates: Term, default: Term | Absent = ABSENT) -> None:
         """Calls `update_counter(T,Key,Updates)` or `update_counter(T,Key,Updates,Default)`. Adds to elements. Returns
         the new value, or the list of new values."""
         if default is not ABSENT:
-            self._collect("update_counter", table, key, updates, default)
+            self._collect("update_counter", Atom(table) if isinstance(table, str) else table, key, updates, default)
             return
-        self._collect("update_counter", table, key, updates)
+        self._collect("update_counter", Atom(table) if isinstance(table, str) else table, key, updates)
 
     def update_element(self, table: Table, key: Term, values: Term, default: Term | Absent = ABSENT) -> None:
         """Calls `update_element(T,Key,Values)` or `update_element(T,Key,Values,Default)`. Replaces elements. Returns
-        `true`, or `false` if the key has no object and there is no Default."""
+        True, or False if the key has no object and there is no Default."""
         if default is not ABSENT:
-            self._collect("update_element", table, key, values, default)
+            self._collect_truth(
+                "update_element",
+                Atom(table) if isinstance(table, str) else table,
+                key,
+                values,
+                default,
+            )
             return
-        self._collect("update_element", table, key, values)
+        self._collect_truth("update_element", Atom(table) if isinstance(table, str) else table, key, values)
 
-    def match(self, table: Table, pattern: Term) -> None:
+    def match(self, table: Table, pattern: Pattern) -> None:
         """Calls `match(T,Pattern)`. Returns, for each object that matches, the list of its bindings."""
-        self._collect("match", table, pattern)
+        self._collect("match", Atom(table) if isinstance(table, str) else table, pattern_of(pattern))
 
-    def match_object(self, table: Table, pattern: Term) -> None:
+    def match_object(self, table: Table, pattern: Pattern) -> None:
         """Calls `match_object(T,Pattern)`. Returns the objects that match."""
-        self._collect("match_object", table, pattern)
+        self._collect("match_object", Atom(table) if isinstance(table, str) else table, pattern_of(pattern))
 
-    def match_delete(self, table: Table, pattern: Term) -> None:
-        """Calls `match_delete(T,Pattern)`. Deletes the objects that match. Returns `true`."""
-        self._collect("match_delete", table, pattern)
+    def match_delete(self, table: Table, pattern: Pattern) -> None:
+        """Calls `match_delete(T,Pattern)`. Deletes the objects that match. Returns True."""
+        self._collect_truth("match_delete", Atom(table) if isinstance(table, str) else table, pattern_of(pattern))
 
-    def select(self, table: Table, spec: Term) -> None:
+    def select(self, table: Table, spec: Spec) -> None:
         """Calls `select(T,Spec)`. Returns the results of the specification."""
-        self._collect("select", table, spec)
+        self._collect("select", Atom(table) if isinstance(table, str) else table, spec_of(spec, OBJECT))
 
-    def select_count(self, table: Table, spec: Term) -> None:
+    def select_count(self, table: Table, spec: Spec) -> None:
         """Calls `select_count(T,Spec)`. Returns the number of objects whose result is `true`."""
-        self._collect("select_count", table, spec)
+        self._collect("select_count", Atom(table) if isinstance(table, str) else table, spec_of(spec, ALWAYS))
 
-    def select_delete(self, table: Table, spec: Term) -> None:
+    def select_delete(self, table: Table, spec: Spec) -> None:
         """Calls `select_delete(T,Spec)`. Deletes the objects whose result is `true`. Returns their number."""
-        self._collect("select_delete", table, spec)
+        self._collect("select_delete", Atom(table) if isinstance(table, str) else table, spec_of(spec, ALWAYS))
 
     def first(self, table: Table) -> None:
         """Calls `first(T)`. Returns the first key that has objects, or `'$end_of_table'`."""
-        self._collect("first", table)
+        self._collect("first", Atom(table) if isinstance(table, str) else table)
 
     def next(self, table: Table, key: Term) -> None:
         """Calls `next(T,Key)`. Returns the next key after Key that has objects, or `'$end_of_table'`."""
-        self._collect("next", table, key)
+        self._collect("next", Atom(table) if isinstance(table, str) else table, key)
 
     def first_lookup(self, table: Table) -> None:
         """Calls `first_lookup(T)`. Returns `{Key,Objects}` for the key of `first`, or `'$end_of_table'`."""
-        self._collect("first_lookup", table)
+        self._collect("first_lookup", Atom(table) if isinstance(table, str) else table)
 
     def next_lookup(self, table: Table, key: Term) -> None:
         """Calls `next_lookup(T,Key)`. Returns `{Key,Objects}` for the key of `next`, or `'$end_of_table'`."""
-        self._collect("next_lookup", table, key)
+        self._collect("next_lookup", Atom(table) if isinstance(table, str) else table, key)
 
-    def safe_fixtable(self, table: Table, fix: Atom) -> None:
-        """Calls `safe_fixtable(T,Fix)`. With `true`, adds a fix of the caller. With `false`, removes one, if there is
-        any. Returns `true`."""
-        self._collect("safe_fixtable", table, fix)
+    def safe_fixtable(self, table: Table, fix: bool | Atom) -> None:
+        """Calls `safe_fixtable(T,Fix)`. With True, adds a fix of the caller. With False, removes one, if there is any.
+        Returns True."""
+        self._collect_truth("safe_fixtable", Atom(table) if isinstance(table, str) else table, atom_of(fix))
 
     def give_away(self, table: Table, pid: Pid, gift: Term) -> None:
-        """Calls `give_away(T,Pid,Gift)`. Makes Pid the owner, and sends it the message. Returns `true`."""
-        self._collect("give_away", table, pid, gift)
+        """Calls `give_away(T,Pid,Gift)`. Makes Pid the owner, and sends it the message. Returns True."""
+        self._collect_truth("give_away", Atom(table) if isinstance(table, str) else table, pid, gift)
 
-    def setopts(self, table: Table, options: Term) -> None:
-        """Calls `setopts(T,Options)`. Sets the heir. Returns `true`."""
-        self._collect("setopts", table, options)
+    def setopts(self, table: Table, options: Term | None = None, *, heir: Heir | None | Absent = ABSENT) -> None:
+        """Calls `setopts(T,Options)`. Sets the heir. Returns True.
+
+        The heir is an option as a term or by keyword. None is no heir."""
+        self._collect_truth("setopts", Atom(table) if isinstance(table, str) else table, heir_options(options, heir))
 
     def receive(self) -> None:
         """Calls `receive()`. Returns the messages of the caller, oldest first, and empties its mailbox (own)."""
@@ -300,136 +377,215 @@ class CollectedCalls:
 class AwaitedCalls:
     """Calls whose method is awaited: it returns the reply or raises a Fault."""
 
-    async def _call(self, call: str, *terms: Term) -> Any:
-        raise NotImplementedError
+    _call: Callable[..., Awaitable[Any]]
 
-    async def new(self, name: Atom, options: Term) -> Tid | Atom:
-        """Calls `new(Name,Options)`. Makes a table. Returns its name if it is a named table, otherwise its identifier."""
-        return await self._call("new", name, options)
+    async def new(
+        self,
+        name: Atom | str,
+        options: Term | None = None,
+        *,
+        type: TableType | None = None,
+        protection: Protection | None = None,
+        named: bool = False,
+        keypos: int | None = None,
+        heir: Heir | None = None,
+    ) -> Tid | Atom:
+        """Calls `new(Name,Options)`. Makes a table. Returns its name if it is a named table, otherwise its identifier.
 
-    async def delete(self, table: Table, key: Term | Absent = ABSENT) -> Atom:
-        """Calls `delete(T)`. Deletes the table, its name and its fixes. Returns `true`.
+        The options are a list of terms, or keywords, which override the list."""
+        reply: Tid | Atom = await self._call(
+            "new",
+            Atom(name) if isinstance(name, str) else name,
+            new_options(options, (type, protection, "named_table" if named else None), keypos, heir),
+        )
+        return reply
 
-        Calls `delete(T,Key)`. Deletes the key's objects. Returns `true`."""
+    async def delete(self, table: Table, key: Term | Absent = ABSENT) -> bool:
+        """Calls `delete(T)`. Deletes the table, its name and its fixes. Returns True.
+
+        Calls `delete(T,Key)`. Deletes the key's objects. Returns True."""
         if key is not ABSENT:
-            return await self._call("delete", table, key)
-        return await self._call("delete", table)
+            return bool(await self._call("delete", Atom(table) if isinstance(table, str) else table, key))
+        return bool(await self._call("delete", Atom(table) if isinstance(table, str) else table))
 
-    async def whereis(self, name: Atom) -> Tid | Atom:
+    async def whereis(self, name: Atom | str) -> Tid | Atom:
         """Calls `whereis(Name)`. Returns the identifier of the table with this name, or `undefined`."""
-        return await self._call("whereis", name)
+        reply: Tid | Atom = await self._call("whereis", Atom(name) if isinstance(name, str) else name)
+        return reply
 
-    async def info(self, table: Table, item: Atom) -> Any:
+    async def info(self, table: Table, item: Atom | str) -> Any:
         """Calls `info(T,Item)`. Returns the value of an item, or `undefined` if there is no such table."""
-        return await self._call("info", table, item)
+        reply: Any = await self._call(
+            "info",
+            Atom(table) if isinstance(table, str) else table,
+            Atom(item) if isinstance(item, str) else item,
+        )
+        return as_bool(reply) if is_boolean(item) else reply
 
-    async def insert(self, table: Table, objects: tuple[Any, ...] | list[Any]) -> Atom:
-        """Calls `insert(T,Objects)`. Inserts an object, or all objects of a list, one after another. Returns `true`."""
-        return await self._call("insert", table, objects)
+    async def insert(self, table: Table, objects: tuple[Any, ...] | list[Any]) -> bool:
+        """Calls `insert(T,Objects)`. Inserts an object, or all objects of a list, one after another. Returns True."""
+        return bool(await self._call("insert", Atom(table) if isinstance(table, str) else table, objects))
 
     async def insert_new(self, table: Table, objects: tuple[Any, ...] | list[Any]) -> bool:
-        """Calls `insert_new(T,Objects)`. Returns `false`, and inserts nothing, if the key of one of the objects has
+        """Calls `insert_new(T,Objects)`. Returns False, and inserts nothing, if the key of one of the objects has
         objects in T. Otherwise as `insert`."""
-        return bool(await self._call("insert_new", table, objects))
+        return bool(await self._call("insert_new", Atom(table) if isinstance(table, str) else table, objects))
 
     async def lookup(self, table: Table, key: Term) -> list[tuple[Any, ...]]:
         """Calls `lookup(T,Key)`. Returns the list of the key's objects, oldest first."""
-        return await self._call("lookup", table, key)
+        reply: list[tuple[Any, ...]] = await self._call("lookup", Atom(table) if isinstance(table, str) else table, key)
+        return reply
 
     async def member(self, table: Table, key: Term) -> bool:
         """Calls `member(T,Key)`. Returns whether the key has objects."""
-        return bool(await self._call("member", table, key))
+        return bool(await self._call("member", Atom(table) if isinstance(table, str) else table, key))
 
     async def lookup_element(self, table: Table, key: Term, pos: int, default: Term | Absent = ABSENT) -> Any:
         """Calls `lookup_element(T,Key,Pos)` or `lookup_element(T,Key,Pos,Default)`. Returns element Pos of the object
         of a set; for a bag, the list of these elements of all objects. Returns Default if the key has no object."""
         if default is not ABSENT:
-            return await self._call("lookup_element", table, key, pos, default)
-        return await self._call("lookup_element", table, key, pos)
+            return await self._call(
+                "lookup_element",
+                Atom(table) if isinstance(table, str) else table,
+                key,
+                pos,
+                default,
+            )
+        return await self._call("lookup_element", Atom(table) if isinstance(table, str) else table, key, pos)
 
     async def take(self, table: Table, key: Term) -> list[tuple[Any, ...]]:
         """Calls `take(T,Key)`. Deletes the key's objects and returns the list of them."""
-        return await self._call("take", table, key)
+        reply: list[tuple[Any, ...]] = await self._call("take", Atom(table) if isinstance(table, str) else table, key)
+        return reply
 
-    async def delete_object(self, table: Table, object: tuple[Any, ...]) -> Atom:
-        """Calls `delete_object(T,Object)`. Deletes every instance of the object. Returns `true`."""
-        return await self._call("delete_object", table, object)
+    async def delete_object(self, table: Table, object: tuple[Any, ...]) -> bool:
+        """Calls `delete_object(T,Object)`. Deletes every instance of the object. Returns True."""
+        return bool(await self._call("delete_object", Atom(table) if isinstance(table, str) else table, object))
 
-    async def delete_all_objects(self, table: Table) -> Atom:
-        """Calls `delete_all_objects(T)`. Deletes all objects. Returns `true`."""
-        return await self._call("delete_all_objects", table)
+    async def delete_all_objects(self, table: Table) -> bool:
+        """Calls `delete_all_objects(T)`. Deletes all objects. Returns True."""
+        return bool(await self._call("delete_all_objects", Atom(table) if isinstance(table, str) else table))
 
     async def tab2list(self, table: Table) -> list[tuple[Any, ...]]:
         """Calls `tab2list(T)`. Returns the list of all objects."""
-        return await self._call("tab2list", table)
+        reply: list[tuple[Any, ...]] = await self._call("tab2list", Atom(table) if isinstance(table, str) else table)
+        return reply
 
     async def update_counter(self, table: Table, key: Term, updates: Term, default: Term | Absent = ABSENT) -> Any:
         """Calls `update_counter(T,Key,Updates)` or `update_counter(T,Key,Updates,Default)`. Adds to elements. Returns
         the new value, or the list of new values."""
         if default is not ABSENT:
-            return await self._call("update_counter", table, key, updates, default)
-        return await self._call("update_counter", table, key, updates)
+            return await self._call(
+                "update_counter",
+                Atom(table) if isinstance(table, str) else table,
+                key,
+                updates,
+                default,
+            )
+        return await self._call("update_counter", Atom(table) if isinstance(table, str) else table, key, updates)
 
-    async def update_element(self, table: Table, key: Term, values: Term, default: Term | Absent = ABSENT) -> Atom:
+    async def update_element(self, table: Table, key: Term, values: Term, default: Term | Absent = ABSENT) -> bool:
         """Calls `update_element(T,Key,Values)` or `update_element(T,Key,Values,Default)`. Replaces elements. Returns
-        `true`, or `false` if the key has no object and there is no Default."""
+        True, or False if the key has no object and there is no Default."""
         if default is not ABSENT:
-            return await self._call("update_element", table, key, values, default)
-        return await self._call("update_element", table, key, values)
+            return bool(await self._call(
+                "update_element",
+                Atom(table) if isinstance(table, str) else table,
+                key,
+                values,
+                default,
+            ))
+        return bool(await self._call("update_element", Atom(table) if isinstance(table, str) else table, key, values))
 
-    async def match(self, table: Table, pattern: Term) -> list[Any]:
+    async def match(self, table: Table, pattern: Pattern) -> list[Any]:
         """Calls `match(T,Pattern)`. Returns, for each object that matches, the list of its bindings."""
-        return await self._call("match", table, pattern)
+        reply: list[Any] = await self._call(
+            "match",
+            Atom(table) if isinstance(table, str) else table,
+            pattern_of(pattern),
+        )
+        return reply
 
-    async def match_object(self, table: Table, pattern: Term) -> list[tuple[Any, ...]]:
+    async def match_object(self, table: Table, pattern: Pattern) -> list[tuple[Any, ...]]:
         """Calls `match_object(T,Pattern)`. Returns the objects that match."""
-        return await self._call("match_object", table, pattern)
+        reply: list[tuple[Any, ...]] = await self._call(
+            "match_object",
+            Atom(table) if isinstance(table, str) else table,
+            pattern_of(pattern),
+        )
+        return reply
 
-    async def match_delete(self, table: Table, pattern: Term) -> Atom:
-        """Calls `match_delete(T,Pattern)`. Deletes the objects that match. Returns `true`."""
-        return await self._call("match_delete", table, pattern)
+    async def match_delete(self, table: Table, pattern: Pattern) -> bool:
+        """Calls `match_delete(T,Pattern)`. Deletes the objects that match. Returns True."""
+        return bool(await self._call(
+            "match_delete",
+            Atom(table) if isinstance(table, str) else table,
+            pattern_of(pattern),
+        ))
 
-    async def select(self, table: Table, spec: Term) -> list[Any]:
+    async def select(self, table: Table, spec: Spec) -> list[Any]:
         """Calls `select(T,Spec)`. Returns the results of the specification."""
-        return await self._call("select", table, spec)
+        reply: list[Any] = await self._call(
+            "select",
+            Atom(table) if isinstance(table, str) else table,
+            spec_of(spec, OBJECT),
+        )
+        return reply
 
-    async def select_count(self, table: Table, spec: Term) -> int:
+    async def select_count(self, table: Table, spec: Spec) -> int:
         """Calls `select_count(T,Spec)`. Returns the number of objects whose result is `true`."""
-        return await self._call("select_count", table, spec)
+        reply: int = await self._call(
+            "select_count",
+            Atom(table) if isinstance(table, str) else table,
+            spec_of(spec, ALWAYS),
+        )
+        return reply
 
-    async def select_delete(self, table: Table, spec: Term) -> int:
+    async def select_delete(self, table: Table, spec: Spec) -> int:
         """Calls `select_delete(T,Spec)`. Deletes the objects whose result is `true`. Returns their number."""
-        return await self._call("select_delete", table, spec)
+        reply: int = await self._call(
+            "select_delete",
+            Atom(table) if isinstance(table, str) else table,
+            spec_of(spec, ALWAYS),
+        )
+        return reply
 
     async def first(self, table: Table) -> Any:
         """Calls `first(T)`. Returns the first key that has objects, or `'$end_of_table'`."""
-        return await self._call("first", table)
+        return await self._call("first", Atom(table) if isinstance(table, str) else table)
 
     async def next(self, table: Table, key: Term) -> Any:
         """Calls `next(T,Key)`. Returns the next key after Key that has objects, or `'$end_of_table'`."""
-        return await self._call("next", table, key)
+        return await self._call("next", Atom(table) if isinstance(table, str) else table, key)
 
     async def first_lookup(self, table: Table) -> Any:
         """Calls `first_lookup(T)`. Returns `{Key,Objects}` for the key of `first`, or `'$end_of_table'`."""
-        return await self._call("first_lookup", table)
+        return await self._call("first_lookup", Atom(table) if isinstance(table, str) else table)
 
     async def next_lookup(self, table: Table, key: Term) -> Any:
         """Calls `next_lookup(T,Key)`. Returns `{Key,Objects}` for the key of `next`, or `'$end_of_table'`."""
-        return await self._call("next_lookup", table, key)
+        return await self._call("next_lookup", Atom(table) if isinstance(table, str) else table, key)
 
-    async def safe_fixtable(self, table: Table, fix: Atom) -> Atom:
-        """Calls `safe_fixtable(T,Fix)`. With `true`, adds a fix of the caller. With `false`, removes one, if there is
-        any. Returns `true`."""
-        return await self._call("safe_fixtable", table, fix)
+    async def safe_fixtable(self, table: Table, fix: bool | Atom) -> bool:
+        """Calls `safe_fixtable(T,Fix)`. With True, adds a fix of the caller. With False, removes one, if there is any.
+        Returns True."""
+        return bool(await self._call("safe_fixtable", Atom(table) if isinstance(table, str) else table, atom_of(fix)))
 
-    async def give_away(self, table: Table, pid: Pid, gift: Term) -> Atom:
-        """Calls `give_away(T,Pid,Gift)`. Makes Pid the owner, and sends it the message. Returns `true`."""
-        return await self._call("give_away", table, pid, gift)
+    async def give_away(self, table: Table, pid: Pid, gift: Term) -> bool:
+        """Calls `give_away(T,Pid,Gift)`. Makes Pid the owner, and sends it the message. Returns True."""
+        return bool(await self._call("give_away", Atom(table) if isinstance(table, str) else table, pid, gift))
 
-    async def setopts(self, table: Table, options: Term) -> Atom:
-        """Calls `setopts(T,Options)`. Sets the heir. Returns `true`."""
-        return await self._call("setopts", table, options)
+    async def setopts(self, table: Table, options: Term | None = None, *, heir: Heir | None | Absent = ABSENT) -> bool:
+        """Calls `setopts(T,Options)`. Sets the heir. Returns True.
+
+        The heir is an option as a term or by keyword. None is no heir."""
+        return bool(await self._call(
+            "setopts",
+            Atom(table) if isinstance(table, str) else table,
+            heir_options(options, heir),
+        ))
 
     async def receive(self) -> list[tuple[Any, ...]]:
         """Calls `receive()`. Returns the messages of the caller, oldest first, and empties its mailbox (own)."""
-        return await self._call("receive")
+        reply: list[tuple[Any, ...]] = await self._call("receive")
+        return reply

@@ -3,6 +3,7 @@
 from __future__ import annotations
 
 import struct
+from collections.abc import Callable
 
 from .external import MOST
 from .terms import GREATEST, LEAST, Atom, Pid, Term, Tid
@@ -13,7 +14,7 @@ _long = struct.Struct(">I").unpack_from
 _short = struct.Struct(">H").unpack_from
 
 
-class _Atoms(dict):
+class _Atoms(dict[bytes, Atom]):
     """Keeps atoms by their bytes, since replies repeat a few of them."""
 
     def __missing__(self, text: bytes) -> Atom:
@@ -31,7 +32,7 @@ def decode(data: bytes) -> Term:
     bytes, and for terms that the store does not have."""
     if not isinstance(data, bytes):
         data = bytes(memoryview(data))
-    usual = _REPLIES.get(data)
+    usual: Term | None = _REPLIES.get(data)
     if usual is None:
         usual = _pair(data) if data[:8] == _PAIR else None
     return _whole(data) if usual is None else usual
@@ -80,8 +81,9 @@ def _fault(problem: str, at: int) -> ValueError:
 def _term(data: bytes) -> tuple[Term, int]:
     """Reads any term, after the version. Returns the term and where it ends. Keeps the open tuples and lists in a list, so
     depth needs no recursion."""
-    begun: list = []
-    terms: list = []
+    begun: list[tuple[list[Term], int, bool]] = []
+    terms: list[Term] = []
+    term: Term | None
     is_list, count, at, start = False, 1, 1, 1
     try:
         while True:
@@ -112,7 +114,7 @@ def _term(data: bytes) -> tuple[Term, int]:
                     if data[at] != 106:
                         raise _fault("improper lists are not supported", at)
                     at += 1
-                ended = terms if is_list else tuple(terms)
+                ended: Term = terms if is_list else tuple(terms)
                 terms, count, is_list = begun.pop()
                 terms.append(ended)
     except (IndexError, struct.error):
@@ -186,7 +188,7 @@ def _unknown(data: bytes, at: int) -> tuple[Term, int]:
 
 
 # Reads a term by its tag.
-_OTHERS = {
+_OTHERS: dict[int, Callable[[bytes, int], tuple[Term, int]]] = {
     88: _pid,
     90: _reference,
     100: _atom,

@@ -30,7 +30,8 @@ class Exchange:
         self._replies, self._has_room, self._is_sending = Replies(), asyncio.Event(), False
         # What is being sent, and the requests after it.
         self._sending: bytes | memoryview = b""
-        self._next, self._unsent = [], 0
+        self._next: list[bytes] = []
+        self._unsent = 0
         # Why no more calls are sent; empty while the program runs.
         self.ended, self._over, self._latest = "", self._loop.create_future(), 0.0
         self._closing: asyncio.Task[None] | None = None
@@ -102,7 +103,7 @@ class Exchange:
             self._ending = self._loop.create_task(self._say_how_it_ended())
 
     def _pass_on(self) -> None:
-        if not self._program.pass_on():
+        if self._program.errors and not self._program.pass_on():
             self._loop.remove_reader(self._program.errors)
 
     async def _say_how_it_ended(self) -> None:
@@ -120,9 +121,10 @@ class Exchange:
     def _end(self, how: str) -> None:
         """Says that no more replies come."""
         self.ended = self.ended or how
-        for remove, stream in (self._loop.remove_reader, self._program.replies), (self._loop.remove_writer, self._program.requests):
-            if not stream.closed:
-                remove(stream)
+        if not self._program.replies.closed:
+            self._loop.remove_reader(self._program.replies)
+        if not self._program.requests.closed:
+            self._loop.remove_writer(self._program.requests)
         self._has_room.set()
         while self._waiting:
             waiting = self._waiting.popleft()

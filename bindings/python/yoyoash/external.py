@@ -3,7 +3,7 @@
 from __future__ import annotations
 
 import struct
-from collections.abc import Sequence
+from collections.abc import Callable, Sequence
 from typing import Any
 
 from .terms import Atom, ByType, End, Path, Pid, Term, Tid, in_range
@@ -17,7 +17,7 @@ _middle, _count = struct.Struct(">Bi").pack, struct.Struct(">BI").pack
 MOST = 4_096
 
 
-class _Encoded(dict):
+class _Encoded(dict[str, bytes]):
     """Keeps the bytes of atoms by their texts."""
 
     def __missing__(self, text: str) -> bytes:
@@ -40,11 +40,11 @@ def _integer(number: int) -> bytes:
     return bytes((110, size, number < 0)) + magnitude.to_bytes(size, "little")
 
 
-def _tuple(it: tuple) -> bytes:
+def _tuple(it: tuple[Any, ...]) -> bytes:
     return _nest(it) if _is_nested(it) else _tuple_head(it) + b"".join([ENCODED_BY[type(each)](each) for each in it])
 
 
-def _tuple_head(it: tuple) -> bytes:
+def _tuple_head(it: tuple[Any, ...]) -> bytes:
     return bytes((104, len(it))) if len(it) < 256 else _count(105, len(it))
 
 
@@ -61,14 +61,14 @@ def _list(it: Sequence[Term]) -> bytes:
 
 
 # Encodes each kind of term that contains no other terms.
-LEAVES = {
+LEAVES: dict[type, Callable[[Any], bytes]] = {
     int: _integer,
     Atom: lambda it: _ATOMS[it.text],
-    Pid: lambda it: b"X" + _NODE + it.number.to_bytes(4, "big") + b"\0\0\0\0\0\0\0\0",
-    Tid: lambda it: b"Z\0\1" + _NODE + b"\0\0\0\0" + it.number.to_bytes(4, "big"),
-    bytes: lambda it: _count(109, len(it)) + it,
-    bytearray: lambda it: _count(109, len(it)) + it,
-    memoryview: lambda it: _count(109, it.nbytes) + it.tobytes(),
+    Pid: lambda it: b"".join((b"X", _NODE, it.number.to_bytes(4, "big"), b"\0\0\0\0\0\0\0\0")),
+    Tid: lambda it: b"".join((b"Z\0\1", _NODE, b"\0\0\0\0", it.number.to_bytes(4, "big"))),
+    bytes: lambda it: b"".join((_count(109, len(it)), it)),
+    bytearray: lambda it: b"".join((_count(109, len(it)), it)),
+    memoryview: lambda it: b"".join((_count(109, it.nbytes), it.tobytes())),
 }
 _is_flat = frozenset(LEAVES).issuperset
 
@@ -80,9 +80,9 @@ def _is_nested(it: Sequence[Term]) -> bool:
 def _nest(nest: Sequence[Term]) -> bytes:
     """Encodes a tuple or a list that contains others, to any depth, without recursion."""
     parts: list[bytes] = []
-    path, left = Path(), [nest]
+    path, left = Path(), list[Any]([nest])
     while left:
-        it: Any = left.pop()
+        it = left.pop()
         if type(it) is End:
             parts.append(b"j" if it.sign else b"")
             path.end(it)
@@ -97,7 +97,7 @@ def _nest(nest: Sequence[Term]) -> bytes:
     return b"".join(parts)
 
 
-ENCODED_BY = ByType(LEAVES | {tuple: _tuple, list: _list})
+ENCODED_BY: ByType[bytes] = ByType(LEAVES | {tuple: _tuple, list: _list})
 
 
 def encode(term: Term) -> bytes:
@@ -105,7 +105,7 @@ def encode(term: Term) -> bytes:
     return _VERSION + ENCODED_BY[type(term)](term)
 
 
-class _Heads(dict):
+class _Heads(dict[tuple[str, int], bytes]):
     """Keeps the bytes of calls up to their arguments, by their names and numbers of arguments."""
 
     def __missing__(self, call: tuple[str, int]) -> bytes:

@@ -2,23 +2,35 @@
 
 from __future__ import annotations
 
-import re
 from collections.abc import Sequence
 from typing import Any
 
+from .reasons import Reason, split
 from .terms import Term, shortened, spell_all
 
-CLOSED = "the store is closed"
-FORKED = "this process was forked after the store was opened, and the store stays with its parent"
+CLOSED, FORKED = Reason.CLOSED.value, Reason.FORKED.value
 
 
 class Fault(Exception):
     """A call without a reply. `line` is the call as a line of the script language, `answer` what came back, `reason` why,
-    in words. The text of the exception shortens the line."""
+    in words, and `code` why, as a Reason to compare. The text of the exception shortens the line."""
+
+    # The code of a fault without a reason in words.
+    _silent = Reason.OTHER
 
     def __init__(self, line: str, answer: str, reason: str | None = None):
         super().__init__(line, answer)
         self.line, self.answer, self.reason = line, answer, reason or None
+
+    @property
+    def code(self) -> Reason:
+        """Returns the reason to compare: `Reason.OTHER` if this version of the package does not know it."""
+        return Reason.of(self.reason) if self.reason else self._silent
+
+    @property
+    def argument(self) -> int | None:
+        """Returns the number of the argument that the reason is about, from 1, if it is about one."""
+        return split(self.reason or "")[0]
 
     @property
     def remedy(self) -> str | None:
@@ -33,7 +45,7 @@ class Fault(Exception):
     def __repr__(self) -> str:
         return f"{type(self).__name__}({shortened(self.line)!r}, {self.answer!r})"
 
-    def __reduce__(self):
+    def __reduce__(self) -> tuple[Any, ...]:
         return type(self), (self.line, self.answer, self.reason)
 
 
@@ -46,8 +58,11 @@ class SystemLimit(Fault):
 
     @property
     def remedy(self) -> str | None:
-        full = re.match(r"(object|table|process) limit", self.reason or "")
-        return full and f"open the store with a larger max_{full[1]}{'es' if full[1] == 'process' else 's'}="
+        limit = _LIMITS.get(self.code)
+        return f"open the store with a larger {limit}=" if limit else None
+
+
+_LIMITS = {Reason.PROCESS_LIMIT: "max_processes", Reason.TABLE_LIMIT: "max_tables", Reason.OBJECT_LIMIT: "max_objects"}
 
 
 class NoProcess(Fault):
@@ -56,6 +71,8 @@ class NoProcess(Fault):
 
 class NoMemory(Fault):
     """Refused: the store runs out of memory. Nothing has changed."""
+
+    _silent = Reason.OUT_OF_MEMORY
 
 
 class Syntax(Fault):
@@ -78,6 +95,8 @@ class TooLong(Fault):
 
 class Untold(Fault):
     """The call was done, but there was no memory for its reply."""
+
+    _silent = Reason.OUT_OF_MEMORY
 
 
 class Gone(Fault):
@@ -110,7 +129,7 @@ def fault(line: str, status: int, reason: str | None, at: int | None = None) -> 
 
 def gone(line: str, why: str) -> Gone:
     """Returns the exception of a line that got no answer."""
-    return fault(line, GONE, why)
+    return Gone(line, ANSWERS[GONE][0], why)
 
 
 def line_of(process: str, name: str, arguments: str) -> str:

@@ -36,6 +36,12 @@ def program(given: Path | None = None) -> str:
     return _found(given, "YOYOASH_PROGRAM", REPOSITORY / "ets_script")
 
 
+def own_program() -> str:
+    """Returns the path of ets_script in the package, or in the repository. A variable does not change it: that could name
+    the command that asks."""
+    return _own("YOYOASH_PROGRAM", REPOSITORY / "ets_script")
+
+
 def library(given: Path | None = None) -> str:
     """Returns the path of libyoyoash.so, found in the same order."""
     return _found(given, "YOYOASH_LIBRARY", REPOSITORY / "dist/x86_64-linux/libyoyoash.so")
@@ -51,7 +57,7 @@ class Settings:
     max_objects: int | None = None
     seed: int | None = None
 
-    def __post_init__(self):
+    def __post_init__(self) -> None:
         for name, bits in {**dict.fromkeys(LIMITS, 32), "seed": 64}.items():
             if getattr(self, name) is not None:
                 object.__setattr__(self, name, _in_bits(name, getattr(self, name), bits))
@@ -110,6 +116,10 @@ def _found(given: Path | None, variable: str, in_repository: pathlib.Path) -> st
     if path:
         # A bare word is searched on PATH. A relative path is of this folder, whatever `cwd=` says.
         return os.path.abspath(path) if os.sep in path else shutil.which(path) or path
+    return _own(variable, in_repository)
+
+
+def _own(variable: str, in_repository: pathlib.Path) -> str:
     copy = COPIES / NAMES[variable]
     for place in copy, in_repository:
         if place.is_file():

@@ -17,7 +17,7 @@ from .faults import CLOSED, FORKED, GONE, SYNTAX, VALUE, Fault, fault, line_of_t
 from .packets import Names, already_spawned, never_spawned
 from .reading import parse
 from .script import NOT_A_LINE, Misread, read_line
-from .terms import Pid, Term, spell_all
+from .terms import Pid, Term, spell, spell_all
 
 FUNCTIONS = ("open_with_seed", "spawn", "exit", "call", "reply", "call_external", "reply_external", "why", "close")
 _LINE = re.compile(r"[ \t]*([a-z][A-Za-z0-9_@]*)[ \t]+([a-z][A-Za-z0-9_@]*)[ \t]*(?:\((.*)\)[ \t]*)?")
@@ -92,7 +92,12 @@ class Library:
 
     def ask_all(self, lines: Sequence[str]) -> list[Any]:
         """Makes the calls of lines of the script language. Returns a reply or a Fault for each."""
-        return [self._line(line) for line in lines]
+        results = [self.text_of(line) for line in lines]
+        return [parse(it) if isinstance(it, str) else it for it in results]
+
+    def names(self) -> list[str]:
+        """Returns the names of the processes that lines spawned, ended ones included."""
+        return self._names.known()
 
     def close(self) -> None:
         """Ends the store and frees its memory. Closing again does nothing."""
@@ -140,8 +145,9 @@ class Library:
         status = self._library.yoyoash_why(self._store, *self._buffer.words)
         return self._buffer.read().decode() if status == VALUE else None
 
-    def _line(self, line: str) -> Any:
-        parts = _LINE.fullmatch(line)
+    def text_of(self, line: str) -> str | Fault:
+        """Makes the call of a line of the script language. Returns the text of the reply, or the Fault."""
+        parts = _LINE.fullmatch(line) if line.isascii() else None
         if not parts:
             return _misread(line)
         word, call, arguments = parts.groups()
@@ -152,12 +158,11 @@ class Library:
         if not pid:
             return never_spawned(line, word)
         reply = self.call(word, pid, call, arguments.strip(" \t") and arguments, parts.start(3))
-        if isinstance(reply, str):
-            return parse(reply)
-        reply.line = line
+        if isinstance(reply, Fault):
+            reply.line = line
         return reply
 
-    def _spawn(self, line: str, name: str) -> Any:
+    def _spawn(self, line: str, name: str) -> str | Fault:
         if self._is_forked():
             return self._fault(line, GONE, None)
         with self._lock:
@@ -167,11 +172,11 @@ class Library:
             status = self._library.yoyoash_spawn(self._store, pid.number)
             if status == VALUE:
                 self._names.keep(name, pid)
-                return pid
+                return spell(pid)
             why = self._why()
         return self._fault(line, status, why)
 
-    def _exit(self, line: str, name: str) -> Any:
+    def _exit(self, line: str, name: str) -> str | Fault:
         pid = self._names.pid(name)
         if self._is_forked():
             return self._fault(line, GONE, None)
@@ -180,7 +185,7 @@ class Library:
         with self._lock:
             status = self._library.yoyoash_exit(self._store, pid.number)
             if status == VALUE:
-                return parse("true")
+                return "true"
             why = self._why()
         return self._fault(line, status, why)
 
@@ -189,8 +194,8 @@ def _name_and_terms(call: bytes | tuple[Any, ...]) -> tuple[str, Sequence[Term]]
     """Returns the name and the terms of a call: of its bytes, or of a tuple of them."""
     if isinstance(call, tuple):
         return call[0], call[1:]
-    name, terms = decode(call)
-    return name.text, terms
+    found: Any = decode(call)
+    return found[0].text, found[1]
 
 
 def _misread(line: str) -> Fault:

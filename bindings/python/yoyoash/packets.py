@@ -9,6 +9,7 @@ from typing import Any
 
 from . import calling
 from .faults import ANSWERS, BADARG, GONE, NO_PROCESS, SYNTAX, VALUE, Fault, TooLong, fault, gone
+from .reasons import ALREADY_SPAWNED, NEVER_SPAWNED, Reason
 from .script import Line, Misread, read_line
 from .terms import Pid
 
@@ -16,8 +17,7 @@ SPAWN, EXIT, CALL = 0, 1, 2
 # The program reads at most this many bytes of a packet, its length not counted.
 MOST = 16_777_216
 _head, _length = struct.Struct(">IBI").pack, struct.Struct(">I").unpack_from
-NOT_PACKETS = "the program does not print packets: start it with --external"
-
+NOT_PACKETS = Reason.NOT_PACKETS.value
 
 # What a reply begins with.
 _STATUSES = frozenset([VALUE, *ANSWERS]) - {GONE}
@@ -39,7 +39,7 @@ def fits(call: bytes) -> bool:
 
 def too_long(line: str, call: bytes) -> Fault:
     """Returns the exception of a call that does not fit a packet."""
-    return TooLong(line, "too long", f"the call has {len(call) + 5:,} bytes, and a packet at most {MOST:,}")
+    return TooLong(line, "too long", f"{Reason.TOO_LONG.value}{len(call) + 5:,} bytes, and a packet at most {MOST:,}")
 
 
 class Replies:
@@ -105,17 +105,21 @@ class Names:
         """Frees a name whose `spawn` was refused."""
         self._pids.pop(name, None)
 
+    def known(self) -> list[str]:
+        """Returns the names that were given."""
+        return list(self._pids)
+
     def pid(self, name: str) -> Pid | None:
         """Returns the process with this name."""
         return self._pids.get(name)
 
 
 def never_spawned(line: str, name: str) -> Fault:
-    return fault(line, NO_PROCESS, f"{name} was never spawned")
+    return fault(line, NO_PROCESS, name + NEVER_SPAWNED)
 
 
 def already_spawned(line: str, name: str) -> Fault:
-    return fault(line, BADARG, f"{name} was already spawned")
+    return fault(line, BADARG, name + ALREADY_SPAWNED)
 
 
 class Request:

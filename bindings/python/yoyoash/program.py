@@ -8,9 +8,10 @@ import signal
 import subprocess
 import time
 from collections.abc import Sequence
-from typing import Any
+from typing import IO, Any, cast
 
 from . import finding
+from .reasons import Reason
 
 # This many bytes are read at once, since a pipe rarely holds more.
 BLOCK = 65_536
@@ -18,8 +19,7 @@ BLOCK = 65_536
 PATIENCE = 2.0
 # A program that closes its output has this many seconds to end.
 SHORTLY = 1.0
-INTERRUPTED = "an earlier call was interrupted"
-TOO_MANY = "the program printed more replies than it was sent calls"
+INTERRUPTED, TOO_MANY = Reason.INTERRUPTED.value, Reason.TOO_MANY_REPLIES.value
 UNENDED = "the program closed its output"
 
 
@@ -38,9 +38,9 @@ class Program:
                 raise
             raise finding.unavailable(words[0], "YOYOASH_PROGRAM", error) from None
         # A caller that takes standard error reads it.
-        self.errors = self.popen.stderr if has_errors else None
+        self.errors: IO[bytes] | None = self.popen.stderr if has_errors else None
         self.owner, self._last_line, self._begun = os.getpid(), "", b""
-        self.requests, self.replies = self.popen.stdin, self.popen.stdout
+        self.requests, self.replies = cast(IO[bytes], self.popen.stdin), cast(IO[bytes], self.popen.stdout)
         for it in (self.requests, self.replies, self.errors):
             if it:
                 os.set_blocking(it.fileno(), False)

@@ -39,8 +39,8 @@ def _whole(text: str) -> Term:
     """Reads any term. Keeps the open brackets in a list, so depth needs no recursion."""
     if not text.isascii():
         raise ValueError
-    terms: list = []
-    begun: list[tuple[list, str]] = []
+    terms: list[Term] = []
+    begun: list[tuple[list[Term], str]] = []
     for token in _TOKENS(text):
         if token.isdigit():
             terms.append(int(token))
@@ -62,7 +62,7 @@ def _whole(text: str) -> Term:
     return terms[0]
 
 
-class _Words(dict):
+class _Words(dict[str, Term]):
     """Keeps atoms, pids and table identifiers by their texts, since replies repeat a few of them. Makes other terms
     anew."""
 

@@ -5,10 +5,11 @@ from __future__ import annotations
 import re
 from dataclasses import dataclass
 
+from .reasons import Reason
 from .terms import GREATEST, LEAST, Atom, Pid, Term, Tid
 
 DEEPEST, LONGEST = 128, 255
-NOT_A_LINE = "neither a call nor spawn or exit with a name"
+NOT_A_LINE = Reason.NOT_A_LINE.value
 _BLANKS, _MORE_BLANKS = re.compile(r"[ \t]*").match, re.compile(r"[ \t]+").match
 _NAME = re.compile(r"[a-z][A-Za-z0-9_@]*").match
 _DIGITS = re.compile(r"-?[0-9]+").match
@@ -73,7 +74,7 @@ class _Reader:
             self._skip_blanks()
             sign = self._line[self._at : self._at + 1]
             if len(begun) == DEEPEST and sign != closing:
-                raise Misread(self._at, f"more than {DEEPEST} levels deep")
+                raise Misread(self._at, Reason.TOO_DEEP.value)
             if sign in ("{", "["):
                 self._at += 1
                 begun.append((terms, closing))
@@ -102,7 +103,7 @@ class _Reader:
         if sign == '"':
             start, text = self._at, self._quoted('"')
             if text and levels + 1 == DEEPEST:
-                raise Misread(start + 1, f"more than {DEEPEST} levels deep")
+                raise Misread(start + 1, Reason.TOO_DEEP.value)
             return list(text.encode())
         if sign == "#":
             return Tid(self._identifier("#Tid<", ">"))
@@ -120,7 +121,7 @@ class _Reader:
         text = digits[0] if len(digits[0]) < 4_000 else "9" * 99
         number = int(text)
         if not least <= number <= greatest:
-            raise Misread(start, "integer out of range")
+            raise Misread(start, Reason.INTEGER_RANGE.value)
         return number
 
     def _quoted(self, quote: str, most: int | None = None) -> str:
@@ -128,7 +129,7 @@ class _Reader:
         assert found
         text, is_escape = re.sub(r"\\(.)", r"\1", found[0]), self._line.startswith("\\", found.end())
         if most and len(text) + is_escape > most:
-            raise Misread(self._at, f"atom longer than {most} characters")
+            raise Misread(self._at, Reason.LONG_ATOM.value)
         self._at = found.end() + is_escape
         self._take(quote, found.end() == self._at)
         return text
@@ -170,7 +171,7 @@ class _Reader:
         if not name:
             raise self._fault()
         if len(name[0]) > LONGEST:
-            raise Misread(self._at, "name too long")
+            raise Misread(self._at, Reason.LONG_ATOM.value)
         self._at = name.end()
         return name[0]
 
@@ -193,4 +194,4 @@ class _Reader:
 
     def _fault(self) -> Misread:
         sign = self._line[self._at : self._at + 1]
-        return Misread(self._at, f"unexpected {sign!r}" if sign else "the line ends too early")
+        return Misread(self._at, f"{Reason.UNEXPECTED.value}{sign!r}" if sign else "unexpected end of line")

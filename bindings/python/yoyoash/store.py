@@ -13,10 +13,12 @@ from typing import Any
 
 from . import finding
 from .calls import Calls, CollectedCalls
-from .faults import BadArg, NoProcess, raised
+from .faults import BadArg, Gone, NoProcess, raised
 from .library import Library
+from .options import as_bool
 from .pipe import Pipe
-from .terms import END_OF_TABLE, FALSE, TRUE, Atom, Pid, Table, Term, written
+from .terms import Pid, Table, Term, written
+from .traversals import Traversal, keys_of, objects_of
 
 # Holds the stores that exist, for `close_all`.
 _stores: weakref.WeakSet[Store] = weakref.WeakSet()
@@ -170,11 +172,11 @@ class Process(Uncopied, Calls):
 
     def __init__(self, store: Store, name: str, pid: Pid):
         self.store, self.name, self.pid = store, name, pid
-        self._call = store._way.asker(name, pid)  # type: ignore[method-assign]
+        self._call = store._way.asker(name, pid)
 
-    def exit(self) -> Any:
-        """Ends the process. Its tables go to their heirs, or are deleted."""
-        return self.store.ask(f"exit {self.name}")
+    def exit(self) -> bool:
+        """Ends the process. Its tables go to their heirs, or are deleted. Returns True."""
+        return bool(self.store.ask(f"exit {self.name}"))
 
     def pipeline(self) -> Pipeline:
         """Returns an empty pipeline, which collects calls and sends them together."""
@@ -183,31 +185,22 @@ class Process(Uncopied, Calls):
     @contextlib.contextmanager
     def fixed(self, table: Table) -> Iterator[Table]:
         """Fixes the table for the time of a `with`, so that a traversal visits each key that stays exactly once."""
-        self.safe_fixtable(table, TRUE)
+        self.safe_fixtable(table, True)
         try:
             yield table
         finally:
-            # A table that was deleted has no fixes, and a process that has ended has none.
-            with contextlib.suppress(BadArg, NoProcess):
-                self.safe_fixtable(table, FALSE)
+            # A table that was deleted, a process that has ended and a store that is gone have no fixes.
+            with contextlib.suppress(BadArg, NoProcess, Gone):
+                self.safe_fixtable(table, False)
 
-    def walk(self, table: Table) -> Iterator[Any]:
-        """Yields each key of the table. The table is fixed until the iterator ends or is closed."""
-        with self.fixed(table):
-            key = self.first(table)
-            while key != END_OF_TABLE:
-                yield key
-                key = self.next(table, key)
+    def walk(self, table: Table) -> Traversal[Any]:
+        """Returns an iterator over the keys of the table, which fixes the table. It is a context manager too."""
+        return Traversal(keys_of(self, table))
 
-    def objects(self, table: Table) -> Iterator[tuple[Any, ...]]:
-        """Yields each object of the table, one key at a time. The table is fixed until the iterator ends or is
-        closed."""
-        with self.fixed(table):
-            found = self.first_lookup(table)
-            while found != END_OF_TABLE:
-                key, objects = found
-                yield from objects
-                found = self.next_lookup(table, key)
+    def objects(self, table: Table) -> Traversal[tuple[Any, ...]]:
+        """Returns an iterator over the objects of the table, one key at a time, which fixes the table. It is a context
+        manager too."""
+        return Traversal(objects_of(self, table))
 
     def __repr__(self) -> str:
         return f"<process {self.name} {self.pid!r}>"
@@ -229,8 +222,7 @@ class Pipeline(Uncopied, CollectedCalls):
         calls, truths, self.calls, self._truths = self.calls, self._truths, [], []
         self.answers = self.store._way.results(self.name, self.pid, calls)
         for place in truths:
-            if isinstance(self.answers[place], Atom):
-                self.answers[place] = bool(self.answers[place])
+            self.answers[place] = as_bool(self.answers[place])
         return self.answers
 
     def _collect(self, call: str, *terms: Term) -> None:

@@ -2,12 +2,14 @@
 
 from __future__ import annotations
 
-from collections.abc import Iterable
+from collections.abc import Callable, Iterable
 from dataclasses import dataclass, field
+from enum import Enum
 from operator import attrgetter
-from typing import Any, Final, Union
+from typing import Any, Final, NoReturn, TypeVar, Union
 
 LEAST, GREATEST = -(2**127), 2**127 - 1
+Made = TypeVar("Made")
 # At most this many characters of a value or a call are in the text of an exception.
 SHORT = 120
 
@@ -37,7 +39,7 @@ class Atom:
     # Keeps the spelling, since an atom is made once and sent many times.
     _spelled: str = field(init=False, repr=False, compare=False)
 
-    def __post_init__(self):
+    def __post_init__(self) -> None:
         if not isinstance(self.text, str):
             raise TypeError(f"{written(self.text)} is not a string: the text of an atom is one")
         if len(self.text) > 255 or not (self.text.isascii() and self.text.isprintable()):
@@ -56,7 +58,7 @@ class Atom:
 class _Number:
     number: int
 
-    def __post_init__(self):
+    def __post_init__(self) -> None:
         if type(self.number) is not int or not 0 <= self.number < 2**32:
             kind = type(self).__name__
             raise ValueError(f"{written(self.number)} is not the number of a {kind}: numbers go from 0 to 4294967295")
@@ -77,9 +79,9 @@ class Tid(_Number):
     __slots__ = ()
 
 
-Term = Union[int, Atom, Pid, Tid, tuple, list, bytes, bytearray, memoryview]
-# What names a table: its identifier, or the name of a named table.
-Table = Union[Atom, Tid]
+Term = Union[int, Atom, Pid, Tid, tuple[Any, ...], list[Any], bytes, bytearray, memoryview]
+# What names a table: its identifier, or the name of a named table. A string is the name as an atom.
+Table = Union[Atom, Tid, str]
 
 TRUE: Final = Atom("true")
 FALSE: Final = Atom("false")
@@ -87,14 +89,16 @@ FALSE: Final = Atom("false")
 END_OF_TABLE: Final = Atom("$end_of_table")
 
 
-class Absent:
+class Absent(Enum):
     """The default of a parameter that a call may leave out. It is not a term."""
+
+    ABSENT = 0
 
     def __repr__(self) -> str:
         return "ABSENT"
 
 
-ABSENT: Final = Absent()
+ABSENT: Final = Absent.ABSENT
 
 
 def _integer(number: int) -> str:
@@ -111,7 +115,7 @@ def in_range(number: int) -> int:
 _BYTES = tuple(map(str, range(256)))
 
 # Spells each kind of term that contains no other terms.
-LEAVES = {
+LEAVES: dict[type, Callable[[Any], str]] = {
     int: _integer,
     Atom: attrgetter("_spelled"),
     Pid: lambda it: f"<0.{it.number}.0>",
@@ -125,11 +129,11 @@ LEAVES = {
 _is_flat = frozenset(LEAVES).issuperset
 
 
-def _tuple(it: tuple) -> str:
+def _tuple(it: tuple[Any, ...]) -> str:
     return f"{{{spell_all(it)}}}" if _is_flat(map(type, it)) else _nest(it)
 
 
-def _list(it: list) -> str:
+def _list(it: list[Any]) -> str:
     return f"[{spell_all(it)}]" if _is_flat(map(type, it)) else _nest(it)
 
 
@@ -164,12 +168,12 @@ _COMMA = End(0)
 _COMMA.sign = ","
 
 
-def _nest(nest: tuple | list) -> str:
+def _nest(nest: tuple[Any, ...] | list[Any]) -> str:
     """Spells a tuple or a list that contains others, to any depth, without recursion."""
     parts: list[str] = []
-    path, left = Path(), [nest]
+    path, left = Path(), list[Any]([nest])
     while left:
-        it: Any = left.pop()
+        it = left.pop()
         if type(it) is End:
             parts.append(it.sign)
             path.end(it)
@@ -177,7 +181,7 @@ def _nest(nest: tuple | list) -> str:
             parts.append(spell(it))
         else:
             end = path.begin(it)
-            opening, end.sign = "{}" if isinstance(it, tuple) else "[]"
+            opening, end.sign = ("{", "}") if isinstance(it, tuple) else ("[", "]")
             parts.append(opening)
             left.append(end)
             for element in reversed(it):
@@ -186,10 +190,10 @@ def _nest(nest: tuple | list) -> str:
     return "".join(parts)
 
 
-class ByType(dict):
+class ByType(dict[type, Callable[[Any], Made]]):
     """Maps each type to what its values are made into. A derived type is taken as its base."""
 
-    def __missing__(self, kind: type):
+    def __missing__(self, kind: type) -> Callable[[Any], Made]:
         if issubclass(kind, bool):
             return _refuse
         if issubclass(kind, int):
@@ -197,7 +201,7 @@ class ByType(dict):
         return next((made for base, made in self.items() if issubclass(kind, base)), _refuse)
 
 
-def _refuse(it):
+def _refuse(it: object) -> NoReturn:
     raise TypeError(f"{written(it)} is not a term{_hint(it)}")
 
 
@@ -212,7 +216,7 @@ def _hint(it: object) -> str:
     return f": a binary is {it.encode()!r}, and an atom is Atom({it!r})"
 
 
-SPELLED_BY = ByType(LEAVES | {tuple: _tuple, list: _list})
+SPELLED_BY: ByType[str] = ByType(LEAVES | {tuple: _tuple, list: _list})
 
 
 def spell_all(terms: Iterable[Term]) -> str:
