@@ -1,21 +1,28 @@
 %% Spreads a table over Erlang nodes, each with `yoyoash' and a store of its own: a demo.
-%% The place of a key is given by erlang:phash2. The process that makes the table owns its part on each node, so the
-%% parts end with that process or with its node. docs/erlang.md says what holds.
+%%
+%% It LOSES DATA. The objects of a node are in its memory alone, so they are lost when the node ends. The process that makes
+%% the table owns its part on each node. So the parts end with that process, with its node, or when the connection to it is
+%% lost for longer than the grace period. Use Mnesia for copies, and Ra for consensus. docs/erlang-cluster.md says what holds.
+%%
+%% The place of a key is given by erlang:phash2.
 -module(cluster).
 -export([start/2, stop/1, new/3, place/2, insert/2, lookup/2, update_counter/3, delete/2, size/1, tab2list/1]).
 -export_type([table/0]).
 
 -type table() :: #{name := atom(), keypos := pos_integer(), nodes := tuple()}.
 
-%% Starts nodes on this machine, each with a store that runs the program. When one node ends, `global' must not part the
-%% others from each other.
--spec start([atom()], file:filename_all()) -> [{pid(), node()}].
-start(Names, Program) -> [start_node(Name, Program) || Name <- Names].
+%% How long an owner keeps its tables on the other nodes after the connection was lost, in milliseconds.
+-define(GRACE, 5_000).
 
-start_node(Name, Program) ->
+%% Starts nodes on this machine, each with a store that has these options. When one node ends, `global' must not part the
+%% others from each other.
+-spec start([atom()], yoyoash:options()) -> [{pid(), node()}].
+start(Names, Options) -> [start_node(Name, maps:merge(#{grace => ?GRACE}, Options)) || Name <- Names].
+
+start_node(Name, Options) ->
     Args = ["-kernel", "prevent_overlapping_partitions", "false", "-pa", filename:dirname(code:which(?MODULE))],
-    {ok, Peer, Node} = peer:start(#{name => Name, args => Args, peer_down => continue}),
-    case erpc:call(Node, yoyoash, start, [#{program => Program}]) of
+    {ok, Peer, Node} = peer:start(#{name => Name, args => Args, peer_down => continue, wait_boot => 120_000}),
+    case erpc:call(Node, yoyoash, start, [Options]) of
         {ok, _} -> {Peer, Node};
         Error -> error({no_store, yoyoash:format_error(Error)})
     end.

@@ -3,10 +3,12 @@
 -export([main/0]).
 
 -define(KEYS, lists:seq(1, 300)).
+%% How long an owner keeps its tables after the connection was lost, in milliseconds.
+-define(GRACE, 3_000).
 
 -spec main() -> no_return().
 main() ->
-    try cluster:start(node_names(), os:getenv("YOYOASH_PROGRAM")) of
+    try cluster:start(node_names(), #{program => os:getenv("YOYOASH_PROGRAM"), grace => ?GRACE}) of
         Peers ->
             try show(Peers) after [catch cluster:stop(Peer) || Peer <- Peers] end,
             halt(0)
@@ -24,6 +26,7 @@ show(Peers = [_, Second = {_, Two}, _]) ->
     spread(Nodes),
     Shared = count_together(Nodes),
     owner_ends(Nodes),
+    connection_lost(Nodes),
     node_ends(Nodes, Second),
     after_the_end(Shared, Two).
 
@@ -53,18 +56,31 @@ owner_ends(Nodes) ->
     wait(fun() -> names(mine, Nodes) =:= [undefined, undefined, undefined] end),
     say("a table of a process that has ended is gone on each node", []).
 
+%% Breaks the connection between the first two nodes, and makes it again. Then the owner ends.
+connection_lost(Nodes = [One, Two, _]) ->
+    Owner = erpc:call(Two, fun() -> own_from_here(Nodes) end),
+    true = erpc:call(One, erlang, disconnect_node, [Two]),
+    say("the second node's connection to the first is lost, and its processes' tables: ~w", [names(theirs, Nodes)]),
+    pong = erpc:call(One, net_adm, ping, [Two]),
+    timer:sleep(?GRACE),
+    say("it was there again within the grace period: ~w", [names(theirs, Nodes)]),
+    Owner ! stop,
+    wait(fun() -> names(theirs, Nodes) =:= [undefined, undefined, undefined] end),
+    say("their owner has ended, and they are gone", []).
+
 %% Makes a table whose owner runs on the second node, then ends that node.
 node_ends(Nodes = [One, Two, Three], Second) ->
-    ok = erpc:call(Two, fun() -> own_from_here(Nodes) end),
+    _ = erpc:call(Two, fun() -> own_from_here(Nodes) end),
     say("a table whose owner is on the second node: ~w", [names(theirs, Nodes)]),
     cluster:stop(Second),
     wait(fun() -> names(theirs, [One, Three]) =:= [undefined, undefined] end),
-    say("the second node has ended, and its processes' tables on the others: ~w", [names(theirs, [One, Three])]).
+    Names = names(theirs, [One, Three]),
+    say("the second node has ended, and after the grace period its processes' tables on the others: ~w", [Names]).
 
 own_from_here(Nodes) ->
     Self = self(),
-    spawn(fun() -> cluster:new(Nodes, theirs, []), Self ! made, receive stop -> ok end end),
-    receive made -> ok end.
+    Owner = spawn(fun() -> cluster:new(Nodes, theirs, []), Self ! made, receive stop -> ok end end),
+    receive made -> Owner end.
 
 %% Looks up all keys after the second node has ended.
 after_the_end(Shared, Two) ->

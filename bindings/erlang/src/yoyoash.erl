@@ -33,7 +33,8 @@
     max_processes => non_neg_integer(),
     max_tables => non_neg_integer(),
     max_objects => non_neg_integer(),
-    seed => non_neg_integer() | random
+    seed => non_neg_integer() | random,
+    grace => non_neg_integer()
 }.
 %% A store: the name under which it is registered, or its process.
 -type store() :: atom() | pid().
@@ -92,7 +93,8 @@ start_link() -> start_link(#{}).
 %% environment of the application, or the program of the repository that holds this module, or `ets_script' on `PATH'.
 %%
 %% `max_processes' and `max_tables' are how many the store may ever have, `max_objects' how many objects one table may
-%% have. `seed' is the seed of the hash of keys, by default a random one. All of these may be in the environment.
+%% have. `seed' is the seed of the hash of keys, by default a random one. `grace' is how long a process on another node
+%% keeps its tables after the connection was lost, in milliseconds, by default 0. All of these may be in the environment.
 %%
 %% The function returns when the store can be called. {@link format_error/1} explains an error.
 -spec start_link(options()) -> {ok, pid()} | {error, term()}.

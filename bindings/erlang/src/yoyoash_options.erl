@@ -9,6 +9,7 @@
     max_tables := non_neg_integer(),
     max_objects := non_neg_integer(),
     seed := non_neg_integer() | random,
+    grace := non_neg_integer(),
     backend => port | nif,
     program => file:filename_all()
 }.
@@ -34,15 +35,17 @@ from_environment() ->
     Keys = [args | keys()] -- [name, program],
     maps:from_list([{Key, Value} || Key <- Keys, {ok, Value} <- [application:get_env(yoyoash, Key)]]).
 
-keys() -> [name, backend, program, max_processes, max_tables, max_objects, seed].
+keys() -> [name, backend, program, max_processes, max_tables, max_objects, seed, grace].
 
-defaults() -> #{name => yoyoash, max_processes => ?MOST, max_tables => ?MOST, max_objects => ?MOST, seed => random}.
+defaults() ->
+    #{name => yoyoash, max_processes => ?MOST, max_tables => ?MOST, max_objects => ?MOST, seed => random, grace => 0}.
 
 is_option(name, Name) -> is_atom(Name) andalso Name =/= undefined;
 is_option(backend, Backend) -> lists:member(Backend, [port, nif]);
 is_option(program, Program) -> is_binary(Program) orelse io_lib:char_list(Program);
 is_option(seed, Seed) -> Seed =:= random orelse (is_number(Seed, ?MOST) andalso Seed > 0);
-is_option(Limit, Value) when Limit =:= max_processes; Limit =:= max_tables; Limit =:= max_objects -> is_number(Value, ?MOST);
+is_option(Limit, Value) when Limit =:= max_processes; Limit =:= max_tables; Limit =:= max_objects; Limit =:= grace ->
+    is_number(Value, ?MOST);
 is_option(_Unknown, _Value) -> false.
 
 is_number(N, Most) -> is_integer(N) andalso N >= 0 andalso N =< Most.

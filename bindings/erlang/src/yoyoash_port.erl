@@ -41,10 +41,15 @@ open(Program, Args) ->
         yoyoash_notes:unname(Notes)
     end.
 
-%% Sends a call of a process that does not exist, which the store refuses.
+%% Sends a call of a process that does not exist, which the store refuses. The program may have ended before.
 greet(Program, C) ->
-    Asked = flush(send([<<2, 0:32>>, yoyoash_term:plain(whereis, [yoyoash])], C)),
-    case greeting(Asked, deadline(?FIRST_ANSWER)) of
+    Answer =
+        try flush(send([<<2, 0:32>>, yoyoash_term:plain(whereis, [yoyoash])], C)) of
+            Asked -> greeting(Asked, deadline(?FIRST_ANSWER))
+        catch
+            throw:{stop, {program_ended, Early}} -> {ended, Early}
+        end,
+    case Answer of
         {ok, Answered} ->
             {ok, Answered#connection{notes = yoyoash_notes:log(Answered#connection.notes)}};
         no_answer ->

@@ -1,8 +1,8 @@
 %% @doc Keeps what the server knows of the store's processes: their numbers, their monitors, and the heirs of their tables.
 -module(yoyoash_processes).
 -export([
-    new/0, enrol/4, spawned/2, refused/2, waiters/1, number/2, monitor/2, live/1, may_inherit/3, has_heirs/2, copy_heirs/3,
-    take_heirs/2, ended/3
+    new/0, enrol/4, spawned/2, refused/2, waiters/1, number/2, monitor/2, is_monitor/3, monitor_again/2, live/1, may_inherit/3, has_heirs/2,
+    copy_heirs/3, take_heirs/2, ended/3
 ]).
 -export_type([processes/0]).
 -compile({no_auto_import, [monitor/2]}).
@@ -68,6 +68,20 @@ number(Pid, #processes{live = Live}) ->
 monitor(Pid, #processes{live = Live}) ->
     {Ref, _} = maps:get(Pid, Live),
     Ref.
+
+%% @doc Says whether a reference is the monitor of a process that has not ended.
+-spec is_monitor(pid(), reference(), processes()) -> boolean().
+is_monitor(Pid, Ref, #processes{live = Live}) ->
+    case Live of
+        #{Pid := {Ref, _}} -> true;
+        _ -> false
+    end.
+
+%% @doc Monitors a process again, whose monitor has reported a lost connection.
+-spec monitor_again(pid(), processes()) -> processes().
+monitor_again(Pid, P = #processes{live = Live}) ->
+    #{Pid := {_Lost, N}} = Live,
+    P#processes{live = Live#{Pid := {erlang:monitor(process, Pid), N}}}.
 
 %% @doc Returns the processes that have not ended.
 -spec live(processes()) -> [pid()].

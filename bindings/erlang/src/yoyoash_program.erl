@@ -99,8 +99,8 @@ format_error(no_nif) ->
 format_error({unknown_option, args}) ->
     "there is no option args any more: give the limits by the keys max_processes, max_tables and max_objects";
 format_error({unknown_option, Key}) ->
-    text("there is no option ~0tp: the options are name, backend, program, max_processes, max_tables, max_objects and seed",
-         [Key]);
+    text("there is no option ~0tp: the options are name, backend, program, max_processes, max_tables, max_objects, seed "
+         "and grace", [Key]);
 format_error({bad_option, Key, Value}) ->
     text("the option ~0tp cannot be ~0tP: it is ~ts", [Key, Value, 20, wanted(Key)]);
 format_error(no_seed) ->

@@ -144,8 +144,8 @@ options() ->
     [
         fault(Options, {bad_option, Key, Value}, atom_to_list(Key))
      || Options <- [
-            #{max_tables => -1}, #{max_processes => 4_294_967_296}, #{seed => 0}, #{seed => 1 bsl 32}, #{seed => none}, #{name => "x"},
-            #{name => undefined}, #{backend => socket}, #{program => none}
+            #{max_tables => -1}, #{max_processes => 4_294_967_296}, #{seed => 0}, #{seed => 1 bsl 32}, #{seed => none},
+            #{grace => -1}, #{name => "x"}, #{name => undefined}, #{backend => socket}, #{program => none}
         ],
         {Key, Value} <- maps:to_list(Options)
     ],
