@@ -12,7 +12,7 @@ from yoyoash import Atom, BadArg, Fault, NoMemory, Pid, Process, Reason, Store, 
 
 TABLE = Atom("t")
 # What the program prints for the misuses of an example: `line N: CALL/COUNT: REASON`, or `line N: byte AT: REASON`.
-RECORDED = REPOSITORY / ".ci/gate/reasons.txt"
+RECORDED = REPOSITORY / "tests/program/reasons.txt"
 SCRIPT = REPOSITORY / "examples/reasons.ets"
 HEADER = REPOSITORY / "bindings/c/include/yoyoash_reason.h"
 # The reasons that a program or a library never gives.
