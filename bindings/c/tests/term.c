@@ -52,11 +52,23 @@ static void try_bytes(void) {
     yoyoash_term_call(&call, "info"), yoyoash_term_put_bool(&call, 0), BUILT("\x83h\2w\4infol\0\0\0\1w\5falsej");
 }
 
-/* Checks that a fault comes, and that it stays. */
+/* Checks that a call that was not built is not made, and that its reason and its empty reply are its own. The call before it had others. */
+static void refused(int32_t status, int32_t reason) {
+    char out[8];
+    size_t len;
+    uint32_t argument = 7;
+    reply.len = 1;
+    check(yoyoash_call_text(&store, 0, "{lookup,none,a}", out, sizeof out, &len) == YOYOASH_BADARG, "a refusal before it");
+    check(yoyoash_term_make(&store, 0, &call, &reply) == status && reply.len == 0, "a call with a fault is not made");
+    check(yoyoash_reason_last(&store, &argument) == reason && argument == 0, "the reason of a call with a fault");
+}
+
+/* Checks that a fault comes, that it stays, and that it has a reason. */
 static void faulty(int32_t fault, const char *what) {
+    int32_t reason = fault == YOYOASH_TERM_BAD_ATOM ? YOYOASH_REASON_BAD_ATOM : fault == YOYOASH_TERM_TOO_DEEP ? YOYOASH_REASON_TOO_DEEP : YOYOASH_REASON_TRUNCATED;
     yoyoash_term_put_atom(&call, "later");
     check(yoyoash_term_end(&call) == fault && yoyoash_term_end(&call) == fault, what);
-    check(yoyoash_term_make(&store, 0, &call, &reply) == YOYOASH_SYNTAX, "a call with a fault is not made");
+    refused(YOYOASH_SYNTAX, reason);
 }
 
 static void try_faults(void) {
@@ -77,6 +89,8 @@ static void try_faults(void) {
     yoyoash_term_call(&call, "insert");
     for (int level = 0; level < 126; level++) yoyoash_term_open_list(&call);
     faulty(YOYOASH_TERM_TOO_DEEP, "129 levels");
+    yoyoash_term_call(&call, "info"), yoyoash_term_end(&call), faulty(YOYOASH_TERM_UNBALANCED, "a term after the end");
+    yoyoash_term_call(&call, "info"), yoyoash_term_fail(&call, YOYOASH_TERM_NO_MEMORY), refused(YOYOASH_NO_MEMORY, YOYOASH_REASON_TRUNCATED);
 }
 
 /* Makes a call with an argument of 126 levels, the most that the store takes, and one with tuples of 255 and 256 elements. */
