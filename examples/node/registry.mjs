@@ -9,7 +9,7 @@ const services = new Atom('services')
 // Registers a process under a name. A name is taken once.
 async function enter(pid, name, port) {
   const isNew = await store.call(pid, 'insert_new', services, new Tuple(name, new Pid(pid), port))
-  console.log(`${name} by process ${pid}: ${isNew.name === 'true' ? 'registered' : 'the name is taken'}`)
+  console.log(`${name} by process ${pid}: ${isNew ? 'registered' : 'the name is taken'}`)
 }
 
 // Prints the port of a service.

@@ -2,7 +2,7 @@
 // replies read as they come, so that neither side waits for the other.
 import { spawn } from 'node:child_process'
 
-// Terms: a BigInt or a safe integer, a boolean, a string or Buffer (a binary), an array (a list), and these.
+// Terms: a BigInt or a safe integer, a boolean (an atom), a string or Buffer (a binary), an array (a list), and these.
 export class Atom { constructor(name) { this.name = name } }
 export class Tuple { constructor(...elements) { this.elements = elements } }
 export class Pid { constructor(number) { this.number = number } }
@@ -59,7 +59,7 @@ function decode(bytes) {
         const it = take(digits).reduceRight((sum, digit) => (sum << 8n) | BigInt(digit), 0n) * (sign ? -1n : 1n)
         return Number.isSafeInteger(Number(it)) ? Number(it) : it
       }
-      case 119: return new Atom(take(number(1)).toString())
+      case 119: { const name = take(number(1)).toString(); return name === 'true' || (name !== 'false' && new Atom(name)) }
       case 109: return take(number(4))
       case 104: return Object.assign(new Tuple(), { elements: row(number(1)) })
       case 105: return Object.assign(new Tuple(), { elements: row(number(4)) })
@@ -76,12 +76,12 @@ function decode(bytes) {
 
 export class Store {
   #waiting = []
-  #program; #length; #hasEnded
+  #program; #length; #fault
 
-  // Starts the program ets_script at a path with options, such as '--max-objects', '5000000'.
+  // Starts the program ets_script at a path with options, such as '--max-objects', '5000000'. If it does not start, each request fails.
   constructor(path, ...options) {
     this.#program = spawn(path, ['--external', ...options], { stdio: ['pipe', 'pipe', 'inherit'] })
-    for (const it of [this.#program, this.#program.stdin]) it.on('error', () => this.#end())
+    this.#program.on('error', (fault) => this.#end(fault)).stdin.on('error', () => this.#end())
     this.#program.stdout.on('readable', () => this.#read()).on('close', () => this.#end())
   }
 
@@ -92,7 +92,7 @@ export class Store {
   close() { this.#program.stdin.end() }
 
   #ask(kind, pid, call = Buffer.alloc(0)) {
-    if (this.#hasEnded) return Promise.reject(new Error('the store has ended'))
+    if (this.#fault) return Promise.reject(this.#fault)
     this.#program.stdin.write(join(u32(5 + call.length), kind, u32(pid), call))
     return new Promise((resolve, reject) => this.#waiting.push({ resolve, reject }))
   }
@@ -112,8 +112,8 @@ export class Store {
     try { resolve(decode(body.subarray(1))) } catch (fault) { reject(fault) }
   }
 
-  #end() {
-    this.#hasEnded = true
-    for (const { reject } of this.#waiting.splice(0)) reject(new Error('the store has ended'))
+  #end(fault = new Error('the store has ended')) {
+    this.#fault ??= fault
+    for (const { reject } of this.#waiting.splice(0)) reject(this.#fault)
   }
 }

@@ -20,12 +20,13 @@ function onStore(name, body) {
 
 onStore('terms of all types are read back', async (store) => {
   const long = new Tuple(...Array.from({ length: 300 }, (_, at) => at))
-  const terms = [0, 255, 256, -1, 2 ** 31, Number.MAX_SAFE_INTEGER, 2n ** 63n, -(2n ** 127n), new Atom(''), Buffer.from('},{exit'),
+  const terms = [0, 255, 256, -1, 2 ** 31, Number.MAX_SAFE_INTEGER, 2n ** 63n, -(2n ** 127n), new Atom(''), new Atom('truer'), true, false, Buffer.from('},{exit'),
     new Pid(7), new Table(3), new Tuple(), [], [1, 255], [1, Buffer.from('a')], long]
   for (const term of terms) {
     await store.call(0, 'insert', t, new Tuple(1, term))
     assert.deepStrictEqual(await store.call(0, 'lookup_element', t, 1, 2), term)
   }
+  assert.strictEqual(await store.call(0, 'insert_new', t, new Tuple(1)), false)
   for (const term of [1.5, null, new Atom('a'.repeat(256)), 2n ** 128n]) await assert.rejects(store.call(0, 'insert', t, new Tuple(1, term)))
 })
 
@@ -46,7 +47,8 @@ test('calls after the end, or without a program, fail', { timeout: 30000 }, asyn
   ended.close()
   await assert.rejects(ended.call(0, 'lookup', t, 1))
   await assert.rejects(ended.call(0, 'lookup', t, 1))
-  await assert.rejects(new Store('/nowhere/ets_script').spawn(0))
+  const absent = new Store('/nowhere/ets_script')
+  for (let each = 0; each < 2; each++) await assert.rejects(absent.spawn(0), { code: 'ENOENT', path: '/nowhere/ets_script' })
 })
 
 onStore('a list of 200,000 elements', async (store) => {

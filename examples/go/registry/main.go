@@ -31,7 +31,7 @@ func must(reply any, err error) any {
 // enter registers a process under a name. A name is taken once.
 func enter(store *ets.Store, pid ets.Pid, name string, port int) {
 	outcome := "the name is taken"
-	if must(store.Call(pid, "insert_new", services, ets.Tuple{name, pid, port})) == ets.Atom("true") {
+	if must(store.Call(pid, "insert_new", services, ets.Tuple{name, pid, port})) == true {
 		outcome = "registered"
 	}
 	fmt.Printf("%s by process %d: %s\n", name, pid, outcome)

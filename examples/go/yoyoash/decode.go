@@ -49,7 +49,7 @@ func (it *reader) term() any {
 	case 110:
 		return it.big(it.count(1), it.count(1))
 	case 119:
-		return Atom(it.take(it.count(1)))
+		return named(string(it.take(it.count(1))))
 	case 109:
 		return string(it.take(it.count(4)))
 	case 104:
@@ -71,6 +71,14 @@ func (it *reader) term() any {
 	default:
 		panic(fmt.Sprintf("tag %d", tag))
 	}
+}
+
+// named returns the atom of this name: true and false are a bool.
+func named(name string) any {
+	if name == "true" || name == "false" {
+		return name == "true"
+	}
+	return Atom(name)
 }
 
 func (it *reader) codes(codes []byte) List {

@@ -6,7 +6,8 @@ import (
 	"math/big"
 )
 
-// Terms of the store have these types, or are an int or a *big.Int. A string or []byte is a binary, and a bool an atom.
+// Terms of the store have these types, or are an int or a *big.Int. A string or []byte is a binary, which is read as a string.
+// The atoms true and false are a bool.
 type (
 	Atom  string
 	Pid   uint32
@@ -48,7 +49,7 @@ func encode(out []byte, term any) ([]byte, error) {
 		out, err := encodeAll(u32(append(out, 108), uint32(len(it))), it)
 		return append(out, 106), err
 	}
-	return nil, fmt.Errorf("%T is not a type of terms", term)
+	return nil, fmt.Errorf("not a term of the store: %T(%v)", term, term)
 }
 
 func encodeAll(out []byte, terms []any) (_ []byte, err error) {

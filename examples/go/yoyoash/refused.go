@@ -27,3 +27,6 @@ func (it *Refused) Error() string { return fmt.Sprintf("status %d: %s", it.Statu
 
 // ErrUntold is the error of a call that was made, but whose reply did not fit the memory or a packet.
 var ErrUntold = errors.New("the call was made, but its reply was lost")
+
+// ErrClosed is the error of a request after Close.
+var ErrClosed = errors.New("the store is closed")

@@ -13,10 +13,12 @@ import (
 
 // Store is a program that runs, and the callers that wait for its replies, in the order of their requests.
 type Store struct {
-	lock    sync.Mutex
-	input   io.WriteCloser
-	waiting chan chan []byte
-	program *exec.Cmd
+	lock     sync.Mutex
+	isClosed bool
+	input    io.WriteCloser
+	waiting  chan chan []byte
+	answered chan struct{}
+	program  *exec.Cmd
 }
 
 // Open starts a store: the program ets_script at this path, and its options, such as "--max-objects", "5000000".
@@ -30,7 +32,7 @@ func Open(path string, options ...string) (*Store, error) {
 	if err != nil {
 		return nil, err
 	}
-	store := &Store{input: input, waiting: make(chan chan []byte, 4096), program: program}
+	store := &Store{input: input, waiting: make(chan chan []byte, 4096), answered: make(chan struct{}), program: program}
 	if err := program.Start(); err != nil {
 		return nil, err
 	}
@@ -53,12 +55,17 @@ func (store *Store) Call(pid Pid, name string, arguments ...any) (any, error) {
 	return store.ask(2, pid, call)
 }
 
-// Close ends the program, whose tables are lost. Call it once, after all calls.
+// Close ends the program, whose tables are lost, after it has answered the requests that it got. Later requests return ErrClosed.
 func (store *Store) Close() error {
-	close(store.waiting)
-	if err := store.input.Close(); err != nil {
-		return err
+	store.lock.Lock()
+	defer store.lock.Unlock()
+	if store.isClosed {
+		return ErrClosed
 	}
+	store.isClosed = true
+	close(store.waiting)
+	store.input.Close()
+	<-store.answered
 	return store.program.Wait()
 }
 
@@ -67,11 +74,7 @@ func (store *Store) ask(kind byte, pid Pid, call []byte) (any, error) {
 	packet := binary.BigEndian.AppendUint32(nil, uint32(5+len(call)))
 	packet = binary.BigEndian.AppendUint32(append(packet, kind), uint32(pid))
 	reply := make(chan []byte, 1)
-	store.lock.Lock()
-	store.waiting <- reply
-	_, err := store.input.Write(append(packet, call...))
-	store.lock.Unlock()
-	if err != nil {
+	if err := store.send(append(packet, call...), reply); err != nil {
 		return nil, err
 	}
 	switch body := <-reply; {
@@ -86,8 +89,21 @@ func (store *Store) ask(kind byte, pid Pid, call []byte) (any, error) {
 	}
 }
 
+// send writes a packet, whose reply goes to a channel.
+func (store *Store) send(packet []byte, reply chan []byte) error {
+	store.lock.Lock()
+	defer store.lock.Unlock()
+	if store.isClosed {
+		return ErrClosed
+	}
+	store.waiting <- reply
+	_, err := store.input.Write(packet)
+	return err
+}
+
 // read hands each reply to the caller that waits for it, and an empty one after the end of the program.
 func (store *Store) read(output io.Reader) {
+	defer close(store.answered)
 	for waiting := range store.waiting {
 		var head [4]byte
 		if _, err := io.ReadFull(output, head[:]); err != nil {

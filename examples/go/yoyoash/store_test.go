@@ -34,7 +34,7 @@ func TestTerms(t *testing.T) {
 	for at := range long {
 		long[at] = at
 	}
-	terms := []any{0, 255, 256, -1, 1 << 31, -1 << 63, large, Atom(""), "", "},{exit", Pid(7), Table(3), Tuple{}, List{}, List{1, 255}, List{1, "a"}, long}
+	terms := []any{0, 255, 256, -1, 1 << 31, -1 << 63, large, Atom(""), Atom("truer"), true, false, "", "},{exit", Pid(7), Table(3), Tuple{}, List{}, List{1, 255}, List{1, "a"}, long}
 	for _, term := range terms {
 		if _, err := store.Call(0, "insert", Atom("t"), Tuple{1, term}); err != nil {
 			t.Fatal(term, err)
@@ -43,7 +43,10 @@ func TestTerms(t *testing.T) {
 			t.Errorf("%#v and not %#v: %v", got, term, err)
 		}
 	}
-	for _, term := range []any{1.5, Atom(strings.Repeat("a", 256)), new(big.Int).Lsh(large, 1)} {
+	if isNew, err := store.Call(0, "insert_new", Atom("t"), Tuple{1}); isNew != false || err != nil {
+		t.Error(isNew, err)
+	}
+	for _, term := range []any{nil, 1.5, Atom(strings.Repeat("a", 256)), new(big.Int).Lsh(large, 1)} {
 		if _, err := store.Call(0, "insert", Atom("t"), Tuple{1, term}); err == nil {
 			t.Errorf("%v was accepted", term)
 		}
@@ -85,6 +88,32 @@ func TestEnd(t *testing.T) {
 	}
 	if store.Close() == nil {
 		t.Error("the program was killed")
+	}
+}
+
+// TestClose closes a store while 64 requests wait for their replies, and twice. Each request is answered, or refused as one after it.
+func TestClose(t *testing.T) {
+	store := open(t)
+	var running sync.WaitGroup
+	for each := 0; each < 64; each++ {
+		running.Add(1)
+		go func() {
+			defer running.Done()
+			reply, err := store.Call(0, "lookup_element", Atom("t"), 1, 2, strings.Repeat("x", 200000))
+			if text, _ := reply.(string); len(text) != 200000 && err != ErrClosed {
+				t.Errorf("%d bytes: %v", len(text), err)
+			}
+		}()
+	}
+	if err := store.Close(); err != nil {
+		t.Error(err)
+	}
+	running.Wait()
+	if _, err := store.Spawn(1); err != ErrClosed {
+		t.Error(err)
+	}
+	if err := store.Close(); err != ErrClosed {
+		t.Error(err)
 	}
 }
 
