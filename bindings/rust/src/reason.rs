@@ -33,7 +33,10 @@ reasons! {
     NoProcess = "no such process (or it has exited)",
     /// The number was the number of a process before.
     ProcessUsed = "process number already used",
-    /// An argument has more than 128 levels.
+    /// An argument has too many levels: more than 126 in a method of [`Table`](crate::Table) or
+    /// [`Store::ask`](crate::Store::ask), more than 127 in [`Store::call_with`](crate::Store::call_with). An integer, an
+    /// atom or a binary has one level, and a tuple or list one more than the deepest of its elements. The 128 levels of
+    /// the text count those of the call too.
     TooDeep = "more than 128 levels deep",
     /// No call has this name.
     UnknownCall = "unknown call",

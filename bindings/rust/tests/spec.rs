@@ -43,6 +43,11 @@ fn each_function_has_its_value() {
         (var(1) * var(2), term!(7), term!(2), term!(14)),
         (var(1) / var(2), term!(-7), term!(2), term!(-3)),
         (var(1) % var(2), term!(-7), term!(2), term!(-1)),
+        (9_u64 + var(1), term!(7), term!(0), term!(16)),
+        (9_usize - var(1), term!(7), term!(0), term!(2)),
+        (9 * var(1), term!(7), term!(0), term!(63)),
+        (-9_i8 / var(1), term!(2), term!(0), term!(-4)),
+        (-9_i128 % var(1), term!(2), term!(0), term!(-1)),
         (var(1).abs(), term!(-7), term!(0), term!(7)),
         (var(1).hd(), list(), term!(0), term!(1)),
         (var(1).tl(), list(), term!(0), term!([2])),
@@ -74,6 +79,7 @@ fn the_first_clause_that_matches_counts() {
     let table = table_of((1..5).map(|key| (key, key * 10).into()));
     let small = Clause::new((var(1), any())).when(var(1).lt(3));
     assert_eq!(table.select_count(small.clone()).unwrap(), 2);
+    assert_eq!(table.select_count(Clause::new((var(1), any())).when(var(1).gt(5 - var(1)))).unwrap(), 2);
     assert_eq!(table.select_count(Spec::from([small.clone().returns(false), Clause::new(any())])).unwrap(), 2);
     assert_eq!(table.select_delete(vec![small.clone().when(var(1).gt(1)), Clause::new((any(), 40))]).unwrap(), 2);
     assert_eq!(table.match_variables((var(0), var(1))).unwrap().len(), 2);

@@ -6,7 +6,8 @@ use crate::term::Term;
 use std::fmt;
 
 /// A part of a head, a condition or a result: a gap, or a function of parts. Its methods are the functions of match
-/// specifications; `+`, `-`, `*`, `/` (whole division), `%` and `!` work too.
+/// specifications; `+`, `-`, `*`, `/` (whole division), `%` and `!` work too. A number may be on the left of an
+/// operator; a literal there has a suffix, so that methods of the result are found.
 ///
 /// A value is a part too, and is itself. A tuple or array of parts makes the tuple or list of their values.
 ///
@@ -15,6 +16,7 @@ use std::fmt;
 /// use yoyoash::term;
 ///
 /// assert_eq!(((var(1) + 1) * 2).to_string(), "{'*',{'+','$1',1},2}");
+/// assert_eq!((100_i64 - var(1)).to_string(), "{'-',100,'$1'}");
 /// assert_eq!(var(1).lt(5).and_also(!var(2)).to_string(), "{andalso,{'<','$1',5},{not,'$2'}}");
 /// assert_eq!(Expr::from((var(1), [var(2)])).to_string(), "{{'$1',['$2']}}");
 /// assert_eq!(Expr::from(term!({:a, :"$1"})).to_string(), "{const,{a,'$1'}}");

@@ -80,15 +80,30 @@ impl Expr {
     }
 }
 
-macro_rules! operators {
-    ($($operator:ident $method:ident $name:literal;)*) => {
-        $(impl<T: Into<Expr>> $operator<T> for Expr {
+/// Makes an operator of a part and what converts into one, and of a number and a part.
+macro_rules! operator {
+    ($operator:ident $method:ident $name:literal: $($number:ty)*) => {
+        impl<T: Into<Expr>> $operator<T> for Expr {
             type Output = Expr;
 
             fn $method(self, other: T) -> Expr {
                 Expr::of($name, [self, other.into()])
             }
+        }
+
+        $(impl $operator<Expr> for $number {
+            type Output = Expr;
+
+            fn $method(self, other: Expr) -> Expr {
+                Expr::of($name, [self.into(), other])
+            }
         })*
+    };
+}
+
+macro_rules! operators {
+    ($($operator:ident $method:ident $name:literal;)*) => {
+        $(operator!($operator $method $name: i8 i16 i32 i64 i128 isize u8 u16 u32 u64 usize);)*
     };
 }
 
