@@ -3,7 +3,7 @@
 import unittest
 
 from helpers import LIBRARY, PROGRAM
-from yoyoash import FALSE, TRUE, Atom, BadArg, Pid, Reason, Store, Tid, aio
+from yoyoash import FALSE, TRUE, Atom, BadArg, NoProcess, Pid, Reason, Store, Tid, aio
 
 # The keywords of `new`, what they are as options, and what `info` says of the table.
 TYPES = "set", "bag", "duplicate_bag"
@@ -68,6 +68,33 @@ class ByPipe(unittest.TestCase):
         for wrong in 5, [heir, 5], ():
             with self.assertRaises(BadArg):
                 self.ben.setopts(table, wrong)
+
+    def test_an_heir_is_a_process_or_its_pid(self):
+        for heir in self.ben, self.ben.pid:
+            table = self.anna.new("t", heir=(heir, 1))
+            self.assertEqual(self.anna.info(table, "heir"), self.ben.pid)
+            self.anna.setopts(table, heir=None)
+            self.anna.setopts(table, heir=(heir, 2))
+            self.assertEqual(self.anna.info(table, "heir"), self.ben.pid)
+        for wrong in (), (self.ben,), (5, 1), (self.ben, 1, 2):
+            with self.assertRaises(BadArg):
+                self.anna.new("t", heir=wrong)
+        # The data of the message is a term. A process is not one.
+        with self.assertRaises(TypeError):
+            self.anna.new("t", heir=(self.ben, self.ben))
+
+    def test_a_with_ends_a_process(self):
+        with self.assertRaises(KeyError), self.anna as same:
+            self.assertIs(same, self.anna)
+            table = same.new("t", heir=(self.ben, 1))
+            raise KeyError
+        self.assertEqual(self.ben.receive(), [(Atom("ETS-TRANSFER"), table, self.anna.pid, 1)])
+        with self.assertRaises(NoProcess):
+            self.anna.receive()
+        with self.ben:
+            self.ben.exit()
+        with self.open() as store, store.spawn("carl"):
+            store.close()
 
     def test_names_are_strings_or_atoms(self):
         self.anna.new("t", named=True)
@@ -150,3 +177,9 @@ class Awaited(unittest.IsolatedAsyncioTestCase):
             self.assertEqual([await anna.info("t", it) for it in ("type", "named_table", "heir")], [Atom("bag"), True, Pid(7)])
             self.assertIs(await anna.setopts("t", heir=None), True)
             self.assertEqual((await anna.info("t", "heir"), await anna.exit()), (Atom("none"), True))
+            carl = await store.spawn("carl")
+            async with await store.spawn("ben") as ben:
+                table = await ben.new("t", heir=(carl, 1))
+            self.assertEqual(await carl.receive(), [(Atom("ETS-TRANSFER"), table, ben.pid, 1)])
+            async with ben, carl:
+                await store.close()

@@ -22,6 +22,8 @@ def calls(anna: Process) -> None:
     assert_type(anna.safe_fixtable(table, True), bool)
     assert_type(anna.give_away(table, anna.pid, [count]), bool)
     assert_type(anna.setopts(table, heir=None), bool)
+    assert_type(anna.setopts(table, heir=(anna, 1)), bool)
+    anna.new("t", heir=("anna", 1))  # type: ignore[arg-type]
     anna.new("t", type="bagg")  # type: ignore[arg-type]
     anna.new("t", protection="open")  # type: ignore[arg-type]
     anna.new("t", bag=True)  # type: ignore[call-arg]
@@ -29,6 +31,11 @@ def calls(anna: Process) -> None:
     anna.lookup(table, 1.5)  # type: ignore[arg-type]
     anna.insert(table, b"no object")  # type: ignore[arg-type]
     anna.lokup(table, 1)  # type: ignore[attr-defined]
+
+
+def ends(store: Store) -> None:
+    with store.spawn("anna") as anna:
+        assert_type(anna, Process)
 
 
 def searches(anna: Process) -> None:
@@ -70,6 +77,7 @@ async def awaited() -> None:
     async with aio.Store(seed=1, max_objects=5) as store:
         anna = await store.spawn("anna")
         assert_type(await anna.insert("t", (1, 2)), bool)
+        assert_type(await anna.setopts("t", heir=(anna, 1)), bool)
         assert_type(await anna.select_count("t", Clause((ANY, Variable(1)), Variable(1) > 2)), int)
         async with anna.objects("t") as rows:
             async for row in rows:

@@ -127,6 +127,14 @@ class Process(Uncopied, AwaitedCalls):
         """Ends the process. Its tables go to their heirs, or are deleted. Returns True."""
         return bool(await self.store.ask(f"exit {self.name}"))
 
+    async def __aenter__(self) -> Process:
+        return self
+
+    async def __aexit__(self, *raised: object) -> None:
+        # A process that has ended, and one of a store that is gone, need no end.
+        with contextlib.suppress(NoProcess, Gone):
+            await self.exit()
+
     @contextlib.asynccontextmanager
     async def fixed(self, table: Table) -> AsyncIterator[Table]:
         """Fixes the table for the time of an `async with`, so that a traversal visits each key that stays exactly

@@ -178,6 +178,14 @@ class Process(Uncopied, Calls):
         """Ends the process. Its tables go to their heirs, or are deleted. Returns True."""
         return bool(self.store.ask(f"exit {self.name}"))
 
+    def __enter__(self) -> Process:
+        return self
+
+    def __exit__(self, *raised: object) -> None:
+        # A process that has ended, and one of a store that is gone, need no end.
+        with contextlib.suppress(NoProcess, Gone):
+            self.exit()
+
     def pipeline(self) -> Pipeline:
         """Returns an empty pipeline, which collects calls and sends them together."""
         return Pipeline(self.store, self.name, self.pid)
