@@ -10,6 +10,7 @@ use crate::rows::Rows;
 use ets_term::Term;
 use indexmap::IndexMap;
 use node_list::Chain;
+use packed_term::{Object, Packed};
 use std::alloc::{AllocError, Global};
 use std::mem;
 
@@ -60,7 +61,7 @@ impl Rows for PlainRows {
 
     ghost most_buckets = { 1 };
 
-    fn get(&self, key: &Term) -> Option<&[Term]> {
+    fn get(&self, key: &Term) -> Option<&[Object]> {
         let objects = self.slots.get(key)?;
         Some(objects.as_slice())
     }
@@ -119,12 +120,12 @@ impl Rows for PlainRows {
         let _ = self.slots.len();
     }
 
-    fn first_at(&self) -> Option<(&Term, &[Term])> {
+    fn first_at(&self) -> Option<(&Term, &[Object])> {
         let (key, objects) = self.slots.get_index(0)?;
         Some((key, objects.as_slice()))
     }
 
-    fn next_at(&self, key: &Term) -> Option<Option<(&Term, &[Term])>> {
+    fn next_at(&self, key: &Term) -> Option<Option<(&Term, &[Object])>> {
         let Some(place) = self.slots.get_index_of(key) else {
             return None;
         };
@@ -158,7 +159,7 @@ impl Rows for PlainRows {
         if next < slots { Some(next) } else { None }
     }
 
-    fn slot_at(&self, place: Place) -> (&Term, &[Term]) {
+    fn slot_at(&self, place: Place) -> (&Term, &[Object]) {
         self.reveal_invariant();
         match self.slots.get_index(place) {
             Some((key, objects)) => (key, objects.as_slice()),
@@ -166,7 +167,7 @@ impl Rows for PlainRows {
         }
     }
 
-    fn objects_at(&self, place: Place) -> &[Term] {
+    fn objects_at(&self, place: Place) -> &[Object] {
         match self.slots.get_index(place) {
             Some((_, objects)) => objects.as_slice(),
             None => unreachable!(),
@@ -181,7 +182,7 @@ impl Rows for PlainRows {
         }
     }
 
-    fn replace_one_at(&mut self, place: Place, object: Term) -> Term {
+    fn replace_one_at(&mut self, place: Place, object: Object) -> Object {
         match self.slots.get_index_mut(place) {
             // `own` holds the only object of the slot.
             Some(own) => own.replace(0, object),
@@ -190,7 +191,7 @@ impl Rows for PlainRows {
     }
 
     #[inline]
-    fn set_element_at(&mut self, place: Place, index: usize, value: Term) {
+    fn set_element_at(&mut self, place: Place, index: usize, value: Packed) {
         match self.slots.get_index_mut(place) {
             // `own` holds the only object of the slot.
             Some(own) => own.set_element(index, value),

@@ -14,6 +14,7 @@ use crate::entry::{Place, SlotEntry};
 use crate::growth::{Growth, Readying};
 use ets_term::Term;
 use node_list::Chain;
+use packed_term::{Object, Packed};
 use std::alloc::AllocError;
 
 /// A list of slots with distinct keys. No call reorders the slots that remain. A call that runs out of memory changes
@@ -38,7 +39,7 @@ pub trait Rows: Drop {
     ghost most_buckets: { ℕ };
 
     /// Returns the objects of the key's slot: an empty slice for a tombstone. Returns `None` if the key has no slot.
-    fn get(&self, key: &Term) -> Option<&[Term]>
+    fn get(&self, key: &Term) -> Option<&[Object]>
         ensures { option_copied result ≡ objects_of (slots self.now) key.now };
 
     /// Inserts a slot for each pair of a key and its objects. The keys must be distinct and must not have slots. If
@@ -89,12 +90,12 @@ pub trait Rows: Drop {
 
     /// Returns the key and the objects of the first slot, if there is one. Takes no place, unlike `slot_at`: the place
     /// is that of `first_place`.
-    fn first_at(&self) -> Option<(&Term, &[Term])>
+    fn first_at(&self) -> Option<(&Term, &[Object])>
         ensures { option_map deref_pair result ≡ slice_get (slots self.now) 0 };
 
     /// Takes a key instead of a place. Returns the key and the objects of the slot after this key's slot. The outer
     /// `None` means that the key has no slot, and the inner `None` that its slot is the last.
-    fn next_at(&self, key: &Term) -> Option<Option<(&Term, &[Term])>>
+    fn next_at(&self, key: &Term) -> Option<Option<(&Term, &[Object])>>
         ensures { option_map (option_map deref_pair) result
             ≡ option_map (λ slots. slice_get slots 0) (slots_behind (slots self.now) key.now) };
 
@@ -118,13 +119,13 @@ pub trait Rows: Drop {
         ensures { IsNextPlace (key_at self.now) (slots self.now) (key_at self.now place) result };
 
     /// Returns the key and the objects of the slot at a place.
-    fn slot_at(&self, place: Place) -> (&Term, &[Term])
+    fn slot_at(&self, place: Place) -> (&Term, &[Object])
         requires { IsSome (key_at self.now place) }
         ensures key { key_at self.now place ≡ Some result.0.now }
         ensures objects { objects_of (slots self.now) result.0.now ≡ Some result.1.now };
 
     /// Returns the objects of the slot at a place.
-    fn objects_at(&self, place: Place) -> &[Term]
+    fn objects_at(&self, place: Place) -> &[Object]
         requires { IsSome (key_at self.now place) }
         ensures { objects_in (slots self.now) (key_at self.now place) ≡ Some result.now };
 
@@ -140,7 +141,7 @@ pub trait Rows: Drop {
         ensures buckets { readiness self.new ≡ readiness self.old };
 
     /// Replaces the only object of the slot at a place and returns the old one.
-    fn replace_one_at(&mut self, place: Place, object: Term) -> Term
+    fn replace_one_at(&mut self, place: Place, object: Object) -> Object
         requires { HasOneObject (slots self.old) (key_at self.old place) }
         ensures objects { objects_in (slots self.old) (key_at self.old place) ≡ Some (result ∷ []) }
         ensures now { slots self.new ≡ with_objects_in (slots self.old) (key_at self.old place) (object ∷ []) }
@@ -151,7 +152,7 @@ pub trait Rows: Drop {
 
     /// Sets the element at `index`, counted from 0, of the only object of the slot at a place. Changes nothing if the
     /// object is not a tuple or has no such element.
-    fn set_element_at(&mut self, place: Place, index: usize, value: Term)
+    fn set_element_at(&mut self, place: Place, index: usize, value: Packed)
         requires { HasOneObject (slots self.old) (key_at self.old place) }
         ensures now { slots self.new ≡ with_element_in (slots self.old) (key_at self.old place) index value }
         ensures places { (other : ℕ) → key_at self.new other ≡ key_at self.old other }

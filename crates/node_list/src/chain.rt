@@ -1,9 +1,10 @@
 //! A chain: the objects of one key, in order. They are called terms here. The first is inline, because a key of a set
-//! has at most one object.
-ghost use Rattle.std.specs.Prelude.{◌≡◌, ◌+◌, ◌<◌, ◌≤◌, vec_len, vec_capacity, [], ◌∷◌, ◌++◌, length, take, slice_get, slice_set, Some, IsOk, OnOk, OnErr, MatchOption};
-ghost use Rattle.node_list.specs.Chains.{all_but, with_element, with_element_in_first};
+//! has at most one object. A contract sees each `Object` as its term.
+ghost use Rattle.std.specs.Prelude.{◌≡◌, ◌+◌, ◌<◌, [], ◌∷◌, ◌++◌, length, take, slice_get, slice_set, Some, IfOk, IsOk, OnOk, OnErr, MatchOption};
+ghost use Rattle.node_list.specs.Chains.{all_but, with_element_in_first};
 
-use ets_term::{Items, Term};
+use ets_term::Term;
+use packed_term::{Object, Packed};
 use smallvec::SmallVec;
 use std::alloc::{AllocError, Global};
 use std::marker::Model;
@@ -13,7 +14,7 @@ use std::mem;
 /// allocates nothing.
 #[derive(Drop)]
 pub struct Chain {
-    terms: SmallVec<Term, 1>,
+    terms: SmallVec<Object, 1>,
 }
 
 // The value that contracts see of this type (`view`).
@@ -41,7 +42,7 @@ impl Chain {
     }
 
     /// Returns a chain of one term. This takes no memory.
-    pub fn one(alloc: Global, term: Term) -> Chain
+    pub fn one(alloc: Global, term: Object) -> Chain
         ensures { result ≡ term ∷ [] }
     {
         let mut terms = SmallVec::new(alloc);
@@ -50,7 +51,7 @@ impl Chain {
     }
 
     /// Returns the terms, in order.
-    pub fn as_slice(&self) -> &[Term]
+    pub fn as_slice(&self) -> &[Object]
         ensures { result.now ≡ self.now }
     {
         self.terms.as_slice()
@@ -65,7 +66,7 @@ impl Chain {
 
     /// Appends a term. If memory is refused, returns an error, drops the term and changes nothing. An empty chain has
     /// capacity for one term, so a push to it succeeds.
-    pub fn push(&mut self, term: Term) -> Result<(), AllocError>
+    pub fn push(&mut self, term: Object) -> Result<(), AllocError>
         ensures ok { OnOk result (self.new ≡ self.old ++ term ∷ []) }
         ensures err { OnErr result (self.new ≡ self.old) }
         ensures succeeds { self.old ≡ [] → IsOk result }
@@ -77,7 +78,7 @@ impl Chain {
     }
 
     /// Replaces the term at `index` and returns the old term.
-    pub fn replace(&mut self, index: usize, term: Term) -> Term
+    pub fn replace(&mut self, index: usize, term: Object) -> Object
         requires { index < length self.old }
         ensures old { slice_get self.old index ≡ Some result }
         ensures new { self.new ≡ slice_set self.old index term }
@@ -88,17 +89,17 @@ impl Chain {
     /// Sets the element at `index`, counted from 0, of the first term, and drops the old element. Changes nothing if
     /// the chain is empty, the term is not a tuple or the tuple has no such element; `value` is then dropped.
     #[inline]
-    pub fn set_element(&mut self, index: usize, value: Term)
+    pub fn set_element(&mut self, index: usize, value: Packed)
         ensures { self.new ≡ with_element_in_first index value self.old }
     {
         if self.len() == 0 {
             return;
         }
-        set_element(&mut self.terms.as_mut_slice()[0], index, value);
+        self.terms.as_mut_slice()[0].set_element(index, value);
     }
 
     /// Removes the last term and returns it, or returns `None` if the chain is empty.
-    pub fn pop(&mut self) -> Option<Term>
+    pub fn pop(&mut self) -> Option<Object>
         ensures { MatchOption result ((self.old ≡ []) × (self.new ≡ [])) (λ last. self.old ≡ self.new ++ last ∷ []) }
     {
         self.terms.pop()
@@ -117,40 +118,18 @@ impl Chain {
         ensures count { length self.new + result ≡ length self.old }
     {
         let old_len = self.len();
-        self.terms.retain(|t| *t != *term);
+        self.terms.retain(|t| !t.is_equal(term));
         old_len - self.len()
     }
 
-    /// Moves the terms to the end of `list`, in order. `list` must have capacity for them.
-    pub fn move_into(self, list: &mut Vec<Term>)
-        requires { vec_len list.old + length self ≤ vec_capacity list.old }
-        ensures items { list.new.items ≡ list.old.items ++ self }
-        ensures capacity { vec_capacity list.new ≡ vec_capacity list.old }
+    /// Returns the terms, unpacked, in order. If memory is refused, returns an error.
+    pub fn unpack_all(&self, alloc: Global) -> Result<Vec<Term>, AllocError>
+        ensures { IfOk result (λ list. list.items ≡ self.now) }
     {
-        for term in self.terms {
-            list.push_reserved(term);
+        let mut list = Vec::with_capacity(alloc, self.len())?;
+        for term in self.as_slice() {
+            list.push_reserved(term.unpack(alloc)?);
         }
-    }
-}
-
-/// Sets an element of a term, as `Chain::set_element` does.
-#[inline]
-fn set_element(term: &mut Term, index: usize, value: Term)
-    ensures { term.new ≡ with_element index value term.old }
-{
-    let Term::Tuple(elements) = term else {
-        return;
-    };
-    set_element_in(elements, index, value);
-}
-
-/// Sets the element at `index`, counted from 0, and drops the old element. If `index` is past the end, changes nothing.
-#[inline]
-fn set_element_in(items: &mut Items<Term>, index: usize, item: Term)
-    ensures { items.new ≡ slice_set items.old index item }
-{
-    if index < items.len() {
-        // The old element is dropped at the end of the block.
-        let _old = items.replace(index, item);
+        Ok(list)
     }
 }

@@ -7,6 +7,7 @@ ghost use Rattle.ets_term.specs.Order.{same};
 ghost use Rattle.table_ops.specs.Content.{key_of, is_object};
 
 use ets_term::{Position, Term};
+use packed_term::Object;
 use std::alloc::{AllocError, Global};
 
 /// Returns the key of an object: the element of the tuple at `keypos`, counted from 1. Returns `None` if the term is
@@ -58,8 +59,8 @@ pub fn any_too_deep(terms: &[Term]) -> bool
 }
 
 /// Returns whether an object equals one of `objects`.
-pub fn contains(objects: &[Term], object: &Term) -> bool
+pub fn contains(objects: &[Object], object: &Term) -> bool
     ensures { result ≡ list_any (same object.now) objects.now }
 {
-    objects.iter().any(|other| object == other)
+    objects.iter().any(|other| other.is_equal(object))
 }

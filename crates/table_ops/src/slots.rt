@@ -6,6 +6,7 @@ ghost use Rattle.table_ops.specs.inside.SlotsLeft.{IsPlaced};
 
 use bucket_table::{Place, Rows};
 use ets_term::Term;
+use packed_term::Object;
 use std::marker::Model;
 
 /// A slot with its place.
@@ -13,7 +14,7 @@ use std::marker::Model;
 pub struct PlacedSlot<'a> {
     place: Place,
     key: &'a Term,
-    objects: &'a [Term],
+    objects: &'a [Object],
 }
 
 /// An iterator over the slots of rows, in their order. It reads each slot one call ahead: `next_slot` is the slot that
@@ -42,13 +43,13 @@ impl<'a, R: Rows> Model for Slots<'a, R> {
 }
 
 impl<'a, R: Rows> Iterator for Slots<'a, R> {
-    type Item = (&'a Term, &'a [Term]);
+    type Item = (&'a Term, &'a [Object]);
 
     ghost next_gives = { YieldsFirstBy (λ item. (item.0.now, item.1.now)) (λ rest. rest) };
 
     ghost remaining = { item_count (λ rest. rest) };
 
-    fn next(&mut self) -> Option<(&'a Term, &'a [Term])> {
+    fn next(&mut self) -> Option<(&'a Term, &'a [Object])> {
         let Some(slot) = self.next_slot else {
             return None;
         };

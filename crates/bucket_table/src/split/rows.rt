@@ -10,6 +10,7 @@ use crate::growth::{Growth, MAX_BUCKETS, Readying};
 use crate::rows::Rows;
 use ets_term::{KeyHash, Term};
 use node_list::{Chain, Steps};
+use packed_term::{Object, Packed};
 use split_key::dummy_key;
 use std::alloc::AllocError;
 use std::mem;
@@ -31,7 +32,7 @@ impl<H: KeyHash + Copy + Drop> Rows for SplitRows<H> {
     ghost most_buckets = { 1048576 };
 
     #[inline(always)]
-    fn get(&self, key: &Term) -> Option<&[Term]> {
+    fn get(&self, key: &Term) -> Option<&[Object]> {
         let mut steps = Steps::new();
         self.get_counted(key, &mut steps)
     }
@@ -86,12 +87,12 @@ impl<H: KeyHash + Copy + Drop> Rows for SplitRows<H> {
         self.index.list.reveal_invariant();
     }
 
-    fn first_at(&self) -> Option<(&Term, &[Term])> {
+    fn first_at(&self) -> Option<(&Term, &[Object])> {
         let place = self.first_place()?;
         Some(self.slot_at(place))
     }
 
-    fn next_at(&self, key: &Term) -> Option<Option<(&Term, &[Term])>> {
+    fn next_at(&self, key: &Term) -> Option<Option<(&Term, &[Object])>> {
         self.reveal_invariant();
         let place = self.find(key)?;
         match self.next_place(place) {
@@ -126,7 +127,7 @@ impl<H: KeyHash + Copy + Drop> Rows for SplitRows<H> {
         self.index.list.next_item_at(place + 1)
     }
 
-    fn slot_at(&self, place: Place) -> (&Term, &[Term]) {
+    fn slot_at(&self, place: Place) -> (&Term, &[Object]) {
         self.index.list.reveal_invariant();
         match self.index.list.item(place) {
             Some((key, chain)) => (key, chain.as_slice()),
@@ -134,7 +135,7 @@ impl<H: KeyHash + Copy + Drop> Rows for SplitRows<H> {
         }
     }
 
-    fn objects_at(&self, place: Place) -> &[Term] {
+    fn objects_at(&self, place: Place) -> &[Object] {
         self.index.list.reveal_invariant();
         match self.index.list.item(place) {
             Some((_key, chain)) => chain.as_slice(),
@@ -151,13 +152,13 @@ impl<H: KeyHash + Copy + Drop> Rows for SplitRows<H> {
         mem::replace(chain, objects)
     }
 
-    fn replace_one_at(&mut self, place: Place, object: Term) -> Term {
+    fn replace_one_at(&mut self, place: Place, object: Object) -> Object {
         self.index.list.reveal_invariant();
         self.index.list.chain_mut(place).replace(0, object)
     }
 
     #[inline]
-    fn set_element_at(&mut self, place: Place, index: usize, value: Term) {
+    fn set_element_at(&mut self, place: Place, index: usize, value: Packed) {
         self.index.list.reveal_invariant();
         self.index.list.chain_mut(place).set_element(index, value);
     }

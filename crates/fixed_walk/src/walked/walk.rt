@@ -9,6 +9,7 @@ use super::Walked;
 use crate::fault::Badarg;
 use bucket_table::{Place, Rows};
 use ets_term::Term;
+use packed_term::Object;
 
 impl<R: Rows> Walked<R> {
     /// Returns the first key that has objects, or `None` if no key has (stdlib manual, ets:first/1). It visits the
@@ -33,7 +34,7 @@ impl<R: Rows> Walked<R> {
 
     /// Returns the first key that has objects, with its objects, oldest first, or `None` if no key has (stdlib manual,
     /// ets:first_lookup/1). It visits the tombstones before that key.
-    pub fn first_lookup(&self) -> Option<(&Term, &[Term])>
+    pub fn first_lookup(&self) -> Option<(&Term, &[Object])>
         ensures { option_map deref_pair result ≡ first_slot self.now.content.slots }
     {
         let rows = self.table.rows();
@@ -43,7 +44,7 @@ impl<R: Rows> Walked<R> {
     /// Returns the first key that has objects after the slot of this key, with its objects, oldest first, or `None` at
     /// the end (stdlib manual, ets:next_lookup/2). Refuses with `Badarg` if the key has no slot. It takes as long as
     /// `next`.
-    pub fn next_lookup(&self, key: &Term) -> Result<Option<(&Term, &[Term])>, Badarg>
+    pub fn next_lookup(&self, key: &Term) -> Result<Option<(&Term, &[Object])>, Badarg>
         ensures ok { IfOk result (λ found.
             next_slot self.now.content.slots key.now ≡ Some (option_map deref_pair found)) }
         ensures err { OnErr result (next_slot self.now.content.slots key.now ≡ None) }
@@ -58,7 +59,7 @@ impl<R: Rows> Walked<R> {
 }
 
 /// Returns the key of a slot, or `None` if there is no slot.
-fn key_of<'a>(slot: Option<(&'a Term, &'a [Term])>) -> Option<&'a Term>
+fn key_of<'a>(slot: Option<(&'a Term, &'a [Object])>) -> Option<&'a Term>
     ensures { option_copied result
         ≡ option_map (λ slot. slot.0) (option_map deref_pair slot.entry) }
 {
@@ -69,7 +70,7 @@ fn key_of<'a>(slot: Option<(&'a Term, &'a [Term])>) -> Option<&'a Term>
 }
 
 /// Returns the first slot that has objects, from the place `start` on, or `None` if there is none.
-fn first_nonempty<R: Rows>(rows: &R, start: Option<Place>) -> Option<(&Term, &[Term])>
+fn first_nonempty<R: Rows>(rows: &R, start: Option<Place>) -> Option<(&Term, &[Object])>
     requires { HasSlotAt (R.key_at rows.now) start }
     ensures { option_map deref_pair result
         ≡ first_slot (slots_from (R.key_at rows.now) (R.slots rows.now) start) }

@@ -13,6 +13,7 @@ use super::replies::{atom_reply, true_reply};
 use crate::step::Reply;
 use crate::terms;
 use ets_term::{Items, KeyHash, Term};
+use packed_term::Object;
 use std::alloc::{AllocError, Global};
 use table_ops::Refusal;
 
@@ -108,14 +109,14 @@ fn key_reply(alloc: Global, key: Option<&Term>) -> Result<Reply, AllocError>
 }
 
 /// Returns a key with its objects as a reply, or `'$end_of_table'`.
-fn slot_reply(alloc: Global, slot: Option<(&Term, &[Term])>) -> Result<Reply, AllocError>
+fn slot_reply(alloc: Global, slot: Option<(&Term, &[Object])>) -> Result<Reply, AllocError>
     ensures { IfOk result (λ r. r ≡ slot_reply (option_map deref_pair slot.entry)) }
 {
     match slot {
         Some((key, objects)) => {
             let mut parts = Items::new(alloc);
             parts.push(key.try_clone(alloc)?)?;
-            parts.push(Term::List(terms::copy_terms(alloc, objects)?))?;
+            parts.push(Term::List(terms::copy_objects(alloc, objects)?))?;
             Ok(Reply::Value(Term::Tuple(parts)))
         }
         None => Ok(atom_reply(alloc, b"$end_of_table")),

@@ -36,11 +36,10 @@ impl<R: Rows> Table<R> {
         if let Some(refusal) = self.refusal_of(object) {
             return Err(refusal);
         }
-        let copy = object.try_clone(self.inner.alloc)?;
-        self.put_valid_object(copy)
+        self.put_valid_object(object)
     }
 
-    /// Inserts an object as `insert` does, but moves it into the table. A refused object is dropped.
+    /// Inserts an object as `insert` does, and drops it.
     pub fn insert_own(&mut self, object: Term) -> Result<(), Refusal>
         ensures content { RefinesChange (Inserts (object ∷ []) self.old.content)
             self.old.content result self.new.content }
@@ -49,7 +48,7 @@ impl<R: Rows> Table<R> {
         if let Some(refusal) = self.refusal_of(&object) {
             return Err(refusal);
         }
-        self.put_valid_object(object)
+        self.put_valid_object(&object)
     }
 
     /// Returns the refusal if the term is not an object or is too deep, or `None` if it may be inserted.
@@ -69,11 +68,11 @@ impl<R: Rows> Table<R> {
         None
     }
 
-    /// Inserts an object that `refusal_of` does not refuse.
-    fn put_valid_object(&mut self, object: Term) -> Result<(), Refusal>
-        requires object { is_object self.old.content.keypos object ≡ true }
-        requires shallow { is_too_deep object ≡ false }
-        ensures content { RefinesChange (Inserts (object ∷ []) self.old.content)
+    /// Inserts a copy of an object that `refusal_of` does not refuse.
+    fn put_valid_object(&mut self, object: &Term) -> Result<(), Refusal>
+        requires object { is_object self.old.content.keypos object.now ≡ true }
+        requires shallow { is_too_deep object.now ≡ false }
+        ensures content { RefinesChange (Inserts (object.now ∷ []) self.old.content)
             self.old.content result self.new.content }
         ensures buckets { self.new.buckets ≡ self.old.buckets }
     {

@@ -12,6 +12,7 @@ use super::TableRows;
 use bucket_table::{Place, Rows};
 use ets_term::Term;
 use node_list::Chain;
+use packed_term::Object;
 
 impl<R: Rows> TableRows<R> {
     /// Returns the place of a key's slot, or `None` if the key has no slot.
@@ -77,7 +78,7 @@ impl<R: Rows> TableRows<R> {
 
 /// Returns whether a slot stays in the table, if it has these objects after a deletion. `was_tombstone` says whether it
 /// had no objects before.
-fn slot_stays(hold: bool, was_tombstone: bool, objects: &[Term]) -> bool
+fn slot_stays(hold: bool, was_tombstone: bool, objects: &[Object]) -> bool
     ensures { result ≡ (hold || has_objects objects.now || was_tombstone) }
 {
     hold || !objects.is_empty() || was_tombstone

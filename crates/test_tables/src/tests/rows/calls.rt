@@ -67,7 +67,7 @@ fn put<R: Rows>(
         drop(term);
         return Ok(before);
     }
-    rows.put(vec![in alloc; (term, Chain::one(alloc, Term::Int(value)))]?)?;
+    rows.put(vec![in alloc; (term, Chain::one(alloc, object_of(value)))]?)?;
     Ok(KeyState::Nothing)
 }
 

@@ -1,7 +1,7 @@
 use Rattle.std.proofs.Common.{rules, ◌<◌, ◌≤◌, length}
 use Rattle.ets_term.specs.Depth.{depth, max_depth}
 use Rattle.counters.proofs.ValueLaws.{one-deep, one-written}
-use Rattle.counters.proofs.write.check_one.Goals as goal
+use Rattle.counters.proofs.stored.check_one.Goals as goal
 
 pub returns-then-depth-ge-MAX_DEPTH-clause-err : goal.returns-then-depth-ge-MAX_DEPTH-clause-err
 returns-then-depth-ge-MAX_DEPTH-clause-err c =
