@@ -2,6 +2,8 @@
 
     .ci/mutants [--libraries TREE] [--after LOG] [--all] [--write] [--lanes N] [CRATE[/EDIT]..]
     .ci/mutants --dry-run [--all] [CRATE[/EDIT]..]
+    .ci/mutants --controls [--libraries TREE] [CRATE..]
+    .ci/mutants --summary
     .ci/mutants --self
 
 Mutants of a crate that change different functions are tried together, in one check: rounds.py says
@@ -14,6 +16,9 @@ tree)
 and one other in turn
 --write      writes the record
 --dry-run    lists the crates that would be tried, and why; tries none
+--controls   tries the edits of crates/*/controls/, which change no result, and says how many stay
+proved
+--summary    says at which clauses mutants are rejected, by the record; needs no prover
 --self       tests this program on weak mutants, which it must report
 
 The last lines are one for each crate with its CPU time, and 'N rejected, M not'."""
@@ -23,12 +28,15 @@ import sys
 import threading
 
 from .checks import Prover
+from .controls import try_controls
 from .crates import crates_of
 from .edits import edits_of
 from .lanes import Lanes, Log, lanes
+from .naming import NamingTrial
 from .record import Record, in_turn, sums_of
-from .rounds import Trial, Verdict
+from .rounds import Verdict
 from .self_test import self_test
+from .summary import summary
 
 TOP = os.path.realpath(f"{os.path.dirname(os.path.realpath(__file__))}/../..")
 printing, recording = threading.Lock(), threading.Lock()
@@ -96,7 +104,7 @@ class Run:
             if not is_proved:
                 say(f"{crate.name}: not proved, so its mutants cannot be tried")
                 return
-            trial = Trial(crate, self.prover, say, work.jobs, log.paths(crate.name))
+            trial = NamingTrial(crate, self.prover, say, work.jobs, log.paths(crate.name))
             self.keep(crate.name, trial, trial.verdicts(self.named.get(crate.name, ())))
 
         work.run(try_crate)
@@ -105,10 +113,12 @@ class Run:
         with recording:
             self.verdicts.extend(found)
             self.times[name] = trial.used
+            for edit, text in sorted(trial.texts.items()) if self.named.get(name) else ():
+                say(f"{name}/{edit}.edit: {text}")
             if self.options.write and not self.named.get(name):
                 # (at once, so that nothing is lost if this is stopped)
                 is_rejected = all(verdict.is_rejected for verdict in found)
-                self.record.write(self.sums, name, is_rejected)
+                self.record.write(self.sums, name, is_rejected, trial.texts)
 
 
 def main(options):
@@ -132,6 +142,20 @@ def main(options):
     return 1 if failed else 0
 
 
+def main_of_controls(options):
+    crates = crates_of(TOP)
+    unknown = [name for name in options.crates if name not in crates]
+    if unknown:
+        sys.exit(f"mutants: crates.txt has no crate {unknown[0]}")
+    prover = Prover(os.path.realpath(options.libraries))
+    return try_controls([crates[name] for name in options.crates or crates], prover, say)
+
+
+def main_of_summary():
+    print(summary(crates_of(TOP).values(), Record(f"{TOP}/.ci/tried")))
+    return 0
+
+
 def words():
     parser = argparse.ArgumentParser(
         prog="mutants", description=__doc__, formatter_class=argparse.RawDescriptionHelpFormatter
@@ -141,6 +165,8 @@ def words():
     parser.add_argument("--all", action="store_true")
     parser.add_argument("--write", action="store_true")
     parser.add_argument("--dry-run", action="store_true")
+    parser.add_argument("--controls", action="store_true")
+    parser.add_argument("--summary", action="store_true")
     parser.add_argument("--self", action="store_true", dest="tests_itself")
     parser.add_argument("--lanes", type=int, default=lanes())
     parser.add_argument("crates", nargs="*")
@@ -149,4 +175,8 @@ def words():
 
 if __name__ == "__main__":
     options = words()
-    sys.exit(self_test(TOP) if options.tests_itself else main(options))
+    if options.tests_itself:
+        sys.exit(self_test(TOP))
+    if options.controls:
+        sys.exit(main_of_controls(options))
+    sys.exit(main_of_summary() if options.summary else main(options))

@@ -11,7 +11,8 @@ from .crates import without_comments
 from .functions import functions
 from .lanes import fate
 from .record import Record, logic_of
-from .visible import Item, items_of_definitions, items_of_source, origins_of
+from .self_clauses import test_clauses, test_controls
+from .self_visible import test_what_is_visible
 
 # Each planted edit: its file, the text before and after, and the verdict that it must get.
 PLANTED = {
@@ -88,59 +89,6 @@ COMMENTED = [
 ]
 
 
-# A source, and what other crates can see of it: each name with its text.
-SOURCE = """pub const MOST: u32 = 3;
-#[derive(Drop)]
-pub struct Box<T> {
-    pub first: T,
-    rest: Vec<T>,
-}
-enum Inside {
-    One,
-}
-impl<T> Shelf for Box<T> {
-    ghost content = { b };
-
-    #[inline]
-    fn get(&self) -> u32
-        ensures { result ≡ most }
-    {
-        3
-    }
-}
-pub trait Shelf {
-    fn len(&self) -> usize
-        ensures { result ≡ 0 };
-}"""
-SEEN = [
-    ("get", "Box\n    fn get(&self) -> u32\n        ensures { result ≡ most }"),
-    ("len", "Shelf\n    fn len(&self) -> usize\n        ensures { result ≡ 0 };"),
-    ("MOST", "pub const MOST: u32 = 3;"),
-    (
-        "Box",
-        "#[derive(Drop)]\npub struct Box<T> {\n    pub first: T,\n}\nimpl<T> Shelf for Box<T> "
-        "{\n    ghost content = { b };\n}",
-    ),
-    ("Shelf", "pub trait Shelf {\n}"),
-]
-
-# A specification, and the names that other crates can see of it.
-DEFINED = "abbrev pub most : ℕ\nmost = 3\n\npub record Shelf : Type 0 where\n  pub len : ℕ\n"
-DEFINED_NAMES = ["most", "Shelf"]
-
-# Lines that bring names in, and from where each name comes.
-IMPORTED = {
-    "use Rattle.ownership.specs.Tables": {"Tables": ["Rattle.ownership.specs.Tables"]},
-    "use Rattle.ownership.specs.Tables as tables": {"tables": ["Rattle.ownership.specs.Tables"]},
-    "use Rattle.ets_term.Term.{Int, List as ListOf}": {
-        "Int": ["Rattle.ets_term.Term.Int"],
-        "ListOf": ["Rattle.ets_term.Term.List"],
-    },
-    "ghost use Rattle.ets_term.Term as term;": {"term": ["Rattle.ets_term.Term"]},
-    "pub use list::{List, Nodes as Places};": {"List": ["list.List"], "Places": ["list.Nodes"]},
-}
-
-
 class Room:
     """A tree of its own with the crate split_key and this program."""
 
@@ -203,22 +151,6 @@ def test_prover_lines(faults):
         faults.expect(without_comments(path, text) == left, "a text without comments", text)
 
 
-def test_what_is_visible(faults):
-    seen = list(items_of_source(SOURCE.split("\n")))
-    faults.expect(seen == SEEN, "what is seen of a source", str(seen))
-    names = [name for name, _ in items_of_definitions(DEFINED.split("\n"))]
-    faults.expect(names == DEFINED_NAMES, "what is seen of a specification", str(names))
-    for line, origins in IMPORTED.items():
-        found = origins_of([line])
-        faults.expect(found == origins, "from where names come", f"{line}: {found}")
-    one, other = (
-        Item((), "start", "start = tables.of", origins_of([f"use specs.{module} as tables"]))
-        for module in ("Tables", "Heirs")
-    )
-    is_other = one.origins != other.origins and "Heirs" in other.words
-    faults.expect(is_other, "an alias of another file is another item", str(other.origins))
-
-
 def test_trials(faults, room):
     true, tried = len(os.listdir(room.edits)), f"{room.folder}/.ci/tried"
     Record(tried).write({"split_key": "a_checksum"}, "split_key", True)
@@ -234,16 +166,22 @@ def test_trials(faults, room):
         line = rf"^mutants: must-fail split_key/{name}.edit: {word}: "
         faults.expect(re.search(line, text, re.M), f"{name} is {word}", text)
     faults.expect(not Record(tried).sums, "the record has no line of it any more", text)
-    status, text = room.tried("split_key/a_mask_by_name")
-    ends = text.endswith("\n0 rejected, 1 not\n")
+    mask = "split_key/bucket_of_by_another_mask"
+    status, text = room.tried("split_key/a_mask_by_name", mask)
+    ends = text.endswith("\n1 rejected, 1 not\n")
     faults.expect(status == 1 and ends, "a weak edit by itself is reported", text)
+    line = f"\nmutants: {mask}.edit: pub buckets::bucket_of: ensures\n"
+    faults.expect(line in text, "the clause is named that another edit breaks", text)
 
 
 def self_test(top):
     faults = Faults()
     test_prover_lines(faults)
     test_what_is_visible(faults)
+    test_clauses(faults)
     with tempfile.TemporaryDirectory(prefix="mutants-self-") as folder:
-        test_trials(faults, Room(top, folder))
+        room = Room(top, folder)
+        test_trials(faults, room)
+        test_controls(faults, room)
     print(f"mutants --self: {faults.count} faults")
     return 1 if faults.count else 0

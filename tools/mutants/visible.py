@@ -28,6 +28,8 @@ IMPORT = re.compile(
 LONG_IMPORT = re.compile(
     r"^\s*(?:pub(?:\([^)]*\))? +)?(?:ghost +)?use +[^;{]*\{[^}]*\n[^}]*\};?$", re.M
 )
+# A block of methods of a trait, and the trait's path.
+OF_TRAIT = re.compile(r"^(?:unsafe +)?impl\b(?:<.*?> +| +)([\w:]+)(?:<.*?>)? for ")
 MODULE = re.compile(r"^(?:pub(?:\([^)]*\))? +)?mod +\w+;?$")
 
 
@@ -200,3 +202,23 @@ def visible(crate, items):
         left = [item for item in left if item not in seen]
         for item in seen:
             known |= item.words
+
+
+def is_public(crate, function):
+    """Returns whether other crates can call a function: its head says `pub`, or it is a method of
+    a trait that is no private one, and its crate exports it or its type."""
+    names, files = exports_of(crate)
+    if function.file not in files and (function.owner or function.name) not in names:
+        return False
+    lines = read(f"{crate.folder}/{function.file}").split("\n")
+    head = next(lines[row - 1] for row in function.lines if FUNCTION.match(lines[row - 1]))
+    above = reversed(lines[: function.lines.start - 1])
+    of_trait = OF_TRAIT.match(next(filter(IMPL.match, above), "")) if head[:1] == " " else None
+    is_private = of_trait and of_trait[1].rpartition("::")[2] in private_traits(crate, names)
+    return bool(re.match(r"^ *pub ", head) or of_trait and not is_private)
+
+
+def private_traits(crate, names):
+    """Returns the traits of a crate that it does not export."""
+    sources = "\n".join(read(f"{crate.folder}/{path}") for path in crate.files("src"))
+    return set(re.findall(r"^(?:pub(?:\([^)]*\))? +)?trait +(\w+)", sources, re.M)) - names
