@@ -12,7 +12,12 @@ TOP = BENCH.parent
 OUT = BENCH / "out"
 PACKAGES = {"erl": "erlang-base", "g++": "g++"}
 HEADERS = {"urcu/rculfhash.h": "liburcu-dev", "tbb/concurrent_unordered_map.h": "libtbb-dev"}
-INCLUDE = ("/usr/include", "/usr/include/x86_64-linux-gnu", "/usr/include/aarch64-linux-gnu", "/usr/local/include")
+INCLUDE = (
+    "/usr/include",
+    "/usr/include/x86_64-linux-gnu",
+    "/usr/include/aarch64-linux-gnu",
+    "/usr/local/include",
+)
 
 
 def stop(text: str) -> None:
@@ -26,11 +31,15 @@ def install() -> None:
     missing += [package for header, package in HEADERS.items() if not has(header)]
     if missing:
         subprocess.run(["apt-get", "update", "-qq"], stdout=subprocess.DEVNULL, check=False)
-        subprocess.run(["apt-get", "install", "-y", "-qq", *missing], stdout=subprocess.DEVNULL, check=False)
+        subprocess.run(
+            ["apt-get", "install", "-y", "-qq", *missing], stdout=subprocess.DEVNULL, check=False
+        )
 
 
 def newer(target: pathlib.Path, sources: list[pathlib.Path]) -> bool:
-    return target.exists() and all(target.stat().st_mtime >= source.stat().st_mtime for source in sources)
+    return target.exists() and all(
+        target.stat().st_mtime >= source.stat().st_mtime for source in sources
+    )
 
 
 def crates_of(name: str) -> list[str]:
@@ -51,20 +60,29 @@ def crates_of(name: str) -> list[str]:
 
 def sources_of(name: str) -> list[pathlib.Path]:
     """Code, definitions and proofs of the crate and of all below it."""
-    folders = [TOP / "crates" / crate / part for crate in crates_of(name) for part in ("src", "specs", "proofs")]
-    return [path for folder in folders for path in folder.rglob("*") if path.suffix in (".rt", ".antt")]
+    folders = [
+        TOP / "crates" / crate / part
+        for crate in crates_of(name)
+        for part in ("src", "specs", "proofs")
+    ]
+    return [
+        path for folder in folders for path in folder.rglob("*") if path.suffix in (".rt", ".antt")
+    ]
 
 
 def build(crate: str, words: list[str], folder: pathlib.Path) -> None:
     """Builds a crate; if that fails, prints the last lines and stops the run."""
-    result = subprocess.run(words, cwd=folder, stdin=subprocess.DEVNULL, capture_output=True, text=True)
+    result = subprocess.run(
+        words, cwd=folder, stdin=subprocess.DEVNULL, capture_output=True, text=True
+    )
     if result.returncode != 0:
         print("\n".join((result.stdout + result.stderr).splitlines()[-20:]), file=sys.stderr)
         stop(f"{crate} is not built")
 
 
 class Programs:
-    """The store's side: programs proved and built here, or taken from a tree that `rt ci` built of the same sources."""
+    """The store's side: programs proved and built here, or taken from a tree that `rt ci` built of
+    the same sources."""
 
     def __init__(self, tree: str | None) -> None:
         self.tree = pathlib.Path(tree).resolve() if tree else TOP
@@ -73,21 +91,40 @@ class Programs:
         return self._built(crate, crate, "run")
 
     def archive(self, crate: str) -> str | None:
-        """Returns a static library. CI leaves none in its tree, but what it checked, from which this builds one."""
+        """Returns a static library. CI leaves none in its tree, but what it checked, from which
+        this builds one."""
         folder = self.tree / "crates" / crate / "out"
         if self.tree != TOP and not (folder / f"lib{crate}.a").exists():
             if not (folder / "checked").exists():
-                print(f"bench: {crate} is left out, since {self.tree} has no library of it", file=sys.stderr)
+                print(
+                    f"bench: {crate} is left out, since {self.tree} has no library of it",
+                    file=sys.stderr,
+                )
                 return None
-            build(crate, [sys.executable, "-B", str(TOP / ".ci/modules/static_library.py"), str(self.tree), crate], TOP)
+            build(
+                crate,
+                [
+                    sys.executable,
+                    "-B",
+                    str(TOP / ".ci/modules/static_library.py"),
+                    str(self.tree),
+                    crate,
+                ],
+                TOP,
+            )
         return self._built(crate, f"lib{crate}.a", "lib")
 
     def _built(self, crate: str, file: str, verb: str) -> str:
         target, sources = self.tree / "crates" / crate / "out" / file, sources_of(crate)
         if self.tree != TOP:
             differs = [path for path in sources if not self._has(path)]
-            if differs or not newer(target, [self.tree / path.relative_to(TOP) for path in sources]):
-                stop(f"{target} is not built of these sources{': ' + str(differs[0]) if differs else ''}")
+            if differs or not newer(
+                target, [self.tree / path.relative_to(TOP) for path in sources]
+            ):
+                stop(
+                    f"{target} is not built of these sources"
+                    f"{': ' + str(differs[0]) if differs else ''}"
+                )
         elif not newer(target, sources):
             self._prove(crate, verb)
             if not target.exists():
@@ -111,7 +148,8 @@ class Programs:
 
 
 def compiled(command: list[str], target: str, sources: list[pathlib.Path]) -> str | None:
-    """Compiles a peer in `out`, unless it is newer than its sources; nothing where there is no such compiler."""
+    """Compiles a peer in `out`, unless it is newer than its sources; nothing where there is no
+    such compiler."""
     if not shutil.which(command[0]):
         print(f"bench: {target} is left out, since there is no {command[0]}", file=sys.stderr)
         return None
@@ -125,14 +163,27 @@ def compiled(command: list[str], target: str, sources: list[pathlib.Path]) -> st
 def rust(name: str, *links: str) -> str | None:
     """The peer in Rust of this name."""
     sources = list((BENCH / "peers").glob("*.rs"))
-    words = ["rustc", "-O", "--edition", "2021", "-o", name, str(BENCH / f"peers/{name}.rs"), *(f"-Clink-arg={link}" for link in links)]
+    words = [
+        "rustc",
+        "-O",
+        "--edition",
+        "2021",
+        "-o",
+        name,
+        str(BENCH / f"peers/{name}.rs"),
+        *(f"-Clink-arg={link}" for link in links),
+    ]
     return compiled(words, name, sources + [pathlib.Path(link) for link in links])
 
 
 def tables() -> str | None:
     """The tables of the field, in C++."""
     source = BENCH / "peers/tables.cpp"
-    return compiled(["g++", "-O2", "-std=c++17", "-o", "tables", str(source), "-lurcu", "-lurcu-cds", "-ltbb"], "tables", [source])
+    return compiled(
+        ["g++", "-O2", "-std=c++17", "-o", "tables", str(source), "-lurcu", "-lurcu-cds", "-ltbb"],
+        "tables",
+        [source],
+    )
 
 
 def erlang(module: str) -> list[str] | None:
@@ -144,7 +195,9 @@ def erlang(module: str) -> list[str] | None:
 
 
 def kit() -> pathlib.Path:
-    return pathlib.Path(subprocess.run(["rt", "doc"], capture_output=True, text=True).stdout.strip()).parent
+    return pathlib.Path(
+        subprocess.run(["rt", "doc"], capture_output=True, text=True).stdout.strip()
+    ).parent
 
 
 def layers(programs: Programs) -> str | None:

@@ -1,157 +1,76 @@
 #!/usr/bin/env python3
-"""Measures long calls, by packets and in ets: bench/bulk.py PROGRAM SECTION [--quick]. It is a part of bench/run too.
+"""Measures long calls, by packets and in ets: bench/bulk.py PROGRAM SECTION [--quick]. It is a
+part of bench/run too.
 
-Figures are the processor time of the program that makes the calls, so other programs disturb them less."""
+Figures are the processor time of the program that makes the calls, so other programs disturb them
+less."""
 
-import pathlib
-import struct
-import subprocess
 import sys
-import threading
-import time
-from dataclasses import dataclass
 
-from building import OUT, erlang, stop
-from packets import PRIME, SPAWN, atom, by_lists, call, integer, listed, new, one_list, row, singly
+from asked import Sides, each
+from building import OUT, stop
+from packets import PRIME, atom, by_lists, call, integer, listed, new, one_list, row, singly
 from timing import print_table, ratio, spread
 
-LONGEST = 240.0  # seconds that a part may take
 LISTS = (20_000, 40_000, 80_000, 160_000, 320_000, 640_000, 1_000_000)
-QUIET = ["+S", "1:1", "+SDcpu", "1:1", "+sbt", "db", "+sbwt", "none", "+sbwtdcpu", "none", "+sbwtdio", "none"]
-
-
-class Asked:
-    """A program with pipes, whose processor time is read."""
-
-    def __init__(self, command: list[str]) -> None:
-        self.name = command[0]
-        self.program = subprocess.Popen(command, stdin=subprocess.PIPE, stdout=subprocess.PIPE)
-        self.guard = threading.Timer(LONGEST, self.program.kill)
-        self.guard.start()
-
-    def __enter__(self) -> "Asked":
-        return self
-
-    def __exit__(self, *_: object) -> None:
-        self.guard.cancel()
-        self.program.stdin.close()
-        self.program.stdout.close()
-        self.program.wait()
-
-    def spent(self) -> float:
-        """The seconds of processor time of all threads, once none of them runs."""
-        tasks = pathlib.Path(f"/proc/{self.program.pid}/task")
-        before, now = -1, 0
-        while now != before:
-            before, now = now, sum(int((task / "schedstat").read_text().split()[0]) for task in tasks.iterdir())
-            time.sleep(0.01)
-        return now / 1e9
-
-    def read(self, size: int) -> bytes:
-        found = self.program.stdout.read(size)
-        if len(found) < size:
-            stop(f"{self.name} ended, or took more than {LONGEST:.0f} s")
-        return found
-
-
-class Store(Asked):
-    """The store, by packets."""
-
-    def __init__(self, program: str) -> None:
-        super().__init__([program, "--external", "--max-objects", "4294967295"])
-
-    def ask(self, requests: list[bytes]) -> float:
-        """The seconds of processor time for these requests, none of which may be refused."""
-        before = self.spent()
-        feeder = threading.Thread(target=self._feed, args=(requests,))
-        feeder.start()
-        for _ in requests:
-            size, status = struct.unpack(">IB", self.read(5))
-            if self.read(size - 1) and status != 0:
-                stop(f"{self.name} refused a request with status {status}")
-        feeder.join()
-        return self.spent() - before
-
-    def _feed(self, requests: list[bytes]) -> None:
-        self.program.stdin.write(b"".join(struct.pack(">I", len(request)) + request for request in requests))
-        self.program.stdin.flush()
-
-
-class Ets(Asked):
-    """Erlang's ets on one scheduler, which does not wait busily."""
-
-    def __init__(self, command: list[str]) -> None:
-        super().__init__([command[0], *QUIET, *(word for word in command[1:] if word != "-noinput")])
-
-        self.least = min(self._spent("nothing set 0") for _ in range(5))
-
-    def ask(self, what: str, kind: str, count: int) -> float:
-        """The seconds of processor time of these calls, without those of reading and printing the lines around them."""
-        return self._spent(f"{what} {kind} {count}") - self.least
-
-    def _spent(self, line: str) -> float:
-        self._line(line, "ready")
-        before = self.spent()
-        self._line("", "done")
-        return self.spent() - before
-
-    def _line(self, given: str, wanted: str) -> None:
-        self.program.stdin.write(f"{given}\n".encode())
-        self.program.stdin.flush()
-        found = self.program.stdout.readline().decode().strip()
-        if found != wanted:
-            stop(f"ets_bulk answered {found!r}")
-
-
-@dataclass
-class Sides:
-    """The programs of a section, and how often each part is measured."""
-
-    program: str
-    turns: int
-
-    def ours(self, prepared: list[bytes], asked: list[bytes]) -> list[float]:
-        """The nanoseconds of these requests, after others that are not measured, of a new program each time."""
-        found = []
-        for _ in range(self.turns):
-            with Store(self.program) as store:
-                store.ask([SPAWN, *prepared])
-                found.append(1e9 * store.ask(asked))
-        return found
-
-    def theirs(self, what: str, kind: str, count: int) -> list[float]:
-        """The nanoseconds of the same in ets, or nothing without Erlang."""
-        command = erlang("ets_bulk")
-        if not command:
-            return []
-        with Ets(command) as ets:
-            return [1e9 * ets.ask(what, kind, count) for _ in range(self.turns)]
-
-
-def each(figures: list[float], count: int) -> list[float]:
-    return [figure / count for figure in figures]
 
 
 def long_lists(quick: bool, program: str) -> list[list[str]]:
     """One list of new objects into an empty set, and the same objects one by one, an object."""
     sides = Sides(program, 1 if quick else 3)
-    rows = [["new objects in an empty set, ns an object", "one list", "one by one", "ets, one list", "ets, one by one", "list to one by one", "list to ets' list"]]
+    rows = [
+        [
+            "new objects in an empty set, ns an object",
+            "one list",
+            "one by one",
+            "ets, one list",
+            "ets, one by one",
+            "list to one by one",
+            "list to ets' list",
+        ]
+    ]
     for count in (2_000, 20_000) if quick else LISTS:
-        ours = [each(sides.ours([new("t")], asked("t", count)), count) for asked in (one_list, singly)]
+        ours = [
+            each(sides.ours([new("t")], asked("t", count)), count) for asked in (one_list, singly)
+        ]
         theirs = [each(sides.theirs(what, "set", count), count) for what in ("list", "singly")]
-        rows.append([f"{count:,}", *map(spread, ours), *map(spread, theirs), ratio(*ours), ratio(ours[0], theirs[0])])
+        rows.append(
+            [
+                f"{count:,}",
+                *map(spread, ours),
+                *map(spread, theirs),
+                ratio(*ours),
+                ratio(ours[0], theirs[0]),
+            ]
+        )
     return rows
 
 
 def one_key(quick: bool, program: str) -> list[list[str]]:
-    """Objects of one key, inserted one by one. A set replaces, a bag compares, and a duplicate bag appends."""
+    """Objects of one key, inserted one by one. A set replaces, a bag compares, and a duplicate bag
+    appends."""
     sides = Sides(program, 1 if quick else 3)
     rows = [["insertions {k,Number} one by one, ns each", "this store", "ets", "ratio"]]
-    for kind, counts in {"set": (1_000, 100_000), "bag": (1_000, 4_000, 16_000), "duplicate_bag": (1_000, 10_000, 100_000)}.items():
+    for kind, counts in {
+        "set": (1_000, 100_000),
+        "bag": (1_000, 4_000, 16_000),
+        "duplicate_bag": (1_000, 10_000, 100_000),
+    }.items():
         for count in counts[:1] if quick else counts:
-            asked = [call("insert", atom("t"), row(atom("k"), integer(number))) for number in range(1, count + 1)]
-            ours, theirs = sides.ours([new("t", kind)], asked), sides.theirs("one-key", kind, count)
-            rows.append([f"{kind}, {count:,}", *map(spread, (each(ours, count), each(theirs, count))), ratio(ours, theirs)])
+            asked = [
+                call("insert", atom("t"), row(atom("k"), integer(number)))
+                for number in range(1, count + 1)
+            ]
+            ours, theirs = sides.ours([new("t", kind)], asked), sides.theirs(
+                "one-key", kind, count
+            )
+            rows.append(
+                [
+                    f"{kind}, {count:,}",
+                    *map(spread, (each(ours, count), each(theirs, count))),
+                    ratio(ours, theirs),
+                ]
+            )
     return rows
 
 
@@ -165,30 +84,59 @@ def removals(quick: bool, program: str) -> list[list[str]]:
         "delete": call("delete", atom("t")),
         "match_delete": call("match_delete", atom("t"), row(first, integer(1))),
         "select_delete": call("select_delete", atom("t"), some(row(first, integer(1)))),
-        "select_delete_half": call("select_delete", atom("t"), some(row(first, atom("_")), row(atom("<"), first, integer(count // 2)))),
+        "select_delete_half": call(
+            "select_delete",
+            atom("t"),
+            some(row(first, atom("_")), row(atom("<"), first, integer(count // 2))),
+        ),
     }
-    shows = {"delete": "delete of the table", "match_delete": "match_delete of all", "select_delete": "select_delete of all", "select_delete_half": "select_delete of half"}
+    shows = {
+        "delete": "delete of the table",
+        "match_delete": "match_delete of all",
+        "select_delete": "select_delete of all",
+        "select_delete_half": "select_delete of half",
+    }
     rows = [[f"of {count:,} objects, ns an object of the table", "this store", "ets", "ratio"]]
     for name, request in asked.items():
-        ours, theirs = sides.ours([new("t"), *singly("t", count)], [request]), sides.theirs(name, "set", count)
-        rows.append([shows.get(name, name), *map(spread, (each(ours, count), each(theirs, count))), ratio(ours, theirs)])
+        ours, theirs = sides.ours([new("t"), *singly("t", count)], [request]), sides.theirs(
+            name, "set", count
+        )
+        rows.append(
+            [
+                shows.get(name, name),
+                *map(spread, (each(ours, count), each(theirs, count))),
+                ratio(ours, theirs),
+            ]
+        )
     return rows
 
 
 def growing(quick: bool, program: str) -> list[list[str]]:
-    """A table that is used while growth is pending: in an older table that was filled by lists, or in itself."""
+    """A table that is used while growth is pending: in an older table that was filled by lists, or
+    in itself."""
     sides = Sides(program, 1 if quick else 3)
     count, asked = (20_000, 5_000) if quick else (1_000_000, 50_000)
     young = singly("young", asked)
-    lookups = [call("lookup", atom("old"), integer(number * PRIME * 31 % count)) for number in range(asked)]
+    lookups = [
+        call("lookup", atom("old"), integer(number * PRIME * 31 % count))
+        for number in range(asked)
+    ]
     tables = [new("old"), new("young")]
     rows = [[f"{asked:,} calls, ns each", "growth is pending", "none is pending", "ratio"]]
     for name, requests, before in (
         (f"insertions, after an older table got {count:,} objects by lists", young, tables),
-        (f"lookups in a table of {count:,} objects, filled by lists", lookups, [*tables, *singly("old", count)]),
+        (
+            f"lookups in a table of {count:,} objects, filled by lists",
+            lookups,
+            [*tables, *singly("old", count)],
+        ),
     ):
-        pending, idle = sides.ours([*tables, *by_lists("old", count)], requests), sides.ours(before, requests)
-        rows.append([name, *map(spread, (each(pending, asked), each(idle, asked))), ratio(pending, idle)])
+        pending, idle = sides.ours([*tables, *by_lists("old", count)], requests), sides.ours(
+            before, requests
+        )
+        rows.append(
+            [name, *map(spread, (each(pending, asked), each(idle, asked))), ratio(pending, idle)]
+        )
     return rows
 
 
@@ -197,7 +145,10 @@ SECTIONS = {"long-lists": long_lists, "one-key": one_key, "removals": removals, 
 
 def main() -> None:
     if len(sys.argv) < 3 or sys.argv[2] not in SECTIONS:
-        stop(f"bench/bulk.py PROGRAM SECTION [--quick], where SECTION is one of {', '.join(SECTIONS)}")
+        stop(
+            "bench/bulk.py PROGRAM SECTION [--quick], where SECTION is one of "
+            f"{', '.join(SECTIONS)}"
+        )
     OUT.mkdir(exist_ok=True)
     print_table(SECTIONS[sys.argv[2]]("--quick" in sys.argv, sys.argv[1]))
 

@@ -1,5 +1,6 @@
 #!/usr/bin/env python3
-"""Draws docs/vs-ets.svg, docs/speed.svg and docs/limits.svg from figures.json, the figures of the last whole run."""
+"""Draws docs/vs-ets.svg, docs/speed.svg and docs/limits.svg from figures.json, the figures of the
+last whole run."""
 
 import pathlib
 
@@ -8,9 +9,21 @@ from figures import cell, machines, of
 
 DOCS = pathlib.Path(__file__).resolve().parent.parent / "docs"
 # The calls of the bench, as the drawings name them.
-CALLS = {"insert": "insert", "hit": "lookup, hit", "miss": "lookup, miss", "counter": "update_counter", "write": "update_element", "delete": "delete"}
+CALLS = {
+    "insert": "insert",
+    "hit": "lookup, hit",
+    "miss": "lookup, miss",
+    "counter": "update_counter",
+    "write": "update_element",
+    "delete": "delete",
+}
 # The names of the curves: whole calls of the store, and its peers.
-NAMES = {"calls": "Yoyoash", "ets": "ets (Erlang)", "Mutex<HashMap>": "HashMap, Mutex", "oneTBB": "oneTBB (C++)"}
+NAMES = {
+    "calls": "Yoyoash",
+    "ets": "ets (Erlang)",
+    "Mutex<HashMap>": "HashMap, Mutex",
+    "oneTBB": "oneTBB (C++)",
+}
 SIZE = 100_000  # objects in the table of the bars of single calls
 
 
@@ -19,32 +32,100 @@ def speed() -> str:
     panels = []
     for operation, title in CALLS.items():
         points = {name: points_of(f"{who} {operation}") for who, name in NAMES.items()}
-        panels.append(plot.Panel(title, "objects in the table (logarithmic)", {name: it for name, it in points.items() if it}))
-    return plot.curves("Time of a call, by the size of the table", f"Lower is better. {machines('curve')}.", "ns per call (logarithmic)", panels)
+        panels.append(
+            plot.Panel(
+                title,
+                "objects in the table (logarithmic)",
+                {name: it for name, it in points.items() if it},
+            )
+        )
+    return plot.curves(
+        "Time of a call, by the size of the table",
+        f"Lower is better. {machines('curve')}.",
+        "ns per call (logarithmic)",
+        panels,
+    )
 
 
 def points_of(line: str) -> plot.Points:
-    return [(int(count), figures[line]) for count, figures in of("curve").items() if line in figures]
+    return [
+        (int(count), figures[line]) for count, figures in of("curve").items() if line in figures
+    ]
 
 
 def limits() -> str:
     """Nanoseconds a line of a script by how many objects, processes, tables or keys there are."""
-    whole = lambda lines: {name: [(int(count), figure) for count, figure in points.items()] for name, points in lines.items()}
-    panels = [plot.Panel(title, f"{across} (logarithmic)", whole(lines)) for title, across, lines in of("limits")]
-    return plot.curves("Time of a script's line, up to the limits", f"Lower is better. {machines('limits')}.", "ns per line (logarithmic)", panels)
+    whole = lambda lines: {
+        name: [(int(count), figure) for count, figure in points.items()]
+        for name, points in lines.items()
+    }
+    panels = [
+        plot.Panel(title, f"{across} (logarithmic)", whole(lines))
+        for title, across, lines in of("limits")
+    ]
+    return plot.curves(
+        "Time of a script's line, up to the limits",
+        f"Lower is better. {machines('limits')}.",
+        "ns per line (logarithmic)",
+        panels,
+    )
 
 
 def versus() -> str:
-    """Ratios to ets, a bar for each: single calls, searches of a whole table, memory, and threads."""
-    sized, passes, memory, clients = of("calls")[str(SIZE)], of("passes"), of("memory"), of("clients")
-    ets = {operation: min(sized[f"{who} {operation}"] for who in ("ets", "ets,pinned")) for operation in CALLS}
-    rows = [row(label, sized[f"calls-into {operation}"], ets[operation], "ns") for operation, label in CALLS.items()]
-    rows.append(row("select, one of 1,000,000", cell(passes, "select, a guard", "this store"), cell(passes, "select, a guard", "ets"), "ns per object"))
-    rows.append(row("tab2list of 1,000,000", cell(passes, "tab2list", "this store"), cell(passes, "tab2list", "ets"), "ns per object"))
-    rows.append(row("memory of {Int,Int}, 600,000 objects", cell(memory, "{Int,Int}", "this store"), cell(memory, "{Int,Int}", "ets"), "bytes"))
-    rows.append(row("4 threads of a Server, 9 reads to a write", cell(clients, "4 clients", "Server"), cell(clients, "4 clients", "ets, concurrent"), "ns"))
+    """Ratios to ets, a bar for each: single calls, searches of a whole table, memory, and
+    threads."""
+    sized, passes, memory, clients = (
+        of("calls")[str(SIZE)],
+        of("passes"),
+        of("memory"),
+        of("clients"),
+    )
+    ets = {
+        operation: min(sized[f"{who} {operation}"] for who in ("ets", "ets,pinned"))
+        for operation in CALLS
+    }
+    rows = [
+        row(label, sized[f"calls-into {operation}"], ets[operation], "ns")
+        for operation, label in CALLS.items()
+    ]
+    rows.append(
+        row(
+            "select, one of 1,000,000",
+            cell(passes, "select, a guard", "this store"),
+            cell(passes, "select, a guard", "ets"),
+            "ns per object",
+        )
+    )
+    rows.append(
+        row(
+            "tab2list of 1,000,000",
+            cell(passes, "tab2list", "this store"),
+            cell(passes, "tab2list", "ets"),
+            "ns per object",
+        )
+    )
+    rows.append(
+        row(
+            "memory of {Int,Int}, 600,000 objects",
+            cell(memory, "{Int,Int}", "this store"),
+            cell(memory, "{Int,Int}", "ets"),
+            "bytes",
+        )
+    )
+    rows.append(
+        row(
+            "4 threads of a Server, 9 reads to a write",
+            cell(clients, "4 clients", "Server"),
+            cell(clients, "4 clients", "ets, concurrent"),
+            "ns",
+        )
+    )
     title = f"Yoyoash compared with Erlang's ets ({SIZE:,} objects where no size is named)"
-    return plot.bars(title, f"Ratio to ets, logarithmic. {machines('calls', 'passes', 'memory', 'clients')}.", rows)
+    return plot.bars(
+        title,
+        f"Ratio to ets, logarithmic. {machines('calls', 'passes', 'memory', 'clients')}.",
+        rows,
+    )
 
 
 def row(label: str, ours: float, theirs: float, unit: str) -> tuple[str, float, str]:

@@ -1,4 +1,5 @@
-"""The figures of the last run of each section, in figures.json: its table as it was printed or its points, and the machine."""
+"""The figures of the last run of each section, in figures.json: its table as it was printed or its
+points, and the machine."""
 
 import json
 import pathlib
@@ -26,10 +27,13 @@ def machines(*sections: str) -> str:
 def keep(section: str, figures: object, machine: str) -> None:
     """Replaces the figures of a section."""
     named = machine.rpartition(", load ")[0] or machine
-    FILE.write_text(json.dumps(read() | {section: {"machine": named, "figures": figures}}, indent=1) + "\n")
+    FILE.write_text(
+        json.dumps(read() | {section: {"machine": named, "figures": figures}}, indent=1) + "\n"
+    )
 
 
 def cell(rows: Rows, label: str, column: str) -> float:
-    """The number that begins a table's cell, found by the beginning of its row and the name of its column."""
+    """The number that begins a table's cell, found by the beginning of its row and the name of its
+    column."""
     row = next(row for row in rows[1:] if row[0].startswith(label))
     return float(row[rows[0].index(column)].split()[0])

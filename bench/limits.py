@@ -1,4 +1,5 @@
-"""What grows with what, to the limits: ten million objects, a million processes, all tables, and keys of one hash."""
+"""What grows with what, to the limits: ten million objects, a million processes, all tables, and
+keys of one hash."""
 
 import itertools
 import random
@@ -12,7 +13,9 @@ FEWEST = 1_000  # lines, below which a part is not shown: the way there and back
 AT_ONCE = 500_000  # lines a part of a script
 LIMITS = ["--max-objects", "100000000", "--max-processes", "2000000"]
 
-Script = Callable[[int], dict[str, Iterable[str]]]  # the parts of a script of a size, by their names
+Script = Callable[
+    [int], dict[str, Iterable[str]]
+]  # the parts of a script of a size, by their names
 Figures = dict[str, dict[int, float]]  # nanoseconds a line, by the part and the number
 
 
@@ -40,10 +43,13 @@ def processes(count: int) -> dict[str, Iterable[str]]:
 
 
 def tables(count: int) -> dict[str, Iterable[str]]:
-    """This many tables, each filled by one list of 64 objects: all of them wait for growth, of which a line does two steps."""
+    """This many tables, each filled by one list of 64 objects: all of them wait for growth, of
+    which a line does two steps."""
     chance, names = random.Random(count), [f"t{number}" for number in range(count)]
     row = ",".join(f"{{{key},{key}}}" for key in range(64))
-    any_of = lambda call: [f"p {call.format(names[chance.randrange(count)])}" for _ in range(ASKED)]
+    any_of = lambda call: [
+        f"p {call.format(names[chance.randrange(count)])}" for _ in range(ASKED)
+    ]
     return {
         "spawn": ["spawn p"],
         "new": (f"p new({name},[named_table])" for name in names),
@@ -60,18 +66,31 @@ def one_hash(count: int) -> dict[str, Iterable[str]]:
         "new": table(),
         "insert": (f"p insert(t,{{{key},{key}}})" for key in mixed(count)),
         "lookup, hit": [f"p lookup(t,{chance.randrange(count)})" for _ in range(ASKED // 20)],
-        "lookup, miss": [f"p lookup(t,{count + chance.randrange(count)})" for _ in range(ASKED // 20)],
+        "lookup, miss": [
+            f"p lookup(t,{count + chance.randrange(count)})" for _ in range(ASKED // 20)
+        ],
     }
 
 
 Title = tuple[str, str]  # of a panel, and of its horizontal axis
 
-# The curves: titles, script, numbers (a quick run takes the first two), and the program's arguments.
+# The curves: titles, script, numbers (a quick run takes the first two), and the program's
+# arguments.
 CURVES: list[tuple[Title, Script, tuple[int, ...], list[str]]] = [
-    (("By objects", "objects in the table"), objects, (1_000, 10_000, 100_000, 1_000_000, 10_000_000), []),
+    (
+        ("By objects", "objects in the table"),
+        objects,
+        (1_000, 10_000, 100_000, 1_000_000, 10_000_000),
+        [],
+    ),
     (("By processes", "living processes"), processes, (1_000, 10_000, 100_000, 1_000_000), []),
     (("By tables with pending growth", "tables"), tables, (1_024, 8_192, 65_536), []),
-    (("By keys with one hash", "keys"), one_hash, (10, 30, 100, 300, 1_000, 3_000), ["--hash", "same"]),
+    (
+        ("By keys with one hash", "keys"),
+        one_hash,
+        (10, 30, 100, 300, 1_000, 3_000),
+        ["--hash", "same"],
+    ),
 ]
 
 
@@ -82,8 +101,11 @@ def parts(lines: Iterable[str]) -> Iterator[list[str]]:
         yield part
 
 
-def measured(command: list[str], script: dict[str, Iterable[str]], figures: Figures, count: int) -> None:
-    """Asks a script of a program, and keeps what a line of each of its parts took, where that is less than before."""
+def measured(
+    command: list[str], script: dict[str, Iterable[str]], figures: Figures, count: int
+) -> None:
+    """Asks a script of a program, and keeps what a line of each of its parts took, where that is
+    less than before."""
     with Talk(command) as talk:
         for name, lines in script.items():
             told = [(talk.ask(part)[0], len(part)) for part in parts(lines)]
@@ -109,4 +131,7 @@ def rows(title: str, figures: Figures) -> list[list[str]]:
     """A table of one curve."""
     counts = sorted({count for known in figures.values() for count in known})
     cells = lambda known: [f"{known[count]:.0f}" if count in known else "" for count in counts]
-    return [[f"ns a line, by {title}", *(f"{count:,}" for count in counts)], *([name, *cells(known)] for name, known in figures.items())]
+    return [
+        [f"ns a line, by {title}", *(f"{count:,}" for count in counts)],
+        *([name, *cells(known)] for name, known in figures.items()),
+    ]

@@ -5,7 +5,9 @@ import struct
 from typing import Iterable
 
 SPAWN = bytes(5)  # starts the process 0
-PRIME = 7919  # divides no number of objects here, so the keys NUMBER * PRIME % COUNT are all different
+PRIME = (
+    7919  # divides no number of objects here, so the keys NUMBER * PRIME % COUNT are all different
+)
 
 
 def atom(text: str) -> bytes:
@@ -50,4 +52,7 @@ def singly(table: str, count: int) -> list[bytes]:
 
 def by_lists(table: str, count: int, length: int = 1000) -> list[bytes]:
     known = objects(count)
-    return [call("insert", atom(table), listed(known[at : at + length])) for at in range(0, count, length)]
+    return [
+        call("insert", atom(table), listed(known[at : at + length]))
+        for at in range(0, count, length)
+    ]

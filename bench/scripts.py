@@ -1,12 +1,14 @@
-"""What scripts show: workloads, memory, passes over a whole table, lists that fill one, and fixes."""
+"""What scripts show: workloads, memory, passes over a whole table, lists that fill one, and
+fixes."""
 
 import pathlib
 import re
 import subprocess
 
 from building import OUT, erlang, stop
+from searches import SHAPES, Shape, by_lists, lookups, rounds, searches, singly
 from timing import LIMIT, Figures, Runs, Talk, least, ratio, spread, timed
-from workloads import SHAPES, WORKLOADS, Shape, Workload, by_lists, lookups, mixed, rounds, searches, singly
+from workloads import WORKLOADS, Workload, mixed
 
 Commands = dict[str, list[str]]
 MARKS = (25_000, 50_000, 100_000, 200_000)  # lookups after lists, while growth catches up
@@ -39,12 +41,21 @@ def row(workload: Workload, quick: bool, programs: Commands, times: int) -> list
         ended = not (ours.failed or theirs.failed)
         agree = not ended or same(workload, OUT / "store.answers", OUT / f"{name}.answers")
         shown = ratio(ours.wall, theirs.wall) if ended else "-"
-        rows.append([workload.name, ours.show(), name, theirs.show(), shown + ("" if agree else "  ANSWERS DIFFER")])
+        rows.append(
+            [
+                workload.name,
+                ours.show(),
+                name,
+                theirs.show(),
+                shown + ("" if agree else "  ANSWERS DIFFER"),
+            ]
+        )
     return rows
 
 
 def same(workload: Workload, ours: pathlib.Path, theirs: pathlib.Path) -> bool:
-    """Equal answers, byte for byte; where they hold keys in the table's order, up to that order."""
+    """Equal answers, byte for byte; where they hold keys in the table's order, up to that
+    order."""
     if not workload.sorted_parts:
         return ours.read_bytes() == theirs.read_bytes()
     parts = lambda path: sorted(re.split(rb"[\n,\[\]]", path.read_bytes()))
@@ -53,7 +64,9 @@ def same(workload: Workload, ours: pathlib.Path, theirs: pathlib.Path) -> bool:
 
 def answers(command: list[str], text: str) -> str:
     try:
-        return subprocess.run(command, input=text, capture_output=True, text=True, timeout=LIMIT).stdout
+        return subprocess.run(
+            command, input=text, capture_output=True, text=True, timeout=LIMIT
+        ).stdout
     except subprocess.TimeoutExpired:
         return ""
 
@@ -63,17 +76,34 @@ def with_erlang(programs: Commands) -> Commands:
 
 
 def memory(quick: bool, programs: Commands) -> list[list[str]]:
-    """Bytes an object of several shapes: how much the peak of a program grows for each of twice as many objects, and what ets counts for
-    its own tables (the peak of a program in Erlang that reads a script has much else in it)."""
+    """Bytes an object of several shapes: how much the peak of a program grows for each of twice as
+    many objects, and what ets counts for its own tables (the peak of a program in Erlang that
+    reads a script has much else in it)."""
     count = 150_000 if quick else 300_000
     own = {name: command for name, command in programs.items() if name != "Erlang"}
     ets = by_calls("memory", 2 * count, 1)
     rivals = [*(name for name in own if name != "store"), "ets"]
-    rows = [[f"{2 * count:,} objects compared with {count:,}, bytes an object", "this store", *rivals, *(f"to {name}" for name in rivals)]]
+    rows = [
+        [
+            f"{2 * count:,} objects compared with {count:,}, bytes an object",
+            "this store",
+            *rivals,
+            *(f"to {name}" for name in rivals),
+        ]
+    ]
     for shape in SHAPES:
-        each = {name: [(peak(command, shape, 2 * count) - peak(command, shape, count)) / count] for name, command in own.items()}
+        each = {
+            name: [(peak(command, shape, 2 * count) - peak(command, shape, count)) / count]
+            for name, command in own.items()
+        }
         each["ets"] = ets.get(("ets", shape.short), [])
-        rows.append([shape.name, *map(spread, each.values()), *(ratio(each["store"], each[name]) for name in rivals)])
+        rows.append(
+            [
+                shape.name,
+                *map(spread, each.values()),
+                *(ratio(each["store"], each[name]) for name in rivals),
+            ]
+        )
     return rows
 
 
@@ -93,8 +123,9 @@ def peak(command: list[str], shape: Shape, count: int) -> float:
 
 
 def passes(quick: bool, programs: Commands) -> list[list[str]]:
-    """Calls that search all objects of a table that was filled one by one, an object: from the line's way in to the end of its answer,
-    and in ets by calls in process, where nothing is read and printed."""
+    """Calls that search all objects of a table that was filled one by one, an object: from the
+    line's way in to the end of its answer, and in ets by calls in process, where nothing is read
+    and printed."""
     count, turns = (20_000, 1) if quick else (1_000_000, 3)
     fill, asked = singly(count), searches(count)
     spent = {search.name: [] for search in asked}
@@ -102,27 +133,41 @@ def passes(quick: bool, programs: Commands) -> list[list[str]]:
         with Talk(programs["store"]) as talk:
             talk.ask(fill)
             for search in asked:
-                spent[search.name] += [1e9 * talk.ask([search.call])[0] / count for _ in range(search.passes)]
+                spent[search.name] += [
+                    1e9 * talk.ask([search.call])[0] / count for _ in range(search.passes)
+                ]
     ets = by_calls("searches", count, turns)
     rows = [[f"all of {count:,} objects {{K,V}}, ns an object", "this store", "ets", "ratio"]]
     for search in asked:
         theirs = ets.get(("ets", search.short), [])
-        rows.append([search.name, spread(spent[search.name]), spread(theirs), ratio(spent[search.name], theirs)])
+        rows.append(
+            [
+                search.name,
+                spread(spent[search.name]),
+                spread(theirs),
+                ratio(spent[search.name], theirs),
+            ]
+        )
     return rows
 
 
 def lists(quick: bool, programs: Commands) -> list[list[str]]:
-    """A table filled by lists of 100 in a true shuffle, one filled one by one, and lookups after that, a line each:
-    growth, of which a line does two steps, catches up meanwhile."""
+    """A table filled by lists of 100 in a true shuffle, one filled one by one, and lookups after
+    that, a line each: growth, of which a line does two steps, catches up meanwhile."""
     count, turns = (30_000, 1) if quick else (300_000, 3)
     marks = [mark * count // 300_000 for mark in MARKS]
     keys = lookups(count, marks[-1])
-    parts = {f"lookups {start + 1:,} to {end:,} after lists": keys[start:end] for start, end in zip([0, *marks], marks)}
+    parts = {
+        f"lookups {start + 1:,} to {end:,} after lists": keys[start:end]
+        for start, end in zip([0, *marks], marks)
+    }
     spent: dict[tuple[str, str], list[float]] = {}
     for _ in range(turns):
         checks = {name: [] for name in programs}
         for name, command in programs.items():
-            note = lambda part, talk, lines, each: checks[name].append(noted(spent, part, name, talk.ask(lines), each))
+            note = lambda part, talk, lines, each: checks[name].append(
+                noted(spent, part, name, talk.ask(lines), each)
+            )
             with Talk(command) as talk:
                 note("put one by one, an object", talk, singly(count), count)
                 note("lookups after that", talk, keys[: marks[0]], marks[0])
@@ -136,7 +181,13 @@ def lists(quick: bool, programs: Commands) -> list[list[str]]:
     rows = [[f"{count:,} objects {{K,V}}, ns", *programs, *(f"to {name}" for name in rivals)]]
     for part in dict.fromkeys(part for part, _ in spent):
         each = {name: spent[part, name] for name in programs}
-        rows.append([part, *map(spread, each.values()), *(ratio(each["store"], each[name]) for name in rivals)])
+        rows.append(
+            [
+                part,
+                *map(spread, each.values()),
+                *(ratio(each["store"], each[name]) for name in rivals),
+            ]
+        )
     return rows
 
 
@@ -148,10 +199,18 @@ def noted(spent: dict, part: str, name: str, told: tuple[float, int, str], each:
 
 
 def releases(quick: bool, programs: Commands) -> list[list[str]]:
-    """What it costs to fix a table, delete one object and release it: the held slot alone, not the table."""
+    """What it costs to fix a table, delete one object and release it: the held slot alone, not the
+    table."""
     count, deleted, turns = (20_000, 2_000, 1) if quick else (1_000_000, 100_000, 3)
     programs, keys = with_erlang(programs), mixed(count)[:deleted]
-    rows = [[f"one of {count:,} objects deleted, ns", "fixed for it, and released", "between two calls of member", "ratio"]]
+    rows = [
+        [
+            f"one of {count:,} objects deleted, ns",
+            "fixed for it, and released",
+            "between two calls of member",
+            "ratio",
+        ]
+    ]
     for name, command in programs.items():
         spent = {True: [], False: []}
         for _ in range(turns):
@@ -159,5 +218,7 @@ def releases(quick: bool, programs: Commands) -> list[list[str]]:
                 with Talk(command) as talk:
                     talk.ask(singly(count))
                     figures.append(1e9 * talk.ask(rounds(keys, is_fixed))[0] / deleted)
-        rows.append([name, spread(spent[True]), spread(spent[False]), ratio(spent[True], spent[False])])
+        rows.append(
+            [name, spread(spent[True]), spread(spent[False]), ratio(spent[True], spent[False])]
+        )
     return rows

@@ -18,8 +18,8 @@ Figures = dict[tuple[str, str], list[float]]
 
 @dataclass
 class Runs:
-    """The times of one program over one input, wall and CPU, in seconds, and its peaks of memory, in bytes; `failed` once
-    a run failed or took too long."""
+    """The times of one program over one input, wall and CPU, in seconds, and its peaks of memory,
+    in bytes; `failed` once a run failed or took too long."""
 
     wall: list[float] = field(default_factory=list)
     cpu: list[float] = field(default_factory=list)
@@ -35,7 +35,8 @@ class Runs:
 
 
 def timed(runs: Runs, command: list[str], script: pathlib.Path, answers: pathlib.Path) -> None:
-    """One run more, unless one failed before. The kernel tells its CPU time, and a timer ends a run that hangs."""
+    """One run more, unless one failed before. The kernel tells its CPU time, and a timer ends a
+    run that hangs."""
     if runs.failed:
         return
     with open(script, "rb") as given, open(answers, "wb") as taken:
@@ -58,7 +59,9 @@ class Talk:
 
     def __init__(self, command: list[str]) -> None:
         self.name = command[0]
-        self.program = subprocess.Popen(command, stdin=subprocess.PIPE, stdout=subprocess.PIPE, bufsize=0)
+        self.program = subprocess.Popen(
+            command, stdin=subprocess.PIPE, stdout=subprocess.PIPE, bufsize=0
+        )
         self.guard = threading.Timer(5 * LIMIT, self.program.kill)
         self.guard.start()
 
@@ -72,7 +75,8 @@ class Talk:
         self.program.wait()
 
     def ask(self, lines: list[str]) -> tuple[float, int, str]:
-        """The seconds from the first line's way in to the end of the last answer; the answers' length and checksum."""
+        """The seconds from the first line's way in to the end of the last answer; the answers'
+        length and checksum."""
         text = "".join(f"{line}\n" for line in lines).encode()
         left, length, checksum = len(lines), 0, hashlib.sha256()
         feeder = threading.Thread(target=self._feed, args=(memoryview(text),))
@@ -95,7 +99,8 @@ class Talk:
 
 
 def least(commands: list[list[str]], times: int) -> Figures:
-    """The least of each figure and the greatest, of this many interleaved runs. A command prints lines of WHO OPERATION FIGURE."""
+    """The least of each figure and the greatest, of this many interleaved runs. A command prints
+    lines of WHO OPERATION FIGURE."""
     found: Figures = {}
     for _ in range(times):
         for command in commands:
@@ -107,7 +112,9 @@ def least(commands: list[list[str]], times: int) -> Figures:
 
 
 def lines_of(command: list[str]) -> list[str]:
-    result = subprocess.run(command, stdin=subprocess.DEVNULL, capture_output=True, text=True, timeout=10 * LIMIT)
+    result = subprocess.run(
+        command, stdin=subprocess.DEVNULL, capture_output=True, text=True, timeout=10 * LIMIT
+    )
     if result.returncode != 0 or "wrong" in result.stdout:
         stop(f"{' '.join(command)} went wrong: {(result.stdout + result.stderr).strip()[-500:]}")
     return result.stdout.splitlines()

@@ -1,4 +1,5 @@
-"""The script workloads: each a name, what it shows, a probe and its lines, the same at every run."""
+"""The script workloads: each a name, what it shows, a probe and its lines, the same at every
+run."""
 
 import random
 from dataclasses import dataclass
@@ -50,7 +51,10 @@ def many_keys(count: int) -> Iterator[str]:
 def nested(count: int) -> Iterator[str]:
     yield from table()
     for i in range(count // 2):
-        yield f"p insert(t,{{k{i % 500},{{'Hello World',[{i},{{x,'it\\'s',{{{i},y}}}}]}},[a,b,c]}})"
+        yield (
+            f"p insert(t,{{k{i % 500},{{'Hello World',"
+            f"[{i},{{x,'it\\'s',{{{i},y}}}}]}},[a,b,c]}})"
+        )
         yield f"p lookup(t,k{i * 31 % 500})" if i >= 500 else "p lookup(t,none)"
 
 
@@ -82,7 +86,8 @@ def bags(count: int) -> Iterator[str]:
 
 
 def heirs(count: int) -> Iterator[str]:
-    """Processes with sixteen tables each, which go to the first process as they end, or away with them."""
+    """Processes with sixteen tables each, which go to the first process as they end, or away with
+    them."""
     yield "spawn p"
     for process in range(1, max(count // 16, 1) + 1):
         own = range(16 * process, 16 * process + 16)
@@ -115,7 +120,8 @@ def walk(count: int) -> Iterator[str]:
 
 
 def sessions(count: int) -> Iterator[str]:
-    """A cache of sessions: each is made, read and touched; each thousandth line those go that were not touched lately."""
+    """A cache of sessions: each is made, read and touched; each thousandth line those go that were
+    not touched lately."""
     yield from table()
     for i in range(count):
         yield f"p insert(t,{{s{i},{i},{{user,{i % 97}}}}})"
@@ -126,7 +132,8 @@ def sessions(count: int) -> Iterator[str]:
 
 
 def routes(count: int) -> Iterator[str]:
-    """A routing table: four routes for each destination in a bag, and matches whose key is bound."""
+    """A routing table: four routes for each destination in a bag, and matches whose key is
+    bound."""
     yield from table(",bag")
     keys = min(count, 50_000)
     for i in range(4):
@@ -147,86 +154,46 @@ def tables(count: int) -> Iterator[str]:
         yield f"p lookup(t{i * 31 % count},a)"
 
 
-@dataclass(frozen=True)
-class Search:
-    """A call that looks at all objects of a filled table."""
-
-    name: str
-    short: str  # its name in peers/ets_calls.erl
-    call: str
-    passes: int  # how often it is asked of one table
-
-
-def singly(count: int) -> list[str]:
-    """Objects {K,V} with V = 3 K, one a line."""
-    return table() + [f"p insert(t,{{{k},{3 * k}}})" for k in mixed(count)]
-
-
-def by_lists(count: int) -> list[str]:
-    """The same objects in the same order, a hundred a line."""
-    numbers = mixed(count)
-    rows = (numbers[i : i + 100] for i in range(0, count, 100))
-    return table() + ["p insert(t,[" + ",".join(f"{{{k},{3 * k}}}" for k in row) + "])" for row in rows]
-
-
-def lookups(count: int, lines: int) -> list[str]:
-    """Lookups in a table of this many objects, in an order that has nothing to do with that of the insertions."""
-    chance = random.Random(lines)
-    return [f"p lookup(t,{chance.randrange(count)})" for _ in range(lines)]
-
-
-def rounds(keys: list[int], is_fixed: bool) -> list[str]:
-    """Deletions of these keys, each in a table that is fixed for it alone, or between two calls that fix nothing."""
-    before, after = ("safe_fixtable(t,true)", "safe_fixtable(t,false)") if is_fixed else ("member(t,none)", "member(t,none)")
-    return [line for k in keys for line in (f"p {before}", f"p delete(t,{k})", f"p {after}")]
-
-
-def searches(count: int) -> list[Search]:
-    value = count // 2 * 3
-    return [
-        Search("select, a guard true of one", "select_one", f"p select(t,[{{{{'$1','$2'}},[{{'=:=','$2',{value}}}],['$1']}}])", 10),
-        Search("match of a value", "match", f"p match(t,{{'$1',{value}}})", 10),
-        Search("select_count of half", "select_count", f"p select_count(t,[{{{{'_','$1'}},[{{'>','$1',{value}}}],[true]}}])", 10),
-        Search("select of all", "select_all", "p select(t,[{{'_','$1'},[],['$1']}])", 2),
-        Search("tab2list", "tab2list", "p tab2list(t)", 2),
-        Search("select_delete of half", "select_delete", f"p select_delete(t,[{{{{'_','$1'}},[{{'>','$1',{value}}}],[true]}}])", 1),
-    ]
-
-
-@dataclass(frozen=True)
-class Shape:
-    """Objects of one shape, one a line, for what they take in memory."""
-
-    name: str
-    short: str  # its name in peers/ets_calls.erl
-    options: str
-    object: Callable[[int], str]
-
-    def lines(self, count: int) -> Iterator[str]:
-        yield from table(self.options)
-        for i in mixed(count):
-            yield f"p insert(t,{self.object(i)})"
-
-
-TEN_BYTES = "<<" + ",".join(map(str, range(10))) + ">>"
-
-SHAPES = [
-    Shape("{Int,Int}", "pair", "", lambda i: f"{{{i},{i * 3}}}"),
-    Shape("{Atom,Binary of 10 bytes}", "atom", "", lambda i: f"{{k{i},{TEN_BYTES}}}"),
-    Shape("{Int,Int} in a bag, 100 a key", "bag", ",bag", lambda i: f"{{{i // 100},{i}}}"),
-]
-
-# The full sizes keep the fastest peer busy for half a second or more on a machine with nothing else to do.
+# The full sizes keep the fastest peer busy for half a second or more on a machine with nothing
+# else to do.
 WORKLOADS = [
     Workload("one key", "insert and lookup in turn, one key", one_key, 2_000_000, 200_000),
     Workload("many keys", "insert and lookup in turn, 800,000 keys", many_keys, 1_600_000, 10_000),
-    Workload("nested terms", "objects with nested tuples and quoted atoms, 500 keys", nested, 600_000, 20_000),
+    Workload(
+        "nested terms",
+        "objects with nested tuples and quoted atoms, 500 keys",
+        nested,
+        600_000,
+        20_000,
+    ),
     Workload("counters", "update_counter over 100 keys", counters, 3_000_000, 50_000),
-    Workload("select", "select with a bound key, and each 50th unbound, over 10,000 objects", select, 200_000, 1_000, True),
+    Workload(
+        "select",
+        "select with a bound key, and each 50th unbound, over 10,000 objects",
+        select,
+        200_000,
+        1_000,
+        True,
+    ),
     Workload("bags", "100 objects a key in a bag", bags, 600_000, 10_000),
-    Workload("heirs", "4,000 processes with sixteen tables each, heirs and exits", heirs, 64_000, 800),
-    Workload("sessions", "a cache: insert, lookup, update_counter, and select_delete of the old", sessions, 300_000, 3_000),
+    Workload(
+        "heirs", "4,000 processes with sixteen tables each, heirs and exits", heirs, 64_000, 800
+    ),
+    Workload(
+        "sessions",
+        "a cache: insert, lookup, update_counter, and select_delete of the old",
+        sessions,
+        300_000,
+        3_000,
+    ),
     Workload("routes", "match with a bound key over a bag of 50,000 keys", routes, 600_000, 5_000),
     Workload("tables", "65,536 tables, an insertion and a lookup in each", tables, 65_536, 2_000),
-    Workload("fixed walk", "next over a fixed table, with deletes and inserts between", walk, 400_000, 2_000, True),
+    Workload(
+        "fixed walk",
+        "next over a fixed table, with deletes and inserts between",
+        walk,
+        400_000,
+        2_000,
+        True,
+    ),
 ]

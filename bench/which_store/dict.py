@@ -1,4 +1,5 @@
-"""Measures the CPU time of one insertion and of one lookup, and the memory of a pair of integers, in a dict with a lock."""
+"""Measures the CPU time of one insertion and of one lookup, and the memory of a pair of integers,
+in a dict with a lock."""
 import random
 import threading
 import time
@@ -22,4 +23,7 @@ for key in keys:
     with lock:
         pairs[key]
 found = time.process_time_ns()
-print(f"dict: insert {(filled - began) / PAIRS:.0f} ns, lookup {(found - filled) / LOOKUPS:.0f} ns, {(after - before) / PAIRS:.0f} bytes a pair")
+print(
+    f"dict: insert {(filled - began) / PAIRS:.0f} ns, lookup {(found - filled) / LOOKUPS:.0f} ns, "
+    f"{(after - before) / PAIRS:.0f} bytes a pair"
+)
