@@ -23,7 +23,13 @@ class ControlTrial(NamingTrial):
 
     def __init__(self, crate, *words):
         super().__init__(crate, *words)
-        self.edits, self.proved = controls_of(crate), set()
+        self.edits, self.proved, self.is_round = controls_of(crate), set(), False
+
+    def check(self, texts, kept, only=()):
+        report = super().check(texts, kept, only)
+        # (a round in which all stay proved is one with a verdict too)
+        report.is_judged = report.is_judged or self.is_round and report.is_proved
+        return report
 
     def is_rejected(self, edit, report):
         is_rejected = super().is_rejected(edit, report)
@@ -45,7 +51,9 @@ class ControlTrial(NamingTrial):
         kept = f"{self.prover.libraries}/crates/{self.crate.name}/out/incremental"
         if os.path.isdir(kept):
             shutil.copytree(kept, self.kept, dirs_exist_ok=True)
+        self.is_round = True
         super().in_rounds()
+        self.is_round = False
         self.edits = [edit for edit in self.edits if edit not in self.proved]
 
     def results(self):
@@ -63,7 +71,15 @@ class ControlTrial(NamingTrial):
 def try_controls(crates, prover, say):
     """Tries the controls of these crates, and returns the status: 1 if one could not be tried."""
     found = {}
-    tell = lambda text: say(text.replace("mutant", "control").replace("rejected", "refused"))
+    of_controls = {"mutant": "control", "rejected": "refused", "decided": "refused"}
+
+    def tell(text):
+        for word, other in of_controls.items():
+            text = text.replace(word, other)
+        # (the sum of a trial leaves out what stays proved)
+        if " in rounds, " not in text:
+            say(text)
+
     for crate in crates:
         if controls_of(crate):
             found.update(ControlTrial(crate, prover, tell, lambda: 1).results())
