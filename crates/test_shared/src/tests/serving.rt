@@ -125,7 +125,8 @@ fn new_server_serves_one_caller<B: HistoryId, R: Wait>(
     history: NewHistory,
     limits: Limits,
 ) -> Option<bool>
-    requires table { history.word.shared.table_id ≡ B.word }
+    requires book { history.seen.book ≡ B.book }
+    requires root { history.turn.nib.key ≡ B.root }
     requires limits { limits ≡ B.limits }
 {
     let server = Server::<B, Fnv>::new(alloc, Locking::Single, history, limits, Fnv).ok()?;
@@ -234,7 +235,8 @@ fn objects_of_new_server<B: HistoryId + Send + Sync, R: Threads + Wait + Sync>(
     history: NewHistory,
     limits: Limits,
 ) -> Option<u64>
-    requires table { history.word.shared.table_id ≡ B.word }
+    requires book { history.seen.book ≡ B.book }
+    requires root { history.turn.nib.key ≡ B.root }
     requires limits { limits ≡ B.limits }
 {
     let server = Server::<B, Fnv>::new(alloc, Locking::Sharded, history, limits, Fnv).ok()?;

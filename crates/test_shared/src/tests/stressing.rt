@@ -173,7 +173,8 @@ fn new_server_is_right<B: HistoryId + Send + Sync, R: Threads + Wait + Sync>(
     history: NewHistory,
     limits: Limits,
 ) -> Option<bool>
-    requires table { history.word.shared.table_id ≡ B.word }
+    requires book { history.seen.book ≡ B.book }
+    requires root { history.turn.nib.key ≡ B.root }
     requires limits { limits ≡ B.limits }
 {
     let server = Server::<B, Fnv>::new(alloc, locking, history, limits, Fnv).ok()?;
