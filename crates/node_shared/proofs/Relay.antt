@@ -59,9 +59,9 @@ module _ (v : List Line) (p : Nib) (l : Line) (right : p.right ≡ may_write) (m
       by take =
           ⊎_elim
           (λ (h : turn_of t take.0 ≡ Some p.key).
-              let both : Some k ≡ Some p.key = sym at ∙ (since-turn t take.0 log (exact cs log v p.key kept pre gone t take.0 take.1 h) ∙ h) in cc both)
+          let both : Some k ≡ Some p.key = sym at ∙ (since-turn t take.0 log (exact cs log v p.key kept pre gone t take.0 take.1 h) ∙ h) in cc both)
           (λ (h : (turn_of (server_of t) take.0 ≡ Some p.key) × (turn_of t take.0 ≡ None)).
-              let none : Some k ≡ None = sym at ∙ (since-turn t take.0 log (since-own t take.0 log (exact cs log v p.key kept pre gone (server_of t) take.0 take.1 h.0)) ∙ h.1) in absurd (cc none))
+          let none : Some k ≡ None = sym at ∙ (since-turn t take.0 log (since-own t take.0 log (exact cs log v p.key kept pre gone (server_of t) take.0 take.1 h.0)) ∙ h.1) in absurd (cc none))
           take.2
 
   added : (now : List Cell) → ((j : ℕ) → IsHome cs j → IsHome now j) → IsHome now p.key → IsKept now (log ++ l ∷ [])
@@ -71,8 +71,8 @@ module _ (v : List Line) (p : Nib) (l : Line) (right : p.right ≡ may_write) (m
       spent t u x k early is at =
           ⊎_elim
           (λ (h : u ++ x ∷ [] ≡ log ++ l ∷ []).
-              let same = snoc-same u log x l h in
-              subst (IsHome now) (sym (took t k (ap (is_of t) (sym same.1) ∙ is) (ap (turn_of t) (sym same.0) ∙ at))) brought)
+          let same = snoc-same u log x l h in
+          subst (IsHome now) (sym (took t k (ap (is_of t) (sym same.1) ∙ is) (ap (turn_of t) (sym same.0) ∙ at))) brought)
           (λ (h : IsPrefix (u ++ x ∷ []) log). homes k (kept.spent t u x k h is at))
           (prefix_snoc (u ++ x ∷ []) log l early)
 

@@ -20,8 +20,8 @@ use Rattle.node_shared.specs.contracts.history.SeenHistory as SeenHistory
 use Rattle.node_shared.specs.contracts.history.SeenHistory.TheInside as shown
 use Rattle.node_shared.specs.contracts.history.owner.HistoryOwner as HistoryOwner
 use Rattle.node_shared.specs.contracts.history.owner.HistoryOwner.TheInside as owner
-use Rattle.node_shared.specs.contracts.history.owner.HistoryWriter as HistoryWriter
-use Rattle.node_shared.specs.contracts.history.owner.HistoryWriter.TheInside as writer
+use Rattle.node_shared.specs.contracts.history.writer.HistoryWriter as HistoryWriter
+use Rattle.node_shared.specs.contracts.history.writer.HistoryWriter.TheInside as writer
 use Rattle.node_shared.specs.contracts.served.ServedNode as ServedNode
 use Rattle.node_shared.specs.contracts.served.ServedNode.TheInside as served
 use Rattle.node_shared.specs.contracts.server.Server as Server

@@ -8,6 +8,7 @@ ghost use Rattle.node_shared.specs.Calling.{HasAsked};
 ghost use Rattle.node_shared.specs.Serving.{Continues, entry_count};
 ghost use Rattle.node_shared.specs.inside.Lines.{head_of};
 
+mod looks;
 mod reads;
 
 use crate::history::{HistoryId, HistoryWord, HistoryWriter, SeenHistory};

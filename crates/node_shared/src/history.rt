@@ -7,11 +7,13 @@ ghost use mathlib.Core.List.{IsPrefix};
 mod adding;
 mod owner;
 mod rule;
+mod writer;
 
 use logbook::{Seen, Word};
-pub use owner::{HistoryOwner, HistoryWriter, NewHistory};
+pub use owner::{HistoryOwner, NewHistory};
 pub use rule::{HistoryRule, Line};
 use std::marker::{Brand, Model, PhantomData};
+pub use writer::HistoryWriter;
 
 /// Names a history, and the limits of its node. A program chooses them anew for each history.
 pub trait HistoryId {

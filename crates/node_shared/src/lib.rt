@@ -14,8 +14,8 @@
 //!
 //! *Mechanism.* A step is run, and added to the journal, under one lock. A ledger counts the entries of processes: the
 //! book has the total, and each client's share its own part. The type parameter `L` names the ledger, so that no other
-//! node can reply to a client. `close` compares the records with the journal. In proofs, tokens know a server's history:
-//! the owner, under the lock, knows all of it, and each caller what it saw.
+//! node can reply to a client. `close` compares the records with the journal. In proofs, tokens know a server's
+//! history: the owner, under the lock, knows all of it, and each caller what it saw.
 //!
 //! *Limits.* At most 4,096 numbers can be drawn. The journal of a `Shared` grows for as long as it is shared.
 #![tactic(auto)]

@@ -49,7 +49,8 @@ impl<B: HistoryId, H: KeyHash + Copy + Drop> Model for ServedNode<B, H> {
 
     ghost view = { λ s. record { state = s.node; history = s.owner } };
 
-    ghost invariant = { λ s. IsRun B.limits s.owner s.node × (s.count ≡ entry_count s.owner) × AreKnown s.owner s.node };
+    ghost invariant = { λ s. IsRun B.limits s.owner s.node × (s.count ≡ entry_count s.owner)
+        × AreKnown s.owner s.node };
 }
 
 // The clause `word` requires that `word` is the history's atomic word.

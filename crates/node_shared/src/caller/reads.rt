@@ -1,9 +1,8 @@
 //! The calls of a caller that only read: they take the lock as readers, and add no entry to the history. After a read
 //! the caller saw the whole history.
-// A reader compares lengths: the history has all that the caller saw if it is at least as long. The caller's own server
-// always has such a history. The compiler cannot know it, so a read that finds another one, or a length that a `u64`
-// cannot hold, takes the lock as a writer. Then the owner's pen shows that nothing is missing.
-ghost use Rattle.std.specs.Prelude.{◌≡◌, false, if◌then◌else◌, Some, None, IfOk, IfSome, IfNone, OnErr, MatchBool};
+// `look` may fail to show that the history has all that the caller saw. Then a read takes the lock as a writer, and
+// `look_alone` shows it. This never happens while a history has fewer entries than the greatest `u64`.
+ghost use Rattle.std.specs.Prelude.{◌≡◌, false, if◌then◌else◌, Some, None, IfOk, IfSome, IfNone, OnErr};
 ghost use mathlib.Core.List.{IsPrefix};
 ghost use Rattle.node_core.specs.declared.step.Reply.TheVariants.{NoProcess};
 ghost use Rattle.node_shared.specs.Serving.{AnswersRead, AnswersReads};
@@ -33,18 +32,21 @@ impl<B: HistoryId> Caller<B> {
         ensures own { self.new.own ≡ self.old.own }
         ensures seen { IsPrefix self.old.seen self.new.seen }
     {
-        let shared = match &server.lock.kind {
-            AnyLock::Single(lock) => self.read_shared(&*lock.read(rt), call),
-            AnyLock::Sharded(lock) => self.read_shared(&**lock.read(rt, self.shard()), call),
-        };
-        match shared {
-            Some(result) => result,
-            None => match &server.lock.kind {
-                AnyLock::Single(lock) => self.read_alone(&server.word, &mut *lock.write(rt), call),
-                AnyLock::Sharded(lock) => {
-                    self.read_alone(&server.word, &mut **lock.write(rt), call)
+        match &server.lock.kind {
+            AnyLock::Single(lock) => {
+                let shared = self.read_shared(&*lock.read(rt), call);
+                match shared {
+                    Some(result) => result,
+                    None => self.read_alone(&server.word, &mut *lock.write(rt), call),
                 }
-            },
+            }
+            AnyLock::Sharded(lock) => {
+                let shared = self.read_shared(&**lock.read(rt, self.shard()), call);
+                match shared {
+                    Some(result) => result,
+                    None => self.read_alone(&server.word, &mut **lock.write(rt), call),
+                }
+            }
         }
     }
 
@@ -97,22 +99,21 @@ impl<B: HistoryId> Caller<B> {
         ensures reply { IfOk result (λ replied. replied ≡ false → reply.new ≡ reply.old) }
         ensures err { OnErr result (reply.new ≡ NoProcess) }
     {
-        let shared = match &server.lock.kind {
-            AnyLock::Single(lock) => self.read_into_shared(&*lock.read(rt), call, reply),
-            AnyLock::Sharded(lock) => {
-                self.read_into_shared(&**lock.read(rt, self.shard()), call, reply)
+        match &server.lock.kind {
+            AnyLock::Single(lock) => {
+                let shared = self.read_into_shared(&*lock.read(rt), call, reply);
+                match shared {
+                    Some(result) => result,
+                    None => self.read_into_alone(&server.word, &mut *lock.write(rt), call, reply),
+                }
             }
-        };
-        match shared {
-            Some(result) => result,
-            None => match &server.lock.kind {
-                AnyLock::Single(lock) => {
-                    self.read_into_alone(&server.word, &mut *lock.write(rt), call, reply)
+            AnyLock::Sharded(lock) => {
+                let shared = self.read_into_shared(&**lock.read(rt, self.shard()), call, reply);
+                match shared {
+                    Some(result) => result,
+                    None => self.read_into_alone(&server.word, &mut **lock.write(rt), call, reply),
                 }
-                AnyLock::Sharded(lock) => {
-                    self.read_into_alone(&server.word, &mut **lock.write(rt), call, reply)
-                }
-            },
+            }
         }
     }
 
@@ -124,8 +125,8 @@ impl<B: HistoryId> Caller<B> {
         call: &Call,
         reply: &mut Reply,
     ) -> Option<Result<bool, AllocError>>
-        ensures ok { IfSome result (λ r. IfOk r (λ replied. AnswersRead B.limits self.new.seen self.old.own.pid call.now
-            (if replied then Some reply.new else None))) }
+        ensures ok { IfSome result (λ r. IfOk r (λ replied.
+            AnswersRead B.limits self.new.seen self.old.own.pid call.now (if replied then Some reply.new else None))) }
         ensures own { self.new.own ≡ self.old.own }
         ensures seen { IsPrefix self.old.seen self.new.seen }
         ensures reply { IfSome result (λ r. IfOk r (λ replied. replied ≡ false → reply.new ≡ reply.old)) }
@@ -167,26 +168,26 @@ impl<B: HistoryId> Caller<B> {
         server: &Server<B, H>,
         calls: &[Call],
     ) -> Result<Vec<Option<Reply>>, AllocError>
-        ensures ok { IfOk result (λ replies. AnswersReads B.limits self.new.seen self.old.own.pid calls.now replies.items) }
+        ensures ok { IfOk result (λ replies.
+            AnswersReads B.limits self.new.seen self.old.own.pid calls.now replies.items) }
         ensures own { self.new.own ≡ self.old.own }
         ensures seen { IsPrefix self.old.seen self.new.seen }
     {
-        let shared = match &server.lock.kind {
-            AnyLock::Single(lock) => self.read_all_shared(alloc, &*lock.read(rt), calls),
-            AnyLock::Sharded(lock) => {
-                self.read_all_shared(alloc, &**lock.read(rt, self.shard()), calls)
+        match &server.lock.kind {
+            AnyLock::Single(lock) => {
+                let shared = self.read_all_shared(alloc, &*lock.read(rt), calls);
+                match shared {
+                    Some(result) => result,
+                    None => self.read_all_alone(alloc, &server.word, &mut *lock.write(rt), calls),
+                }
             }
-        };
-        match shared {
-            Some(result) => result,
-            None => match &server.lock.kind {
-                AnyLock::Single(lock) => {
-                    self.read_all_alone(alloc, &server.word, &mut *lock.write(rt), calls)
+            AnyLock::Sharded(lock) => {
+                let shared = self.read_all_shared(alloc, &**lock.read(rt, self.shard()), calls);
+                match shared {
+                    Some(result) => result,
+                    None => self.read_all_alone(alloc, &server.word, &mut **lock.write(rt), calls),
                 }
-                AnyLock::Sharded(lock) => {
-                    self.read_all_alone(alloc, &server.word, &mut **lock.write(rt), calls)
-                }
-            },
+            }
         }
     }
 
@@ -218,45 +219,13 @@ impl<B: HistoryId> Caller<B> {
         calls: &[Call],
     ) -> Result<Vec<Option<Reply>>, AllocError>
         requires { word.now ≡ head_of B.book }
-        ensures ok { IfOk result (λ replies. AnswersReads B.limits self.new.seen self.old.own.pid calls.now replies.items) }
+        ensures ok { IfOk result (λ replies.
+            AnswersReads B.limits self.new.seen self.old.own.pid calls.now replies.items) }
         ensures own { self.new.own ≡ self.old.own }
         ensures seen { IsPrefix self.old.seen self.new.seen }
     {
         self.look_alone(word, served);
         served.read_all(alloc, self.pid(), calls)
-    }
-
-    /// Sees the whole history if its length shows that it has all that this caller saw. Returns whether it did.
-    fn look<H: KeyHash + Copy + Drop>(&mut self, served: &ServedNode<B, H>) -> bool
-        ensures own { self.new.own ≡ self.old.own }
-        ensures seen { MatchBool result (self.new.seen ≡ served.now.history) (self.new ≡ self.old) }
-        ensures later { IsPrefix self.old.seen self.new.seen }
-    {
-        let count = served.count();
-        if self.count > count || self.count == u64::MAX {
-            return false;
-        }
-        let all = served.seen();
-        self.seen.begins(&all);
-        self.seen = all;
-        self.count = count;
-        true
-    }
-
-    /// Sees the whole history. The node does not change.
-    fn look_alone<H: KeyHash + Copy + Drop>(
-        &mut self,
-        word: &HistoryWord,
-        served: &mut ServedNode<B, H>,
-    )
-        requires { word.now ≡ head_of B.book }
-        ensures own { self.new.own ≡ self.old.own }
-        ensures seen { self.new.seen ≡ served.old.history }
-        ensures later { IsPrefix self.old.seen self.new.seen }
-        ensures same { served.new ≡ served.old }
-    {
-        served.show(word, &mut self.seen);
-        self.count = served.count();
     }
 
     /// Returns the number that chooses the shard of a sharded lock for a read. Callers whose numbers differ modulo 8,

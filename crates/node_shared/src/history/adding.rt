@@ -45,8 +45,9 @@ pub(super) fn open_turn<B: HistoryId>(
     ensures next { turn_of (of_server B.root) seen.new.log ≡ Some to.now.next.nib.key }
     ensures before { IsPrefix (history_of B.root seen.old.log) (history_of B.root server.now.log) }
 {
-    let mut offer: Offer<Line, u64, HistoryRule, Nothing> = seen
-        .plain::<Nothing, Turn, AddLine<B>>(to);
+    let mut offer: Offer<Line, u64, HistoryRule, Nothing> = seen.plain::<Nothing, Turn, AddLine<B>>(
+        to,
+    );
     word.compare_exchange::<AddLine<B>, Nothing>(0, 0, seen, &mut offer, &mut turn);
 }
 
@@ -76,8 +77,11 @@ pub(super) fn add_entry<B: HistoryId>(
         → turn_of (of_process B.root p) seen.new.log ≡ Some added.now.own.nib.key }
     ensures before { IsPrefix (history_of B.root seen.old.log) (history_of B.root server.now.log) }
 {
-    let mut offer: Offer<Line, u64, HistoryRule, Nothing> = seen
-        .plain::<Nothing, Added, AddLine<B>>(added);
+    let mut offer: Offer<Line, u64, HistoryRule, Nothing> = seen.plain::<
+        Nothing,
+        Added,
+        AddLine<B>,
+    >(added);
     word.compare_exchange::<AddLine<B>, Nothing>(0, 0, seen, &mut offer, &mut turn);
 }
 

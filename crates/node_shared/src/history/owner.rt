@@ -1,13 +1,14 @@
-//! The owner of a history, which knows all of it, and the writers of its entries, one for each process.
-ghost use Rattle.std.specs.Prelude.{◌≡◌, ◌≢◌, ℕ, true, false, [], ◌∷◌, ◌++◌, Some, IfOk};
+//! The owner of a history, which knows all of it and adds entries.
+ghost use Rattle.std.specs.Prelude.{◌≡◌, ℕ, true, false, [], ◌∷◌, ◌++◌, Some, IfOk};
 ghost use mathlib.Core.List.{IsPrefix};
 ghost use Rattle.logbook.specs.Pages.{may_write};
 ghost use Rattle.node_shared.specs.Journal.{is_entry_of, entries_of};
-ghost use Rattle.node_shared.specs.inside.Lines.{head_of, of_server, of_process, turn_of, history_of};
+ghost use Rattle.node_shared.specs.inside.Lines.{head_of, of_server, turn_of, history_of};
 
 use crate::entry::Entry;
 use crate::history::adding::{add_entry, confirm, new_pen, open_turn};
 use crate::history::rule::{Added, Turn};
+use crate::history::writer::HistoryWriter;
 use crate::history::{HistoryId, HistoryWord, SeenHistory, Token};
 use logbook::{Pen, Seen, Start, Word};
 use std::alloc::{AllocError, Global};
@@ -83,51 +84,6 @@ impl<B: HistoryId> Model for HistoryOwner<B> {
 
     ghost invariant = { λ o. (o.seen.book ≡ B.book) × (o.turn.book ≡ B.book) × (o.turn.nib.right ≡ may_write)
         × (turn_of (of_server B.root) o.seen.log ≡ Some o.turn.nib.key) };
-}
-
-/// The writer of a process's entries: a token of the history as it was after the last of them, and the pen that alone
-/// may add another one. A contract sees the process and its entries.
-#[derive(Drop)]
-pub struct HistoryWriter<B: HistoryId> {
-    pid: u32,
-    mine: Token,
-    turn: Pen,
-    id: PhantomData<B>,
-}
-
-impl<B: HistoryId> Model for HistoryWriter<B> {
-    ghost use Rattle.std.specs.Prelude.{◌≡◌, Some};
-    ghost use Rattle.logbook.specs.Pages.{may_write};
-    ghost use Rattle.node_shared.specs.Journal.{entries_of};
-    ghost use Rattle.node_shared.specs.Records.{RecordState};
-    ghost use Rattle.node_shared.specs.inside.Codes.{record_code};
-    ghost use Rattle.node_shared.specs.inside.Lines.{history_of, turn_of, of_process};
-
-    ghost Value = { RecordState };
-
-    ghost coded = { record_code };
-
-    ghost view = { λ w. record { pid = w.pid; entries = entries_of w.pid (history_of B.root w.mine.log) } };
-
-    ghost invariant = { λ w. (w.mine.book ≡ B.book) × (w.turn.book ≡ B.book) × (w.turn.nib.right ≡ may_write)
-        × (turn_of (of_process B.root w.pid) w.mine.log ≡ Some w.turn.nib.key) };
-}
-
-impl<B: HistoryId> HistoryWriter<B> {
-    /// Returns the number of the process.
-    pub(crate) fn pid(&self) -> u32
-        ensures { result ≡ self.now.pid }
-    {
-        self.pid
-    }
-
-    /// Shows that the process has an entry. It does nothing.
-    pub(crate) fn has_joined(&self)
-        ensures { self.now.entries ≢ [] }
-    {
-        // The borrow gives the proof the invariant of `self`.
-        let _turn = &self.turn;
-    }
 }
 
 impl<B: HistoryId> HistoryOwner<B> {

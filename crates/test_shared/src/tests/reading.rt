@@ -177,8 +177,8 @@ fn new_caller_reads_what_it_inserted<B: HistoryId, R: Wait>(
     reads_what_it_inserted(rt, alloc, server, callers.first_mut()?)
 }
 
-/// Creates a server, and returns whether a caller reads what it inserted. `B` names the history and the limits. In the
-/// contract, the table is the kit's table of shared words, which has the word of the history.
+/// Creates a server, and returns whether a caller reads what it inserted. `B` names the history and the limits, by
+/// the book of the kit's crate `logbook` that has the history, and the key of its first pen.
 fn new_server_replies_to_reads<B: HistoryId, R: Wait>(
     rt: &R,
     alloc: Global,

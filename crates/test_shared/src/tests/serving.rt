@@ -1,8 +1,8 @@
 //! Tests of a server, which runs the calls of its callers, and pending growth steps in `keep` and at the end of
 //! `ask_all`.
 // Callers in threads may call it at the same time. Nine objects in a new table make four growth steps pending. `B`
-// names the history and the limits of a server. In contracts, the table is the kit's table of shared words, which has
-// the word of the history.
+// names the history and the limits of a server. In contracts, the book is that of the kit's crate `logbook` which has
+// the history, and the root is the key of its first pen.
 ghost use Rattle.std.specs.Prelude.{◌≡◌};
 ghost use Rattle.std.specs.Thread.{IsSync};
 

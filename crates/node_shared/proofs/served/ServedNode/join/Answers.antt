@@ -26,8 +26,8 @@ returns-then-not-is_value-clause-err g c =
     let same : c.step.new.self ≡ c.self.inside.node = not-enrolled c.self.inside.node c.step.new.self c.args.pid c.in-Ok.reply refused c.in-Ok.ensures.ok c.in-Ok.ensures.buckets in
     (λ i. record { state = same i; history = c.self.inside.owner }) ∙ c.self.view_is
 
-pub enter_first-requires-clause-none : goal.enter_first-requires-clause-none
-enter_first-requires-clause-none g c =
+pub enter_first-writer-requires-clause-none : goal.enter_first-writer-requires-clause-none
+enter_first-writer-requires-clause-none g c =
     let granted : is_value c.in-Ok.reply ≡ true = search rules in
     c.self.invariant.2 c.args.pid (enrol-fresh (observable c.self.inside.node) (observable c.step.new.self) c.args.pid c.in-Ok.reply granted c.in-Ok.ensures.ok)
 
@@ -42,15 +42,15 @@ invariant_of-self-2 g c =
     let p = c.args.pid in
     let reply = c.in-Ok.reply in
     let known : is_some (process_at new.world.processes p) ≡ true = enrol-known (observable old) (observable new) p reply granted did.ok in (
-      rw c.enter_first.ensures.all (run-on g.B.HistoryId.limits old new h (Enrol p) reply was.0 (did.ok, did.buckets)),
-      rw (c.saturating_add-self-inside.ensures, c.enter_first.ensures.all) (counts-on h (entry (Enrol p) reply) c.self.inside.count was.1),
-      rw c.enter_first.ensures.all (known-on h old new (Enrol p) reply was.2 (did.ok, did.buckets) (λ q is. subst (λ (i : ℕ). is_some (process_at new.world.processes i) ≡ true) (same-process p q (Enrol p) (same-number p) is) known)),
+      rw c.enter_first-writer.ensures.all (run-on g.B.HistoryId.limits old new h (Enrol p) reply was.0 (did.ok, did.buckets)),
+      rw (c.saturating_add-self-inside.ensures, c.enter_first-writer.ensures.all) (counts-on h (entry (Enrol p) reply) c.self.inside.count was.1),
+      rw c.enter_first-writer.ensures.all (known-on h old new (Enrol p) reply was.2 (did.ok, did.buckets) (λ q is. subst (λ (i : ℕ). is_some (process_at new.world.processes i) ≡ true) (same-process p q (Enrol p) (same-number p) is) known)),
     )
 
 pub returns-clause-pid : goal.returns-clause-pid
 returns-clause-pid g c =
     let granted : is_value c.in-Ok.reply ≡ true = search rules in
-    ap (λ (e : Entry). e.reply) c.enter_first.ensures.same ∙ enrol-granted (observable c.self.inside.node) (observable c.step.new.self) c.args.pid c.in-Ok.reply granted c.in-Ok.ensures.ok
+    ap (λ (e : Entry). e.reply) c.enter_first-writer.ensures.same ∙ enrol-granted (observable c.self.inside.node) (observable c.step.new.self) c.args.pid c.in-Ok.reply granted c.in-Ok.ensures.ok
 
 pub returns-clause-none : goal.returns-clause-none
 returns-clause-none g c =

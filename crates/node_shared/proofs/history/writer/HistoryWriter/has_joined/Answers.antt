@@ -2,7 +2,7 @@ use Rattle.std.proofs.Common.{◌≡◌, [], None, Some, sym, ap, ◌∙◌}
 use Rattle.node_shared.specs.Journal.{entries_of}
 use Rattle.node_shared.specs.inside.Lines.{history_of}
 use Rattle.node_shared.proofs.Lines.{none-turn}
-use Rattle.node_shared.proofs.history.owner.HistoryWriter.has_joined.Goals as goal
+use Rattle.node_shared.proofs.history.writer.HistoryWriter.has_joined.Goals as goal
 
 pub returns : goal.returns
 returns g c none =
