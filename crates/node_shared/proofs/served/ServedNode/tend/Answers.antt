@@ -20,7 +20,7 @@ invariant_of-self-2 g c =
     let due = c.in-Some.due in
     let reply = c.in_ok-reply.reply in
     let none : (p : ℕ) → is_step_of p due ≡ false = λ p. due-tends (λ s. is_step_of p s ≡ false) (λ t. refl) (λ t bucket. refl) old due (sym c.due.ensures ∙ c.in-Some.is) in (
-      rw c.enter_growth.ensures (run-on g.B.HistoryId.limits old new h due reply was.0 (did.ok, did.buckets)),
-      rw (c.saturating_add-self-inside.ensures, c.enter_growth.ensures) (counts-on h (entry due reply) c.self.inside.count was.1),
-      rw c.enter_growth.ensures (known-growth h old new due reply was.2 (did.ok, did.buckets) none),
+      rw c.enter_growth.ensures.all (run-on g.B.HistoryId.limits old new h due reply was.0 (did.ok, did.buckets)),
+      rw (c.saturating_add-self-inside.ensures, c.enter_growth.ensures.all) (counts-on h (entry due reply) c.self.inside.count was.1),
+      rw c.enter_growth.ensures.all (known-growth h old new due reply was.2 (did.ok, did.buckets) none),
     )
