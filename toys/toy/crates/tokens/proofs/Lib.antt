@@ -1,0 +1,5 @@
+pub mod Prefixes
+pub mod Cells
+pub mod Lines
+pub mod Relay
+pub mod Entering

@@ -1,0 +1,9 @@
+pub mod Prefixes
+pub mod Cells
+pub mod Lines
+pub mod Relay
+pub mod Entering
+pub mod Stubs
+pub mod Reading
+pub mod Callers
+pub mod SentServers

@@ -1,0 +1,93 @@
+-- The states of a served node and of a caller, and what holds of each reply.
+use Rattle.std.specs.Prelude.{◌≡◌, ℕ, ◌^◌, ◌-◌, Bool, false, List, [], ◌∷◌, ◌++◌, Option, None, length, min}
+use mathlib.Core.List.{IsPrefix}
+use Rattle.std.specs.Bool.{MatchBool}
+use Rattle.std.specs.Option.{IsSomeAnd}
+use Rattle.tokens.specs.declared.node.Limits.{Limits}
+use Rattle.tokens.specs.declared.node.Step.{Step}
+use Rattle.tokens.specs.declared.node.Step.TheVariants.{Enrol}
+use Rattle.tokens.specs.declared.node.Call.{Call}
+use Rattle.tokens.specs.declared.node.Reply.{Reply}
+use Rattle.tokens.specs.declared.node.Reply.TheVariants.{Value}
+use Rattle.tokens.specs.Toy.{Pid}
+use Rattle.tokens.specs.Toy.{State}
+use Rattle.tokens.specs.Toy.{observable}
+use Rattle.tokens.specs.Toy.{Reads}
+use Rattle.tokens.specs.Toy.{due}
+use Rattle.tokens.specs.declared.entry.Entry.{Entry}
+use Rattle.tokens.specs.Journal.{entry, TakesStep, IsRun, entries_of}
+use Rattle.tokens.specs.Toy.{is_value}
+use Rattle.tokens.specs.Records.{RecordState, with_entry}
+
+-- a state, and the steps with their replies that led to it
+pub record ServedState : Type 0 where
+  pub state : State
+  pub history : List Entry
+
+-- the node runs the step with this reply, and its entry is the last of the history
+abbrev pub ServesStep : ServedState → Step → Reply → ServedState → Type 0
+ServesStep old s r new = TakesStep old.state s r new.state × (new.history ≡ old.history ++ entry s r ∷ [])
+
+-- the pending growth step is run, and its entry is the last of the history; or none is pending, and nothing changes
+abbrev pub ServesGrowth : ServedState → ServedState → Bool → Type 0
+ServesGrowth old new did =
+    MatchBool did
+    (IsSomeAnd (due old.state) (λ event. (r : Reply) × ServesStep old event r new))
+    ((due old.state ≡ None) × (new ≡ old))
+
+-- the pending growth step is run, and its entry is the last of the history; or nothing changes
+abbrev pub TriesServingGrowth : ServedState → ServedState → Bool → Type 0
+TriesServingGrowth old new did =
+    MatchBool did
+    (IsSomeAnd (due old.state) (λ event. (r : Reply) × ServesStep old event r new))
+    (new ≡ old)
+
+-- the number of these entries, at most the greatest `u64`
+abbrev pub entry_count : List Entry → ℕ
+entry_count entries = min (length entries) (2 ^ 64 - 1)
+
+-- a run of a node with these limits has these entries, and this is the result of reading in the state after it
+abbrev pub AnswersRead : Limits → List Entry → ℕ → Call → Option Reply → Type 0
+AnswersRead limits entries p asked answer =
+    (state : State) × IsRun limits entries state × Reads (observable state) p asked answer
+
+-- each answer is the result of reading by the call of the same index, in this state
+abbrev pub AreRead : State → ℕ → List Call → List (Option Reply) → Type 0
+AreRead s p [] [] = Unit {0}
+AreRead s p (asked ∷ more) (answer ∷ answers) = Reads s p asked answer × AreRead s p more answers
+AreRead s p [] (answer ∷ answers) = ⊥
+AreRead s p (asked ∷ more) [] = ⊥
+
+-- the same as AnswersRead, for several calls in one state
+abbrev pub AnswersReads : Limits → List Entry → ℕ → List Call → List (Option Reply) → Type 0
+AnswersReads limits entries p calls answers =
+    (state : State) × IsRun limits entries state × AreRead (observable state) p calls answers
+
+-- this refusal to enrol p ends some run of a node with these limits
+abbrev pub RefusesCaller : Limits → ℕ → Reply → Type 0
+RefusesCaller limits p r =
+    (is_value r ≡ false) × (before : List Entry) × (state : State) × IsRun limits (before ++ entry (Enrol p) r ∷ []) state
+
+-- a caller's own record, and the entries of the server's history that it saw
+pub record CallerState : Type 0 where
+  pub own : RecordState
+  pub seen : List Entry
+
+-- The caller saw the step with this reply at the end of a run of a node with these limits. The entries before it begin
+-- with all that the caller saw, and those of its process among them are exactly its record. Its record has the step too.
+pub record Continues (limits : Limits) (old : CallerState) (s : Step) (r : Reply) (new : CallerState) : Type 0 where
+  pub own : new.own ≡ with_entry old.own s r
+  pub before : List Entry
+  pub saw : IsPrefix old.seen before
+  pub exact : entries_of old.own.pid before ≡ old.own.entries
+  pub last : new.seen ≡ before ++ entry s r ∷ []
+  pub state : State
+  pub run : IsRun limits new.seen state
+
+-- a process that was not enrolled yet, and saw nothing
+abbrev pub no_caller : ℕ → CallerState
+no_caller p = record { own = record { pid = p; entries = [] }; seen = [] }
+
+-- a new caller of p: it saw its enrolment, after entries of other processes
+abbrev pub IsEnrolledCaller : Limits → ℕ → CallerState → Type 0
+IsEnrolledCaller limits p caller = Continues limits (no_caller p) (Enrol p) (Value (Pid p)) caller

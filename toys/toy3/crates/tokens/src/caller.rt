@@ -1,0 +1,151 @@
+//! A caller of a server: it makes the calls of one process. Its tokens know, in proofs only, what the caller saw of the
+//! server's history, and which entries it added.
+ghost use Rattle.std.specs.Prelude.{◌≡◌, true, IfOk, OnErr};
+ghost use mathlib.Core.List.{IsPrefix};
+ghost use Rattle.tokens.specs.declared.node.Step.TheVariants.{End, Ask};
+ghost use Rattle.tokens.specs.Toy.{is_step_of};
+ghost use Rattle.tokens.specs.Serving.{Continues, entry_count};
+ghost use Rattle.tokens.specs.inside.Lines.{head_of};
+
+mod reads;
+
+use crate::history::{HistoryId, HistoryWord, HistoryWriter, SeenHistory};
+use crate::served::ServedNode;
+use crate::server::Server;
+use crate::server_lock::AnyLock;
+use crate::node::KeyHash;
+use crate::node::{Call, Reply, Step};
+use std::alloc::AllocError;
+use std::marker::Model;
+use std::sync::Wait;
+
+/// Makes the calls of one process of a server. A contract sees the process, its own steps with their replies, and all
+/// entries of the server's history that the caller saw. The entries exist in proofs only; `count` is how many it saw.
+#[derive(Drop)]
+pub struct Caller<B: HistoryId> {
+    /// The token that knows, in proofs only, which entries this caller added.
+    writer: HistoryWriter<B>,
+    /// The token that knows, in proofs only, the entries that this caller saw.
+    seen: SeenHistory<B>,
+    /// The number of the entries that this caller saw, at most the greatest `u64`.
+    count: u64,
+}
+
+impl<B: HistoryId> Model for Caller<B> {
+    ghost use Rattle.std.specs.Prelude.{◌≡◌};
+    ghost use Rattle.tokens.specs.Serving.{CallerState, entry_count};
+    ghost use Rattle.tokens.specs.inside.Codes.{caller_code};
+
+    ghost Value = { CallerState };
+
+    ghost coded = { caller_code };
+
+    ghost view = { λ c. record { own = c.writer; seen = c.seen } };
+
+    ghost invariant = { λ c. c.count ≡ entry_count c.seen };
+}
+
+impl<B: HistoryId> Caller<B> {
+    /// Makes the caller of a process, which saw `count` entries.
+    pub(crate) fn new(writer: HistoryWriter<B>, seen: SeenHistory<B>, count: u64) -> Self
+        requires { count ≡ entry_count seen }
+        ensures { result ≡ record { own = writer; seen = seen } }
+    {
+        Caller {
+            writer,
+            seen,
+            count,
+        }
+    }
+
+    /// Returns the number of the process. It takes no memory.
+    pub fn pid(&self) -> u32
+        ensures { result ≡ self.now.own.pid }
+    {
+        self.writer.pid()
+    }
+
+    /// Learns all that another caller of this server saw: the next calls of this caller come after it. Call it when the
+    /// other caller tells this one something.
+    pub fn learn(&mut self, other: &Caller<B>)
+        ensures own { self.new.own ≡ self.old.own }
+        ensures this { IsPrefix self.old.seen self.new.seen }
+        ensures that { IsPrefix other.now.seen self.new.seen }
+    {
+        if self.count < other.count {
+            self.seen.begins(&other.seen);
+            drop(other.seen.again());
+            self.count = other.count;
+        } else if other.count < u64::MAX {
+            other.seen.begins(&self.seen);
+        } else {
+            // Both counts are the greatest `u64`, so they tell nothing.
+            self.seen = self.seen.with(&other.seen);
+        }
+    }
+
+    /// Makes a call and returns its reply. The call is the last of a run of the node, after all that this caller saw,
+    /// and after exactly its own earlier calls with their replies. Running out of memory changes nothing. It may wait
+    /// for the lock.
+    pub fn ask<H: KeyHash + Copy + Drop, R: Wait>(
+        &mut self,
+        rt: &R,
+        server: &Server<B, H>,
+        call: Call,
+    ) -> Result<Reply, AllocError>
+        ensures ok { IfOk result (λ r. Continues B.limits self.old (Ask self.old.own.pid call) r self.new) }
+        ensures err { OnErr result (self.new ≡ self.old) }
+    {
+        let event = Step::Ask(self.pid(), call);
+        self.step(rt, server, event)
+    }
+
+    /// Ends the process and returns the reply; the reply to later calls is `NoProcess`. `ask` says what holds of order
+    /// and of running out of memory. It may wait for the lock.
+    pub fn end<H: KeyHash + Copy + Drop, R: Wait>(
+        &mut self,
+        rt: &R,
+        server: &Server<B, H>,
+    ) -> Result<Reply, AllocError>
+        ensures ok { IfOk result (λ r. Continues B.limits self.old (End self.old.own.pid) r self.new) }
+        ensures err { OnErr result (self.new ≡ self.old) }
+    {
+        let event = Step::End(self.pid());
+        self.step(rt, server, event)
+    }
+
+    /// Takes the lock, of whichever kind, runs one step, and returns its reply.
+    fn step<H: KeyHash + Copy + Drop, R: Wait>(
+        &mut self,
+        rt: &R,
+        server: &Server<B, H>,
+        event: Step,
+    ) -> Result<Reply, AllocError>
+        requires { is_step_of self.old.own.pid event ≡ true }
+        ensures ok { IfOk result (λ r. Continues B.limits self.old event r self.new) }
+        ensures err { OnErr result (self.new ≡ self.old) }
+    {
+        match &server.lock.kind {
+            AnyLock::Single(lock) => self.step_locked(&server.word, &mut *lock.write(rt), event),
+            AnyLock::Sharded(lock) => self.step_locked(&server.word, &mut **lock.write(rt), event),
+        }
+    }
+
+    /// Runs a step on the node under the lock, after which this caller saw the whole history, and returns the reply.
+    fn step_locked<H: KeyHash + Copy + Drop>(
+        &mut self,
+        word: &HistoryWord,
+        served: &mut ServedNode<B, H>,
+        event: Step,
+    ) -> Result<Reply, AllocError>
+        requires word { word.now ≡ head_of B.book }
+        requires own { is_step_of self.old.own.pid event ≡ true }
+        ensures ok { IfOk result (λ r. Continues B.limits self.old event r self.new) }
+        ensures err { OnErr result (self.new ≡ self.old) }
+    {
+        let mut shown = self.seen.again(); let reply = served.step(word, &mut self.writer, &mut shown, event)?;
+        self.count = served.count();
+        Ok(reply)
+    }
+}
+
