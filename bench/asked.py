@@ -9,6 +9,7 @@ from dataclasses import dataclass
 
 from building import erlang, stop
 from packets import SPAWN
+from timing import Piped
 
 LONGEST = 240.0  # seconds that a part may take
 QUIET = [
@@ -27,23 +28,11 @@ QUIET = [
 ]
 
 
-class Asked:
+class Asked(Piped):
     """A program with pipes, whose processor time is read."""
 
     def __init__(self, command: list[str]) -> None:
-        self.name = command[0]
-        self.program = subprocess.Popen(command, stdin=subprocess.PIPE, stdout=subprocess.PIPE)
-        self.guard = threading.Timer(LONGEST, self.program.kill)
-        self.guard.start()
-
-    def __enter__(self) -> "Asked":
-        return self
-
-    def __exit__(self, *_: object) -> None:
-        self.guard.cancel()
-        self.program.stdin.close()
-        self.program.stdout.close()
-        self.program.wait()
+        super().__init__(command, LONGEST)
 
     def spent(self) -> float:
         """The seconds of processor time of all threads, once none of them runs."""

@@ -88,38 +88,37 @@ def versus() -> str:
         row(label, sized[f"calls-into {operation}"], ets[operation], "ns")
         for operation, label in CALLS.items()
     ]
-    rows.append(
-        row(
+    others = (
+        (
             "select, one of 1,000,000",
-            cell(passes, "select, a guard", "this store"),
-            cell(passes, "select, a guard", "ets"),
+            passes,
+            "select, a guard",
+            "this store",
+            "ets",
             "ns per object",
-        )
-    )
-    rows.append(
-        row(
-            "tab2list of 1,000,000",
-            cell(passes, "tab2list", "this store"),
-            cell(passes, "tab2list", "ets"),
-            "ns per object",
-        )
-    )
-    rows.append(
-        row(
+        ),
+        ("tab2list of 1,000,000", passes, "tab2list", "this store", "ets", "ns per object"),
+        (
             "memory of {Int,Int}, 600,000 objects",
-            cell(memory, "{Int,Int}", "this store"),
-            cell(memory, "{Int,Int}", "ets"),
+            memory,
+            "{Int,Int}",
+            "this store",
+            "ets",
             "bytes",
-        )
-    )
-    rows.append(
-        row(
+        ),
+        (
             "4 threads of a Server, 9 reads to a write",
-            cell(clients, "4 clients", "Server"),
-            cell(clients, "4 clients", "ets, concurrent"),
+            clients,
+            "4 clients",
+            "Server",
+            "ets, concurrent",
             "ns",
-        )
+        ),
     )
+    rows += [
+        row(label, cell(section, name, ours), cell(section, name, theirs), unit)
+        for label, section, name, ours, theirs, unit in others
+    ]
     title = f"Yoyoash compared with Erlang's ets ({SIZE:,} objects where no size is named)"
     return plot.bars(
         title,

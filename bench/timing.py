@@ -9,6 +9,7 @@ import subprocess
 import threading
 import time
 from dataclasses import dataclass, field
+from typing import Self
 
 from building import stop
 
@@ -54,18 +55,18 @@ def timed(runs: Runs, command: list[str], script: pathlib.Path, answers: pathlib
     runs.peak.append(1024 * used.ru_maxrss)
 
 
-class Talk:
-    """A program that is asked through pipes, each part of a script timed by itself."""
+class Piped:
+    """A program with pipes, which a timer ends after some seconds."""
 
-    def __init__(self, command: list[str]) -> None:
+    def __init__(self, command: list[str], longest: float, bufsize: int = -1) -> None:
         self.name = command[0]
         self.program = subprocess.Popen(
-            command, stdin=subprocess.PIPE, stdout=subprocess.PIPE, bufsize=0
+            command, stdin=subprocess.PIPE, stdout=subprocess.PIPE, bufsize=bufsize
         )
-        self.guard = threading.Timer(5 * LIMIT, self.program.kill)
+        self.guard = threading.Timer(longest, self.program.kill)
         self.guard.start()
 
-    def __enter__(self) -> "Talk":
+    def __enter__(self) -> Self:
         return self
 
     def __exit__(self, *_: object) -> None:
@@ -73,6 +74,13 @@ class Talk:
         self.program.stdin.close()
         self.program.stdout.close()
         self.program.wait()
+
+
+class Talk(Piped):
+    """A program that is asked through pipes, each part of a script timed by itself."""
+
+    def __init__(self, command: list[str]) -> None:
+        super().__init__(command, 5 * LIMIT, bufsize=0)
 
     def ask(self, lines: list[str]) -> tuple[float, int, str]:
         """The seconds from the first line's way in to the end of the last answer; the answers'
