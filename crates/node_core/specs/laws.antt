@@ -1,3 +1,4 @@
+pub mod Erasing
 pub mod Kept
 pub mod Reached
 pub mod Runs

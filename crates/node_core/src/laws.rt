@@ -1,5 +1,6 @@
 //! Laws of the machine's runs. Each is the contract of a function that does nothing.
 
+ghost use Rattle.node_core.specs.laws.Erasing.{GrowthErases, RunsCut};
 ghost use Rattle.node_core.specs.laws.Kept.{StepsKeepKeys};
 ghost use Rattle.node_core.specs.laws.Reached.{RunsStaySound, ReachedAreSound};
 ghost use Rattle.node_core.specs.laws.Runs.{RunsAreObservable, TranscriptsAreRuns};
@@ -32,4 +33,15 @@ pub fn steps_keep_keys()
 pub fn walks_are_whole()
     ensures whole { TableWalksAreWhole }
     ensures sound { SoundStatesHaveSoundKeys }
+{}
+
+/// A run without its growth steps is a run with the other replies. So growth is nothing that a reply can show.
+pub fn growth_erases()
+    ensures { GrowthErases }
+{}
+
+/// A run can be cut at any point: its first steps are a run, and so are the others, from the state between. So each law
+/// of runs holds of each stretch of a run.
+pub fn runs_cut()
+    ensures { RunsCut }
 {}
