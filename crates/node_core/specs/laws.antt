@@ -1,5 +1,6 @@
 pub mod Erasing
 pub mod Kept
+pub mod Outcomes
 pub mod Reached
 pub mod Runs
 pub mod Walk

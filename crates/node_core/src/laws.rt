@@ -2,6 +2,7 @@
 
 ghost use Rattle.node_core.specs.laws.Erasing.{GrowthErases, RunsCut};
 ghost use Rattle.node_core.specs.laws.Kept.{StepsKeepKeys};
+ghost use Rattle.node_core.specs.laws.Outcomes.{RefusalsChangeNothing, StepsHaveOutcomes};
 ghost use Rattle.node_core.specs.laws.Reached.{RunsStaySound, ReachedAreSound};
 ghost use Rattle.node_core.specs.laws.Runs.{RunsAreObservable, TranscriptsAreRuns};
 ghost use Rattle.node_core.specs.laws.Walk.{TableWalksAreWhole, SoundStatesHaveSoundKeys};
@@ -44,4 +45,15 @@ pub fn growth_erases()
 /// of runs holds of each stretch of a run.
 pub fn runs_cut()
     ensures { RunsCut }
+{}
+
+/// A refusal changes nothing: a step whose reply is a refusal leaves the state as it was. No step is an exception.
+pub fn refusals_change_nothing()
+    ensures { RefusalsChangeNothing }
+{}
+
+/// Every step has an outcome: in each state that a run reaches from the empty one, each step has a reply and a state
+/// after it.
+pub fn steps_have_outcomes()
+    ensures { StepsHaveOutcomes }
 {}

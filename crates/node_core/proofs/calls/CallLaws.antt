@@ -34,7 +34,7 @@ use Rattle.node_core.proofs.calls.Changes.{usable-there}
 use Rattle.node_core.proofs.moves.Moves.{Moves, moves-same, follows-fixed}
 use Rattle.node_core.proofs.calls.Rules.{IsLawful, contrary, true-flat, fixes-lawful, releases-lawful}
 use Rattle.node_core.proofs.buckets.ObservableTables.{observable_world, observable_found, at-observable, whereis-observable, resolve-observable, usable-observable, set-observable, with_table-observable}
-use Rattle.node_core.proofs.moves.Preserves.{Preserves}
+use Rattle.node_core.proofs.moves.Preserves.{none-bounded, Preserves}
 use Rattle.node_core.proofs.moves.WorldLaws.{IsLawfulOutcome, new-lawful, give-lawful, set_options-lawful}
 use Rattle.node_core.proofs.moves.WorldMoves.{receive-moves, new-moves, gone-moves, give-moves, heir-moves}
 
@@ -221,7 +221,7 @@ module _ (own : ℕ → Bool) (needs : Bool) (old : State) where
         let fixed = new_table_of old.limits.objects options in
         changes_world-lawful Value (λ n. contrary needed n)
         (new-lawful (Moves own old.world) old.world still p text options fixed
-        (new-moves own old.world p text options fixed refl refl))
+        (new-moves own old.world p text options fixed refl refl none-bounded))
 
     pub new_call-lawful : needs ≡ true → (name options : Term)
         → Lawful (New old p name options) (New (observable old) p name options)

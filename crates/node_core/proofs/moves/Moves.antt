@@ -8,13 +8,14 @@ use Rattle.fixed_walk.specs.TableState.{TableState}
 use Rattle.ownership.specs.World.{Table, Tables, World, table_at, whereis, with_state, with_changed}
 use Rattle.ownership.specs.inside.States.{table_with_state}
 use Rattle.node_core.specs.rules.Tables.{first_buckets}
-use Rattle.node_core.proofs.moves.Preserves.{Preserves, preserves-same}
+use Rattle.node_core.proofs.moves.Preserves.{AreBounded, Preserves, preserves-same}
 
--- a table that is new is last, has no slot and a new table's buckets, and has no name that another has
+-- a table that is new is last, has no slot and a new table's buckets, no more fixes than it may have, and no name that another has
 pub record Enters (old : Tables) (t : ℕ) (table : Table) : Type 0 where
   pub place : t ≡ length old
   pub bare : table.state.content.slots ≡ []
   pub fresh : table.state.buckets ≡ first_buckets
+  pub bounded : AreBounded table.state.fixes
   pub free : table.metadata.named ≡ true → whereis old table.metadata.name ≡ None
 
 -- ---- where tables are found after one place is written, one is added, or all are mapped
@@ -123,9 +124,9 @@ module _ (own : ℕ → Bool) where
     follows-changed change stays place =
         follows-set place (option_map change (table_at ts place)) (change-written change stays (table_at ts place))
 
-    pub follows-push : (new : Table) → new.state.content.slots ≡ [] → new.state.buckets ≡ first_buckets
+    pub follows-push : (new : Table) → new.state.content.slots ≡ [] → new.state.buckets ≡ first_buckets → AreBounded new.state.fixes
         → (new.metadata.named ≡ true → whereis ts new.metadata.name ≡ None) → Follows ts (ts ++ Some new ∷ [])
-    follows-push new bare fresh free =
+    follows-push new bare fresh bounded free =
         record { long = let e = length-append ts (Some new ∷ []) in omega (arith, e); came = λ t table at. by t table (push-at ts t new table at) }
       where
         by : (t : ℕ) (table : Table)
@@ -134,7 +135,7 @@ module _ (own : ℕ → Bool) where
         by t table (inl same) = stayed ts t table table same (stays-same table)
         by t table (inr more) =
             subst (λ (o : Option Table). Came ts t o table) (sym more.1) (
-            subst (Enters ts t) more.2 (record { place = more.0; bare = bare; fresh = fresh; free = free }))
+            subst (Enters ts t) more.2 (record { place = more.0; bare = bare; fresh = fresh; bounded = bounded; free = free }))
 
     pub follows-map : (change : Option Table → Option Table) → change None ≡ None
         → ((was table : Table) → change (Some was) ≡ Some table → Stays was table) → Follows ts (map change ts)

@@ -1,14 +1,16 @@
--- What a change keeps of a table: its buckets, its keys and the fixes of other processes; and no slot gets the key '$end_of_table'.
-use Rattle.std.proofs.Common.{◌≡◌, ℕ, zero, suc, ◌+◌, ◌-◌, ◌==◌, Bool, true, false, cond, None, Some, unwrap_or, Result, Ok, Err, refl, ap, ◌∙◌, arith}
+-- What a change keeps of a table: its buckets, its keys, the fixes of other processes and their bound; and no slot gets the key
+-- '$end_of_table'.
+use Rattle.std.proofs.Common.{◌≡◌, ℕ, zero, suc, ◌+◌, ◌-◌, ◌==◌, ◌≤◌, Bool, true, false, cond, None, Some, unwrap_or, Result, Ok, Err, refl, sym, ap, subst, ◌∙◌, arith}
 use Rattle.std.specs.Ordering.{nat_cmp, eq_by_cmp}
 use Rattle.std.specs.Cmp.{nat_cmp_total}
-use Rattle.std.specs.FinMap.{get, get-insert, get-remove}
+use Rattle.std.specs.FinMap.{empty, get, get-empty, get-insert, get-remove}
 use Rattle.std.proofs.lemmas.Bool.Decides.{nat_tests}
 use Rattle.bucket_table.specs.Slots.{without_tombstones}
+use Rattle.table_ops.specs.Content.{Content}
 use Rattle.table_ops.specs.Drop.{Which}
 use Rattle.fixed_walk.specs.declared.fault.FixFault.{FixFault}
 use Rattle.fixed_walk.specs.declared.fault.FixFault.TheVariants as fault
-use Rattle.fixed_walk.specs.Fixes.{FixCounts, fix_count, is_fixed, with_count}
+use Rattle.fixed_walk.specs.Fixes.{FixCounts, fix_count, max_fixes, is_fixed, with_count}
 use Rattle.fixed_walk.specs.TableState.{TableState, IncrementsFix, without_tombstones_if_unfixed, after_release, after_release_all, after_delete}
 use Rattle.fixed_walk.specs.laws.Kept.{KeepsKeys}
 use Rattle.fixed_walk.proofs.KeptLaws.{delete-keeps, fix-keeps, release-keeps, release_all-keeps, rows-keep}
@@ -34,23 +36,47 @@ own-count m q zero =
 own-count m q (suc n) =
     ap (λ o. unwrap_or o 0) (get-insert nat_cmp_total m q (suc n) q ∙ ap (λ (b : Bool). cond b (Some (suc n)) (get m q)) (same-number q))
 
+-- no process has more fixes than it may have
+abbrev pub AreBounded : FixCounts → Type 0
+AreBounded fixes = (w : ℕ) → fix_count fixes w ≤ max_fixes
+
+pub none-bounded : AreBounded empty
+none-bounded w = subst (λ (n : ℕ). n ≤ max_fixes) (sym (ap (λ o. unwrap_or o 0) (get-empty nat_cmp w))) (omega arith)
+
+same-process : (q w : ℕ) → (q == w) ≡ true → q ≡ w
+same-process q w h = grind (arith, nat_tests)
+
+counted-bounded : (m : FixCounts) (q n : ℕ) → n ≤ max_fixes → AreBounded m → AreBounded (with_count m q n)
+counted-bounded m q n most bounded w = by (q == w) refl
+  where
+    by : (b : Bool) → (q == w) ≡ b → fix_count (with_count m q n) w ≤ max_fixes
+    by true e =
+        subst (λ (v : ℕ). fix_count (with_count m q n) v ≤ max_fixes) (same-process q w e)
+        (subst (λ (k : ℕ). k ≤ max_fixes) (sym (own-count m q n)) most)
+    by false e = subst (λ (k : ℕ). k ≤ max_fixes) (sym (other-count m q w n e)) (bounded w)
+
 -- ---- what is kept by a change that these processes make
 pub record Preserves (own : ℕ → Bool) (old new : TableState) : Type 0 where
   pub buckets : new.buckets ≡ old.buckets
+  pub bounded : AreBounded old.fixes → AreBounded new.fixes
   pub keys : KeepsKeys old new
   pub ends : StaysFree old.content.slots new.content.slots
   pub fixes : (w : ℕ) → own w ≡ false → fix_count new.fixes w ≡ fix_count old.fixes w
 
 module _ (own : ℕ → Bool) (old new : TableState) where
+  same-bounded : {content : Content} → new ≡ record old { content = content } → AreBounded old.fixes → AreBounded new.fixes
+  same-bounded e bounded = subst AreBounded (sym (ap (λ (f : TableState). f.fixes) e)) bounded
+
   -- a change of the content alone
   pub preserves-content : new ≡ record old { content = new.content } → KeepsKeys old new
       → StaysFree old.content.slots new.content.slots → Preserves own old new
   preserves-content e keys ends =
-      record { buckets = ap (λ (f : TableState). f.buckets) e; keys = keys; ends = ends; fixes = λ w other. ap (λ (f : TableState). fix_count f.fixes w) e }
+      record { buckets = ap (λ (f : TableState). f.buckets) e; bounded = same-bounded e; keys = keys; ends = ends; fixes = λ w other. ap (λ (f : TableState). fix_count f.fixes w) e }
 
   pub preserves-same : new ≡ old → Preserves own old new
   preserves-same e = record {
     buckets = ap (λ (f : TableState). f.buckets) e;
+    bounded = same-bounded e;
     keys = rows-keep old new (ap (λ (f : TableState). f.content) e);
     ends = unchanged-free old.content new.content (ap (λ (f : TableState). f.content) e);
     fixes = λ w other. ap (λ (f : TableState). fix_count f.fixes w) e;
@@ -99,6 +125,9 @@ module _ (p : ℕ) where
       → Preserves (λ w. p == w) old new
   fixes-preserves old new (Ok x) h = record {
     buckets = ap (λ (f : TableState). f.buckets) h.1;
+    bounded = λ bounded.
+        subst AreBounded (sym (ap (λ (f : TableState). f.fixes) h.1))
+        (counted-bounded old.fixes p (fix_count old.fixes p + 1) (let below = h.0 in omega (arith, below)) bounded);
     keys = fix-keeps p old new (Ok x) h;
     ends = unchanged-free old.content new.content (ap (λ (f : TableState). f.content) h.1);
     fixes =
@@ -113,9 +142,11 @@ module _ (p : ℕ) where
     abbrev with_fixes : ℕ → TableState
     with_fixes n = record old { fixes = with_count old.fixes p n }
 
-    without_tombstones-preserves : (n : ℕ) → KeepsKeys old (without_tombstones_if_unfixed (with_fixes n)) → Preserves (λ w. p == w) old (without_tombstones_if_unfixed (with_fixes n))
-    without_tombstones-preserves n keys = record {
+    without_tombstones-preserves : (n : ℕ) → (AreBounded old.fixes → n ≤ max_fixes) → KeepsKeys old (without_tombstones_if_unfixed (with_fixes n))
+        → Preserves (λ w. p == w) old (without_tombstones_if_unfixed (with_fixes n))
+    without_tombstones-preserves n most keys = record {
       buckets = without_tombstones-buckets (with_fixes n);
+      bounded = λ bounded. subst AreBounded (sym (without_tombstones-fixes (with_fixes n))) (counted-bounded old.fixes p n (most bounded) bounded);
       keys = keys;
       ends = without_tombstones-or-fixed-free (with_fixes n);
       fixes =
@@ -127,10 +158,10 @@ module _ (p : ℕ) where
     released-observable = without_tombstones-observable (with_fixes (fix_count old.fixes p - 1))
 
     pub released-preserves : Preserves (λ w. p == w) old (after_release p old)
-    released-preserves = without_tombstones-preserves (fix_count old.fixes p - 1) (release-keeps p old)
+    released-preserves = without_tombstones-preserves (fix_count old.fixes p - 1) (λ bounded. let most = bounded p in omega (arith, most)) (release-keeps p old)
 
     pub all_released-observable : after_release_all p (observable_table_state old) ≡ observable_table_state (after_release_all p old)
     all_released-observable = without_tombstones-observable (with_fixes 0)
 
     pub all_released-preserves : Preserves (λ w. p == w) old (after_release_all p old)
-    all_released-preserves = without_tombstones-preserves 0 (release_all-keeps p old)
+    all_released-preserves = without_tombstones-preserves 0 (λ bounded. omega arith) (release_all-keeps p old)

@@ -18,6 +18,7 @@ use Rattle.node_core.specs.Machine.{step, run}
 use Rattle.node_core.specs.laws.Reached.{HasNoEnd, IsSound, RunsStaySound, ReachedAreSound}
 use Rattle.node_core.specs.Woven.{is_step_of}
 use Rattle.node_core.proofs.moves.Moves.{Came}
+use Rattle.node_core.proofs.moves.Preserves.{AreBounded}
 use Rattle.node_core.proofs.calls.EachCall.{step-follows}
 
 pub run-keeps : (P : State → Type 0) → ((old new : State) (s : Step) (reply : Reply) → step old s reply new → P old → P new)
@@ -51,6 +52,18 @@ end-came own old t (Some was) table came d = came.fixed.ends (d was refl)
 
 ends-step : (old new : State) (s : Step) (reply : Reply) → step old s reply new → HasNoEnds old → HasNoEnds new
 ends-step old new s reply h d t table at = end-came (λ w. is_step_of w s) old.world.tables t (table_at old.world.tables t) table ((step-follows old new s reply h).came t table at) (λ was before. d t was before)
+
+-- ---- fixes
+-- no process has more fixes of a table than it may have
+abbrev pub HaveBoundedFixes : State → Type 0
+HaveBoundedFixes s = (t : ℕ) (table : Table) → table_at s.world.tables t ≡ Some table → AreBounded table.state.fixes
+
+bounded-came : (own : ℕ → Bool) (old : Tables) (t : ℕ) (o : Option Table) (table : Table) → Came own old t o table → ((was : Table) → o ≡ Some was → AreBounded was.state.fixes) → AreBounded table.state.fixes
+bounded-came own old t None table came d = came.bounded
+bounded-came own old t (Some was) table came d = came.fixed.bounded (d was refl)
+
+bounded-step : (old new : State) (s : Step) (reply : Reply) → step old s reply new → HaveBoundedFixes old → HaveBoundedFixes new
+bounded-step old new s reply h d t table at = bounded-came (λ w. is_step_of w s) old.world.tables t (table_at old.world.tables t) table ((step-follows old new s reply h).came t table at) (λ was before. d t was before)
 
 -- ---- names
 abbrev HasDistinctNames : State → Type 0
@@ -92,3 +105,6 @@ sound-empty limits = record { keys = λ t table at. cc; ends = λ t table at. cc
 
 pub sound-reached : ReachedAreSound
 sound-reached limits steps replies s done = sound-run (empty limits) steps replies s done (sound-empty limits)
+
+pub bounded-reached : (limits : Limits) (steps : List Step) (replies : List Reply) (s : State) → run (empty limits) steps replies s → HaveBoundedFixes s
+bounded-reached limits steps replies s done = run-keeps HaveBoundedFixes bounded-step (empty limits) steps replies s done (λ t table at. cc)

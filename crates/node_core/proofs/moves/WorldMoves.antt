@@ -16,7 +16,7 @@ use Rattle.ownership.specs.Tables.{after_enrol, new_metadata, with_table, withou
 use Rattle.ownership.specs.End.{with_ended, living_heir, without_fixes, table_after_exit, messages_from, after_exit}
 use Rattle.node_core.specs.rules.Tables.{first_buckets}
 use Rattle.node_core.proofs.moves.Moves.{Stays, Moves, stays-same, follows-same, follows-gone, follows-changed, follows-push, follows-map}
-use Rattle.node_core.proofs.moves.Preserves.{all_released-preserves}
+use Rattle.node_core.proofs.moves.Preserves.{AreBounded, all_released-preserves}
 use Rattle.node_core.proofs.moves.WorldLaws.{given}
 
 -- ---- messages are posted and received
@@ -58,13 +58,13 @@ module _ (own : ℕ → Bool) (old : World) where
       record { most = refl; known = let e = length-received old.processes p in omega (arith, e); tables = follows-same own old.tables }
 
   pub new-moves : (p : ℕ) (name : List ℕ) (options : NewOptions) (fixed : TableState) → fixed.content.slots ≡ []
-      → fixed.buckets ≡ first_buckets → (options.named && is_some (whereis old.tables name)) ≡ false
+      → fixed.buckets ≡ first_buckets → AreBounded fixed.fixes → (options.named && is_some (whereis old.tables name)) ≡ false
       → Moves own old (with_table old (new_metadata p name options) fixed)
-  new-moves p name options fixed bare fresh free = record {
+  new-moves p name options fixed bare fresh bounded free = record {
     most = refl;
     known = omega arith;
     tables =
-        follows-push own old.tables (record { metadata = new_metadata p name options; state = fixed }) bare fresh (free-of options.named (whereis old.tables name) free);
+        follows-push own old.tables (record { metadata = new_metadata p name options; state = fixed }) bare fresh bounded (free-of options.named (whereis old.tables name) free);
   }
 
   pub gone-moves : (t : ℕ) → Moves own old (without_table old t)
