@@ -4,3 +4,16 @@ pub mod Contents
 pub mod WholeRules
 pub mod Wholes
 pub mod Laws
+pub mod Shuffles
+pub mod Slots
+pub mod Alike
+pub mod Unique
+pub mod UniqueContents
+pub mod UniqueRules
+pub mod UniqueWorlds
+pub mod UniqueReads
+pub mod UniqueInfo
+pub mod UniqueStates
+pub mod UniqueCalls
+pub mod UniqueShown
+pub mod UniqueRuns

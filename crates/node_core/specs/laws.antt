@@ -1,3 +1,4 @@
+pub mod Agreement
 pub mod Erasing
 pub mod Kept
 pub mod Outcomes

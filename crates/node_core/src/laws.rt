@@ -1,5 +1,6 @@
 //! Laws of the machine's runs. Each is the contract of a function that does nothing.
 
+ghost use Rattle.node_core.specs.laws.Agreement.{RunsAgree, StepsAreUnique};
 ghost use Rattle.node_core.specs.laws.Erasing.{GrowthErases, RunsCut};
 ghost use Rattle.node_core.specs.laws.Kept.{StepsKeepKeys};
 ghost use Rattle.node_core.specs.laws.Outcomes.{RefusalsChangeNothing, StepsHaveOutcomes};
@@ -56,4 +57,17 @@ pub fn refusals_change_nothing()
 /// after it.
 pub fn steps_have_outcomes()
     ensures { StepsHaveOutcomes }
+{}
+
+/// Replies are unique: in a sound state, as each state that a run reaches is, a step has only one reply. It has only one
+/// state after it, but for the order of slots in a table's list.
+pub fn replies_are_unique()
+    ensures { StepsAreUnique }
+{}
+
+/// Two runs with the same steps but for growth, from one sound state, have replies that agree up to the order of keys.
+/// They end in states that differ in the order of slots alone. A reply differs at most if it lists all objects or
+/// results, or is the key of a traversal.
+pub fn runs_agree()
+    ensures { RunsAgree }
 {}
