@@ -4,6 +4,7 @@ fixes."""
 import pathlib
 import re
 import subprocess
+import time
 
 from building import OUT, erlang, stop
 from searches import SHAPES, Shape, by_lists, lookups, rounds, searches, singly
@@ -114,12 +115,27 @@ def by_calls(part: str, count: int, turns: int) -> Figures:
 
 
 def peak(command: list[str], shape: Shape, count: int) -> float:
-    """The peak of a program's memory as it fills a table with this many objects."""
-    script, runs = OUT / "memory.txt", Runs()
+    """The peak of a program's memory as it fills a table with this many objects, in bytes. It is
+    read while the program runs: what the kernel tells at its end begins with the memory of the
+    process that started it."""
+    script, most = OUT / "memory.txt", 0
     with open(script, "w") as given:
         given.writelines(line + "\n" for line in shape.lines(count))
-    timed(runs, command, script, OUT / "memory.answers")
-    return runs.peak[0]
+    with open(script, "rb") as given, open(OUT / "memory.answers", "wb") as taken:
+        process = subprocess.Popen(command, stdin=given, stdout=taken, stderr=subprocess.DEVNULL)
+        while process.poll() is None:
+            most = max(most, high_water(process.pid))
+            time.sleep(0.002)
+    return most
+
+
+def high_water(pid: int) -> int:
+    """The peak of a process's memory until now, in bytes; 0 if it has ended."""
+    try:
+        found = re.search(r"VmHWM:\s+(\d+) kB", pathlib.Path(f"/proc/{pid}/status").read_text())
+    except OSError:
+        return 0
+    return 1024 * int(found[1]) if found else 0
 
 
 def passes(quick: bool, programs: Commands) -> list[list[str]]:

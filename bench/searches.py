@@ -96,5 +96,6 @@ TEN_BYTES = "<<" + ",".join(map(str, range(10))) + ">>"
 SHAPES = [
     Shape("{Int,Int}", "pair", "", lambda i: f"{{{i},{i * 3}}}"),
     Shape("{Atom,Binary of 10 bytes}", "atom", "", lambda i: f"{{k{i},{TEN_BYTES}}}"),
+    Shape("{Int,{Int,Int,Int}}", "nested", "", lambda i: f"{{{i},{{{i},{i * 3},7}}}}"),
     Shape("{Int,Int} in a bag, 100 a key", "bag", ",bag", lambda i: f"{{{i // 100},{i}}}"),
 ]

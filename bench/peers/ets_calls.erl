@@ -187,6 +187,7 @@ memory(Count) ->
     Ten = list_to_binary(lists:seq(0, 9)),
     bytes("pair", set, [{K, 3 * K} || K <- shuffled(Count, 1)]),
     bytes("atom", set, [{list_to_atom("k" ++ integer_to_list(K)), Ten} || K <- shuffled(Count, 1)]),
+    bytes("nested", set, [{K, {K, 3 * K, 7}} || K <- shuffled(Count, 1)]),
     bytes("bag", bag, [{K div 100, K} || K <- shuffled(Count, 1)]).
 
 bytes(Name, Kind, Objects) ->
