@@ -7,6 +7,7 @@ ghost use Rattle.bench_layers.specs.Buckets.{HasDummies, IsReady};
 
 use ets_term::{Fnv, Integer, Items, KeyHash, Term};
 use node_list::{At, Chain, NodeList, Steps};
+use packed_term::{Object, Packed};
 use split_key::{bucket_of, dummy_key, item_key, laws, parent};
 use std::alloc::{AllocError, Global};
 
@@ -77,12 +78,13 @@ impl BucketedList {
         ensures room { self.new.list.capacity ≡ self.old.list.capacity }
     {
         let fields = vec![in alloc; Term::Int(number), Term::Int(1)]?;
-        let object = Term::Tuple(Items::from_vec(fields));
+        let object = Object::pack(alloc, &Term::Tuple(Items::from_vec(fields)))?;
         let key = Term::Int(number);
         let hash = Fnv.hash32(&key);
         let start = self.start(hash);
-        self.list
-            .insert_item(start, item_key(hash), key, Chain::one(alloc, object));
+        let own_key = Packed::pack(alloc, &key)?;
+        let chain = Chain::one(alloc, object);
+        self.list.insert_item(start, item_key(hash), own_key, chain);
         Ok(())
     }
 

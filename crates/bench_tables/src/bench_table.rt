@@ -1,5 +1,6 @@
 //! What is timed: one call on one key. The calls go to a whole table, or to its rows alone.
 use ets_term::{Integer, Items, Term};
+use packed_term::Object;
 use std::alloc::{AllocError, Global};
 
 /// The number of objects per bucket above which the buckets double.
@@ -49,9 +50,14 @@ pub(crate) fn is_full(slots: usize, buckets: u32) -> bool {
 }
 
 /// Reads the objects of a key. Returns whether there is exactly one object, with a value of at least 1.
-pub(crate) fn has_value(objects: &[Term]) -> bool {
+pub(crate) fn has_value(objects: &[Object]) -> bool {
     match objects {
-        [Term::Tuple(elements)] => matches!(elements.get(1), Some(Term::Int(1..))),
+        [object] => matches!(value_of(object), Some(1..)),
         _ => false,
     }
+}
+
+/// Returns the value of an object, its second element, if it is an integer.
+pub(crate) fn value_of(object: &Object) -> Option<Integer> {
+    object.element(2)?.as_integer()
 }

@@ -1,8 +1,9 @@
 //! The rows alone: the slots of a table, each a key with its objects.
-use crate::bench_table::{BenchTable, build_object, has_value, is_full, key_of};
+use crate::bench_table::{BenchTable, build_object, has_value, is_full, key_of, value_of};
 use bucket_table::{Rows, SlotEntry, SplitRows};
-use ets_term::{Fnv, Items, Term};
+use ets_term::Fnv;
 use node_list::Chain;
+use packed_term::{Object, Packed};
 use std::alloc::{AllocError, Global};
 
 impl BenchTable for SplitRows<Fnv> {
@@ -19,8 +20,8 @@ impl BenchTable for SplitRows<Fnv> {
         let SlotEntry::Vacant(hash) = self.entry(&key) else {
             return Ok(false);
         };
-        let objects = Chain::one(alloc, build_object(alloc, k)?);
-        self.put_at(hash, key, objects)?;
+        let objects = Chain::one(alloc, Object::pack(alloc, &build_object(alloc, k)?)?);
+        self.put_at(hash, &key, objects)?;
         if grow_if_pending(self)? {
             grow_if_pending(self)?;
         }
@@ -42,22 +43,15 @@ impl BenchTable for SplitRows<Fnv> {
         let Some(place) = self.find(&key_of(k)) else {
             return Ok(false);
         };
-        // The placeholder 0 is in the table while the value is changed.
-        let mut objects = self.replace_at(place, Chain::one(alloc, Term::Int(0)));
-        let Some(Term::Tuple(elements)) = objects.pop() else {
+        let Some(value) = self.objects_at(place).first().and_then(value_of) else {
             return Ok(false);
         };
-        let mut elements = elements.into_vec();
-        let has_counted = match elements.get_mut(1) {
-            Some(Term::Int(value)) => {
-                *value = value.wrapping_add(1);
-                true
-            }
-            _ => false,
-        };
-        objects.push(Term::Tuple(Items::from_vec(elements)))?;
+        let next = Packed::integer(alloc, value.wrapping_add(1))?;
+        // The slot has no objects while the value is changed.
+        let mut objects = self.replace_at(place, Chain::new(alloc));
+        objects.set_element(1, next);
         self.replace_at(place, objects);
-        Ok(has_counted)
+        Ok(true)
     }
 
     fn delete(&mut self, k: u64) -> bool {

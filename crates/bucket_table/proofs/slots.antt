@@ -1,5 +1,6 @@
 pub mod Distinct
 pub mod Enter
+pub mod Hashed
 pub mod Traverse
 pub mod Step
 pub mod Index

@@ -1,4 +1,5 @@
 pub mod Slots
+pub mod Lent
 pub mod Entries
 pub mod Walks
 pub mod Buckets

@@ -28,16 +28,18 @@
 //! *Limits.* `SplitRows` has 2 to 1,048,576 buckets. A place that becomes free is used again.
 #![tactic(auto)]
 
-// The modules: the trait of `rows`, the results of a search (`entry`) and of a `growth`, and the two kinds of rows:
-// `plain`, in insertion order, and `split`, in hash buckets.
+// The modules: the trait of `rows`, the results of a search (`entry`) and of a `growth`, a lent key (`key_ref`), and
+// the two kinds of rows: `plain`, in insertion order, and `split`, in hash buckets.
 mod entry;
 mod growth;
+mod key_ref;
 mod plain;
 mod rows;
 mod split;
 
 pub use entry::{Place, SlotEntry};
 pub use growth::{Growth, MAX_BUCKETS, Readying};
+pub use key_ref::KeyRef;
 pub use plain::PlainRows;
 pub use rows::Rows;
 pub use split::SplitRows;

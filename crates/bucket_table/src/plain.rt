@@ -6,10 +6,12 @@ ghost use Rattle.bucket_table.specs.Slots.{has_objects, objects_of};
 
 use crate::entry::{Place, SlotEntry};
 use crate::growth::{Growth, Readying};
+use crate::key_ref::KeyRef;
 use crate::rows::Rows;
 use ets_term::Term;
 use indexmap::IndexMap;
 use node_list::Chain;
+use packed_term::{Object, Packed};
 use std::alloc::{AllocError, Global};
 use std::mem;
 
@@ -60,7 +62,7 @@ impl Rows for PlainRows {
 
     ghost most_buckets = { 1 };
 
-    fn get(&self, key: &Term) -> Option<&[Term]> {
+    fn get(&self, key: &Term) -> Option<&[Object]> {
         let objects = self.slots.get(key)?;
         Some(objects.as_slice())
     }
@@ -119,17 +121,17 @@ impl Rows for PlainRows {
         let _ = self.slots.len();
     }
 
-    fn first_at(&self) -> Option<(&Term, &[Term])> {
+    fn first_at(&self) -> Option<(KeyRef<'_>, &[Object])> {
         let (key, objects) = self.slots.get_index(0)?;
-        Some((key, objects.as_slice()))
+        Some((KeyRef::Plain(key), objects.as_slice()))
     }
 
-    fn next_at(&self, key: &Term) -> Option<Option<(&Term, &[Term])>> {
+    fn next_at(&self, key: &Term) -> Option<Option<(KeyRef<'_>, &[Object])>> {
         let Some(place) = self.slots.get_index_of(key) else {
             return None;
         };
         match self.slots.as_slice().get_index(place + 1) {
-            Some((key, objects)) => Some(Some((key, objects.as_slice()))),
+            Some((key, objects)) => Some(Some((KeyRef::Plain(key), objects.as_slice()))),
             None => Some(None),
         }
     }
@@ -158,15 +160,15 @@ impl Rows for PlainRows {
         if next < slots { Some(next) } else { None }
     }
 
-    fn slot_at(&self, place: Place) -> (&Term, &[Term]) {
+    fn slot_at(&self, place: Place) -> (KeyRef<'_>, &[Object]) {
         self.reveal_invariant();
         match self.slots.get_index(place) {
-            Some((key, objects)) => (key, objects.as_slice()),
+            Some((key, objects)) => (KeyRef::Plain(key), objects.as_slice()),
             None => unreachable!(),
         }
     }
 
-    fn objects_at(&self, place: Place) -> &[Term] {
+    fn objects_at(&self, place: Place) -> &[Object] {
         match self.slots.get_index(place) {
             Some((_, objects)) => objects.as_slice(),
             None => unreachable!(),
@@ -181,7 +183,7 @@ impl Rows for PlainRows {
         }
     }
 
-    fn replace_one_at(&mut self, place: Place, object: Term) -> Term {
+    fn replace_one_at(&mut self, place: Place, object: Object) -> Object {
         match self.slots.get_index_mut(place) {
             // `own` holds the only object of the slot.
             Some(own) => own.replace(0, object),
@@ -190,7 +192,7 @@ impl Rows for PlainRows {
     }
 
     #[inline]
-    fn set_element_at(&mut self, place: Place, index: usize, value: Term) {
+    fn set_element_at(&mut self, place: Place, index: usize, value: Packed) {
         match self.slots.get_index_mut(place) {
             // `own` holds the only object of the slot.
             Some(own) => own.set_element(index, value),
@@ -198,25 +200,21 @@ impl Rows for PlainRows {
         }
     }
 
-    fn remove_at(&mut self, place: Place) -> (Term, Chain) {
+    fn delete_at(&mut self, place: Place) -> usize {
         self.reveal_invariant();
         match self.slots.shift_remove_index(place) {
-            Some(slot) => slot,
+            Some(slot) => slot.1.len(),
             None => unreachable!(),
         }
-    }
-
-    fn delete_at(&mut self, place: Place) -> usize {
-        let (_key, objects) = self.remove_at(place);
-        objects.len()
     }
 
     fn reserve(&mut self, additional: usize) -> Result<(), AllocError> {
         self.slots.reserve(additional)
     }
 
-    fn put_at(&mut self, _hash: u32, key: Term, objects: Chain) -> Result<(), AllocError> {
-        self.push(key, objects)
+    fn put_at(&mut self, _hash: u32, key: &Term, objects: Chain) -> Result<(), AllocError> {
+        let own_key = key.try_clone(*self.slots.allocator())?;
+        self.push(own_key, objects)
     }
 
     fn grow(&mut self) -> Result<Growth, AllocError> {

@@ -1,7 +1,7 @@
 //! The trait of rows: all slots of a table, in hash buckets or in insertion order. A slot is a key with its objects, a
 //! tombstone is a slot without objects, and a place is the index of a slot.
 ghost use Rattle.std.specs.Prelude.{◌≡◌, ◌≤◌, ◌+◌, ℕ, Bool, false, List, [], ◌∷◌, Option, Some, None, IsSome, IsOk, IfOk, OnOk, OnErr, MatchOption, length, position, not, option_copied, option_map, slice_get, get_or};
-ghost use Rattle.std.specs.Map.Iter.{deref_pair};
+ghost use Rattle.bucket_table.specs.Lent.{key_of_ref, slot_of_ref};
 ghost use Rattle.ets_term.specs.declared.term.Term.{Term};
 ghost use Rattle.bucket_table.specs.Slots.{Slot, objects_of, with_objects, Enters, without_tombstones, slots_behind};
 ghost use Rattle.bucket_table.specs.Rows.{HasDistinctKeys, without, EnterAll, AreNew, without_objects};
@@ -12,8 +12,10 @@ ghost use Rattle.bucket_table.specs.Readying.{IsReadied};
 
 use crate::entry::{Place, SlotEntry};
 use crate::growth::{Growth, Readying};
+use crate::key_ref::KeyRef;
 use ets_term::Term;
 use node_list::Chain;
+use packed_term::{Object, Packed};
 use std::alloc::AllocError;
 
 /// A list of slots with distinct keys. No call reorders the slots that remain. A call that runs out of memory changes
@@ -38,7 +40,7 @@ pub trait Rows: Drop {
     ghost most_buckets: { ℕ };
 
     /// Returns the objects of the key's slot: an empty slice for a tombstone. Returns `None` if the key has no slot.
-    fn get(&self, key: &Term) -> Option<&[Term]>
+    fn get(&self, key: &Term) -> Option<&[Object]>
         ensures { option_copied result ≡ objects_of (slots self.now) key.now };
 
     /// Inserts a slot for each pair of a key and its objects. The keys must be distinct and must not have slots. If
@@ -89,13 +91,13 @@ pub trait Rows: Drop {
 
     /// Returns the key and the objects of the first slot, if there is one. Takes no place, unlike `slot_at`: the place
     /// is that of `first_place`.
-    fn first_at(&self) -> Option<(&Term, &[Term])>
-        ensures { option_map deref_pair result ≡ slice_get (slots self.now) 0 };
+    fn first_at(&self) -> Option<(KeyRef<'_>, &[Object])>
+        ensures { option_map slot_of_ref result ≡ slice_get (slots self.now) 0 };
 
     /// Takes a key instead of a place. Returns the key and the objects of the slot after this key's slot. The outer
     /// `None` means that the key has no slot, and the inner `None` that its slot is the last.
-    fn next_at(&self, key: &Term) -> Option<Option<(&Term, &[Term])>>
-        ensures { option_map (option_map deref_pair) result
+    fn next_at(&self, key: &Term) -> Option<Option<(KeyRef<'_>, &[Object])>>
+        ensures { option_map (option_map slot_of_ref) result
             ≡ option_map (λ slots. slice_get slots 0) (slots_behind (slots self.now) key.now) };
 
     /// Returns the place of the key's slot, if it has one.
@@ -118,13 +120,13 @@ pub trait Rows: Drop {
         ensures { IsNextPlace (key_at self.now) (slots self.now) (key_at self.now place) result };
 
     /// Returns the key and the objects of the slot at a place.
-    fn slot_at(&self, place: Place) -> (&Term, &[Term])
+    fn slot_at(&self, place: Place) -> (KeyRef<'_>, &[Object])
         requires { IsSome (key_at self.now place) }
-        ensures key { key_at self.now place ≡ Some result.0.now }
-        ensures objects { objects_of (slots self.now) result.0.now ≡ Some result.1.now };
+        ensures key { key_at self.now place ≡ Some (key_of_ref result.0) }
+        ensures objects { objects_of (slots self.now) (key_of_ref result.0) ≡ Some result.1.now };
 
     /// Returns the objects of the slot at a place.
-    fn objects_at(&self, place: Place) -> &[Term]
+    fn objects_at(&self, place: Place) -> &[Object]
         requires { IsSome (key_at self.now place) }
         ensures { objects_in (slots self.now) (key_at self.now place) ≡ Some result.now };
 
@@ -140,7 +142,7 @@ pub trait Rows: Drop {
         ensures buckets { readiness self.new ≡ readiness self.old };
 
     /// Replaces the only object of the slot at a place and returns the old one.
-    fn replace_one_at(&mut self, place: Place, object: Term) -> Term
+    fn replace_one_at(&mut self, place: Place, object: Object) -> Object
         requires { HasOneObject (slots self.old) (key_at self.old place) }
         ensures objects { objects_in (slots self.old) (key_at self.old place) ≡ Some (result ∷ []) }
         ensures now { slots self.new ≡ with_objects_in (slots self.old) (key_at self.old place) (object ∷ []) }
@@ -151,23 +153,11 @@ pub trait Rows: Drop {
 
     /// Sets the element at `index`, counted from 0, of the only object of the slot at a place. Changes nothing if the
     /// object is not a tuple or has no such element.
-    fn set_element_at(&mut self, place: Place, index: usize, value: Term)
+    fn set_element_at(&mut self, place: Place, index: usize, value: Packed)
         requires { HasOneObject (slots self.old) (key_at self.old place) }
         ensures now { slots self.new ≡ with_element_in (slots self.old) (key_at self.old place) index value }
         ensures places { (other : ℕ) → key_at self.new other ≡ key_at self.old other }
         ensures room { room self.old ≤ room self.new }
-        ensures hash { hash_of self.new ≡ hash_of self.old }
-        ensures buckets { readiness self.new ≡ readiness self.old };
-
-    /// Removes the slot at a place and returns it. The slots before it keep their places.
-    fn remove_at(&mut self, place: Place) -> (Term, Chain)
-        requires { IsSome (key_at self.old place) }
-        ensures key { key_at self.old place ≡ Some result.0 }
-        ensures objects { objects_of (slots self.old) result.0 ≡ Some result.1 }
-        ensures now { slots self.new ≡ without (slots self.old) result.0 }
-        ensures before { (other : ℕ) (key : Term) → key_at self.old other ≡ Some key
-            → ComesBefore (slots self.old) key result.0
-            → key_at self.new other ≡ Some key }
         ensures hash { hash_of self.new ≡ hash_of self.old }
         ensures buckets { readiness self.new ≡ readiness self.old };
 
@@ -184,7 +174,7 @@ pub trait Rows: Drop {
         ensures hash { hash_of self.new ≡ hash_of self.old }
         ensures buckets { readiness self.new ≡ readiness self.old };
 
-    /// Reserves memory for `additional` slots, which `put_at` can then insert without an allocation.
+    /// Reserves memory for `additional` slots. `put_at` then takes memory only for its copy of the key.
     fn reserve(&mut self, additional: usize) -> Result<(), AllocError>
         ensures room { OnOk result (additional ≤ room self.new) }
         ensures now { slots self.new ≡ slots self.old }
@@ -192,14 +182,14 @@ pub trait Rows: Drop {
         ensures hash { hash_of self.new ≡ hash_of self.old }
         ensures buckets { readiness self.new ≡ readiness self.old };
 
-    /// Inserts a slot for a key that has no slot. Takes the key's hash, as `entry` returned it, instead of a place. The
-    /// rows choose the place. If memory runs out, no slot is inserted, and the key and the objects are dropped.
-    fn put_at(&mut self, hash: u32, key: Term, objects: Chain) -> Result<(), AllocError>
-        requires new { objects_of (slots self.old) key ≡ None }
-        requires hash { hash ≡ hash_of self.old key }
-        ensures ok { OnOk result (Enters (slots self.old) key objects (slots self.new)) }
+    /// Inserts a slot for a key that has no slot, with a copy of the key. Takes the key's hash, as `entry` returned it,
+    /// instead of a place. The rows choose the place. If memory runs out, no slot is inserted, and the objects are
+    /// dropped.
+    fn put_at(&mut self, hash: u32, key: &Term, objects: Chain) -> Result<(), AllocError>
+        requires new { objects_of (slots self.old) key.now ≡ None }
+        requires hash { hash ≡ hash_of self.old key.now }
+        ensures ok { OnOk result (Enters (slots self.old) key.now objects (slots self.new)) }
         ensures err { OnErr result (slots self.new ≡ slots self.old) }
-        ensures succeeds { 1 ≤ room self.old → IsOk result }
         ensures room { room self.old ≤ room self.new + 1 }
         ensures hash { hash_of self.new ≡ hash_of self.old }
         ensures buckets { readiness self.new ≡ readiness self.old };

@@ -21,6 +21,7 @@ use self::index::SplitIndex;
 use self::tombstone_log::TombstoneLog;
 use ets_term::{KeyHash, Term};
 use node_list::Steps;
+use packed_term::Object;
 use std::alloc::{AllocError, Global};
 use std::marker::Model;
 
@@ -67,7 +68,7 @@ impl<H: KeyHash + Copy + Drop> SplitRows<H> {
 
     /// Returns the objects of the key's slot, if it has one. Adds the number of visited nodes to `steps`.
     #[inline(always)]
-    pub fn get_counted(&self, key: &Term, steps: &mut Steps) -> Option<&[Term]>
+    pub fn get_counted(&self, key: &Term, steps: &mut Steps) -> Option<&[Object]>
         ensures value { option_copied result ≡ objects_of self.now.slots key.now }
         ensures visits { HasLooked (H.hash self.now.hasher) self.now.slots self.now.ready
             key.now steps.old steps.new }

@@ -3,7 +3,7 @@ ghost use Rattle.std.specs.Prelude.{◌≡◌, ◌<◌, ◌-◌, ◌^◌, length
 ghost use Rattle.counters.specs.Counters.{integer_at, apply_one, apply_to_elements, apply_ops};
 ghost use Rattle.counters.specs.declared.ops.Ops.TheVariants.{One};
 ghost use Rattle.counters.specs.Forms.{is_one};
-ghost use Rattle.counters.specs.Outcomes.{AnswersAs, FailsOnlyAs, FailsJustAs, with_value_at};
+ghost use Rattle.counters.specs.Outcomes.{AnswersAs, FailsOnlyAs, FailsJustAs};
 ghost use Rattle.ets_term.specs.declared.term.Term.TheVariants.{Int, Tuple};
 
 use crate::fault::CounterFault;
@@ -45,21 +45,6 @@ fn next_value(elements: &[Term], op: Op) -> Result<Integer, CounterFault>
         return Err(CounterFault::SystemLimit);
     };
     Ok(next)
-}
-
-/// Returns the new value of the counter that one operation names, and changes nothing. Refuses what `update_counter`
-/// refuses. If it returns a value, the object has an element at the position, so the element's index fits a `usize`.
-#[inline(always)]
-pub fn counter_value(object: &Term, op: Op) -> Result<Integer, CounterFault>
-    ensures done { IfOk result (λ n.
-        apply_ops (One op) object.now ≡ Ok (with_value_at op.position (Int n) object.now, Int n)) }
-    ensures err { IfErr result (λ fault. apply_ops (One op) object.now ≡ Err fault) }
-    ensures index { OnOk result (op.position - 1 < 2 ^ 64) }
-{
-    let Term::Tuple(elements) = object else {
-        return Err(CounterFault::Badarg);
-    };
-    next_value(elements.as_slice(), op)
 }
 
 /// Does one operation on the elements of an object in place, and returns the new value. It takes no memory.

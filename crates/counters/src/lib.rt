@@ -34,12 +34,14 @@ pub mod laws;
 mod list;
 mod ops;
 mod position;
+mod stored;
 mod sum;
 mod write;
 
-pub use counter::{apply_ops, counter_value, update_counter};
+pub use counter::{apply_ops, update_counter};
 pub use defaults::{is_valid_default, start_counter, start_with_elements, with_key};
 pub use elements::{ElementSpec, ElementSpecs, read_element_specs, read_pair};
 pub use fault::CounterFault;
 pub use ops::{Op, Ops, Threshold, read_increment, read_ops};
-pub use write::{apply_elements, copy_for_element, write_elements};
+pub use stored::{copy_for_element, counter_value};
+pub use write::{apply_elements, write_elements};

@@ -10,6 +10,7 @@ use crate::elements::{ElementSpec, ElementSpecs};
 use crate::fault::CounterFault;
 use ets_term::{Items, MAX_DEPTH, Position, Term};
 use std::alloc::{AllocError, Global};
+use std::slice;
 
 /// Returns a copy of an object, with the values that `write_elements` writes.
 pub fn apply_elements(
@@ -44,84 +45,9 @@ pub fn write_elements(
         return Err(CounterFault::Badarg);
     };
     match specs {
-        ElementSpecs::One(spec) => write_copy(alloc, elements, spec),
+        ElementSpecs::One(spec) => write_copies(alloc, elements, slice::from_ref(spec)),
         ElementSpecs::Many(specs) => write_copies(alloc, elements, specs.as_slice()),
     }
-}
-
-/// Returns a copy of `value` for the element of `object` at `position`, and writes nothing. `object` is only checked:
-/// refuses what `write_elements` refuses. If it returns a copy, the object has that element, so the element's index
-/// fits a `usize`.
-#[inline(always)]
-pub fn copy_for_element(
-    alloc: Global,
-    object: &Term,
-    position: Position,
-    value: &Term,
-) -> Result<Term, CounterFault>
-    ensures done { IfOk result (λ copy.
-        apply_elements (One (record { position = position; value = value.now })) object.now
-        ≡ Ok (with_value_at position copy object.now)) }
-    ensures badarg { FailsJustAs result CounterFault.Badarg
-        (apply_elements (One (record { position = position; value = value.now })) object.now) }
-    ensures limit { FailsJustAs result CounterFault.SystemLimit
-        (apply_elements (One (record { position = position; value = value.now })) object.now) }
-    ensures index { OnOk result (position - 1 < 2 ^ 64) }
-{
-    let Term::Tuple(elements) = object else {
-        return Err(CounterFault::Badarg);
-    };
-    copy_if_allowed(alloc, elements.as_slice(), position, value)
-}
-
-/// Does what `copy_for_element` does, but for the elements of a tuple: returns a copy of `value` if `check_one` allows
-/// to write it. The caller writes the copy.
-#[inline(always)]
-fn copy_if_allowed(
-    alloc: Global,
-    elements: &[Term],
-    position: Position,
-    value: &Term,
-) -> Result<Term, CounterFault>
-    ensures done { IfOk result (λ copy.
-        write_values (record { position = position; value = value.now } ∷ []) elements.now
-        ≡ Ok (slice_set elements.now (position - 1) copy)) }
-    ensures badarg { FailsJustAs result CounterFault.Badarg
-        (write_values (record { position = position; value = value.now } ∷ []) elements.now) }
-    ensures limit { FailsJustAs result CounterFault.SystemLimit
-        (write_values (record { position = position; value = value.now } ∷ []) elements.now) }
-    ensures index { OnOk result (position - 1 < 2 ^ 64) }
-{
-    check_one(elements, position, value)?;
-    Ok(copy_value(alloc, value)?)
-}
-
-/// Returns a copy of any value, without the checks of `copy_if_allowed`. An integer is copied without a further call.
-#[inline(always)]
-fn copy_value(alloc: Global, value: &Term) -> Result<Term, AllocError>
-    ensures { IfOk result (λ copy. copy ≡ value.now) }
-{
-    match value {
-        Term::Int(n) => Ok(Term::Int(*n)),
-        _ => value.try_clone(alloc),
-    }
-}
-
-/// Writes a copy of the value of `spec`, which is not in a list, into the element that `spec` names. `copy_if_allowed`
-/// checks the value and copies it. If it refuses, the elements stay as they were.
-fn write_copy(
-    alloc: Global,
-    elements: &mut Items<Term>,
-    spec: &ElementSpec,
-) -> Result<(), CounterFault>
-    ensures done { OnOk result (write_values (spec.now ∷ []) elements.old ≡ Ok elements.new) }
-    ensures badarg { FailsJustAs result CounterFault.Badarg (write_values (spec.now ∷ []) elements.old) }
-    ensures limit { FailsJustAs result CounterFault.SystemLimit (write_values (spec.now ∷ []) elements.old) }
-    ensures kept { OnErr result (elements.new ≡ elements.old) }
-{
-    let value = copy_if_allowed(alloc, elements.as_slice(), spec.position, &spec.value)?;
-    write(elements, spec.position, value);
-    Ok(())
 }
 
 /// Writes copies of the values of `specs`, a list, into the elements that they name, in the order of the list.
@@ -155,26 +81,6 @@ fn copy_specs(alloc: Global, specs: &[ElementSpec]) -> Result<Vec<ElementSpec>, 
         })?;
     }
     Ok(copies)
-}
-
-/// Checks whether one value may be written. Returns `Badarg` if the tuple does not have the position. Otherwise returns
-/// `SystemLimit` if the value has `MAX_DEPTH` levels or more: an object with this element would be too deep.
-#[inline(always)]
-fn check_one(elements: &[Term], position: Position, value: &Term) -> Result<(), CounterFault>
-    ensures ok { OnOk result
-        (write_values (record { position = position; value = value.now } ∷ []) elements.now
-        ≡ Ok (slice_set elements.now (position - 1) value.now)) }
-    ensures err { IfErr result (λ fault.
-        write_values (record { position = position; value = value.now } ∷ []) elements.now ≡ Err fault) }
-    ensures index { OnOk result (position - 1 < 2 ^ 64) }
-{
-    if position == 0 || position > elements.len() as Position {
-        return Err(CounterFault::Badarg);
-    }
-    if value.depth() >= MAX_DEPTH {
-        return Err(CounterFault::SystemLimit);
-    }
-    Ok(())
 }
 
 /// Checks whether a list of values may be written. Returns `Badarg` if the tuple lacks a position. Otherwise returns

@@ -143,7 +143,7 @@ impl<H: KeyHash + Copy + Drop> Script<H> {
             ⊎ KeepsState self.old NoMemory answer.new self.new }
     {
         match self.pid(name) {
-            Some(pid) => self.step(&mut Step::End(pid), answer),
+            Some(pid) => self.step(&Step::End(pid), answer),
             None => *answer = Answer::Replied(Reply::NoProcess),
         }
     }
@@ -155,7 +155,7 @@ impl<H: KeyHash + Copy + Drop> Script<H> {
             ⊎ KeepsState self.old NoMemory answer.new self.new }
     {
         let table = self.table(table);
-        self.step(&mut Step::Grow(table), answer);
+        self.step(&Step::Grow(table), answer);
     }
 
     /// Readies a bucket of the table that a term names.
@@ -165,7 +165,7 @@ impl<H: KeyHash + Copy + Drop> Script<H> {
             ⊎ KeepsState self.old NoMemory answer.new self.new }
     {
         let table = self.table(table);
-        self.step(&mut Step::Ready(table, bucket), answer);
+        self.step(&Step::Ready(table, bucket), answer);
     }
 
     /// Returns the process with this name, which may have exited, or `None` if the name was not spawned.

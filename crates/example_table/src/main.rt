@@ -3,6 +3,7 @@
 
 use bucket_table::SplitRows;
 use ets_term::{Atom, Fnv, Integer, Items, Term};
+use packed_term::Object;
 use std::alloc::{AllocError, Global};
 use std::io;
 use std::process::ExitCode;
@@ -51,11 +52,8 @@ fn stock(alloc: Global) -> Result<Vec<Term>, AllocError> {
 }
 
 /// Returns the second element of the only object of a key, if it is an integer.
-fn count_in(objects: &[Term]) -> Option<Integer> {
-    match objects.first()?.element(2)? {
-        Term::Int(count) => Some(*count),
-        _ => None,
-    }
+fn count_in(objects: &[Object]) -> Option<Integer> {
+    objects.first()?.element(2)?.as_integer()
 }
 
 /// Returns the object `{name,number}`.

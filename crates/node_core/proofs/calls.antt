@@ -8,4 +8,3 @@ pub mod Removals
 pub mod Worlds
 pub mod Enrolling
 pub mod ReadCalls
-pub mod Inserting

@@ -13,18 +13,19 @@
 //! each time.
 //!
 //! *Mechanism.* The nodes are linked in one direction by place numbers. A slab gives out the places and holds the
-//! headers, 24 bytes each: split key, link and two tag bits. The elements of a second array have 96 bytes: the items,
-//! and placeholders at other places. Nobody reads a placeholder, so an element needs no tag. A search that passes a
-//! node reads only the slab, and compares keys only if split keys are equal. `next_item_at` reads only the slab too: a
-//! scan of all items reads both arrays forward and skips dummies. A place is added to the slab only after there is
-//! capacity for its item. So a refusal of memory changes no node. Places without a node form a *free list*: each leads
-//! to the next, the first is used next, and no place is returned to the slab.
+//! headers, 24 bytes each: split key, link and two tag bits. The elements of a second array have 64 bytes: the items,
+//! and placeholders at other places. An item has its key packed in 16 bytes, and its chain in 48. Nobody reads a
+//! placeholder, so an element needs no tag. A search that passes a node reads only the slab, and compares keys only if
+//! split keys are equal. `next_item_at` reads only the slab too: a scan of all items reads both arrays forward and
+//! skips dummies. A place is added to the slab only after there is capacity for its item. So a refusal of memory
+//! changes no node. Places without a node form a *free list*: each leads to the next, the first is used next, and no
+//! place is returned to the slab.
 //!
 //! *Limits.* A call that takes a place requires that a node of the list has it. So a caller must keep track of the
 //! places of its nodes.
 //!
-//! *Words.* A split key is the number by which the list is sorted. The `term` of an item is its key in the table, and
-//! the `chain` has the objects with this key.
+//! *Words.* A split key is the number by which the list is sorted. The `term` of an item is its key in the table,
+//! packed. The `chain` has the objects with this key: a single one in place, several in a block of memory.
 #![tactic(auto)]
 
 // The modules: the `list`, its `nodes` in two `arrays`, and the first-item bound (`first_item`). A node as it is

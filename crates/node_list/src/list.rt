@@ -13,6 +13,7 @@ use crate::reader::CountingReader;
 use crate::steps::Steps;
 use crate::unlink::{delete_from, unlink_from};
 use ets_term::Term;
+use packed_term::Packed;
 use std::alloc::{AllocError, Global};
 use std::marker::Model;
 
@@ -135,10 +136,10 @@ impl NodeList {
     }
 
     /// Inserts an item with this split key, after all nodes with an equal split key, and returns its place. `term` is
-    /// the item's key, and `start` must be the place of a node whose split key is at most `split_key`. Capacity for the
-    /// node must be reserved.
+    /// the item's key, packed, and `start` must be the place of a node whose split key is at most `split_key`. Capacity
+    /// for the node must be reserved.
     #[inline(always)]
-    pub fn insert_item(&mut self, start: At, split_key: u64, term: Term, chain: Chain) -> At
+    pub fn insert_item(&mut self, start: At, split_key: u64, term: Packed, chain: Chain) -> At
         requires room { HasRoom self.old 1 }
         requires start { HasSplitKeyAtMost split_key start self.old.cells }
         ensures cells { self.new.cells
@@ -170,7 +171,7 @@ impl NodeList {
     }
 
     /// Removes the item at `at` and returns its key and chain. `start` must be the place of a node before the item.
-    pub fn unlink(&mut self, start: At, at: At) -> (Term, Chain)
+    pub fn unlink(&mut self, start: At, at: At) -> (Packed, Chain)
         requires { HasItem at (cells_after start self.old.cells) }
         ensures item { item_at at self.old.cells ≡ Some (new_item result.0 result.1) }
         ensures cells { self.new.cells ≡ without at self.old.cells }
@@ -219,7 +220,7 @@ impl NodeList {
 
     /// Returns the key (a term) and the chain of the item at a place, or `None` for a dummy.
     #[inline]
-    pub fn item(&self, at: At) -> Option<(&Term, &Chain)>
+    pub fn item(&self, at: At) -> Option<(&Packed, &Chain)>
         requires { IsPlaceOf at self.now.cells }
         ensures { MatchOption result (item_at at self.now.cells ≡ None)
             (λ found. item_at at self.now.cells ≡ Some (new_item found.0.now found.1.now)) }

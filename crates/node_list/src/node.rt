@@ -5,15 +5,15 @@ ghost use Rattle.node_list.specs.inside.Slots.{placeholder, item_if};
 
 use crate::chain::Chain;
 use crate::link::Link;
-use ets_term::Term;
+use packed_term::Packed;
 use std::alloc::Global;
 
 /// An item: a key of the table with its objects. The field `term` is the key, and not an object. The objects are in the
 /// field `chain`.
 #[derive(Drop)]
 pub struct Item {
-    /// The key of the item. It is a term, but not one of the objects.
-    pub term: Term,
+    /// The key of the item, packed. It is a term, but not one of the objects.
+    pub term: Packed,
     /// The objects with this key.
     pub chain: Chain,
 }
@@ -24,7 +24,7 @@ impl Item {
         ensures { result ≡ placeholder }
     {
         Item {
-            term: Term::Int(0),
+            term: Packed::from(0),
             chain: Chain::new(alloc),
         }
     }

@@ -24,6 +24,6 @@ impl<'a> NodeRef<'a> {
     pub fn holds(&self, term: &Term) -> bool
         ensures { result ≡ holds term.now (node_of_ref self.now).item }
     {
-        self.has_item && self.slot.term == *term
+        self.has_item && self.slot.term.is_equal(term)
     }
 }

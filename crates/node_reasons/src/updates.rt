@@ -15,6 +15,7 @@ use bucket_table::Rows;
 use counters::is_valid_default;
 use ets_term::Term;
 use fixed_walk::Walked;
+use packed_term::Object;
 use table_ops::Kind;
 
 /// Returns the reason of a refused `lookup_element`: its first broken rule. The rules are, in this order: the process
@@ -107,7 +108,7 @@ fn position_reason_or(position: &Term, rest: Reason) -> Reason
 }
 
 /// Returns the reason if the call needs an object of the key, and `objects`, those of the key, is empty; else `rest`.
-fn key_reason_or(needs_object: bool, rest: Reason, objects: &[Term]) -> Reason
+fn key_reason_or(needs_object: bool, rest: Reason, objects: &[Object]) -> Reason
     ensures { result ≡ key_reason_or needs_object rest objects.now }
 {
     match objects {

@@ -15,6 +15,9 @@ use Rattle.std.specs.declared.clone.Clone as Clone
 use Rattle.indexmap.proofs.map.IndexMap.TheSendSync as map
 use Rattle.ets_term.specs.declared.key_hash.KeyHash as KeyHash
 use Rattle.ets_term.proofs.term.Term.TheLaws.TheKnot as terms
+use Rattle.packed_term.specs.contracts.object.Object as Object
+use Rattle.packed_term.proofs.packed.Packed.TheLaws.TheKnot as packed
+use Rattle.node_list.specs.contracts.chain.Chain as Chain
 use Rattle.node_list.specs.contracts.list.NodeList as NodeList
 use Rattle.bucket_table.specs.declared.rows.Rows as Rows
 use Rattle.bucket_table.specs.contracts.split.SplitRows as SplitRows
@@ -33,8 +36,14 @@ use Rattle.node_core.proofs.limits.Limits.TheSendSync as limits
 use Rattle.node_core.specs.contracts.node.Node as Node
 use Rattle.node_core.specs.contracts.node.Node.TheInside as node
 
+object_sync : IsSync Object.the_row
+object_sync = search (crosses, packed.crosses, sendable) depth 60 fits 20000
+
+chain_sync : IsSync Chain.the_row
+chain_sync = search (object_sync, crosses, sendable) depth 60 fits 20000
+
 list_sync : IsSync NodeList.the_row
-list_sync = search (crosses, terms.crosses, sendable) depth 60 fits 20000
+list_sync = search (chain_sync, crosses, packed.crosses, sendable) depth 60 fits 20000
 
 rows_sync : (H : RattleType) (k : KeyHash.Ghosts H.Denot) → IsSync H → IsSync (SplitRows.the_row H k)
 rows_sync H k s = search (list_sync, crosses, sendable) depth 60 fits 20000

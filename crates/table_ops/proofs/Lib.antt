@@ -8,6 +8,7 @@ pub mod InvariantLaws
 pub mod PutLaws
 pub mod QueryLaws
 pub mod ReadLaws
+pub mod SameLaws
 pub mod SlotLaws
 pub mod TableRowsLaws
 pub mod TupleLaws

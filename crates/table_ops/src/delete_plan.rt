@@ -15,6 +15,7 @@ use crate::trial::Trial;
 use bucket_table::Place;
 use ets_term::Term;
 use node_list::Chain;
+use packed_term::Object;
 use std::alloc::{AllocError, Global};
 
 /// The planned change of one slot that loses objects: its place, and the objects that it keeps.
@@ -49,7 +50,8 @@ impl DeletePlan {
         &mut self,
         trial: &Trial<'_, P>,
         place: Place,
-        objects: &[Term],
+        objects: &[Object],
+        scratch: &mut Term,
         looks: &mut Looks,
     ) -> Result<usize, AllocError>
         ensures count { Returns result (chosen_count (P.tests trial.now.query.now) objects.now) }
@@ -63,7 +65,7 @@ impl DeletePlan {
             ++ plan_of_slot (P.tests trial.now.query.now) (key, objects.now)) }
     {
         let mut partition = Partition::new(self.alloc);
-        partition.add_all(trial, objects, looks)?;
+        partition.add_all(trial, objects, scratch, looks)?;
         let Partition { removed, kept, .. } = partition;
         if removed > 0 {
             self.list.push(SlotDelete { place, kept })?;

@@ -1,13 +1,13 @@
-//! The tests of a term before it is inserted as an object: its key at keypos, and its depth. Also copies of keys, and
-//! the search for an equal object.
-ghost use Rattle.std.specs.Prelude.{◌≡◌, IfOk, option_copied};
+//! The tests of a term before it is inserted as an object: its key at keypos, and its depth. Also the search for an
+//! equal object.
+ghost use Rattle.std.specs.Prelude.{◌≡◌, option_copied};
 ghost use Rattle.std.specs.List.{list_any, list_all};
 ghost use Rattle.ets_term.specs.Depth.{is_too_deep};
 ghost use Rattle.ets_term.specs.Order.{same};
 ghost use Rattle.table_ops.specs.Content.{key_of, is_object};
 
 use ets_term::{Position, Term};
-use std::alloc::{AllocError, Global};
+use packed_term::Object;
 
 /// Returns the key of an object: the element of the tuple at `keypos`, counted from 1. Returns `None` if the term is
 /// not an object: it is not a tuple, has no such element, or the element is the atom `'$end_of_table'`.
@@ -19,17 +19,6 @@ pub fn key_of(keypos: u32, object: &Term) -> Option<&Term>
         None
     } else {
         Some(key)
-    }
-}
-
-/// Returns a copy of a key. Most keys are integers, which are copied without a further call.
-#[inline(always)]
-pub fn copy_key(alloc: Global, key: &Term) -> Result<Term, AllocError>
-    ensures { IfOk result (λ copy. copy ≡ key.now) }
-{
-    match key {
-        Term::Int(n) => Ok(Term::Int(*n)),
-        _ => key.try_clone(alloc),
     }
 }
 
@@ -58,8 +47,16 @@ pub fn any_too_deep(terms: &[Term]) -> bool
 }
 
 /// Returns whether an object equals one of `objects`.
-pub fn contains(objects: &[Term], object: &Term) -> bool
+pub fn contains(objects: &[Object], object: &Term) -> bool
     ensures { result ≡ list_any (same object.now) objects.now }
 {
-    objects.iter().any(|other| object == other)
+    objects.iter().any(|other| are_equal(object, other))
+}
+
+/// Returns whether an object equals a stored object.
+#[inline(always)]
+fn are_equal(object: &Term, stored: &Object) -> bool
+    ensures { result ≡ same object.now stored.now }
+{
+    stored.is_equal(object)
 }

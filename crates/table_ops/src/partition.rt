@@ -10,6 +10,7 @@ use crate::predicate::Predicate;
 use crate::trial::Trial;
 use ets_term::Term;
 use node_list::Chain;
+use packed_term::Object;
 use std::alloc::{AllocError, Global};
 
 /// The objects of one slot, split into removed and kept objects. Only the number of the removed objects is stored.
@@ -38,7 +39,8 @@ impl Partition {
     pub fn add_all<P: Predicate>(
         &mut self,
         trial: &Trial<'_, P>,
-        objects: &[Term],
+        objects: &[Object],
+        scratch: &mut Term,
         looks: &mut Looks,
     ) -> Result<(), AllocError>
         requires { IsPartition (P.tests trial.now.query.now) [] self.old }
@@ -50,7 +52,7 @@ impl Partition {
         // Reads the counter only for the proof, which learns that the count is a `u64`.
         let _before = looks.count();
         for i in 0..objects.len() {
-            self.add(trial, objects, i, looks)?;
+            self.add(trial, objects, i, scratch, looks)?;
         }
         Ok(())
     }
@@ -60,8 +62,9 @@ impl Partition {
     fn add<P: Predicate>(
         &mut self,
         trial: &Trial<'_, P>,
-        objects: &[Term],
+        objects: &[Object],
         i: usize,
+        scratch: &mut Term,
         looks: &mut Looks,
     ) -> Result<(), AllocError>
         requires few { length objects.now < 2 ^ 64 }
@@ -72,7 +75,7 @@ impl Partition {
         ensures looks { looks.new ≡ tick looks.old }
     {
         let object = &objects[i];
-        if trial.chooses(self.alloc, object, looks)? {
+        if trial.chooses(self.alloc, object, scratch, looks)? {
             if self.removed == 0 {
                 self.append_copies(&objects[..i])?;
                 self.removed = 1;
@@ -88,7 +91,7 @@ impl Partition {
     }
 
     /// Appends copies of objects to the kept objects.
-    fn append_copies(&mut self, objects: &[Term]) -> Result<(), AllocError>
+    fn append_copies(&mut self, objects: &[Object]) -> Result<(), AllocError>
         ensures { OnOk result (self.new.kept ≡ self.old.kept ++ objects.now) }
     {
         for object in objects {

@@ -2,18 +2,19 @@
 //! locates a slot in its rows, and places may have gaps.
 ghost use Rattle.std.specs.Prelude.{◌≡◌, IfSome, IsSome, option_map};
 ghost use Rattle.std.specs.Iterator.{YieldsFirstBy, item_count};
+ghost use Rattle.bucket_table.specs.Lent.{slot_of_ref};
 ghost use Rattle.table_ops.specs.inside.SlotsLeft.{IsPlaced};
 
-use bucket_table::{Place, Rows};
-use ets_term::Term;
+use bucket_table::{KeyRef, Place, Rows};
+use packed_term::Object;
 use std::marker::Model;
 
 /// A slot with its place.
 #[derive(Clone, Copy)]
 pub struct PlacedSlot<'a> {
     place: Place,
-    key: &'a Term,
-    objects: &'a [Term],
+    key: KeyRef<'a>,
+    objects: &'a [Object],
 }
 
 /// An iterator over the slots of rows, in their order. It reads each slot one call ahead: `next_slot` is the slot that
@@ -42,13 +43,13 @@ impl<'a, R: Rows> Model for Slots<'a, R> {
 }
 
 impl<'a, R: Rows> Iterator for Slots<'a, R> {
-    type Item = (&'a Term, &'a [Term]);
+    type Item = (KeyRef<'a>, &'a [Object]);
 
-    ghost next_gives = { YieldsFirstBy (λ item. (item.0.now, item.1.now)) (λ rest. rest) };
+    ghost next_gives = { YieldsFirstBy slot_of_ref (λ rest. rest) };
 
     ghost remaining = { item_count (λ rest. rest) };
 
-    fn next(&mut self) -> Option<(&'a Term, &'a [Term])> {
+    fn next(&mut self) -> Option<(KeyRef<'a>, &'a [Object])> {
         let Some(slot) = self.next_slot else {
             return None;
         };

@@ -8,6 +8,7 @@ use crate::looks::Looks;
 use crate::predicate::Predicate;
 use crate::projection::Projection;
 use ets_term::Term;
+use packed_term::Object;
 use std::alloc::{AllocError, Global};
 
 /// A wrapper of a query, a pattern or a match specification. A scan gets the `Trial` as `trial` instead of the query.
@@ -27,36 +28,41 @@ impl<'a, Q> Trial<'a, Q> {
 }
 
 impl<'a, P: Projection> Trial<'a, P> {
-    /// Returns the result of the query for an object, or `None` if it has no result, and counts the object. Fails if an
-    /// allocation fails.
+    /// Returns the result of the query for an object, or `None` if it has no result, and counts the object. Unpacks the
+    /// object into `scratch`, and reuses its memory. Fails if an allocation fails.
     #[inline(always)]
     pub fn result_of(
         &self,
         alloc: Global,
-        object: &Term,
+        object: &Object,
+        scratch: &mut Term,
         looks: &mut Looks,
     ) -> Result<Option<Term>, AllocError>
         ensures data { ReturnsData result (P.projects self.now.query.now object.now) }
         ensures ticks { looks.new ≡ tick looks.old }
     {
         looks.tick();
-        self.query.project(alloc, object)
+        object.unpack_into(alloc, scratch)?;
+        self.query.project(alloc, scratch)
     }
 }
 
 impl<'a, P: Predicate> Trial<'a, P> {
-    /// Returns whether the query chooses an object, and counts the object. Fails if an allocation fails.
+    /// Returns whether the query chooses an object, and counts the object. Unpacks the object into `scratch`, and
+    /// reuses its memory. Fails if an allocation fails.
     #[inline(always)]
     pub fn chooses(
         &self,
         alloc: Global,
-        object: &Term,
+        object: &Object,
+        scratch: &mut Term,
         looks: &mut Looks,
     ) -> Result<bool, AllocError>
         ensures chosen { Returns result (P.tests self.now.query.now object.now) }
         ensures ticks { looks.new ≡ tick looks.old }
     {
         looks.tick();
-        self.query.test(alloc, object)
+        object.unpack_into(alloc, scratch)?;
+        self.query.test(alloc, scratch)
     }
 }

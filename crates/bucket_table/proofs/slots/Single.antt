@@ -2,7 +2,8 @@
 use Rattle.std.proofs.Common.{◌≡◌, ℕ, unwrap_or, ◌∙◌, sym, ap, false, List, [], ◌∷◌, Option, Some, None, IsSome, subst, arith, refl, slice_get, slice_set, length, ◌<◌}
 use Rattle.std.proofs.lemmas.Option.{same_Some}
 use Rattle.ets_term.specs.declared.term.Term.{Term}
-use Rattle.node_list.specs.Chains.{with_element, with_element_in_first}
+use Rattle.packed_term.specs.Elements.{with_element}
+use Rattle.node_list.specs.Chains.{with_element_in_first}
 use Rattle.bucket_table.specs.Slots.{Slot, has_objects}
 use Rattle.bucket_table.specs.Entries.{HasOneObject, objects_in, with_objects_in, with_element_in}
 

@@ -1,5 +1,6 @@
 //! The trait `Rows` for rows in hash buckets. A slot is an item of the node list. Methods that change slots also keep
 //! the number of slots and the tombstone log correct.
+ghost use Rattle.std.specs.Prelude.{◌≡◌, IfOk, map};
 ghost use Rattle.bucket_table.specs.SplitRowsState.{key_of_place};
 
 use super::SplitRows;
@@ -7,9 +8,11 @@ use super::index::item_hash;
 use super::sweep::SweepMode;
 use crate::entry::{Place, SlotEntry};
 use crate::growth::{Growth, MAX_BUCKETS, Readying};
+use crate::key_ref::KeyRef;
 use crate::rows::Rows;
 use ets_term::{KeyHash, Term};
 use node_list::{Chain, Steps};
+use packed_term::{Object, Packed};
 use split_key::dummy_key;
 use std::alloc::AllocError;
 use std::mem;
@@ -31,15 +34,15 @@ impl<H: KeyHash + Copy + Drop> Rows for SplitRows<H> {
     ghost most_buckets = { 1048576 };
 
     #[inline(always)]
-    fn get(&self, key: &Term) -> Option<&[Term]> {
+    fn get(&self, key: &Term) -> Option<&[Object]> {
         let mut steps = Steps::new();
         self.get_counted(key, &mut steps)
     }
 
     fn put(&mut self, rows: Vec<(Term, Chain)>) -> Result<(), AllocError> {
-        self.reserve_slots(rows.len())?;
-        for (key, objects) in rows {
-            let hash = self.index.hasher.hash32(&key);
+        let hashed = hashed_rows(self.index.hasher, rows)?;
+        self.reserve_slots(hashed.len())?;
+        for (hash, (key, objects)) in hashed {
             self.insert_slot(hash, key, objects);
         }
         Ok(())
@@ -86,12 +89,12 @@ impl<H: KeyHash + Copy + Drop> Rows for SplitRows<H> {
         self.index.list.reveal_invariant();
     }
 
-    fn first_at(&self) -> Option<(&Term, &[Term])> {
+    fn first_at(&self) -> Option<(KeyRef<'_>, &[Object])> {
         let place = self.first_place()?;
         Some(self.slot_at(place))
     }
 
-    fn next_at(&self, key: &Term) -> Option<Option<(&Term, &[Term])>> {
+    fn next_at(&self, key: &Term) -> Option<Option<(KeyRef<'_>, &[Object])>> {
         self.reveal_invariant();
         let place = self.find(key)?;
         match self.next_place(place) {
@@ -126,15 +129,15 @@ impl<H: KeyHash + Copy + Drop> Rows for SplitRows<H> {
         self.index.list.next_item_at(place + 1)
     }
 
-    fn slot_at(&self, place: Place) -> (&Term, &[Term]) {
+    fn slot_at(&self, place: Place) -> (KeyRef<'_>, &[Object]) {
         self.index.list.reveal_invariant();
         match self.index.list.item(place) {
-            Some((key, chain)) => (key, chain.as_slice()),
+            Some((key, chain)) => (KeyRef::Stored(key), chain.as_slice()),
             None => unreachable!(),
         }
     }
 
-    fn objects_at(&self, place: Place) -> &[Term] {
+    fn objects_at(&self, place: Place) -> &[Object] {
         self.index.list.reveal_invariant();
         match self.index.list.item(place) {
             Some((_key, chain)) => chain.as_slice(),
@@ -151,22 +154,15 @@ impl<H: KeyHash + Copy + Drop> Rows for SplitRows<H> {
         mem::replace(chain, objects)
     }
 
-    fn replace_one_at(&mut self, place: Place, object: Term) -> Term {
+    fn replace_one_at(&mut self, place: Place, object: Object) -> Object {
         self.index.list.reveal_invariant();
         self.index.list.chain_mut(place).replace(0, object)
     }
 
     #[inline]
-    fn set_element_at(&mut self, place: Place, index: usize, value: Term) {
+    fn set_element_at(&mut self, place: Place, index: usize, value: Packed) {
         self.index.list.reveal_invariant();
         self.index.list.chain_mut(place).set_element(index, value);
-    }
-
-    fn remove_at(&mut self, place: Place) -> (Term, Chain) {
-        self.index.list.reveal_invariant();
-        let slot = self.index.remove(place);
-        self.slots -= 1;
-        slot
     }
 
     fn delete_at(&mut self, place: Place) -> usize {
@@ -180,9 +176,10 @@ impl<H: KeyHash + Copy + Drop> Rows for SplitRows<H> {
         self.reserve_slots(additional)
     }
 
-    fn put_at(&mut self, hash: u32, key: Term, objects: Chain) -> Result<(), AllocError> {
+    fn put_at(&mut self, hash: u32, key: &Term, objects: Chain) -> Result<(), AllocError> {
+        let own_key = Packed::pack(*self.log.hashes.allocator(), key)?;
         self.reserve_slots(1)?;
-        self.insert_slot(hash, key, objects);
+        self.insert_slot(hash, own_key, objects);
         Ok(())
     }
 
@@ -227,4 +224,21 @@ impl<H: KeyHash + Copy + Drop> Rows for SplitRows<H> {
             None
         }
     }
+}
+
+/// Returns rows with their keys packed, each with the hash of its key. If memory is refused, drops the rows and returns
+/// an error.
+fn hashed_rows<H: KeyHash + Copy + Drop>(
+    hasher: H,
+    rows: Vec<(Term, Chain)>,
+) -> Result<Vec<(u32, (Packed, Chain))>, AllocError>
+    ensures { IfOk result (λ hashed. hashed.items ≡ map (λ row. (H.hash hasher row.0, row)) rows.items) }
+{
+    let alloc = *rows.allocator();
+    let mut hashed = Vec::with_capacity(alloc, rows.len())?;
+    for (key, objects) in rows {
+        let hash = hasher.hash32(&key);
+        hashed.push_reserved((hash, (Packed::pack(alloc, &key)?, objects)));
+    }
+    Ok(hashed)
 }

@@ -21,8 +21,8 @@ impl<H: KeyHash + Copy + Drop> Script<H> {
     {
         match self.caller(name) {
             Some(pid) => {
-                let mut step = Step::Ask(pid, call);
-                self.step(&mut step, answer);
+                let step = Step::Ask(pid, call);
+                self.step(&step, answer);
                 self.keep_call(step);
                 self.run_pending_steps();
             }
@@ -96,15 +96,14 @@ impl<H: KeyHash + Copy + Drop> Script<H> {
         }
     }
 
-    /// Runs a step of the node, and writes the answer. The reply uses the memory of the previous reply. A single object
-    /// that is inserted moves out of the step into its table.
+    /// Runs a step of the node, and writes the answer. The reply uses the memory of the previous reply.
     #[inline(always)]
-    pub(super) fn step(&mut self, step: &mut Step, answer: &mut Answer)
-        ensures { Steps self.old step.old answer.new self.new
+    pub(super) fn step(&mut self, step: &Step, answer: &mut Answer)
+        ensures { Steps self.old step.now answer.new self.new
             ⊎ KeepsState self.old NoMemory answer.new self.new }
     {
         let step_result = match answer {
-            Answer::Replied(reply) => self.node.drain_step(step, reply),
+            Answer::Replied(reply) => self.node.step_into(step, reply),
             _ => {
                 *answer = self.step_anew(step);
                 return;

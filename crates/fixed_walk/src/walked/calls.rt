@@ -17,6 +17,7 @@ use super::Walked;
 use bucket_table::Rows;
 use counters::{ElementSpecs, Op, Ops};
 use ets_term::{Items, Position, Term};
+use packed_term::Object;
 use std::alloc::AllocError;
 use table_ops::Refusal;
 
@@ -24,7 +25,7 @@ use table_ops::Refusal;
 /// last object stays as a tombstone.
 impl<R: Rows> Walked<R> {
     /// Returns the objects of a key, oldest first (stdlib manual, ets:lookup/2).
-    pub fn lookup(&self, key: &Term) -> &[Term]
+    pub fn lookup(&self, key: &Term) -> &[Object]
         ensures { result.now ≡ objects_under self.now.content.slots key.now }
     {
         self.table.lookup(key)
@@ -76,14 +77,6 @@ impl<R: Rows> Walked<R> {
         ensures { RefinesChange (on_content (Inserts objects.now) self.old) self.old result self.new }
     {
         self.table.insert(objects)
-    }
-
-    /// Inserts an object as `insert` does, but moves it into the table. A refused object is dropped.
-    #[tactic(auto, using(crate::proofs::TombstoneLaws::no_tombstones))]
-    pub fn insert_own(&mut self, object: Term) -> Result<(), Refusal>
-        ensures { RefinesChange (on_content (Inserts (object ∷ [])) self.old) self.old result self.new }
-    {
-        self.table.insert_own(object)
     }
 
     /// Inserts objects if none of their keys has an object, and returns whether it did (stdlib manual,

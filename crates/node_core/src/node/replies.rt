@@ -12,6 +12,7 @@ use crate::step::Reply;
 use crate::terms;
 use ets_term::{Atom, Term};
 use ownership::WorldFault;
+use packed_term::Object;
 use std::alloc::{AllocError, Global};
 use table_ops::Refusal;
 
@@ -85,21 +86,29 @@ pub fn write_system_limit(reply: &mut Reply)
 }
 
 /// Returns a list of copies of these objects.
-pub fn list_reply(alloc: Global, objects: &[Term]) -> Result<Reply, AllocError>
+pub fn list_reply(alloc: Global, objects: &[Object]) -> Result<Reply, AllocError>
     ensures { IfOk result (λ r. r ≡ list_reply objects.now) }
 {
-    let copies = terms::copy_terms(alloc, objects)?;
+    let copies = terms::copy_objects(alloc, objects)?;
+    Ok(Reply::Value(Term::List(copies)))
+}
+
+/// Returns a list of copies of these terms.
+pub fn terms_reply(alloc: Global, terms: &[Term]) -> Result<Reply, AllocError>
+    ensures { IfOk result (λ r. r ≡ list_reply terms.now) }
+{
+    let copies = terms::copy_terms(alloc, terms)?;
     Ok(Reply::Value(Term::List(copies)))
 }
 
 /// Writes a list of copies of these objects. If the earlier reply is as long a list, its memory is used again.
 #[inline(always)]
-pub fn write_list(alloc: Global, objects: &[Term], reply: &mut Reply) -> Result<(), AllocError>
+pub fn write_list(alloc: Global, objects: &[Object], reply: &mut Reply) -> Result<(), AllocError>
     ensures { OnOk result (reply.new ≡ list_reply objects.now) }
 {
     if let Reply::Value(Term::List(old_items)) = reply {
         if old_items.len() == objects.len() {
-            return old_items.write_copies(alloc, objects);
+            return terms::write_objects(alloc, objects, old_items);
         }
     }
     *reply = list_reply(alloc, objects)?;

@@ -10,7 +10,7 @@ ghost use Rattle.node_core.specs.State.{State};
 ghost use Rattle.node_core.specs.inside.ReplyReserve.{StepsWithBuckets, is_flat_term, is_flat, is_nothing, list_terms, FitsCapacity, CanCopy, Predicts, Suffices};
 
 use super::Node;
-use super::replies::list_reply;
+use super::replies::{list_reply, terms_reply};
 use crate::call_name::CallName;
 use crate::step::{Reply, Step};
 use ets_term::{Items, KeyHash, Term};
@@ -68,7 +68,7 @@ impl<H: KeyHash + Copy + Drop> Node<H> {
     {
         match name {
             CallName::Receive => {
-                let copy = list_reply(self.alloc, self.world.mailbox(pid))?;
+                let copy = terms_reply(self.alloc, self.world.mailbox(pid))?;
                 Ok(ReplyReserve::Predicted(copy))
             }
             _ => Ok(ReplyReserve::Nothing),

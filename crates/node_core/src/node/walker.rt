@@ -87,7 +87,7 @@ impl<H: KeyHash + Copy + Drop> Node<H> {
         };
         match found {
             None => Ok(None),
-            Some(key) => match key.try_clone(self.alloc) {
+            Some(key) => match key.to_term(self.alloc) {
                 Ok(key) => Ok(Some(key)),
                 Err(_) => Err(WalkFault::Memory),
             },

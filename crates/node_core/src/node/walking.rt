@@ -1,7 +1,7 @@
 //! The calls `safe_fixtable`, `first`, `next`, `first_lookup` and `next_lookup`. While a process fixes a table, its
 //! traversals can continue after a deleted key.
 ghost use Rattle.std.specs.Prelude.{◌≡◌, option_copied, option_map, IfOk};
-ghost use Rattle.std.specs.Map.Iter.{deref_pair};
+ghost use Rattle.bucket_table.specs.Lent.{key_of_ref, slot_of_ref};
 ghost use Rattle.node_core.specs.declared.node.access.Access.TheVariants.{Read};
 ghost use Rattle.node_core.specs.Access.{reads, changes};
 ghost use Rattle.node_core.specs.rules.Walking.{SafeFixtable, Fixes, Releases, first_reply, next_reply, first_lookup_reply, next_lookup_reply, key_reply, slot_reply};
@@ -12,7 +12,9 @@ use super::access::Access;
 use super::replies::{atom_reply, true_reply};
 use crate::step::Reply;
 use crate::terms;
+use bucket_table::KeyRef;
 use ets_term::{Items, KeyHash, Term};
+use packed_term::Object;
 use std::alloc::{AllocError, Global};
 use table_ops::Refusal;
 
@@ -98,24 +100,24 @@ impl<H: KeyHash + Copy + Drop> Node<H> {
 }
 
 /// Returns a key as a reply, or `'$end_of_table'`.
-fn key_reply(alloc: Global, key: Option<&Term>) -> Result<Reply, AllocError>
-    ensures { IfOk result (λ r. r ≡ key_reply (option_copied key.entry)) }
+fn key_reply(alloc: Global, key: Option<KeyRef<'_>>) -> Result<Reply, AllocError>
+    ensures { IfOk result (λ r. r ≡ key_reply (option_map key_of_ref key.entry)) }
 {
     match key {
-        Some(key) => Ok(Reply::Value(key.try_clone(alloc)?)),
+        Some(key) => Ok(Reply::Value(key.to_term(alloc)?)),
         None => Ok(atom_reply(alloc, b"$end_of_table")),
     }
 }
 
 /// Returns a key with its objects as a reply, or `'$end_of_table'`.
-fn slot_reply(alloc: Global, slot: Option<(&Term, &[Term])>) -> Result<Reply, AllocError>
-    ensures { IfOk result (λ r. r ≡ slot_reply (option_map deref_pair slot.entry)) }
+fn slot_reply(alloc: Global, slot: Option<(KeyRef<'_>, &[Object])>) -> Result<Reply, AllocError>
+    ensures { IfOk result (λ r. r ≡ slot_reply (option_map slot_of_ref slot.entry)) }
 {
     match slot {
         Some((key, objects)) => {
             let mut parts = Items::new(alloc);
-            parts.push(key.try_clone(alloc)?)?;
-            parts.push(Term::List(terms::copy_terms(alloc, objects)?))?;
+            parts.push(key.to_term(alloc)?)?;
+            parts.push(Term::List(terms::copy_objects(alloc, objects)?))?;
             Ok(Reply::Value(Term::Tuple(parts)))
         }
         None => Ok(atom_reply(alloc, b"$end_of_table")),

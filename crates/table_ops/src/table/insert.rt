@@ -36,19 +36,6 @@ impl<R: Rows> Table<R> {
         if let Some(refusal) = self.refusal_of(object) {
             return Err(refusal);
         }
-        let copy = object.try_clone(self.inner.alloc)?;
-        self.put_valid_object(copy)
-    }
-
-    /// Inserts an object as `insert` does, but moves it into the table. A refused object is dropped.
-    pub fn insert_own(&mut self, object: Term) -> Result<(), Refusal>
-        ensures content { RefinesChange (Inserts (object ∷ []) self.old.content)
-            self.old.content result self.new.content }
-        ensures buckets { self.new.buckets ≡ self.old.buckets }
-    {
-        if let Some(refusal) = self.refusal_of(&object) {
-            return Err(refusal);
-        }
         self.put_valid_object(object)
     }
 
@@ -69,11 +56,11 @@ impl<R: Rows> Table<R> {
         None
     }
 
-    /// Inserts an object that `refusal_of` does not refuse.
-    fn put_valid_object(&mut self, object: Term) -> Result<(), Refusal>
-        requires object { is_object self.old.content.keypos object ≡ true }
-        requires shallow { is_too_deep object ≡ false }
-        ensures content { RefinesChange (Inserts (object ∷ []) self.old.content)
+    /// Inserts a copy of an object that `refusal_of` does not refuse.
+    fn put_valid_object(&mut self, object: &Term) -> Result<(), Refusal>
+        requires object { is_object self.old.content.keypos object.now ≡ true }
+        requires shallow { is_too_deep object.now ≡ false }
+        ensures content { RefinesChange (Inserts (object.now ∷ []) self.old.content)
             self.old.content result self.new.content }
         ensures buckets { self.new.buckets ≡ self.old.buckets }
     {

@@ -12,11 +12,12 @@ use crate::refusal::Refusal;
 use crate::slots::all_of;
 use bucket_table::Rows;
 use ets_term::{Items, Position, Term};
+use packed_term::Object;
 use std::alloc::{AllocError, Global};
 
 impl<R: Rows> Table<R> {
     /// Returns the objects of a key, oldest first, or an empty slice if the key has none (stdlib manual, ets:lookup/2).
-    pub fn lookup(&self, key: &Term) -> &[Term]
+    pub fn lookup(&self, key: &Term) -> &[Object]
         ensures { result.now ≡ objects_under self.now.content.slots key.now }
     {
         self.inner.objects_of(key)
@@ -82,7 +83,7 @@ impl<R: Rows> Table<R> {
 fn element_of(
     alloc: Global,
     kind: Kind,
-    objects: &[Term],
+    objects: &[Object],
     position: Position,
 ) -> Result<Term, Refusal>
     ensures { ReturnsOrBadarg (lookup_element kind position objects.now) result }
@@ -95,17 +96,17 @@ fn element_of(
 
 /// Returns a copy of the element at a position of the first object. Refuses with `Badarg` if there is no such object or
 /// element.
-fn first_element(alloc: Global, objects: &[Term], position: Position) -> Result<Term, Refusal>
+fn first_element(alloc: Global, objects: &[Object], position: Position) -> Result<Term, Refusal>
     ensures { ReturnsOrBadarg (lookup_element Set position objects.now) result }
 {
     let object = objects.first().ok_or(Refusal::Badarg)?;
     let element = object.element(position).ok_or(Refusal::Badarg)?;
-    Ok(element.try_clone(alloc)?)
+    Ok(element.unpack(alloc)?)
 }
 
 /// Returns the list of the elements at a position of all objects. Refuses with `Badarg` if there are no objects, or one
 /// has no such element.
-fn elements(alloc: Global, objects: &[Term], position: Position) -> Result<Term, Refusal>
+fn elements(alloc: Global, objects: &[Object], position: Position) -> Result<Term, Refusal>
     ensures { ReturnsOrBadarg (lookup_element Bag position objects.now) result }
 {
     if objects.is_empty() {
@@ -116,20 +117,24 @@ fn elements(alloc: Global, objects: &[Term], position: Position) -> Result<Term,
         let Some(element) = object.element(position) else {
             return Err(Refusal::Badarg);
         };
-        copies.push_reserved(element.try_clone(alloc)?);
+        copies.push_reserved(element.unpack(alloc)?);
     }
     Ok(Term::List(Items::from_vec(copies)))
 }
 
 /// Appends copies of objects to `copies`, which must have capacity for them.
-fn append_clones(alloc: Global, copies: &mut Vec<Term>, objects: &[Term]) -> Result<(), AllocError>
+pub(crate) fn append_clones(
+    alloc: Global,
+    copies: &mut Vec<Term>,
+    objects: &[Object],
+) -> Result<(), AllocError>
     requires room { vec_len copies.old + length objects.now ≤ vec_capacity copies.old }
     ensures copied { OnOk result (copies.new.items ≡ copies.old.items ++ objects.now) }
     ensures len { OnOk result (vec_len copies.new ≡ vec_len copies.old + length objects.now) }
     ensures capacity { OnOk result (vec_capacity copies.new ≡ vec_capacity copies.old) }
 {
     for object in objects {
-        copies.push_reserved(object.try_clone(alloc)?);
+        copies.push_reserved(object.unpack(alloc)?);
     }
     Ok(())
 }

@@ -6,6 +6,7 @@ ghost use Rattle.table_ops.specs.Drop.{without_those, without_held, has_key, eve
 ghost use Rattle.table_ops.specs.Results.{Returns};
 
 use super::Table;
+use super::lookup::append_clones;
 use crate::object::key_of;
 use crate::refusal::Refusal;
 use bucket_table::Rows;
@@ -38,11 +39,12 @@ impl<R: Rows> Table<R> {
         let Some(place) = self.inner.find(key) else {
             return Ok(Items::new(self.inner.alloc));
         };
-        let count = self.inner.rows.objects_at(place).len();
-        let mut taken = Vec::with_capacity(self.inner.alloc, count)?;
-        let objects = self.inner.remove_objects_at(hold, place);
-        self.count -= count;
-        objects.move_into(&mut taken);
+        let objects = self.inner.rows.objects_at(place);
+        // Unpacks the objects before it deletes them, so that a refusal of memory changes nothing.
+        let mut taken = Vec::with_capacity(self.inner.alloc, objects.len())?;
+        append_clones(self.inner.alloc, &mut taken, objects)?;
+        let taken_count = self.inner.delete_objects_at(hold, place);
+        self.count -= taken_count;
         Ok(Items::from_vec(taken))
     }
 

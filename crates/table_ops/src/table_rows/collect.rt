@@ -18,6 +18,7 @@ use crate::slots::all_of;
 use crate::trial::Trial;
 use bucket_table::Rows;
 use ets_term::Term;
+use packed_term::Object;
 use std::alloc::AllocError;
 
 impl<R: Rows> TableRows<R> {
@@ -40,14 +41,18 @@ impl<R: Rows> TableRows<R> {
             ≤ ticks (looks_of_key (option_copied key.entry) (R.slots self.now.rows)) looks.old }
         ensures at_least { looks.old ≤ looks.new }
     {
+        // The term into which each object is unpacked for its test.
+        let mut scratch = Term::default();
         match key {
-            Some(key) => self.collect_from(trial, self.objects_of(key), results, looks),
-            None => self.collect_all(trial, results, looks),
+            Some(key) => {
+                self.collect_from(trial, self.objects_of(key), &mut scratch, results, looks)
+            }
+            None => self.collect_all(trial, &mut scratch, results, looks),
         }
     }
 
     /// Returns the objects of a key, oldest first, or an empty slice if the key has none.
-    pub(crate) fn objects_of(&self, key: &Term) -> &[Term]
+    pub(crate) fn objects_of(&self, key: &Term) -> &[Object]
         ensures objects { result.now ≡ objects_under (R.slots self.now.rows) key.now }
         ensures distinct { HasDistinctKeys (R.slots self.now.rows) }
     {
@@ -63,6 +68,7 @@ impl<R: Rows> TableRows<R> {
     fn collect_all<P: Projection>(
         &self,
         trial: &Trial<'_, P>,
+        scratch: &mut Term,
         results: &mut Vec<Term>,
         looks: &mut Looks,
     ) -> Result<(), AllocError>
@@ -75,7 +81,7 @@ impl<R: Rows> TableRows<R> {
         // Reads the counter only for the proof, which learns that the count is a `u64`.
         let _before = looks.count();
         for (_, objects) in all_of(&self.rows) {
-            self.collect_from(trial, objects, results, looks)?;
+            self.collect_from(trial, objects, scratch, results, looks)?;
             // Reads the counter for the same proof, after each slot.
             let _after = looks.count();
         }
@@ -87,7 +93,8 @@ impl<R: Rows> TableRows<R> {
     fn collect_from<P: Projection>(
         &self,
         trial: &Trial<'_, P>,
-        objects: &[Term],
+        objects: &[Object],
+        scratch: &mut Term,
         results: &mut Vec<Term>,
         looks: &mut Looks,
     ) -> Result<(), AllocError>
@@ -100,7 +107,7 @@ impl<R: Rows> TableRows<R> {
         // Reads the counter only for the proof, which learns that the count is a `u64`.
         let _before = looks.count();
         for object in objects {
-            self.collect_one(trial, object, results, looks)?;
+            self.collect_one(trial, object, scratch, results, looks)?;
         }
         Ok(())
     }
@@ -110,7 +117,8 @@ impl<R: Rows> TableRows<R> {
     fn collect_one<P: Projection>(
         &self,
         trial: &Trial<'_, P>,
-        object: &Term,
+        object: &Object,
+        scratch: &mut Term,
         results: &mut Vec<Term>,
         looks: &mut Looks,
     ) -> Result<(), AllocError>
@@ -118,7 +126,7 @@ impl<R: Rows> TableRows<R> {
             (cons_option (P.projects trial.now.query.now object.now) []) }
         ensures looks { looks.new ≡ tick looks.old }
     {
-        if let Some(answer) = trial.result_of(self.alloc, object, looks)? {
+        if let Some(answer) = trial.result_of(self.alloc, object, scratch, looks)? {
             results.push(answer)?;
         }
         Ok(())

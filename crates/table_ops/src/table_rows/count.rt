@@ -15,6 +15,7 @@ use crate::slots::all_of;
 use crate::trial::Trial;
 use bucket_table::Rows;
 use ets_term::Term;
+use packed_term::Object;
 use std::alloc::AllocError;
 
 impl<R: Rows> TableRows<R> {
@@ -37,9 +38,11 @@ impl<R: Rows> TableRows<R> {
             ≤ ticks (looks_of_key (option_copied key.entry) (R.slots self.now.rows)) looks.old }
         ensures at_least { looks.old ≤ looks.new }
     {
+        // The term into which each object is unpacked for its test.
+        let mut scratch = Term::default();
         match key {
-            Some(key) => self.count_in(trial, self.objects_of(key), looks),
-            None => self.count_all(trial, looks),
+            Some(key) => self.count_in(trial, self.objects_of(key), &mut scratch, looks),
+            None => self.count_all(trial, &mut scratch, looks),
         }
     }
 
@@ -49,6 +52,7 @@ impl<R: Rows> TableRows<R> {
     fn count_all<P: Predicate>(
         &self,
         trial: &Trial<'_, P>,
+        scratch: &mut Term,
         looks: &mut Looks,
     ) -> Result<usize, AllocError>
         requires few { object_count (R.slots self.now.rows) < 2 ^ 32 }
@@ -62,7 +66,7 @@ impl<R: Rows> TableRows<R> {
         let _before = looks.count();
         let mut total = 0;
         for (_, objects) in all_of(&self.rows) {
-            total += self.count_in(trial, objects, looks)?;
+            total += self.count_in(trial, objects, scratch, looks)?;
             // Reads the counter for the same proof, after each slot.
             let _after = looks.count();
         }
@@ -73,7 +77,8 @@ impl<R: Rows> TableRows<R> {
     fn count_in<P: Predicate>(
         &self,
         trial: &Trial<'_, P>,
-        objects: &[Term],
+        objects: &[Object],
+        scratch: &mut Term,
         looks: &mut Looks,
     ) -> Result<usize, AllocError>
         ensures count { Returns result (chosen_count (P.tests trial.now.query.now) objects.now) }
@@ -85,7 +90,7 @@ impl<R: Rows> TableRows<R> {
         let _before = looks.count();
         let mut count = 0;
         for i in 0..objects.len() {
-            count += self.count_one(trial, &objects[i], looks)?;
+            count += self.count_one(trial, &objects[i], scratch, looks)?;
         }
         Ok(count)
     }
@@ -94,7 +99,8 @@ impl<R: Rows> TableRows<R> {
     fn count_one<P: Predicate>(
         &self,
         trial: &Trial<'_, P>,
-        object: &Term,
+        object: &Object,
+        scratch: &mut Term,
         looks: &mut Looks,
     ) -> Result<usize, AllocError>
         ensures count { Returns result
@@ -102,7 +108,7 @@ impl<R: Rows> TableRows<R> {
         ensures one { IfOk result (λ count. count ≤ 1) }
         ensures looks { looks.new ≡ tick looks.old }
     {
-        if trial.chooses(self.alloc, object, looks)? {
+        if trial.chooses(self.alloc, object, scratch, looks)? {
             return Ok(1);
         }
         Ok(0)

@@ -44,9 +44,11 @@ impl<R: Rows> TableRows<R> {
             (plan_at (R.key_at self.now.rows) plan.new.list.items
             ≡ plan_of (P.tests trial.now.query.now) (R.slots self.now.rows)) }
     {
+        // The term into which each object is unpacked for its test.
+        let mut scratch = Term::default();
         match key {
-            Some(key) => self.plan_key(trial, key, plan, looks),
-            None => self.plan_all(trial, plan, looks),
+            Some(key) => self.plan_key(trial, key, plan, &mut scratch, looks),
+            None => self.plan_all(trial, plan, &mut scratch, looks),
         }
     }
 
@@ -56,6 +58,7 @@ impl<R: Rows> TableRows<R> {
         trial: &Trial<'_, P>,
         key: &Term,
         plan: &mut DeletePlan,
+        scratch: &mut Term,
         looks: &mut Looks,
     ) -> Result<usize, AllocError>
         requires empty { plan.old.list.items ≡ [] }
@@ -77,7 +80,7 @@ impl<R: Rows> TableRows<R> {
         let Some(place) = self.find(key) else {
             return Ok(0);
         };
-        plan.plan_slot(trial, place, self.rows.objects_at(place), looks)
+        plan.plan_slot(trial, place, self.rows.objects_at(place), scratch, looks)
     }
 
     /// Tests all objects, plans the deletion of the chosen objects and returns their number. The sum cannot overflow,
@@ -86,6 +89,7 @@ impl<R: Rows> TableRows<R> {
         &self,
         trial: &Trial<'_, P>,
         plan: &mut DeletePlan,
+        scratch: &mut Term,
         looks: &mut Looks,
     ) -> Result<usize, AllocError>
         requires few { object_count (R.slots self.now.rows) < 2 ^ 32 }
@@ -108,7 +112,7 @@ impl<R: Rows> TableRows<R> {
         for _ in 0..self.rows.len() {
             let Some(place) = at else { unreachable!() };
             let (_, objects) = self.rows.slot_at(place);
-            total += plan.plan_slot(trial, place, objects, looks)?;
+            total += plan.plan_slot(trial, place, objects, scratch, looks)?;
             at = self.rows.next_place(place);
         }
         Ok(total)

@@ -9,24 +9,25 @@ ghost use Rattle.table_ops.specs.inside.TableRows.{ChangesSlotsOnly, TableRowsIn
 ghost use Rattle.table_ops.specs.inside.Undo.{PutsObject, PutsEach, after_undo, after_roll_back};
 
 use super::TableRows;
-use crate::object::{copy_key, key_of};
+use crate::object::key_of;
 use crate::refusal::Refusal;
 use crate::undo::Undo;
 use bucket_table::{Place, Rows, SlotEntry};
 use ets_term::Term;
 use node_list::Chain;
+use packed_term::Object;
 
 impl<R: Rows> TableRows<R> {
-    /// Inserts a single object, without an undo log. `before` is the number of objects of the table. Returns their
-    /// number after the insertion. If the key has no slot, inserts a new slot.
-    pub(crate) fn put_one(&mut self, before: usize, object: Term) -> Result<usize, Refusal>
-        requires object { is_object self.old.keypos object ≡ true }
+    /// Inserts a copy of a single object, without an undo log. `before` is the number of objects of the table. Returns
+    /// their number after the insertion. If the key has no slot, inserts a new slot.
+    pub(crate) fn put_one(&mut self, before: usize, object: &Term) -> Result<usize, Refusal>
+        requires object { is_object self.old.keypos object.now ≡ true }
         requires holds { TableRowsInvariant R.slots self.old before }
-        ensures slots { PutsEach self.old.limit self.old.kind self.old.keypos (object ∷ [])
+        ensures slots { PutsEach self.old.limit self.old.kind self.old.keypos (object.now ∷ [])
             (R.slots self.old.rows) result (R.slots self.new.rows) }
         ensures keeps { ChangesSlotsOnly R.readiness self.old self.new }
     {
-        let Some(key) = key_of(self.keypos, &object) else {
+        let Some(key) = key_of(self.keypos, object) else {
             unreachable!()
         };
         match self.rows.entry(key) {
@@ -34,29 +35,30 @@ impl<R: Rows> TableRows<R> {
                 if before >= self.limit as usize {
                     return Err(Refusal::SystemLimit);
                 }
-                let own_key = copy_key(self.alloc, key)?;
-                let chain = Chain::one(self.alloc, object);
-                self.rows.put_at(hash, own_key, chain)?;
+                let packed = Object::pack(self.alloc, object)?;
+                let chain = Chain::one(self.alloc, packed);
+                self.rows.put_at(hash, key, chain)?;
                 Ok(before + 1)
             }
             SlotEntry::Occupied(place) => self.put_one_at(before, place, object),
         }
     }
 
-    /// Inserts a single object in the slot of its key, which is at `place`. In a set, the new object replaces the old
-    /// object, if the slot has one. `before` is the number of objects of the table. Returns their number after the
-    /// insertion.
+    /// Inserts a copy of a single object in the slot of its key, which is at `place`. In a set, the new object replaces
+    /// the old object, if the slot has one. `before` is the number of objects of the table. Returns their number after
+    /// the insertion.
     #[inline(never)]
-    fn put_one_at(&mut self, before: usize, place: Place, object: Term) -> Result<usize, Refusal>
-        requires object { is_object self.old.keypos object ≡ true }
-        requires place { R.key_at self.old.rows place ≡ key_of self.old.keypos object }
+    fn put_one_at(&mut self, before: usize, place: Place, object: &Term) -> Result<usize, Refusal>
+        requires object { is_object self.old.keypos object.now ≡ true }
+        requires place { R.key_at self.old.rows place ≡ key_of self.old.keypos object.now }
         requires holds { TableRowsInvariant R.slots self.old before }
-        ensures slots { PutsEach self.old.limit self.old.kind self.old.keypos (object ∷ [])
+        ensures slots { PutsEach self.old.limit self.old.kind self.old.keypos (object.now ∷ [])
             (R.slots self.old.rows) result (R.slots self.new.rows) }
         ensures keeps { ChangesSlotsOnly R.readiness self.old self.new }
     {
         if self.is_set() && !self.rows.objects_at(place).is_empty() {
-            let _ = self.rows.replace_one_at(place, object);
+            let packed = Object::pack(self.alloc, object)?;
+            let _ = self.rows.replace_one_at(place, packed);
             return Ok(before);
         }
         let undo = self.put_in_slot(before < self.limit as usize, place, object)?;

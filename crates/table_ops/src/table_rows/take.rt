@@ -12,6 +12,7 @@ use super::TableRows;
 use bucket_table::{Place, Rows};
 use ets_term::Term;
 use node_list::Chain;
+use packed_term::Object;
 
 impl<R: Rows> TableRows<R> {
     /// Returns the place of a key's slot, or `None` if the key has no slot.
@@ -21,23 +22,6 @@ impl<R: Rows> TableRows<R> {
     {
         self.rows.reveal_invariant();
         self.rows.find(key)
-    }
-
-    /// Removes and returns the objects of the slot at a place. The slot stays as a tombstone if `hold` is true, or if
-    /// it already was a tombstone.
-    pub(crate) fn remove_objects_at(&mut self, hold: bool, place: Place) -> Chain
-        requires { IsSome (R.key_at self.old.rows place) }
-        ensures objects { objects_in (R.slots self.old.rows) (R.key_at self.old.rows place)
-            ≡ Some result }
-        ensures slots { ForKey (R.key_at self.old.rows place) (λ key.
-            R.slots self.new.rows ≡ after_removal hold (R.slots self.old.rows) key result []) }
-        ensures keeps { ChangesSlotsOnly R.readiness self.old self.new }
-    {
-        if hold || self.rows.objects_at(place).is_empty() {
-            return self.rows.replace_at(place, Chain::new(self.alloc));
-        }
-        let (_, objects) = self.rows.remove_at(place);
-        objects
     }
 
     /// Drops the objects of the slot at a place and returns their number. The slot stays as a tombstone if `hold` is
@@ -77,7 +61,7 @@ impl<R: Rows> TableRows<R> {
 
 /// Returns whether a slot stays in the table, if it has these objects after a deletion. `was_tombstone` says whether it
 /// had no objects before.
-fn slot_stays(hold: bool, was_tombstone: bool, objects: &[Term]) -> bool
+fn slot_stays(hold: bool, was_tombstone: bool, objects: &[Object]) -> bool
     ensures { result ≡ (hold || has_objects objects.now || was_tombstone) }
 {
     hold || !objects.is_empty() || was_tombstone

@@ -19,6 +19,7 @@ use counters::{
 };
 use ets_term::{Position, Term};
 use node_list::Chain;
+use packed_term::{Object, Packed};
 use std::alloc::AllocError;
 
 impl<R: Rows> TableRows<R> {
@@ -118,25 +119,26 @@ impl<R: Rows> TableRows<R> {
     {
         let object = &self.rows.objects_at(place)[0];
         let value = counter_value(object, op)?;
+        let packed = Packed::integer(self.alloc, value)?;
         // Positions count from 1, and indices from 0. `counter_value` refuses position 0.
         let index = op.position.saturating_sub(1) as usize;
-        self.rows.set_element_at(place, index, Term::Int(value));
+        self.rows.set_element_at(place, index, packed);
         Ok(Term::Int(value))
     }
 
     /// Updates counters of the only object of the slot at a place, and returns the new value or list of values. The
-    /// object is moved out of the slot for the update, and then back.
+    /// object is unpacked, changed, and packed again before it replaces the old one.
     fn update_counters_at(&mut self, place: Place, ops: &Ops) -> Result<Term, CounterFault>
         requires { HasOneObject (R.slots self.old.rows) (R.key_at self.old.rows place) }
         ensures slots { UpdatesCounterAt ops.now (R.key_at self.old.rows place)
             (R.slots self.old.rows) result (R.slots self.new.rows) }
         ensures keeps { ChangesSlotsOnly R.readiness self.old self.new }
     {
-        // The integer 0 fills the place of the object in its slot during the update.
-        let mut object = self.rows.replace_one_at(place, Term::Int(0));
-        let counted = update_counter(self.alloc, &mut object, ops);
-        let _zero = self.rows.replace_one_at(place, object);
-        counted
+        let mut object = self.rows.objects_at(place)[0].unpack(self.alloc)?;
+        let counted = update_counter(self.alloc, &mut object, ops)?;
+        let packed = Object::pack(self.alloc, &object)?;
+        let _old = self.rows.replace_one_at(place, packed);
+        Ok(counted)
     }
 
     /// Sets elements of the only object of the slot at a place. A single element is set without moving the object.
@@ -181,19 +183,19 @@ impl<R: Rows> TableRows<R> {
         Ok(())
     }
 
-    /// Sets elements of the only object of the slot at a place. The object is moved out of the slot for the update, and
-    /// then back.
+    /// Sets elements of the only object of the slot at a place. The object is unpacked, changed, and packed again
+    /// before it replaces the old one.
     fn update_elements_at(&mut self, place: Place, specs: &ElementSpecs) -> Result<(), CounterFault>
         requires { HasOneObject (R.slots self.old.rows) (R.key_at self.old.rows place) }
         ensures slots { UpdatesElementAt specs.now (R.key_at self.old.rows place)
             (R.slots self.old.rows) result (R.slots self.new.rows) }
         ensures keeps { ChangesSlotsOnly R.readiness self.old self.new }
     {
-        // The integer 0 fills the place of the object in its slot during the update.
-        let mut object = self.rows.replace_one_at(place, Term::Int(0));
-        let written = write_elements(self.alloc, &mut object, specs);
-        let _zero = self.rows.replace_one_at(place, object);
-        written
+        let mut object = self.rows.objects_at(place)[0].unpack(self.alloc)?;
+        write_elements(self.alloc, &mut object, specs)?;
+        let packed = Object::pack(self.alloc, &object)?;
+        let _old = self.rows.replace_one_at(place, packed);
+        Ok(())
     }
 
     /// Inserts `object`, made from a Default, under a key without objects; the caller has checked that. `entry` is the
@@ -228,9 +230,9 @@ impl<R: Rows> TableRows<R> {
         ensures err { OnErr result (R.slots self.new.rows ≡ R.slots self.old.rows) }
         ensures keeps { ChangesSlotsOnly R.readiness self.old self.new }
     {
-        let objects = Chain::one(self.alloc, object);
+        let objects = Chain::one(self.alloc, Object::pack(self.alloc, &object)?);
         match entry {
-            SlotEntry::Vacant(hash) => self.rows.put_at(hash, key.try_clone(self.alloc)?, objects),
+            SlotEntry::Vacant(hash) => self.rows.put_at(hash, key, objects),
             SlotEntry::Occupied(place) => {
                 let _ = self.rows.replace_at(place, objects);
                 Ok(())

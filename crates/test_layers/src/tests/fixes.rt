@@ -3,7 +3,7 @@
 // Expected answers are from the rules of `ets`. `None` means out of memory, unless a comment says otherwise.
 use self::answers::{Expected, Step, try_insert};
 use super::keep_if_some;
-use bucket_table::{PlainRows, Rows, SplitRows};
+use bucket_table::{KeyRef, PlainRows, Rows, SplitRows};
 use ets_term::{AllSame, Fnv, Integer, Items, Term};
 use fixed_walk::{Badarg, Walked};
 use std::alloc::Global;
@@ -106,7 +106,7 @@ fn count_of<R: Rows>(table: &Walked<R>, key: Integer) -> usize {
 
 /// Returns the key after this one in a traversal, or None at the end of the table. `Badarg` means that the key has no
 /// slot.
-fn key_after<R: Rows>(table: &Walked<R>, key: Integer) -> Result<Option<&Term>, Badarg> {
+fn key_after<R: Rows>(table: &Walked<R>, key: Integer) -> Result<Option<KeyRef<'_>>, Badarg> {
     let key = Term::Int(key);
     let found = table.next(&key);
     drop(key);
@@ -114,9 +114,9 @@ fn key_after<R: Rows>(table: &Walked<R>, key: Integer) -> Result<Option<&Term>, 
 }
 
 /// Returns whether a traversal found the wanted key. A wanted key of None is the end of the table.
-fn is_key(found: Option<&Term>, wanted: Option<Integer>) -> bool {
+fn is_key(found: Option<KeyRef<'_>>, wanted: Option<Integer>) -> bool {
     match (found, wanted) {
-        (Some(Term::Int(key)), Some(number)) => *key == number,
+        (Some(key), Some(number)) => key.as_integer() == Some(number),
         (None, None) => true,
         _ => false,
     }

@@ -11,10 +11,10 @@ use std::alloc::{AllocError, Global};
 mod depths;
 // The pending growth step after each step.
 mod growth;
+// Objects under new and old keys.
+mod insertions;
 // Thousands of objects, tables, processes and steps.
 mod long;
-// `Node::step_own`, which consumes its step.
-mod owned;
 // Enrolment and exit of processes, and their limit.
 mod processes;
 // `Node::read` and `Node::read_into`.

@@ -3,9 +3,10 @@
 //! list.
 ghost use Rattle.std.specs.Prelude.{◌≡◌, ◌<◌, [], IfOk};
 
-use bucket_table::{Growth, PlainRows, Readying, Rows, SlotEntry, SplitRows};
+use bucket_table::{Growth, KeyRef, PlainRows, Readying, Rows, SlotEntry, SplitRows};
 use ets_term::{AllSame, Fnv, Integer, KeyHash, Term};
 use node_list::{Chain, Steps};
+use packed_term::Object;
 use std::alloc::{AllocError, Global};
 use std::process::Abort;
 
@@ -83,10 +84,18 @@ enum KeyState {
 
 /// Returns the state of a slot with these objects: the first object, which is an integer here, or a tombstone if there
 /// is no object.
-fn state_of_objects(objects: &[Term]) -> KeyState {
+fn state_of_objects(objects: &[Object]) -> KeyState {
     match objects.first() {
-        Some(Term::Int(value)) => KeyState::Object(*value),
-        _ => KeyState::Tombstone,
+        Some(object) => KeyState::Object(object.as_integer().unwrap_or(0)),
+        None => KeyState::Tombstone,
+    }
+}
+
+/// Returns the object that is an integer. The integers of these tests fit 64 bits; a greater one becomes 0.
+fn object_of(number: Integer) -> Object {
+    match i64::try_from(number) {
+        Ok(number) => Object::from(number),
+        Err(_) => Object::default(),
     }
 }
 
@@ -121,10 +130,11 @@ fn insert<R: Rows>(
     value: Integer,
 ) -> Result<KeyState, AllocError> {
     let term = Term::Int(key);
-    let objects = Chain::one(alloc, Term::Int(value));
+    let objects = Chain::one(alloc, object_of(value));
     match rows.entry(&term) {
         SlotEntry::Vacant(hash) => {
-            rows.put_at(hash, term, objects)?;
+            rows.put_at(hash, &term, objects)?;
+            drop(term);
             Ok(KeyState::Nothing)
         }
         SlotEntry::Occupied(place) => {

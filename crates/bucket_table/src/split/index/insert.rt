@@ -10,13 +10,14 @@ ghost use Rattle.bucket_table.specs.inside.Nodes.{slots_of};
 ghost use Rattle.bucket_table.specs.inside.SplitIndex.{RowsInvariant, KeepsDirectory, InsertsItem};
 
 use super::SplitIndex;
-use ets_term::{KeyHash, Term};
+use ets_term::KeyHash;
 use node_list::Chain;
+use packed_term::Packed;
 use split_key::item_key;
 
 impl<H: KeyHash + Copy + Drop> SplitIndex<H> {
     /// Inserts an item for a key that has no item. Memory must be reserved, and `hash` must be the key's hash.
-    pub fn insert(&mut self, hash: u32, key: Term, objects: Chain)
+    pub fn insert(&mut self, hash: u32, key: Packed, objects: Chain)
         requires rows { RowsInvariant H.hash self.old }
         requires room { HasRoom self.old.list 1 }
         requires new { lookup (same key) (slots_of self.old.list.cells) ≡ None }

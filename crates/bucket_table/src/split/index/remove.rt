@@ -9,12 +9,13 @@ ghost use Rattle.node_list.specs.Places.{HasItem, cells_after, item_at, split_ke
 ghost use Rattle.bucket_table.specs.inside.SplitIndex.{RowsInvariant, KeepsDirectory};
 
 use super::SplitIndex;
-use ets_term::{KeyHash, Term};
+use ets_term::KeyHash;
 use node_list::{At, Chain};
+use packed_term::Packed;
 
 impl<H: KeyHash + Copy + Drop> SplitIndex<H> {
     /// Removes the item at a place and returns its key and objects.
-    pub fn remove(&mut self, at: At) -> (Term, Chain)
+    pub fn remove(&mut self, at: At) -> (Packed, Chain)
         requires rows { RowsInvariant H.hash self.old }
         requires item { HasItem at self.old.list.cells }
         ensures rows { RowsInvariant H.hash self.new }
@@ -84,7 +85,7 @@ impl<H: KeyHash + Copy + Drop> SplitIndex<H> {
     }
 
     /// Removes an item whose interval is rehashed, and returns its key and objects. `start` is a node before the item.
-    fn remove_after_rehash(&mut self, split_key: u64, start: At, at: At) -> (Term, Chain)
+    fn remove_after_rehash(&mut self, split_key: u64, start: At, at: At) -> (Packed, Chain)
         requires rows { RowsInvariant H.hash self.old }
         requires item { HasItem at (cells_after start self.old.list.cells) }
         requires key { split_key_at at self.old.list.cells ≡ Some split_key }

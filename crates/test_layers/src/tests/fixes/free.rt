@@ -23,7 +23,10 @@ fn count_traversed<R: Rows>(table: &Walked<R>) -> (usize, usize) {
         };
         keys = keys.wrapping_add(1);
         objects = objects.wrapping_add(key_objects.len());
-        found = table.next_lookup(key).unwrap_or(None);
+        // The keys are integers, so this term takes no memory.
+        let last = Term::Int(key.as_integer().unwrap_or(0));
+        found = table.next_lookup(&last).unwrap_or(None);
+        drop(last);
     }
     (keys, objects)
 }

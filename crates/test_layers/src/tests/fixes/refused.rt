@@ -32,9 +32,11 @@ fn traversal_digest<R: Rows>(table: &Walked<R>) -> Integer {
     let mut digest = 1;
     let mut found = table.first();
     for _ in 0..table.slots() {
-        let Some(key) = found else { break };
-        digest = mix_key(table, digest, key);
-        found = table.next(key).unwrap_or(None);
+        let Some(found_key) = found else { break };
+        let key = Term::Int(found_key.as_integer().unwrap_or(0));
+        digest = mix_key(table, digest, &key);
+        found = table.next(&key).unwrap_or(None);
+        drop(key);
     }
     digest
 }

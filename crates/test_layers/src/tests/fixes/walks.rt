@@ -29,13 +29,13 @@ fn first_or_next<R: Rows>(table: &Walked<R>, last: Option<u32>) -> Result<Option
         None => table.first(),
         Some(key) => key_after(table, Integer::from(key))?,
     };
-    match found {
-        Some(Term::Int(number)) => match u32::try_from(*number) {
-            Ok(key) => Ok(Some(key)),
-            Err(_) => Err(Badarg),
-        },
-        Some(_) => Err(Badarg),
-        None => Ok(None),
+    let Some(key) = found else {
+        return Ok(None);
+    };
+    let number = key.as_integer().ok_or(Badarg)?;
+    match u32::try_from(number) {
+        Ok(key) => Ok(Some(key)),
+        Err(_) => Err(Badarg),
     }
 }
 

@@ -1,41 +1,39 @@
-//! Chains: a chain has the objects of one item of a node list, in their order. The tests push, pop, remove, replace and
-//! move terms, which are integers.
+//! Chains: a chain has the objects of one item of a node list, in their order. The tests push, pop, remove and replace
+//! objects, which are integers.
 use crate::tests::keep_if_ok;
 use ets_term::{Integer, Term};
 use node_list::Chain;
+use packed_term::Object;
 use std::alloc::{AllocError, Global};
 use std::process::Abort;
 
 /// Pushes these numbers to a chain, in this order.
-fn push_numbers(chain: &mut Chain, numbers: &[Integer]) -> Result<(), AllocError> {
+fn push_numbers(chain: &mut Chain, numbers: &[i64]) -> Result<(), AllocError> {
     for number in numbers {
-        chain.push(Term::Int(*number))?;
+        chain.push(Object::from(*number))?;
     }
     Ok(())
 }
 
 /// Builds the chain of these numbers.
-fn chain_of(alloc: Global, numbers: &[Integer]) -> Result<Chain, AllocError> {
+fn chain_of(alloc: Global, numbers: &[i64]) -> Result<Chain, AllocError> {
     let mut chain = Chain::new(alloc);
     keep_if_ok(push_numbers(&mut chain, numbers), chain)
 }
 
-/// Returns whether a term is this number.
-pub fn is_number(term: &Term, number: Integer) -> bool {
-    match term {
-        Term::Int(value) => *value == number,
-        _ => false,
-    }
+/// Returns whether an object is this number.
+fn is_numbered(object: &Object, number: i64) -> bool {
+    object.as_integer() == Some(Integer::from(number))
 }
 
-/// Returns whether the terms are these numbers, in this order.
-pub fn are_numbers(terms: &[Term], numbers: &[Integer]) -> bool {
-    for (term, number) in terms.iter().zip(numbers.iter()) {
-        if !is_number(term, *number) {
+/// Returns whether the objects are these numbers, in this order.
+pub fn are_numbers(objects: &[Object], numbers: &[i64]) -> bool {
+    for (object, number) in objects.iter().zip(numbers.iter()) {
+        if !is_numbered(object, *number) {
             return false;
         }
     }
-    terms.len() == numbers.len()
+    objects.len() == numbers.len()
 }
 
 /// Returns the length of a chain, and drops it.
@@ -48,22 +46,22 @@ fn length_then_drop(chain: Chain) -> usize {
 #[test]
 fn a_new_chain_has_no_term_or_one(rt: HostRuntime) {
     assert!(rt; length_then_drop(Chain::new(rt.alloc())) == 0);
-    assert!(rt; length_then_drop(Chain::one(rt.alloc(), Term::Int(1))) == 1);
+    assert!(rt; length_then_drop(Chain::one(rt.alloc(), Object::from(1))) == 1);
 }
 
 /// Pushes the numbers below `count`, from 0 on.
 fn push_below(chain: &mut Chain, count: u32) -> Result<(), AllocError> {
     for number in 0..count {
-        chain.push(Term::Int(Integer::from(number)))?;
+        chain.push(Object::from(i64::from(number)))?;
     }
     Ok(())
 }
 
 /// Pops the last term. Returns whether it is this number.
-pub fn pops_number(chain: &mut Chain, number: Integer) -> bool {
+pub fn pops_number(chain: &mut Chain, number: i64) -> bool {
     match chain.pop() {
         Some(last) => {
-            let same = is_number(&last, number);
+            let same = is_numbered(&last, number);
             drop(last);
             same
         }
@@ -75,7 +73,7 @@ pub fn pops_number(chain: &mut Chain, number: Integer) -> bool {
 const COUNT: u32 = 5_000;
 
 /// The last of the numbers below `COUNT`.
-const LAST: Integer = 4_999;
+const LAST: i64 = 4_999;
 
 /// Pushes the numbers below `COUNT`. Returns whether the last two are popped, the last first.
 fn pushes_and_pops(chain: &mut Chain) -> Result<bool, AllocError> {
@@ -118,8 +116,8 @@ fn replaces_first(chain: &mut Chain) -> bool {
     if chain.len() != 2 {
         return false;
     }
-    let old = chain.replace(0, Term::Int(7));
-    let same = is_number(&old, 2);
+    let old = chain.replace(0, Object::from(7));
+    let same = is_numbered(&old, 2);
     drop(old);
     same && are_numbers(chain.as_slice(), &[7, 3])
 }
@@ -148,38 +146,29 @@ fn terms_are_removed_replaced_and_cut_off(rt: HostRuntime) {
     assert!(rt; removes_replaces_and_cuts_off(rt.alloc()) == Ok(true));
 }
 
-/// Moves the terms of a chain to the end of a vector. `move_into` requires capacity for them.
-fn move_to_end(terms: &mut Vec<Term>, chain: Chain) -> Result<(), AllocError> {
-    match terms.reserve(chain.len()) {
-        Ok(()) => {
-            chain.move_into(terms);
-            Ok(())
-        }
-        Err(error) => {
-            drop(chain);
-            Err(error)
-        }
-    }
+/// Empties the chain of 1 in three ways. Returns whether it has the expected terms after each.
+fn empties_and_refills(chain: &mut Chain) -> Result<bool, AllocError> {
+    chain.truncate(1);
+    let mut all_right = are_numbers(chain.as_slice(), &[1]) && pops_number(chain, 1);
+    chain.push(Object::from(2))?;
+    all_right = remove_number(chain, 1) == 0 && remove_number(chain, 2) == 1 && all_right;
+    push_numbers(chain, &[3, 4])?;
+    chain.truncate(0);
+    all_right = chain.pop().is_none() && all_right;
+    push_numbers(chain, &[5, 6])?;
+    Ok(all_right && are_numbers(chain.as_slice(), &[5, 6]))
 }
 
-/// Pushes 1 to a vector, and moves the chain 2, 3 to its end.
-fn push_one_and_move(alloc: Global, terms: &mut Vec<Term>) -> Result<(), AllocError> {
-    terms.push(Term::Int(1))?;
-    move_to_end(terms, chain_of(alloc, &[2, 3])?)
+/// Returns whether `empties_and_refills` holds for the chain of 1.
+fn a_chain_of_one_is_emptied(alloc: Global) -> Result<bool, AllocError> {
+    let mut chain = Chain::one(alloc, Object::from(1));
+    let holds = empties_and_refills(&mut chain);
+    drop(chain);
+    holds
 }
 
-/// Returns whether the terms of a chain follow those of the vector into which they are moved.
-fn chain_moves_to_end(alloc: Global) -> Result<bool, AllocError> {
-    let mut terms = Vec::new(alloc);
-    let moved = push_one_and_move(alloc, &mut terms);
-    let same = are_numbers(terms.as_slice(), &[1, 2, 3]);
-    drop(terms);
-    moved?;
-    Ok(same)
-}
-
-/// Checks `move_into` of a chain.
+/// Checks a chain of one term, which becomes empty and gets terms again.
 #[test]
-fn a_chain_moves_to_the_end_of_a_vec(rt: HostRuntime) {
-    assert!(rt; chain_moves_to_end(rt.alloc()) == Ok(true));
+fn a_chain_is_emptied_and_refilled(rt: HostRuntime) {
+    assert!(rt; a_chain_of_one_is_emptied(rt.alloc()) == Ok(true));
 }

@@ -9,9 +9,10 @@ ghost use Rattle.node_list.specs.Changes.{put_cell};
 
 use self::order::{SPLIT_ORDER, finds_equal_keys, has_many_nodes, has_split_order};
 use self::places::{PLACE_OF_SECOND, PLACES_OF_FIVE, finds_places, skips_unlinked_items};
-use super::chains::{are_numbers, is_number, pops_number};
+use super::chains::{are_numbers, pops_number};
 use ets_term::{Integer, Term};
 use node_list::{At, Chain, NodeList, Steps};
+use packed_term::{Object, Packed};
 use std::alloc::{AllocError, Global};
 
 // The order of nodes.
@@ -49,15 +50,15 @@ fn add_dummy(list: &mut NodeList, key: u64) -> Result<At, AllocError> {
 }
 
 /// Inserts an item with this split key. Its term and its only object are `number`. Returns its place.
-fn add_item(list: &mut NodeList, alloc: Global, key: u64, number: Integer) -> Result<At, AllocError>
+fn add_item(list: &mut NodeList, alloc: Global, key: u64, number: i64) -> Result<At, AllocError>
     ensures cells { IfOk result (λ at. list.new.cells
         ≡ put_cell (new_cell at key (Some (new_item (Int number) (Int number ∷ [])))) list.old.cells) }
     ensures fresh { IfOk result (λ at. IsFresh at list.old.cells) }
 {
     list.reserve(1)?;
     let head = list.head();
-    let chain = Chain::one(alloc, Term::Int(number));
-    Ok(list.insert_item(head, key, Term::Int(number), chain))
+    let chain = Chain::one(alloc, Object::from(number));
+    Ok(list.insert_item(head, key, Packed::from(number), chain))
 }
 
 /// How many nodes a search visits.
@@ -81,11 +82,14 @@ fn second_place(list: &NodeList) -> Option<At> {
 }
 
 /// Returns whether the node at a place is an item with this number as its term and as its chain.
-fn is_item(list: &NodeList, at: At, number: Integer) -> bool
+fn is_item(list: &NodeList, at: At, number: i64) -> bool
     requires { IsPlaceOf at list.now.cells }
 {
     match list.item(at) {
-        Some((term, chain)) => is_number(term, number) && are_numbers(chain.as_slice(), &[number]),
+        Some((term, chain)) => {
+            term.as_integer() == Some(Integer::from(number))
+                && are_numbers(chain.as_slice(), &[number])
+        }
         None => false,
     }
 }
@@ -105,8 +109,8 @@ fn reads_item(list: &mut NodeList, alloc: Global) -> Result<bool, AllocError> {
 
 /// Pushes 2 and 3 to the chain of 1. Returns whether 3 is popped, and 1 and 2 remain.
 fn pushes_and_pops(chain: &mut Chain) -> Result<bool, AllocError> {
-    chain.push(Term::Int(2))?;
-    chain.push(Term::Int(3))?;
+    chain.push(Object::from(2))?;
+    chain.push(Object::from(3))?;
     Ok(pops_number(chain, 3) && are_numbers(chain.as_slice(), &[1, 2]))
 }
 
@@ -117,12 +121,13 @@ fn changes_chain(list: &mut NodeList, alloc: Global) -> Result<bool, AllocError>
 }
 
 /// Unlinks the item at a place. Returns whether it had this number as its term and as its chain.
-fn unlinks(list: &mut NodeList, at: At, number: Integer) -> bool
+fn unlinks(list: &mut NodeList, at: At, number: i64) -> bool
     requires { HasItem at list.old.cells }
 {
     let head = list.head();
     let (term, chain) = list.unlink(head, at);
-    let same = is_number(&term, number) && are_numbers(chain.as_slice(), &[number]);
+    let same = term.as_integer() == Some(Integer::from(number))
+        && are_numbers(chain.as_slice(), &[number]);
     drop(term);
     drop(chain);
     same

@@ -2,7 +2,7 @@
 // `.ci/refusals` runs these tests many times, each time with another allocation refused. A test also retries its own
 // allocations.
 use super::StepText::{Ask, End, Enrol, Grow, Ready};
-use super::owned::{OWNED, owned_step_has_reply_with_retry};
+use super::insertions::INSERTIONS;
 use super::{Bucket, Pid, Row, StepText, Tid, build_step, reply_has_text};
 use ets_term::Fnv;
 use node_core::{Limits, Node, Reply, Step};
@@ -71,17 +71,15 @@ fn step_into_has_reply_with_retry(
     reply_has_text_with_retry(alloc, reply, wanted)
 }
 
-/// The method that runs a step: `step` returns the reply, `step_into` writes it over the previous reply, and `step_own`
-/// does so too and consumes the step.
+/// The method that runs a step: `step` returns the reply, and `step_into` writes it over the previous reply.
 #[derive(Clone, Copy)]
 enum Runner {
     Step,
     StepInto,
-    StepOwn,
 }
 
 /// Runs the step of a row, a second time if memory runs out, and returns whether it has its wanted reply. `reply` is
-/// the previous reply, which `step_into` and `step_own` overwrite.
+/// the previous reply, which `step_into` overwrites.
 fn row_has_reply_with_retry(
     alloc: Global,
     node: &mut Node<Fnv>,
@@ -91,19 +89,12 @@ fn row_has_reply_with_retry(
 ) -> Result<bool, AllocError> {
     let (step_text, wanted) = row;
     let step = build_step_with_retry(alloc, step_text)?;
-    match runner {
-        Runner::StepOwn => owned_step_has_reply_with_retry(alloc, node, step, reply, row),
-        Runner::StepInto => {
-            let same = step_into_has_reply_with_retry(alloc, node, &step, reply, wanted);
-            drop(step);
-            same
-        }
-        Runner::Step => {
-            let same = step_has_reply_with_retry(alloc, node, &step, wanted);
-            drop(step);
-            same
-        }
-    }
+    let same = match runner {
+        Runner::StepInto => step_into_has_reply_with_retry(alloc, node, &step, reply, wanted),
+        Runner::Step => step_has_reply_with_retry(alloc, node, &step, wanted),
+    };
+    drop(step);
+    same
 }
 
 /// Runs the rows in a node, each a second time if memory runs out. Returns the index of the first row with another
@@ -224,9 +215,9 @@ fn a_reply_is_written_over_another(rt: HostRuntime) {
 }
 
 #[test]
-fn an_owned_step_has_the_reply_of_a_step(rt: HostRuntime) {
+fn an_insertion_that_ran_out_of_memory_runs_again(rt: HostRuntime) {
     assert_eq!(rt;
-        first_wrong_row_with_retry(rt.alloc(), Runner::StepOwn, &OWNED),
+        first_wrong_row_with_retry(rt.alloc(), Runner::StepInto, &INSERTIONS),
         Ok(None)
     );
 }

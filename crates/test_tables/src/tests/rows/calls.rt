@@ -25,8 +25,8 @@ enum Call {
     LeaveTombstone,
     /// Removes the slot of the key.
     Remove,
-    /// Removes the slot at the place where `find` finds the key.
-    RemoveAtPlace,
+    /// Deletes the slot at the place where `find` finds the key.
+    DeleteAtPlace,
 }
 
 /// Draws a call: in five of eight draws an insertion, with a value below 1000.
@@ -35,7 +35,7 @@ fn draw_call(draws: &mut Draws) -> Call {
     match draws.random_below(8) {
         0 => Call::LeaveTombstone,
         1 => Call::Remove,
-        2 => Call::RemoveAtPlace,
+        2 => Call::DeleteAtPlace,
         3 | 4 => Call::Put(value),
         _ => Call::Insert(value),
     }
@@ -50,7 +50,7 @@ fn state_after_call(call: Call, before: KeyState) -> KeyState {
         (Call::LeaveTombstone, KeyState::Nothing) => KeyState::Nothing,
         (Call::LeaveTombstone, _) => KeyState::Tombstone,
         (Call::Remove, _) => KeyState::Nothing,
-        (Call::RemoveAtPlace, _) => KeyState::Nothing,
+        (Call::DeleteAtPlace, _) => KeyState::Nothing,
     }
 }
 
@@ -67,20 +67,26 @@ fn put<R: Rows>(
         drop(term);
         return Ok(before);
     }
-    rows.put(vec![in alloc; (term, Chain::one(alloc, Term::Int(value)))]?)?;
+    rows.put(vec![in alloc; (term, Chain::one(alloc, object_of(value)))]?)?;
     Ok(KeyState::Nothing)
 }
 
-/// Removes the slot at the place where `find` finds the key. Returns the state of the key before.
-fn remove_at_place<R: Rows>(rows: &mut R, key: Integer) -> KeyState {
+/// Deletes the slot at the place where `find` finds the key. Returns the state of the key before, or that of another
+/// number if the number of dropped objects is wrong.
+fn delete_at_place<R: Rows>(rows: &mut R, key: Integer) -> KeyState {
     let term = Term::Int(key);
     let found = rows.find(&term);
     drop(term);
     match found {
         Some(place) => {
-            let (removed_key, objects) = rows.remove_at(place);
-            drop(removed_key);
-            state_before(Some(objects))
+            let objects = rows.objects_at(place);
+            let before = state_of_objects(objects);
+            let count = objects.len();
+            if rows.delete_at(place) == count {
+                before
+            } else {
+                KeyState::Object(-1)
+            }
         }
         None => KeyState::Nothing,
     }
@@ -98,7 +104,7 @@ fn run_call<R: Rows>(
         Call::Put(value) => put(rows, alloc, key, value),
         Call::LeaveTombstone => Ok(replace(rows, key, Chain::new(alloc))),
         Call::Remove => Ok(remove(rows, key)),
-        Call::RemoveAtPlace => Ok(remove_at_place(rows, key)),
+        Call::DeleteAtPlace => Ok(delete_at_place(rows, key)),
     }
 }
 

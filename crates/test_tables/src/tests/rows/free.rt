@@ -27,7 +27,7 @@ fn fill_with_keys<R: Rows>(rows: &mut R, alloc: Global) -> Result<(), AllocError
 }
 
 /// Returns the integer that is the first object of a slot, or 0.
-fn first_integer_of_slot(slot: Option<(&Term, &[Term])>) -> Integer {
+fn first_integer_of_slot(slot: Option<(KeyRef<'_>, &[Object])>) -> Integer {
     match slot {
         Some((_key, objects)) => number_of(objects.first()),
         None => 0,
@@ -35,10 +35,10 @@ fn first_integer_of_slot(slot: Option<(&Term, &[Term])>) -> Integer {
 }
 
 /// Returns the integer that an object is, or 0.
-fn number_of(object: Option<&Term>) -> Integer {
+fn number_of(object: Option<&Object>) -> Integer {
     match object {
-        Some(Term::Int(value)) => *value,
-        _ => 0,
+        Some(object) => object.as_integer().unwrap_or(0),
+        None => 0,
     }
 }
 
@@ -76,7 +76,7 @@ struct Observed {
 /// tombstones of the other slots, and `purge` removes them.
 fn run_free_calls<R: Rows>(rows: &mut R, alloc: Global) -> Observed {
     let sum = sum_of_objects(rows);
-    let before_replace = replace(rows, 1, Chain::one(alloc, Term::Int(10)));
+    let before_replace = replace(rows, 1, Chain::one(alloc, object_of(10)));
     let sum_replaced = sum_of_objects(rows);
     let before_removal = remove(rows, 2);
     let sum_removed = sum_of_objects(rows);

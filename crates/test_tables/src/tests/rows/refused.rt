@@ -20,10 +20,13 @@ fn add_to_hash(hash: u64, number: u64) -> u64 {
 }
 
 /// Returns a code of a slot: its first object plus 2, or 1 for a tombstone. The code of a missing slot is 0.
-fn code_of_objects(objects: &[Term]) -> u64 {
+fn code_of_objects(objects: &[Object]) -> u64 {
     match objects.first() {
-        Some(Term::Int(value)) => u64::try_from(*value).unwrap_or(u64::MAX).wrapping_add(2),
-        _ => 1,
+        Some(object) => {
+            let value = object.as_integer().unwrap_or(0);
+            u64::try_from(value).unwrap_or(u64::MAX).wrapping_add(2)
+        }
+        None => 1,
     }
 }
 

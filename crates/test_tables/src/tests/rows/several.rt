@@ -8,7 +8,7 @@ const TIMES: u32 = 100;
 
 /// Builds the chain of one object, this integer.
 fn chain_of_one(alloc: Global, number: Integer) -> Chain {
-    Chain::one(alloc, Term::Int(number))
+    Chain::one(alloc, object_of(number))
 }
 
 /// Inserts three slots by one call of `put`, each with the integer of its key as its object. Returns false without a

@@ -2,11 +2,8 @@
 use super::*;
 
 /// Returns the integer that a key is, or -1 for a key of another type.
-fn number_of(key: &Term) -> Integer {
-    match key {
-        Term::Int(number) => *number,
-        _ => -1,
-    }
+fn number_of(key: KeyRef<'_>) -> Integer {
+    key.as_integer().unwrap_or(-1)
 }
 
 /// Returns the key of the first slot, or `None` if there is no slot.

@@ -20,7 +20,8 @@ fn put_slot_of_process<R: Rows>(
     let key = Term::Pid(number);
     match rows.entry(&key) {
         SlotEntry::Vacant(hash) => {
-            rows.put_at(hash, key, Chain::new(alloc))?;
+            rows.put_at(hash, &key, Chain::new(alloc))?;
+            drop(key);
             Ok(())
         }
         SlotEntry::Occupied(_) => {

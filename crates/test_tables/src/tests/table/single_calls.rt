@@ -4,7 +4,8 @@
 use super::OUT_OF_MEMORY;
 use super::answers::{code_of_matchings, code_of_selections, refusal_code};
 use super::terms::{
-    as_integer, digits_of, hash_of_pairs, integer_of, nested_list, pair, pattern_of_key, spec_below,
+    as_integer, digits_of, digits_of_stored, hash_of_pairs, integer_of, nested_list, pair,
+    pattern_of_key, spec_below,
 };
 use bucket_table::Rows;
 use ets_term::{Integer, Items, Position, Term};
@@ -222,7 +223,7 @@ pub fn insert_all<R: Rows>(table: &mut Table<R>, built: Option<Items<Term>>) -> 
 /// Returns the second elements of the objects of a key, as digits.
 pub fn lookup_digits<R: Rows>(table: &Table<R>, key: Integer) -> Integer {
     let key = Term::Int(key);
-    let digits = digits_of(table.lookup(&key));
+    let digits = digits_of_stored(table.lookup(&key));
     drop(key);
     digits
 }

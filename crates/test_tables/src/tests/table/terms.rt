@@ -4,6 +4,7 @@
 use super::answers::add_digit;
 use ets_term::{Atom, Integer, Items, Term};
 use match_spec::{Pattern, Spec};
+use packed_term::{Object, Packed};
 use std::alloc::Global;
 
 /// Returns the items if what was pushed into them succeeded; otherwise drops them and returns `None`.
@@ -70,6 +71,23 @@ pub fn digits_of(objects: &[Term]) -> Integer {
         digits = add_digit(digits, integer_of(object.element(2)));
     }
     digits
+}
+
+/// Returns the second elements of stored objects as the digits of one number, which may wrap.
+pub fn digits_of_stored(objects: &[Object]) -> Integer {
+    let mut digits: Integer = 0;
+    for object in objects {
+        digits = add_digit(digits, integer_in(object.element(2)));
+    }
+    digits
+}
+
+/// Returns the integer that an element of a stored object is, or 0 if it is another term or missing.
+fn integer_in(element: Option<&Packed>) -> Integer {
+    match element {
+        Some(element) => element.as_integer().unwrap_or(0),
+        None => 0,
+    }
 }
 
 /// A prime, so that a pair has another hash if its elements are swapped.

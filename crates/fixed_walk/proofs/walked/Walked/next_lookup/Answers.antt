@@ -1,6 +1,6 @@
 use Rattle.std.proofs.Common.{◌≡◌, None, Some, sym, subst, ap, ◌∙◌, List}
 use Rattle.std.specs.Prelude.{option_map}
-use Rattle.std.specs.Map.Iter.{deref_pair}
+use Rattle.bucket_table.specs.Lent.{slot_of_ref}
 use Rattle.bucket_table.specs.Slots.{Slot}
 use Rattle.fixed_walk.specs.Walk.{next_slot}
 use Rattle.fixed_walk.specs.TableState.{TableState}
@@ -15,7 +15,7 @@ returns-clause-ok g c =
     let key = c.args.key.now in
     let is : slots ≡ c.args.self.now.content.slots = c.rows-rows.ensures.slots ∙ ap (λ (t : TableState). t.content.slots) c.self.view_is in
     let key_is = next-answer key_at slots key (key_at c.in-Some.place) c.next_place.result c.reveal_invariant.ensures c.in-Some.ensures.0 c.next_place.ensures in
-    subst (λ (zs : List Slot). next_slot zs key ≡ Some (option_map deref_pair c.first_nonempty.result)) is (key_is ∙ ap Some (sym c.first_nonempty.ensures))
+    subst (λ (zs : List Slot). next_slot zs key ≡ Some (option_map slot_of_ref c.first_nonempty.result)) is (key_is ∙ ap Some (sym c.first_nonempty.ensures))
 
 pub returns-in_default-clause-err : goal.returns-in_default-clause-err
 returns-in_default-clause-err g c =

@@ -1,5 +1,6 @@
 use Rattle.std.proofs.Common.{ℕ, ◌+◌, drop, sym, ◌∙◌, subst, Some, IfSome}
 use Rattle.std.specs.Prelude.{Option, option_map}
+use Rattle.bucket_table.specs.Lent.{key_of_ref}
 use Rattle.bucket_table.specs.Walks.{IsFirstPlace}
 use Rattle.table_ops.specs.declared.slots.PlacedSlot.{PlacedSlot}
 use Rattle.table_ops.specs.inside.SlotsLeft.{IsPlaced}
@@ -30,4 +31,4 @@ returns-clause-steps g c =
     let slot = c.in-Some.slot in
     let first = subst (λ (o : Option PlacedSlot). IsFirstPlace key_at (drop i slots) (option_map (λ slot. slot.place) o)) c.in-Some.is inv.here in
     let placed = subst (λ (o : Option PlacedSlot). IfSome o (IsPlaced key_at slots)) c.in-Some.is inv.placed in
-    sym c.self.view_is ∙ passed-here key_at slots inv.distinct i slot.place slot.key.now slot.objects.now first placed.key placed.objects
+    sym c.self.view_is ∙ passed-here key_at slots inv.distinct i slot.place (key_of_ref slot.key) slot.objects.now first placed.key placed.objects

@@ -15,7 +15,7 @@ use Rattle.table_ops.proofs.table.Table.put_valid_object.Goals as goal
 
 pub returns-in_err-count-clause-content : goal.returns-in_err-count-clause-content
 returns-in_err-count-clause-content g c =
-    let object = c.args.object in
+    let object = c.args.object.now in
     let f = c.in_err-count.field-0.0 in
     let old : Content = content_of g.R.Rows.slots c.self.inside.inner in
     let new : Content = content_of g.R.Rows.slots c.put_one.new.self in
@@ -34,17 +34,17 @@ pub invariant_of-self-2 : goal.invariant_of-self-2
 invariant_of-self-2 g c =
     let i = c.self.invariant in
     let p = c.in_ok-count.ensures.slots in
-    let shallow : list_any is_too_deep (c.args.object ∷ []) ≡ false = ap (λ (b : Bool). b || false) c.requires.shallow in
+    let shallow : list_any is_too_deep (c.args.object.now ∷ []) ≡ false = ap (λ (b : Bool). b || false) c.requires.shallow in
     holds-kept g.R.Rows.slots c.self.inside.inner c.put_one.new.self c.in_ok-count.ensures.keeps.rest c.in_ok-count.count (record {
       counted = p.1;
       within = p.2;
       few = i.few;
-      slots_are = slots-puts-all c.self.inside.inner.kind c.self.inside.inner.keypos (g.R.Rows.slots c.self.inside.inner.rows) (c.args.object ∷ []) (g.R.Rows.slots c.put_one.new.self.rows) i.slots_are shallow p.0;
+      slots_are = slots-puts-all c.self.inside.inner.kind c.self.inside.inner.keypos (g.R.Rows.slots c.self.inside.inner.rows) (c.args.object.now ∷ []) (g.R.Rows.slots c.put_one.new.self.rows) i.slots_are shallow p.0;
     })
 
 pub returns-clause-content : goal.returns-clause-content
 returns-clause-content g c =
-    let object = c.args.object in
+    let object = c.args.object.now in
     let old : Content = content_of g.R.Rows.slots c.self.inside.inner in
     let same : old ≡ c.args.self.now.content = ap (λ (t : ContentState). t.content) c.self.view_is in
     let is : is_object old.keypos object ≡ true = ap (λ (o : Content). is_object o.keypos object) same ∙ c.requires.object in

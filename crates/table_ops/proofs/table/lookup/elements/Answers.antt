@@ -24,7 +24,7 @@ loop-object-preserved c =
     let at : slice_get xs i ≡ Some x = slice_get_read xs (length xs) i x refl within c.object-item.is in
     let next : i + 1 ≡ suc i = omega arith in
     let more : take (i + 1) xs ≡ take i xs ++ x ∷ [] = ap (λ n. take n xs) next ∙ take-one xs i x at in
-    let pushed : c.push_reserved.new.self.items ≡ copies ++ c.in-Some.element.now ∷ [] = c.push_reserved.ensures.items ∙ ap (λ t. copies ++ t ∷ []) c.in_ok-try_clone.ensures in
+    let pushed : c.push_reserved.new.self.items ≡ copies ++ c.in-Some.element.now ∷ [] = c.push_reserved.ensures.items ∙ ap (λ t. copies ++ t ∷ []) c.in_ok-unpack.ensures in
     record {
       done = ap (elements_at c.args.position) more ∙ elements-push c.args.position (take i xs) copies x c.in-Some.element.now inv.done (sym c.in-Some.ensures) ∙ ap Some (sym pushed);
       count = omega (arith, c.push_reserved.ensures.len, inv.count);

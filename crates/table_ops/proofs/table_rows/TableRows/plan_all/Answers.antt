@@ -1,6 +1,7 @@
 use Rattle.std.proofs.Common.{◌≡◌, ◌+◌, ◌≤◌, ◌++◌, ap, subst, ◌∙◌, List, length, take, drop, arith}
 use Rattle.std.specs.Prelude.{Option, ℕ}
 use Rattle.ets_term.specs.declared.term.Term.{Term}
+use Rattle.bucket_table.specs.Lent.{key_of_ref}
 use Rattle.bucket_table.specs.Slots.{object_count}
 use Rattle.bucket_table.specs.Walks.{IsFirstPlace}
 use Rattle.node_list.specs.Ticks.{ticks}
@@ -26,7 +27,7 @@ returns-in_err-total-clause-at_most g c =
     let place = c.in-Some.place in
     let choose = g.P.Predicate.tests c.args.trial.now.query.now in
     let here = is-here key_at slots c.reveal_invariant.ensures i place (subst (λ (o : Option ℕ). IsFirstPlace key_at (drop i slots) o) c.in-Some.is c.loop.invariant.here) in
-    let own : c.slot_at.result.1.now ≡ here.0.1 = objects-here key_at slots c.reveal_invariant.ensures i place here.0 c.slot_at.result.0.now c.slot_at.result.1.now here.1 c.slot_at.ensures.key c.slot_at.ensures.objects in
+    let own : c.slot_at.result.1.now ≡ here.0.1 = objects-here key_at slots c.reveal_invariant.ensures i place here.0 (key_of_ref c.slot_at.result.0) c.slot_at.result.1.now here.1 c.slot_at.ensures.key c.slot_at.ensures.objects in
     ticks-most (object_count (take i slots)) (length c.slot_at.result.1.now) (object_count slots) c.args.looks.now c.loop.looks c.plan_slot.new.looks c.loop.invariant.looked c.plan_slot.ensures.at_most
     (omega (arith, ap length own, slot-count slots i here.0 here.1.at, count-within slots (i + 1)))
 
@@ -38,7 +39,7 @@ overflow_add-total g c =
     let place = c.in-Some.place in
     let choose = g.P.Predicate.tests c.args.trial.now.query.now in
     let here = is-here key_at slots c.reveal_invariant.ensures i place (subst (λ (o : Option ℕ). IsFirstPlace key_at (drop i slots) o) c.in-Some.is c.loop.invariant.here) in
-    let own : c.slot_at.result.1.now ≡ here.0.1 = objects-here key_at slots c.reveal_invariant.ensures i place here.0 c.slot_at.result.0.now c.slot_at.result.1.now here.1 c.slot_at.ensures.key c.slot_at.ensures.objects in
+    let own : c.slot_at.result.1.now ≡ here.0.1 = objects-here key_at slots c.reveal_invariant.ensures i place here.0 (key_of_ref c.slot_at.result.0) c.slot_at.result.1.now here.1 c.slot_at.ensures.key c.slot_at.ensures.objects in
     let few : c.loop.total + c.in_ok-total.field-0 ≤ object_count slots = omega (arith, ap length own, slot-count slots i here.0 here.1.at, count-within slots (i + 1), c.loop.invariant.done, c.in_ok-total.ensures.count, chosen-few choose (all_objects (take i slots)), chosen-few choose c.slot_at.result.1.now, objects-count (take i slots)) in
     let most = c.requires.few in
     omega (arith, few, most)
@@ -51,7 +52,7 @@ loop-preserved g c =
     let place = c.in-Some.place in
     let choose = g.P.Predicate.tests c.args.trial.now.query.now in
     let here = is-here key_at slots c.reveal_invariant.ensures i place (subst (λ (o : Option ℕ). IsFirstPlace key_at (drop i slots) o) c.in-Some.is c.loop.invariant.here) in
-    let own : c.slot_at.result.1.now ≡ here.0.1 = objects-here key_at slots c.reveal_invariant.ensures i place here.0 c.slot_at.result.0.now c.slot_at.result.1.now here.1 c.slot_at.ensures.key c.slot_at.ensures.objects in
+    let own : c.slot_at.result.1.now ≡ here.0.1 = objects-here key_at slots c.reveal_invariant.ensures i place here.0 (key_of_ref c.slot_at.result.0) c.slot_at.result.1.now here.1 c.slot_at.ensures.key c.slot_at.ensures.objects in
     record {
       here = next-here key_at slots c.reveal_invariant.ensures i place here.0 c.next_place-at.result here.1 c.next_place-at.ensures;
       done = omega (arith, c.loop.invariant.done, c.in_ok-total.ensures.count, ap (λ (os : List Term). chosen_count choose os) own, chosen-slot choose slots i here.0 here.1.at);

@@ -23,8 +23,8 @@ returns-clause-slots g c =
     let new = g.R.Rows.slots c.replace_at.new.self in
     let place = g.R.Rows.key_at c.args.self.now.rows c.args.place in
     let was = c.replace_at-objects.result in
-    let pushed : c.push-pushed.new.self ≡ was ++ c.args.object ∷ [] = c.in-Ok.ensures.ok in
+    let pushed : c.push-pushed.new.self ≡ was ++ c.args.object.now ∷ [] = c.in-Ok.ensures.ok ∙ ap (λ t. was ++ t ∷ []) c.in_ok-packed.ensures in
     at-key place _ c.requires (λ key is.
     let own = own-in old place key was is c.replace_at-objects.ensures.objects in
     let written = twice-in old mid new place (g.R.Rows.key_at c.replace_at-objects.new.self c.args.place) key c.new.result c.push-pushed.new.self is c.replace_at-objects.ensures.now c.replace_at-objects.ensures.place c.replace_at.ensures.now in
-    last-put c.args.below_limit key c.args.object old new was own c.if-not-below_limit.false (written ∙ ap (with_objects old key) pushed))
+    last-put c.args.below_limit key c.args.object.now old new was own c.if-not-below_limit.false (written ∙ ap (with_objects old key) pushed))

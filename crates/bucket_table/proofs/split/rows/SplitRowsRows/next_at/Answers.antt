@@ -2,6 +2,7 @@ use Rattle.std.proofs.Common.{◌≡◌, ◌∷◌, List, Some, option_map, slic
 use Rattle.bucket_table.specs.Slots.{Slot, slots_behind}
 use Rattle.bucket_table.specs.Walks.{behind_in}
 use Rattle.bucket_table.specs.SplitRowsState.{key_of_place}
+use Rattle.bucket_table.specs.Lent.{key_of_ref}
 use Rattle.bucket_table.proofs.list.Content.{behind-absent}
 use Rattle.bucket_table.proofs.slots.Traverse.{next-one}
 use Rattle.bucket_table.proofs.slots.Step.{read-one}
@@ -19,5 +20,5 @@ returns-in-Some g c =
     let f = n.first in
     let behind : slots_behind slots c.args.key.now ≡ Some (f.slot ∷ f.rest) = sym (ap (behind_in slots) c.in_ok-place.ensures.0) ∙ (n.is ∙ ap Some f.is) in
     let one = next-one c.args.key.now slots f.slot f.rest c.reveal_invariant.ensures behind in
-    ap (λ (s : Slot). Some (Some s)) (read-one slots f.slot c.slot_at.result.0.now c.slot_at.result.1.now (key_of_place c.args.self.now.places c.in-Some.next) f.key c.slot_at.ensures.key c.slot_at.ensures.objects one.objects)
+    ap (λ (s : Slot). Some (Some s)) (read-one slots f.slot (key_of_ref c.slot_at.result.0) c.slot_at.result.1.now (key_of_place c.args.self.now.places c.in-Some.next) f.key c.slot_at.ensures.key c.slot_at.ensures.objects one.objects)
     ∙ sym (ap (option_map (λ (ss : List Slot). slice_get ss 0)) behind)
