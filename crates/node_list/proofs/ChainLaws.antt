@@ -8,7 +8,7 @@ use Rattle.ets_term.specs.declared.term.Term.{Term}
 use Rattle.node_list.specs.declared.node.ListNode.{ListNode}
 use Rattle.node_list.specs.Cells.{Cell, Sorted, StartsFrom, StartsWithDummy}
 use Rattle.node_list.specs.inside.Walks.{Links, cells_from, node_of, ListInvariant}
-use Rattle.node_list.specs.inside.NodeLending.{node_with, nodes_with}
+use Rattle.node_list.specs.inside.Lent.{node_with, nodes_with}
 use Rattle.node_list.specs.Changes.{item_with, cells_with}
 use Rattle.node_list.proofs.WalkLaws.{walk-is, walk-length}
 use Rattle.node_list.proofs.PlaceLaws.{with_value-len}

@@ -1,63 +1,196 @@
--- The places of items: those whose header says so.
-use Rattle.std.proofs.Common.{◌≡◌, ℕ, ◌<◌, ◌≤◌, inl, inr, List, length, Option, slice_index_or, Some, None, IsSome, Bool, true, false, refl, sym, ◌∙◌, ap, subst, arith}
-use Rattle.std.proofs.lemmas.Bool.{cases_lt}
-use Rattle.slab.specs.Slab.{Slab, get}
+-- What preserves the invariant of the items, and the first item from a place on.
+use Rattle.std.proofs.Common.{◌≡◌, ◌≢◌, ℕ, ◌+◌, ◌<◌, ◌≤◌, ◌^◌, inl, inr, List, length, get_or, set, count_by, is_some, Option, Some, None, IsSome, option_map, Bool, true, false, if◌then◌else◌, refl, sym, ◌∙◌, ap, subst, arith}
+use Rattle.std.proofs.lemmas.Bool.{cases_eq, cases_lt}
+use Rattle.slab.specs.Slab.{Slab, get, slab_len, with_value, Updates}
+use Rattle.slab.proofs.SlabLemmas.{Updates-with_value}
+use Rattle.ets_term.specs.declared.term.Term.{Term}
 use Rattle.node_list.specs.declared.node.Item.{Item}
 use Rattle.node_list.specs.declared.node.ListNode.{ListNode}
-use Rattle.node_list.specs.declared.packed.PackedHeader.{PackedHeader}
-use Rattle.node_list.specs.inside.Slots.{slot_at, item_if, node_at, nodes_of, unpacked_node, has_item_at, HasItemIn, IsLeastItemIn}
-use Rattle.node_list.proofs.SlotLaws.{get-nodes, has-header}
+use Rattle.node_list.specs.declared.node.StoredItem.{StoredItem}
+use Rattle.node_list.specs.inside.PackedHeader.{is_free, next_in}
+use Rattle.node_list.specs.inside.FreeList.{live_node, live_nodes, stored_node, item_node, free_in, HasNoItemBetween, IsFreeList, ItemsInvariant}
+use Rattle.node_list.specs.inside.Lent.{node_with, nodes_with}
+use Rattle.node_list.specs.inside.Slots.{HasItemIn, IsLeastItemIn}
+use Rattle.node_list.specs.inside.Walks.{Links}
+use Rattle.node_list.proofs.FreePlaceLaws.{live-none, get-live, live-at, has-place, not-free_at, live-node, map-set, len-written, len-insert, len-remove, len-replace, same-count, add_free_place-same, write-keeps_bound, updates-live}
+use Rattle.node_list.proofs.FreeListLaws.{First, insert-free_list, remove-free_list, set_next-free_list}
 
--- the nodes of a slab and its slots
-pub record Beside (n : Slab PackedHeader) (ss : List Item) (s : Slab ListNode) : Type 0 where
-  pub are : nodes_of n.slots ss ≡ s.slots
-  pub within : (k : ℕ) → IsSome (get n k) → k < length ss
-
-node-in_array : (n : Slab PackedHeader) (ss : List Item) (s : Slab ListNode) (k : ℕ) → Beside n ss s → get s k ≡ node_at (get n k) (slot_at ss k)
-node-in_array n ss s k b =
-    let N : List (Option ListNode) → Type 0 = λ zs. slice_index_or zs k None ≡ node_at (get n k) (slot_at ss k) in
-    subst N b.are (get-nodes n.slots ss k)
-
-item-by : (s : Slab ListNode) (k : ℕ) (o : Option PackedHeader) (slot : Item) → get s k ≡ node_at o slot → has_item_at o ≡ true → HasItemIn s k
-item-by s k None slot e marked = absurd (cc)
-item-by s k (Some f) slot e marked =
-    let P : Bool → Type 0 = λ b. IsSome (item_if b slot) in
-    record { node = unpacked_node f slot; is = e; has = subst P (sym marked) refl }
-
-marked-item : (n : Slab PackedHeader) (ss : List Item) (s : Slab ListNode) (k : ℕ) → Beside n ss s → has_item_at (get n k) ≡ true → HasItemIn s k
-marked-item n ss s k b marked = item-by s k (get n k) (slot_at ss k) (node-in_array n ss s k b) marked
-
-dummy-by : (o : Option PackedHeader) (slot : Item) (m : ListNode) → node_at o slot ≡ Some m → has_item_at o ≡ false → IsSome m.item → ⊥
-dummy-by None slot m e unmarked h = absurd (cc)
-dummy-by (Some f) slot m e unmarked h =
-    let same : m ≡ unpacked_node f slot = cc in
-    let none : m.item ≡ None = ap (λ (z : ListNode). z.item) same ∙ ap (λ (b : Bool). item_if b slot) unmarked in
-    absurd (cc (none, h))
-
-no-item : (n : Slab PackedHeader) (ss : List Item) (s : Slab ListNode) (k : ℕ) → Beside n ss s → has_item_at (get n k) ≡ false → HasItemIn s k → ⊥
-no-item n ss s k b unmarked h = dummy-by (get n k) (slot_at ss k) h.node (sym (node-in_array n ss s k b) ∙ h.is) unmarked h.has
-
--- no items from a place up to the first with an item, or to the end
-pub least-item : (n : Slab PackedHeader) (ss : List Item) (s : Slab ListNode) (start at : ℕ) → Beside n ss s → ((k : ℕ) → start ≤ k → k < at → has_item_at (get n k) ≡ false)
-    → start ≤ at → has_item_at (get n at) ≡ true → IsLeastItemIn start at s
-least-item n ss s start at b seen h marked =
+-- more capacity changes no item
+pub reserve-invariant : (n m : Slab StoredItem) (first_item_bound end : ℕ) (free_head : Option ℕ) (len : ℕ) → m.slots ≡ n.slots
+    → ItemsInvariant n first_item_bound end free_head len → ItemsInvariant m first_item_bound end free_head len
+reserve-invariant n m first_item_bound end free_head len slots a =
+    let P : List (Option StoredItem) → Type 0 = λ zs. (k : ℕ) → IsSome (get_or zs k None) → k < end in
+    let B : List (Option StoredItem) → Type 0 = λ zs. (k : ℕ) → k < first_item_bound → live_node (get_or zs k None) ≡ None in
+    let C : List (Option StoredItem) → Type 0 = λ zs. Links (λ k. free_in (get_or zs k None)) free_head a.free_list.cells in
     record {
-      has = marked-item n ss s at b marked;
-      from = h;
-      least = λ other has after.
-          elim (cases_lt other at) [ inl before ↦ absurd (no-item n ss s other b (seen other after before) has) | inr there ↦ there ];
+      within = subst P (sym slots) a.within;
+      few = a.few;
+      below = subst B (sym slots) a.below;
+      counted = ap (λ (zs : List (Option StoredItem)). count_by is_some (live_nodes zs)) slots ∙ a.counted;
+      free_list = record {
+        cells = a.free_list.cells;
+        links = subst C (sym slots) a.free_list.links;
+        count = a.free_list.count ∙ ap (λ (zs : List (Option StoredItem)). count_by is_some zs) (sym slots);
+      };
     }
 
-pub no-item_left : (n : Slab PackedHeader) (ss : List Item) (s : Slab ListNode) (start end : ℕ) → Beside n ss s → ((k : ℕ) → start ≤ k → k < end → has_item_at (get n k) ≡ false)
-    → length ss ≤ end → (other : ℕ) → HasItemIn s other → other < start
-no-item_left n ss s start end b seen h other has =
-    let N : List (Option ListNode) → Type 0 = λ zs. IsSome (slice_index_or zs other None) in
+-- one more place, which is free
+pub add_free_place-invariant : (n m : Slab StoredItem) (at : ℕ) (q : StoredItem) (first_item_bound end wider : ℕ) (free_head : Option ℕ) (len : ℕ) → get n at ≡ None → at < wider → end ≤ wider → wider < 2 ^ 30 → Updates n m at (Some q)
+    → slab_len m ≡ slab_len n + 1 → is_free q.header ≡ true → next_in q.header ≡ free_head → ItemsInvariant n first_item_bound end free_head len → ItemsInvariant m first_item_bound wider (Some at) len
+add_free_place-invariant n m at q first_item_bound end wider free_head len none here more fits u longer free next a =
+    record {
+      within = write-keeps_bound n m at wider (Some q) u here (λ k some. omega (arith, a.within k some, more));
+      few = fits;
+      below = λ k h. elim (cases_eq k at) [
+        | inl same ↦ ap (λ j. live_node (get m j)) same ∙ (ap live_node u.changed ∙ live-none q free)
+        | inr other ↦ ap live_node (u.others k other) ∙ a.below k h
+      ];
+      counted = same-count (live_nodes m.slots) (live_nodes n.slots) (add_free_place-same n m at q none u free) ∙ a.counted;
+      free_list = remove-free_list n m free_head at len len q a.free_list (ap free_in none) u free next (omega (arith, longer));
+    }
+
+-- the slab after an item is written at the first free place
+pub record Taken (n : Slab StoredItem) (at : ℕ) (q : StoredItem) : Type 0 where
+  pub some : IsSome (get n at)
+  pub updates : Updates n (with_value n at q) at (Some q)
+  pub was : get_or (live_nodes n.slots) at None ≡ None
+  pub allocated : slab_len (with_value n at q) ≡ slab_len n
+  pub len : count_by is_some (live_nodes (with_value n at q).slots) ≡ count_by is_some (live_nodes n.slots) + 1
+
+pub taken : (n : Slab StoredItem) (free_head : Option ℕ) (at : ℕ) (q : StoredItem) → First n free_head at → is_free q.header ≡ false → Taken n at q
+taken n free_head at q f live =
+    let O : Option StoredItem → Type 0 = λ o. IsSome o in
+    let some = subst O (sym f.is) refl in
+    record {
+      some = some;
+      updates = Updates-with_value n at q some;
+      was = get-live n.slots at ∙ (ap live_node f.is ∙ live-none f.stored f.free);
+      allocated = len-written n at q some;
+      len = len-insert n at f.stored q f.is f.free live;
+    }
+
+pub insert-invariant : (n : Slab StoredItem) (at : ℕ) (q : StoredItem) (first_item_bound lower end : ℕ) (free_head : Option ℕ) (len : ℕ) (f : First n free_head at) → free_head ≡ Some at → is_free q.header ≡ false → lower ≤ first_item_bound → lower ≤ at
+    → ItemsInvariant n first_item_bound end free_head len → ItemsInvariant (with_value n at q) lower end (next_in f.stored.header) (len + 1)
+insert-invariant n at q first_item_bound lower end free_head len f head live less most a =
+    let t = taken n free_head at q f live in
+    record {
+      within = write-keeps_bound n (with_value n at q) at end (Some q) t.updates (a.within at t.some) a.within;
+      few = a.few;
+      below = λ k h. elim (cases_eq k at) [
+        | inl same ↦ absurd (omega (arith, same, h, most))
+        | inr other ↦ ap live_node (t.updates.others k other) ∙ a.below k (omega (arith, h, less))
+      ];
+      counted = t.len ∙ ap (λ k. k + 1) a.counted;
+      free_list = insert-free_list n (with_value n at q) free_head at len f.stored q a.free_list head f.is t.updates live t.allocated;
+    }
+
+-- the slab after the place of an item becomes free
+pub record Freed (n : Slab StoredItem) (at : ℕ) (q : StoredItem) : Type 0 where
+  pub some : IsSome (get n at)
+  pub updates : Updates n (with_value n at q) at (Some q)
+  pub now : get_or (live_nodes (with_value n at q).slots) at None ≡ None
+  pub allocated : slab_len (with_value n at q) ≡ slab_len n
+  pub len : count_by is_some (live_nodes (with_value n at q).slots) + 1 ≡ count_by is_some (live_nodes n.slots)
+
+pub freed : (n : Slab StoredItem) (at : ℕ) (q : StoredItem) → IsSome (get_or (live_nodes n.slots) at None) → is_free q.header ≡ true → Freed n at q
+freed n at q h free =
+    let l = live-at n at h in
+    let some = has-place n at h in
+    let u = Updates-with_value n at q some in
+    record {
+      some = some;
+      updates = u;
+      now = (updates-live n (with_value n at q) at (Some q) u).0 ∙ live-none q free;
+      allocated = len-written n at q some;
+      len = len-remove n at l.0 q l.1.0 l.1.1 free;
+    }
+
+pub remove-invariant : (n : Slab StoredItem) (at : ℕ) (q : StoredItem) (first_item_bound higher end : ℕ) (free_head : Option ℕ) (len left : ℕ) → IsSome (get_or (live_nodes n.slots) at None) → is_free q.header ≡ true → next_in q.header ≡ free_head → left + 1 ≡ len
+    → HasNoItemBetween first_item_bound higher (with_value n at q) → ItemsInvariant n first_item_bound end free_head len → ItemsInvariant (with_value n at q) higher end (Some at) left
+remove-invariant n at q first_item_bound higher end free_head len left h free next less passed a =
+    let g = freed n at q h free in
+    record {
+      within = write-keeps_bound n (with_value n at q) at end (Some q) g.updates (a.within at g.some) a.within;
+      few = a.few;
+      below = λ k lower. elim (cases_lt k first_item_bound) [
+        | inl under ↦ elim (cases_eq k at) [
+          | inl same ↦ ap (λ j. live_node (get (with_value n at q) j)) same ∙ (ap live_node g.updates.changed ∙ live-none q free)
+          | inr other ↦ ap live_node (g.updates.others k other) ∙ a.below k under
+        ]
+        | inr above ↦ passed k above lower
+      ];
+      counted = omega (arith, g.len, a.counted, less);
+      free_list = remove-free_list n (with_value n at q) free_head at len left q a.free_list (not-free_at n at h) g.updates free next (omega (arith, g.allocated, less));
+    }
+
+-- an item changes, and its place stays
+pub replace-invariant : (n : Slab StoredItem) (at : ℕ) (q : StoredItem) (first_item_bound end : ℕ) (free_head : Option ℕ) (len : ℕ) → IsSome (get_or (live_nodes n.slots) at None) → is_free q.header ≡ false
+    → ItemsInvariant n first_item_bound end free_head len → ItemsInvariant (with_value n at q) first_item_bound end free_head len
+replace-invariant n at q first_item_bound end free_head len h live a =
+    let l = live-at n at h in
+    let some = has-place n at h in
+    let u = Updates-with_value n at q some in
     let O : Option ListNode → Type 0 = λ o. IsSome o in
-    let node : IsSome (slice_index_or (nodes_of n.slots ss) other None) = subst N (sym b.are) (subst O (sym has.is) refl) in
+    record {
+      within = write-keeps_bound n (with_value n at q) at end (Some q) u (a.within at some) a.within;
+      few = a.few;
+      below = λ k lower. elim (cases_eq k at) [
+        | inl same ↦
+            let none : get_or (live_nodes n.slots) at None ≡ None = get-live n.slots at ∙ (ap (λ j. live_node (get n j)) (sym same) ∙ a.below k lower) in
+            absurd (cc (none, h))
+        | inr other ↦ ap live_node (u.others k other) ∙ a.below k lower
+      ];
+      counted = len-replace n at l.0 q l.1.0 l.1.1 live ∙ a.counted;
+      free_list = set_next-free_list n (with_value n at q) free_head at len q a.free_list (not-free_at n at h) u (len-written n at q some);
+    }
+
+-- the nodes after an item is replaced
+pub with_value-live : (n : Slab StoredItem) (k : ℕ) (q : StoredItem) → is_free q.header ≡ false → live_nodes (with_value n k q).slots ≡ set (live_nodes n.slots) k (Some (stored_node q))
+with_value-live n k q live = map-set n.slots k (Some q) ∙ ap (λ (o : Option ListNode). set (live_nodes n.slots) k o) (live-some q live)
+  where
+    live-some : (s : StoredItem) → is_free s.header ≡ false → live_node (Some s) ≡ Some (stored_node s)
+    live-some s e = ap {B = Option ListNode} (λ (b : Bool). if b then None else Some (stored_node s)) e
+
+-- ---- the first item from a place on
+item-by : (o : Option StoredItem) (m : ListNode) → live_node o ≡ Some m → IsSome m.item
+item-by None m e = absurd (cc)
+item-by (Some s) m e = shown (is_free s.header) e
+  where
+    shown : (b : Bool) → (if b then None else Some (stored_node s)) ≡ Some m → IsSome m.item
+    shown true e = absurd (cc)
+    shown false e = let same : stored_node s ≡ m = cc in let P : ListNode → Type 0 = λ z. IsSome z.item in subst P same refl
+
+-- every node of the items is an item
+pub node-has_item : (n : Slab StoredItem) (k : ℕ) (m : ListNode) → get_or (live_nodes n.slots) k None ≡ Some m → IsSome m.item
+node-has_item n k m e = item-by (get n k) m (sym (get-live n.slots k) ∙ e)
+
+some-node : (o : Option ListNode) → is_some o ≡ true → (m : ListNode) × (o ≡ Some m)
+some-node None e = absurd (cc)
+some-node (Some m) e = (m, refl)
+
+-- no items from a place up to the first with an item, or to the end
+pub least-item : (n : Slab StoredItem) (s : Slab ListNode) (start at : ℕ) → live_nodes n.slots ≡ s.slots → ((k : ℕ) → start ≤ k → k < at → live_node (get n k) ≡ None) → start ≤ at → is_some (live_node (get n at)) ≡ true → IsLeastItemIn start at s
+least-item n s start at is seen h marked =
+    let m = some-node (live_node (get n at)) marked in
+    let there : get_or (live_nodes n.slots) at None ≡ Some m.0 = get-live n.slots at ∙ m.1 in
+    let G : List (Option ListNode) → Type 0 = λ zs. get_or zs at None ≡ Some m.0 in
+    record {
+      has = record { node = m.0; is = subst G is there; has = node-has_item n at m.0 there };
+      from = h;
+      least = λ other has after.
+          let here : live_node (get n other) ≡ Some has.node = sym (get-live n.slots other) ∙ (ap (λ (zs : List (Option ListNode)). get_or zs other None) is ∙ has.is) in
+          elim (cases_lt other at) [ inl before ↦ absurd (cc (here, seen other after before)) | inr there ↦ there ];
+    }
+
+pub no-item_left : (n : Slab StoredItem) (s : Slab ListNode) (start at end : ℕ) → live_nodes n.slots ≡ s.slots → ((k : ℕ) → start ≤ k → k < at → live_node (get n k) ≡ None) → end ≤ at → ((k : ℕ) → IsSome (get n k) → k < end) → (other : ℕ) → HasItemIn s other → other < start
+no-item_left n s start at end is seen h within other has =
+    let O : Option ListNode → Type 0 = λ o. IsSome o in
+    let shown : get_or (live_nodes n.slots) other None ≡ Some has.node = ap (λ (zs : List (Option ListNode)). get_or zs other None) is ∙ has.is in
+    let here : live_node (get n other) ≡ Some has.node = sym (get-live n.slots other) ∙ shown in
     elim (cases_lt other start) [
       | inl before ↦ before
-      | inr after ↦ elim (cases_lt other end) [
-        | inl within ↦ absurd (no-item n ss s other b (seen other after within) has)
-        | inr past ↦ absurd (omega (arith, past, h, b.within other (has-header n ss other node)))
+      | inr after ↦ elim (cases_lt other at) [
+        | inl inside ↦ absurd (cc (here, seen other after inside))
+        | inr past ↦ absurd (omega (arith, past, h, within other (has-place n other (subst O (sym shown) refl))))
       ]
     ]

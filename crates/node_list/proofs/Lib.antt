@@ -1,7 +1,9 @@
 pub mod KeptLaws
-pub mod SlotLaws
-pub mod GapLaws
+pub mod FreePlaceLaws
+pub mod FreeListLaws
 pub mod ItemLaws
+pub mod WeaveLaws
+pub mod NodeLaws
 pub mod WalkLaws
 pub mod TickLaws
 pub mod CellLaws
@@ -12,7 +14,3 @@ pub mod UnlinkLaws
 pub mod ListLaws
 pub mod CountLaws
 pub mod CallerLaws
-pub mod FreePlaceLaws
-pub mod FreeListLaws
-pub mod FreedLaws
-pub mod PartLaws

@@ -12,14 +12,12 @@
 //! is found at once. But if an item before a long gap is inserted and removed again and again, scans read that gap
 //! each time.
 //!
-//! *Mechanism.* The nodes are linked in one direction by place numbers. A slab gives out the places and holds the
-//! headers, 24 bytes each: split key, link and two tag bits. The elements of a second array have 64 bytes: the items,
-//! and placeholders at other places. An item has its key packed in 16 bytes, and its chain in 48. Nobody reads a
-//! placeholder, so an element needs no tag. A search that passes a node reads only the slab, and compares keys only if
-//! split keys are equal. `next_item_at` reads only the slab too: a scan of all items reads both arrays forward and
-//! skips dummies. A place is added to the slab only after there is capacity for its item. So a refusal of memory
-//! changes no node. Places without a node form a *free list*: each leads to the next, the first is used next, and no
-//! place is returned to the slab.
+//! *Mechanism.* The nodes are linked in one direction by place numbers. A dummy takes 8 bytes: its split key without
+//! the last bit, which is 0, and its link. An item takes 72 bytes in a slab: the same header, whose last bit is 1, its key
+//! packed in 16 bytes, and its chain in 48. Dummies have the even places, and items the odd ones. A search that passes a
+//! node reads its header, and compares keys only if split keys are equal. `next_item_at` reads the slab forward. Places of
+//! the slab without an item form a *free list*: each leads to the next, the first is used next, and no place is returned
+//! to the slab. They join that list when memory is reserved. So a refusal of memory changes no node.
 //!
 //! *Limits.* A call that takes a place requires that a node of the list has it. So a caller must keep track of the
 //! places of its nodes.
@@ -28,16 +26,16 @@
 //! packed. The `chain` has the objects with this key: a single one in place, several in a block of memory.
 #![tactic(auto)]
 
-// The modules: the `list`, its `nodes` in two `arrays`, and the first-item bound (`first_item`). A node as it is
-// inserted (`node`), as it is stored (`packed`, `header`, `link`) and as a search sees it (`node_ref`, `reader`). The
-// operations `find`, `insert` and `unlink`. The objects of an item (`chain`), and the counter of visited nodes
-// (`steps`).
-mod arrays;
+// The modules: the `list`, its `nodes`, and the `items` among them with the first-item bound (`first_item`). A node as it
+// is removed and stored (`node`), its header (`packed`, `header`, `link`), and a node as a search sees it (`node_ref`,
+// `reader`). The operations `find`, `insert` and `unlink`. The objects of an item (`chain`), and the counter of visited
+// nodes (`steps`).
 mod chain;
 mod find;
 mod first_item;
 mod header;
 mod insert;
+mod items;
 mod link;
 mod list;
 mod node;

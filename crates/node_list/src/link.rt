@@ -1,13 +1,13 @@
-//! A link: the place (index) of the next node, or none, in one word.
+//! A link: the place of the next node, or none, in 32 bits.
 ghost use Rattle.std.specs.Prelude.{◌≡◌, ◌<◌, ◌-◌, ◌^◌, Some, None};
 
 use std::marker::Model;
 
-/// The place of the next node, or none, in one word; an `Option<usize>` takes two. A contract sees an option.
+/// The place of the next node, or none, in 32 bits. A contract sees an option.
 #[derive(Clone, Copy)]
 pub struct Link {
-    /// The place, or the greatest `usize` for 'no place'.
-    place: usize,
+    /// The place, or the greatest `u32` for 'no place'.
+    place: u32,
 }
 
 // The value that contracts see of this type (`view`), and what is true of its fields between calls (`invariant`).
@@ -21,7 +21,7 @@ impl Model for Link {
 
     ghost view = { λ l. link_in l.place };
 
-    ghost invariant = { λ l. l.place < 2 ^ 64 };
+    ghost invariant = { λ l. l.place < 2 ^ 32 };
 
     ghost inverse = { λ o. record { place = word_of o } };
 
@@ -33,25 +33,27 @@ impl Link {
     pub fn none() -> Link
         ensures { result ≡ None }
     {
-        Link { place: usize::MAX }
+        Link { place: u32::MAX }
     }
 
-    /// Returns a link to `place`. The greatest `usize` encodes 'no place', so it is not allowed.
+    /// Returns a link to `place`. The greatest `u32` encodes 'no place', so a place is less.
     pub fn to(place: usize) -> Link
-        requires { place < 2 ^ 64 - 1 }
+        requires { place < 2 ^ 32 - 1 }
         ensures { result ≡ Some place }
     {
-        Link { place }
+        Link {
+            place: place as u32,
+        }
     }
 
     /// Returns the place of the next node, or `None` if the link leads to no place.
     pub fn get(self) -> Option<usize>
         ensures { result ≡ self }
     {
-        if self.place == usize::MAX {
+        if self.place == u32::MAX {
             None
         } else {
-            Some(self.place)
+            Some(self.place as usize)
         }
     }
 }

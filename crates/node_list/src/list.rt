@@ -1,11 +1,11 @@
 //! The list of nodes, with its public operations. A node is an item (a key with its objects) or a dummy (the first node
 //! of a bucket). Contracts see the nodes in their order, as *cells*. The objects of an item are its *chain*.
-ghost use Rattle.std.specs.Prelude.{◌≡◌, ℕ, ◌+◌, ◌-◌, ◌^◌, ◌<◌, ◌≤◌, Some, None, [], ◌∷◌, length, IfOk, OnOk, IsOk, MatchOption, option_map};
+ghost use Rattle.std.specs.Prelude.{◌≡◌, ℕ, ◌+◌, ◌*◌, ◌-◌, ◌^◌, ◌<◌, ◌≤◌, Some, None, [], ◌∷◌, length, IfOk, OnOk, OnErr, IsOk, MatchOption, option_map};
 ghost use Rattle.std.specs.Borrow.{sem};
 
 use crate::chain::Chain;
 use crate::find::find_from;
-use crate::insert::insert_from;
+use crate::insert::{insert_dummy_from, insert_item_from};
 use crate::link::Link;
 use crate::node::{Item, ListNode};
 use crate::nodes::Nodes;
@@ -17,7 +17,7 @@ use packed_term::Packed;
 use std::alloc::{AllocError, Global};
 use std::marker::Model;
 
-/// The place of a node: its index in the slab. The node keeps it until the node is removed.
+/// The place of a node: its number. The node keeps it until the node is removed.
 pub type At = usize;
 
 /// The place of the first node of every list.
@@ -60,13 +60,8 @@ impl NodeList {
         ensures { IfOk result (λ l. l.cells ≡ new_cell 0 0 None ∷ []) }
     {
         let mut nodes = Nodes::new(alloc);
-        // The first place of the slab is 0, so the dummy is at `HEAD`.
-        nodes.add_free_place(1)?;
-        nodes.insert_reserved(ListNode {
-            split_key: 0,
-            next: Link::none(),
-            item: None,
-        });
+        // The first dummy has the place 0, so it is at `HEAD`.
+        let _head = nodes.push_dummy(0, Link::none())?;
         Ok(NodeList { nodes })
     }
 
@@ -75,7 +70,7 @@ impl NodeList {
     #[inline]
     pub fn head(&self) -> At
         ensures first { first_place self.now.cells ≡ Some result }
-        ensures place { result < 2 ^ 64 - 1 }
+        ensures place { result < 2 ^ 32 - 1 }
         ensures dummy { StartsWithDummy self.now.cells }
         ensures sorted { Sorted self.now.cells }
         ensures apart { HasDistinctPlaces self.now.cells }
@@ -91,8 +86,8 @@ impl NodeList {
         ensures dummy { StartsWithDummy self.now.cells }
         ensures sorted { Sorted self.now.cells }
         ensures apart { HasDistinctPlaces self.now.cells }
-        ensures few { length self.now.cells < 2 ^ 64 - 1 }
-        ensures places { (at : ℕ) → IsPlaceOf at self.now.cells → at < 2 ^ 64 - 1 }
+        ensures few { length self.now.cells < 2 ^ 32 - 1 }
+        ensures places { (at : ℕ) → IsPlaceOf at self.now.cells → at < 2 ^ 32 - 1 }
     {
         // These calls change nothing. Their contracts give the proof the invariant.
         let _head = self.head();
@@ -104,7 +99,7 @@ impl NodeList {
     #[inline]
     pub fn len(&self) -> usize
         ensures value { result ≡ length self.now.cells }
-        ensures few { result < 2 ^ 64 - 1 }
+        ensures few { result < 2 ^ 32 - 1 }
     {
         self.nodes.len()
     }
@@ -120,41 +115,37 @@ impl NodeList {
         self.nodes.reserve(additional)
     }
 
-    /// Inserts a dummy with this split key, after all nodes with an equal split key, and returns its place. `start`
-    /// must be the place of a node whose split key is at most `split_key`. Capacity for the node must be reserved.
-    #[inline(always)]
-    pub fn insert_dummy(&mut self, start: At, split_key: u64) -> At
-        requires room { HasRoom self.old 1 }
-        requires start { HasSplitKeyAtMost split_key start self.old.cells }
-        ensures cells { self.new.cells ≡ put_cell (new_cell result split_key None) self.old.cells }
-        ensures fresh { IsFresh result self.old.cells }
-        ensures place { result < 2 ^ 64 - 1 }
-        ensures len { length self.new.cells ≡ length self.old.cells + 1 }
-        ensures capacity { self.new.capacity ≡ self.old.capacity }
+    /// Inserts a dummy after all nodes whose split keys are at most its own, and returns its place. `reversed` is its
+    /// split key without the last bit, which is 0. `start` must be the place of a node whose split key is at most the
+    /// dummy's. If memory is refused, returns an error and changes nothing.
+    pub fn insert_dummy(&mut self, start: At, reversed: u32) -> Result<At, AllocError>
+        requires start { HasSplitKeyAtMost (2 * reversed) start self.old.cells }
+        ensures cells { IfOk result (λ at. self.new.cells ≡ put_cell (new_cell at (2 * reversed) None) self.old.cells) }
+        ensures fresh { IfOk result (λ at. IsFresh at self.old.cells) }
+        ensures place { IfOk result (λ at. at < 2 ^ 32 - 1) }
+        ensures len { OnOk result (length self.new.cells ≡ length self.old.cells + 1) }
+        ensures capacity { OnOk result (self.new.capacity ≡ self.old.capacity + 1) }
+        ensures err { OnErr result (self.new ≡ self.old) }
     {
-        insert_from(&mut self.nodes, start, split_key, None)
+        let at = insert_dummy_from(&mut self.nodes, start, reversed)?;
+        Ok(at)
     }
 
-    /// Inserts an item with this split key, after all nodes with an equal split key, and returns its place. `term` is
-    /// the item's key, packed, and `start` must be the place of a node whose split key is at most `split_key`. Capacity
-    /// for the node must be reserved.
+    /// Inserts an item after all nodes whose split keys are at most its own, and returns its place. `reversed` is its
+    /// split key without the last bit, which is 1. `term` is the item's key, packed, and `start` must be the place of a
+    /// node whose split key is at most the item's. Capacity for the item must be reserved.
     #[inline(always)]
-    pub fn insert_item(&mut self, start: At, split_key: u64, term: Packed, chain: Chain) -> At
+    pub fn insert_item(&mut self, start: At, reversed: u32, term: Packed, chain: Chain) -> At
         requires room { HasRoom self.old 1 }
-        requires start { HasSplitKeyAtMost split_key start self.old.cells }
+        requires start { HasSplitKeyAtMost (2 * reversed + 1) start self.old.cells }
         ensures cells { self.new.cells
-            ≡ put_cell (new_cell result split_key (Some (new_item term chain))) self.old.cells }
+            ≡ put_cell (new_cell result (2 * reversed + 1) (Some (new_item term chain))) self.old.cells }
         ensures fresh { IsFresh result self.old.cells }
-        ensures place { result < 2 ^ 64 - 1 }
+        ensures place { result < 2 ^ 32 - 1 }
         ensures len { length self.new.cells ≡ length self.old.cells + 1 }
         ensures capacity { self.new.capacity ≡ self.old.capacity }
     {
-        insert_from(
-            &mut self.nodes,
-            start,
-            split_key,
-            Some(Item { term, chain }),
-        )
+        insert_item_from(&mut self.nodes, start, reversed, Item { term, chain })
     }
 
     /// Returns the place of the first item from `start` on with this split key and the key `term`, or `None` if no item

@@ -1,10 +1,11 @@
-//! A node with all its parts, as it is inserted and removed. It is an item (a key with its objects) or a dummy (the
-//! first node of a bucket). In memory, a dummy has a placeholder in place of an item.
-ghost use Rattle.std.specs.Prelude.{◌≡◌, is_some};
-ghost use Rattle.node_list.specs.inside.Slots.{placeholder, item_if};
+//! A node with all its parts, as it is removed and as it is stored. It is an item (a key with its objects) or a dummy
+//! (the first node of a bucket).
+ghost use Rattle.std.specs.Prelude.{◌≡◌, true};
+ghost use Rattle.node_list.specs.inside.PackedHeader.{Fits, is_free, next_in};
 
 use crate::chain::Chain;
 use crate::link::Link;
+use crate::packed::PackedHeader;
 use packed_term::Packed;
 use std::alloc::Global;
 
@@ -18,31 +19,36 @@ pub struct Item {
     pub chain: Chain,
 }
 
-impl Item {
-    /// Returns the placeholder, which fills a place without an item. Its key is the integer 0, and its chain is empty.
-    pub fn placeholder(alloc: Global) -> Item
-        ensures { result ≡ placeholder }
-    {
-        Item {
-            term: Packed::from(0),
-            chain: Chain::new(alloc),
-        }
-    }
+/// An item as it is stored, in 72 bytes: its header, its key and its objects. A free place has a key and a chain that
+/// nobody reads.
+#[derive(Drop)]
+pub struct StoredItem {
+    /// The split key without its last bit, the link and the tag.
+    pub header: PackedHeader,
+    /// The key with its objects.
+    pub item: Item,
+}
 
-    /// Returns the item of a node, or a placeholder if `item` is `None`, for a dummy.
+impl StoredItem {
+    /// Returns a free place, whose link leads to the next free place.
     #[inline(always)]
-    pub fn or_placeholder(item: Option<Item>, alloc: Global) -> Item
-        ensures { item_if (is_some item) result ≡ item }
+    pub fn free(alloc: Global, next: Link) -> StoredItem
+        requires { Fits next }
+        ensures next { next_in result.header ≡ next }
+        ensures free { is_free result.header ≡ true }
     {
-        match item {
-            Some(item) => item,
-            None => Item::placeholder(alloc),
+        StoredItem {
+            header: PackedHeader::free(next),
+            item: Item {
+                term: Packed::from(0),
+                chain: Chain::new(alloc),
+            },
         }
     }
 }
 
-/// A list node as it is inserted and removed: its split key, the link to the next node, and its item. A dummy has no
-/// item; it marks the start of a bucket.
+/// A list node as it is removed: its split key, the link to the next node, and its item. A dummy has no item; it marks
+/// the start of a bucket.
 #[derive(Drop)]
 pub struct ListNode {
     /// The number by which the list is sorted.

@@ -1,79 +1,64 @@
-//! The header of a node in memory: the split key, and one word with the link and a tag. The tag is the kind of the
-//! place: an item, a dummy (the first node of a bucket), or a free place.
-ghost use Rattle.std.specs.Prelude.{◌≡◌, ◌<◌, ◌%◌, true, false};
-ghost use Rattle.node_list.specs.inside.PackedHeader.{next_in, is_item, is_free, Fits};
-ghost use Rattle.node_list.specs.inside.Slots.{item_if};
+//! The header of a node in memory, in 8 bytes: the split key without its last bit, and one word with the link and a tag.
+//! The tag says whether the place is free, which means that it has no node.
+ghost use Rattle.std.specs.Prelude.{◌≡◌, ◌<◌, ◌≤◌, ◌+◌, ◌*◌, ◌%◌, true, false};
+ghost use Rattle.node_list.specs.inside.PackedHeader.{next_in, is_free, place_number, Fits};
 
 use crate::header::NodeHeader;
 use crate::link::Link;
-use crate::node::Item;
 
-/// The place number that encodes 'no place': the greatest number of 62 bits. A place in a header has 62 bits, since the
-/// tag takes the other two bits of the word.
-pub const NO_PLACE: usize = usize::MAX / 4;
+/// The place number that encodes 'no place': the greatest number of 31 bits. A place in a header has 31 bits, since the
+/// tag takes the other bit of the word.
+const NO_PLACE: usize = 2147483647;
 
-/// A header as it is stored: the split key, and a word that is four times the place of the next node, plus a tag.
-/// The tag is 1 for an item, 2 for a free place and 0 for a dummy.
+/// A header as it is stored: the split key without its last bit, and a word that is twice the place of the next node,
+/// plus 1 for a free place.
 #[derive(Clone, Copy)]
 pub struct PackedHeader {
-    /// The split key of a node; 0 for a free place.
-    split_key: u64,
-    /// Four times the place of the next node, or of the next free place, plus the tag.
-    word: usize,
+    /// The split key of a node without its last bit; 0 for a free place.
+    reversed: u32,
+    /// Twice the place of the next node, or of the next free place, plus the tag.
+    word: u32,
 }
 
 impl PackedHeader {
-    /// Packs a header with the tag of an item, 1, if `has_item`, and else with the tag of a dummy, 0.
+    /// Packs the header of a node. `reversed` is its split key without the last bit.
     #[inline(always)]
-    pub fn new(header: NodeHeader, has_item: bool) -> PackedHeader
-        requires { Fits header.next }
-        ensures key { result.split_key ≡ header.split_key }
-        ensures next { next_in result ≡ header.next }
-        ensures item { is_item result ≡ has_item }
+    pub fn new(reversed: u32, next: Link) -> PackedHeader
+        requires { Fits next }
+        ensures key { result.reversed ≡ reversed }
+        ensures next { next_in result ≡ next }
         ensures live { is_free result ≡ false }
     {
-        PackedHeader::with_tag(header.split_key, header.next, usize::from(has_item))
+        PackedHeader {
+            reversed,
+            word: 2 * place_word(next),
+        }
     }
 
-    /// Packs the header of a free place: the split key 0, the link to the next free place and the tag 2.
+    /// Packs the header of a free place: its link leads to the next free place.
     #[inline(always)]
     pub fn free(next: Link) -> PackedHeader
         requires { Fits next }
         ensures next { next_in result ≡ next }
         ensures free { is_free result ≡ true }
-        ensures item { is_item result ≡ false }
     {
-        PackedHeader::with_tag(0, next, 2)
-    }
-
-    /// Packs a split key, a link and a tag. The link `None` becomes the place number `NO_PLACE`.
-    #[inline(always)]
-    fn with_tag(split_key: u64, next: Link, tag: usize) -> PackedHeader
-        requires fits { Fits next }
-        requires small { tag < 4 }
-        ensures key { result.split_key ≡ split_key }
-        ensures next { next_in result ≡ next }
-        ensures tag { result.word % 4 ≡ tag }
-    {
-        let place = match next.get() {
-            Some(place) => place,
-            None => NO_PLACE,
-        };
         PackedHeader {
-            split_key,
-            word: place * 4 + tag,
+            reversed: 0,
+            word: 2 * place_word(next) + 1,
         }
     }
 
-    /// Returns the split key and the link, unpacked.
+    /// Returns the split key and the link, unpacked. `last_bit` is the last bit of the split key: 1 for an item, 0 for a
+    /// dummy.
     #[inline(always)]
-    pub fn header(self) -> NodeHeader
-        ensures key { result.split_key ≡ self.split_key }
+    pub fn header(self, last_bit: u64) -> NodeHeader
+        requires { last_bit < 2 }
+        ensures key { result.split_key ≡ 2 * self.reversed + last_bit }
         ensures next { result.next ≡ next_in self }
         ensures fits { Fits result.next }
     {
         NodeHeader {
-            split_key: self.split_key,
+            split_key: 2 * u64::from(self.reversed) + last_bit,
             next: self.next(),
         }
     }
@@ -84,7 +69,7 @@ impl PackedHeader {
         ensures next { result ≡ next_in self }
         ensures fits { Fits result }
     {
-        let place = self.word / 4;
+        let place = (self.word / 2) as usize;
         if place == NO_PLACE {
             Link::none()
         } else {
@@ -92,41 +77,34 @@ impl PackedHeader {
         }
     }
 
-    /// Checks whether the place has an item: its tag, the two low bits of the word, is then 1.
+    /// Checks whether the place is free.
     #[inline(always)]
-    pub fn is_item(self) -> bool
-        ensures { result ≡ is_item self }
+    pub fn is_free(self) -> bool
+        ensures { result ≡ is_free self }
     {
-        self.word % 4 == 1
+        self.word % 2 == 1
     }
 
-    /// Returns the same header with another link. `self` must be the header of a node: a free place would become a
-    /// dummy.
+    /// Returns the same header of a node with another link.
+    #[inline(always)]
     pub fn with_next(self, next: Link) -> PackedHeader
         requires { Fits next }
-        ensures key { result.split_key ≡ self.split_key }
+        ensures key { result.reversed ≡ self.reversed }
         ensures next { next_in result ≡ next }
-        ensures item { is_item result ≡ is_item self }
         ensures live { is_free result ≡ false }
     {
-        PackedHeader::new(
-            NodeHeader {
-                split_key: self.split_key,
-                next,
-            },
-            self.is_item(),
-        )
+        PackedHeader::new(self.reversed, next)
     }
+}
 
-    /// Returns the item of the node, or `None` for a dummy. `item_or_placeholder` is what the array of items has at the
-    /// node's place.
-    pub fn item_of(self, item_or_placeholder: Item) -> Option<Item>
-        ensures { result ≡ item_if (is_item self) item_or_placeholder }
-    {
-        if self.is_item() {
-            Some(item_or_placeholder)
-        } else {
-            None
-        }
+/// Returns the place of a link as a number of 31 bits: `NO_PLACE` for the link to no place.
+#[inline(always)]
+fn place_word(next: Link) -> u32
+    requires { Fits next }
+    ensures { result ≡ place_number next }
+{
+    match next.get() {
+        Some(place) => place as u32,
+        None => NO_PLACE as u32,
     }
 }

@@ -1,5 +1,5 @@
 //! The removal of a node: a search from a start node finds its predecessor, which gets the node's link. `unlink_from`
-//! returns the node; `delete_from` drops its item without moving it. A place is the index of a node. The head of the
+//! returns the node; `delete_from` drops its item without moving it. A place is the number of a node. The head of the
 //! list is at place 0, so `cells_from nodes (Some 0)` is the whole list.
 ghost use Rattle.std.specs.Prelude.{◌≡◌, ◌+◌, Some};
 ghost use Rattle.slab.specs.Slab.{get, slab_len};
@@ -29,10 +29,11 @@ fn predecessor(nodes: &Nodes, start: usize, at: usize) -> usize
     unreachable!()
 }
 
-/// Removes the node at `at`, which must be after the node at `start`, and returns the removed node.
+/// Removes the node at `at`, an item after the node at `start`, and returns the removed node.
 pub fn unlink_from(nodes: &mut Nodes, start: usize, at: usize) -> ListNode
     requires linked { IsLinked nodes.old (Some 0) }
     requires after { HasPlace at (cells_after start (cells_from nodes.old (Some 0))) }
+    requires item { HasItemIn nodes.old at }
     ensures node { get nodes.old at ≡ Some result }
     ensures linked { IsLinked nodes.new (Some 0) }
     ensures cells { cells_from nodes.new (Some 0) ≡ without at (cells_from nodes.old (Some 0)) }

@@ -7,7 +7,7 @@ use node_list::{At, Link};
 use std::alloc::{AllocError, Global};
 use std::marker::Model;
 
-/// The greatest number of links in a segment of the directory, one link per bucket. A segment thus takes 256 KiB, which
+/// The greatest number of links in a segment of the directory, one link per bucket. A segment thus takes 128 KiB, which
 /// bounds the links that a doubling copies.
 const MAX_LINKS_PER_SEGMENT: usize = 32768;
 
@@ -39,7 +39,7 @@ impl Model for Directory {
 impl Directory {
     /// Creates a directory of two buckets. The first is ready, with its dummy at `first`.
     pub fn new(alloc: Global, first: At) -> Result<Directory, AllocError>
-        requires { first < 2 ^ 64 - 1 }
+        requires { first < 2 ^ 32 - 1 }
         ensures { IfOk result (λ directory. directory ≡ Some first ∷ None ∷ []) }
     {
         let mut first_segment = Vec::with_capacity(alloc, 2)?;
@@ -78,7 +78,7 @@ impl Directory {
     /// Makes a bucket ready, with its dummy at `at`.
     pub fn set(&mut self, bucket: usize, at: At)
         requires below { bucket < length self.old }
-        requires place { at < 2 ^ 64 - 1 }
+        requires place { at < 2 ^ 32 - 1 }
         ensures { self.new ≡ set self.old bucket (Some at) }
     {
         if bucket < MAX_LINKS_PER_SEGMENT {
@@ -124,7 +124,7 @@ fn link_at(segment: &[Link], index: usize) -> Option<At>
 /// Sets a link of a segment that has capacity for it.
 fn set_link(segment: &mut Vec<Link>, index: usize, at: At)
     requires room { index < vec_capacity segment.old }
-    requires place { at < 2 ^ 64 - 1 }
+    requires place { at < 2 ^ 32 - 1 }
     ensures link { SetsLink index at segment.old.items segment.new.items }
     ensures capacity { vec_capacity segment.old ≤ vec_capacity segment.new }
 {

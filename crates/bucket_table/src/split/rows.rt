@@ -13,7 +13,7 @@ use crate::rows::Rows;
 use ets_term::{KeyHash, Term};
 use node_list::{Chain, Steps};
 use packed_term::{Object, Packed};
-use split_key::dummy_key;
+use split_key::rev32;
 use std::alloc::AllocError;
 use std::mem;
 
@@ -201,8 +201,7 @@ impl<H: KeyHash + Copy + Drop> Rows for SplitRows<H> {
             return Ok(Readying::AlreadyReady);
         }
         let start = self.index.dummy_start(bucket);
-        self.index.list.reserve(1)?;
-        let at = self.index.list.insert_dummy(start, dummy_key(bucket));
+        let at = self.index.list.insert_dummy(start, rev32(bucket))?;
         self.index.directory.set(index, at);
         self.index.rebuild_with_parent(bucket);
         self.first_unready = self.index.first_unready(self.first_unready);

@@ -13,7 +13,7 @@ use super::SplitIndex;
 use ets_term::KeyHash;
 use node_list::Chain;
 use packed_term::Packed;
-use split_key::item_key;
+use split_key::{item_key, rev32};
 
 impl<H: KeyHash + Copy + Drop> SplitIndex<H> {
     /// Inserts an item for a key that has no item. Memory must be reserved, and `hash` must be the key's hash.
@@ -36,7 +36,9 @@ impl<H: KeyHash + Copy + Drop> SplitIndex<H> {
         let start = self.hints.refresh(&self.list, split_key, before);
         let is_first = self.hints.is_new_first(&self.list, split_key);
         let interval = self.hints.interval_of(split_key);
-        let at = self.list.insert_item(start, split_key, key, objects);
+        let at = self
+            .list
+            .insert_item(start, rev32(hash), key, objects);
         self.hints.current.set_first(is_first, interval, at);
     }
 }

@@ -1,4 +1,4 @@
-use Rattle.node_list.specs.inside.Slots.{HasNoItemBetween}
+use Rattle.node_list.specs.inside.FreeList.{HasNoItemBetween}
 use Rattle.node_list.proofs.first_item.bound_after_remove.Given as goal
 
 abbrev pub invariant-loop-at : goal.invariant-loop-at

@@ -3,7 +3,7 @@ use Rattle.slab.specs.Slab.{Slab, get, slab_len}
 use Rattle.node_list.specs.inside.Walks.{cells_from, IsPredecessor}
 use Rattle.node_list.specs.declared.node.ListNode.{ListNode}
 use Rattle.node_list.proofs.PlaceLaws.{with_value-len}
-use Rattle.node_list.proofs.UnlinkLaws.{search-linked, predecessor-in_whole, predecessor-has_place, predecessor-node, predecessor-differs, has-node, Unlinked, unlink-list}
+use Rattle.node_list.proofs.UnlinkLaws.{search-linked, predecessor-in_whole, predecessor-node, predecessor-differs, Unlinked, unlink-list}
 use Rattle.node_list.proofs.unlink.unlink_from.Goals as goal
 use Rattle.node_list.proofs.unlink.unlink_from.Goals.{After-predecessor-before, After-set_next}
 
@@ -27,13 +27,6 @@ done c b =
     (unlink-list c.args.nodes.now m before c.args.at n c.remove-node.result c.requires.linked b
     c.remove-node.ensures.value c.remove-node.ensures.updates c.remove-node.ensures.len c.set_next.ensures.was
     (with_value-len m before n (record n { next = c.remove-node.result.next }) c.set_next.ensures.was))
-
-pub remove-node-requires : goal.remove-node-requires
-remove-node-requires c =
-    let b = is_predecessor (goal.at.remove-node-requires c).After-predecessor-before in
-    let n = has-node (get c.args.nodes.now) c.args.at (Some 0) (cells_from c.args.nodes.now (Some 0)) c.requires.linked.links (predecessor-has_place c.predecessor-before.result c.args.at (cells_from c.args.nodes.now (Some 0)) b) in
-    let O : Option ListNode → Type 0 = λ o. IsSome o in
-    subst O (sym n.1) refl
 
 pub set_next-requires-clause-has : goal.set_next-requires-clause-has
 set_next-requires-clause-has c =

@@ -1,7 +1,8 @@
-use Rattle.std.proofs.Common.{◌≡◌, ◌+◌, Some, List, ◌∷◌, length, sym, ◌∙◌, ap}
+use Rattle.std.proofs.Common.{◌≡◌, ◌+◌, Some, Option, IsSome, List, ◌∷◌, length, refl, sym, ◌∙◌, ap, subst}
 use Rattle.slab.specs.Slab.{get}
 use Rattle.node_list.specs.Cells.{Cell}
 use Rattle.node_list.specs.Places.{from, cells_after, first_item}
+use Rattle.node_list.specs.declared.node.Item.{Item}
 use Rattle.node_list.specs.declared.node.ListNode.{ListNode}
 use Rattle.node_list.specs.inside.Walks.{cells_from}
 use Rattle.node_list.specs.ListState.{ListState}
@@ -14,6 +15,16 @@ pub unlink_from-item-requires-clause-after : goal.unlink_from-item-requires-clau
 unlink_from-item-requires-clause-after c =
     let e = ap (λ (v : ListState). from c.args.at (cells_after c.args.start v.cells)) c.self.view_is ∙ c.requires.is in
     from-has c.args.at (cells_after c.args.start (cells_from c.self.inside.nodes (Some 0))) c.requires.cell c.requires.later e
+
+pub unlink_from-item-requires-clause-item : goal.unlink_from-item-requires-clause-item
+unlink_from-item-requires-clause-item c =
+    let cells = cells_from c.self.inside.nodes (Some 0) in
+    let e = ap (λ (v : ListState). from c.args.at (cells_after c.args.start v.cells)) c.self.view_is ∙ c.requires.is in
+    let apart = links-distinct (get c.self.inside.nodes) (Some 0) cells c.self.invariant.linked.links in
+    let unpacked_node = from-cells_after c.args.start c.args.at cells c.requires.cell c.requires.later apart e in
+    let f = place-node c.self.inside.nodes c.args.at c.requires.cell c.requires.later c.self.invariant.linked unpacked_node in
+    let P : Option Item → Type 0 = λ o. IsSome o in
+    record { node = f.node; is = f.is; has = subst P (sym (f.item ∙ c.requires.has)) refl }
 
 pub unreachable-requires : goal.unreachable-requires
 unreachable-requires c =

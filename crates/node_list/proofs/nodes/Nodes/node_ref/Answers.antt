@@ -1,25 +1,42 @@
-use Rattle.std.proofs.Common.{◌<◌, length, IsSome, sym, ◌∙◌, ap, subst, arith}
-use Rattle.node_list.specs.declared.node.ListNode.{ListNode}
+use Rattle.std.proofs.Common.{◌≡◌, ℕ, ◌*◌, ◌+◌, Some, None, Option, IsSome, sym, ◌∙◌, ap, subst, arith}
 use Rattle.slab.specs.Slab.{Slab, get}
-use Rattle.node_list.specs.inside.FreeList.{headers}
-use Rattle.node_list.proofs.SlotLaws.{has-header, read-slot, node_ref-unpacked_node}
-use Rattle.node_list.proofs.FreePlaceLaws.{has-live, live-node}
+use Rattle.node_list.specs.declared.node.Item.{Item}
+use Rattle.node_list.specs.declared.node.ListNode.{ListNode}
+use Rattle.node_list.specs.declared.packed.PackedHeader.{PackedHeader}
+use Rattle.node_list.specs.inside.PackedHeader.{next_in}
+use Rattle.node_list.proofs.NodeLaws.{at-odd, dummy-of}
 use Rattle.node_list.proofs.nodes.Nodes.node_ref.Goals as goal
 
-pub index-packed-requires : goal.index-packed-requires
-index-packed-requires c =
+pub header-requires : goal.header-requires
+header-requires c =
     let P : Slab ListNode → Type 0 = λ v. IsSome (get v c.args.at) in
-    has-live c.self.inside.nodes c.self.inside.items.items c.args.at (subst P (sym c.self.view_is) c.requires)
+    let O : Option ListNode → Type 0 = λ o. IsSome o in
+    subst O (at-odd c.self.inside.dummies.items c.self.inside.items c.args.at c.if-at-eq1.true) (subst P (sym c.self.view_is) c.requires)
 
 pub index-requires : goal.index-requires
 index-requires c =
     let P : Slab ListNode → Type 0 = λ v. IsSome (get v c.args.at) in
-    omega (arith, c.self.invariant.within c.args.at (has-header (headers c.self.inside.nodes) c.self.inside.items.items c.args.at (subst P (sym c.self.view_is) c.requires)), c.self.inside.items.ok.0)
+    let d = dummy-of c.self.inside.dummies.items c.self.inside.items c.args.at (omega (arith, c.if-at-eq1.false)) (subst P (sym c.self.view_is) c.requires) in
+    omega (arith, d.1.1.within, c.self.inside.dummies.ok.0)
 
-pub returns : goal.returns
-returns c =
-    let P : Slab ListNode → Type 0 = λ v. IsSome (get v c.args.at) in
-    let inside : c.args.at < length c.self.inside.items.items = c.self.invariant.within c.args.at (has-header (headers c.self.inside.nodes) c.self.inside.items.items c.args.at (subst P (sym c.self.view_is) c.requires)) in
+node-by : (n m : ListNode) → n.split_key ≡ m.split_key → n.next ≡ m.next → n.item ≡ m.item → n ≡ m
+node-by n m k x i = λ t. let z : ListNode = record { split_key = k t; next = x t; item = i t } in z
+
+pub returns-then-at-eq1 : goal.returns-then-at-eq1
+returns-then-at-eq1 c =
+    let h = c.header.ensures in
+    let same : h.node ≡ c.item.ensures.node = cc (h.is, c.item.ensures.is) in
+    let m : ListNode = record { split_key = c.header.result.split_key; next = c.header.result.next; item = Some c.item.result.now } in
     sym (ap (λ (v : Slab ListNode). get v c.args.at) c.self.view_is)
-    ∙ (live-node c.self.inside.nodes c.self.inside.items.items c.args.at c.index-packed.result.now c.index.result.now (subst P (sym c.self.view_is) c.requires) c.index-packed.ensures (read-slot c.self.inside.items.items c.args.at c.index.result.now inside c.index.ensures)
-    ∙ node_ref-unpacked_node c.index-packed.result.now c.index.result.now c.header.result c.is_item.result c.header.ensures.key c.header.ensures.next c.is_item.ensures)
+    ∙ (at-odd c.self.inside.dummies.items c.self.inside.items c.args.at c.if-at-eq1.true
+    ∙ (h.is ∙ ap Some (node-by h.node m h.key h.next (ap (λ (z : ListNode). z.item) same ∙ c.item.ensures.shows))))
+
+pub returns-else-at-eq1 : goal.returns-else-at-eq1
+returns-else-at-eq1 c =
+    let P : Slab ListNode → Type 0 = λ v. IsSome (get v c.args.at) in
+    let d = dummy-of c.self.inside.dummies.items c.self.inside.items c.args.at (omega (arith, c.if-at-eq1.false)) (subst P (sym c.self.view_is) c.requires) in
+    let same : c.index.result.now ≡ d.1.1.header = c.index.ensures ∙ d.1.1.is _ in
+    let m : ListNode = record { split_key = c.header-else-at-eq1.result.split_key; next = c.header-else-at-eq1.result.next; item = None } in
+    let key : d.0.split_key ≡ m.split_key = omega (arith, c.header-else-at-eq1.ensures.key, ap (λ (p : PackedHeader). p.reversed) same, ap (λ (z : ListNode). z.split_key) d.1.1.shows) in
+    let next : d.0.next ≡ m.next = ap (λ (z : ListNode). z.next) d.1.1.shows ∙ (ap (λ (p : PackedHeader). next_in p) (sym same) ∙ sym c.header-else-at-eq1.ensures.next) in
+    sym (ap (λ (v : Slab ListNode). get v c.args.at) c.self.view_is) ∙ (d.1.0 ∙ ap Some (node-by d.0 m key next (ap (λ (z : ListNode). z.item) d.1.1.shows)))

@@ -1,42 +1,56 @@
-use Rattle.std.proofs.Common.{◌≡◌, Some, set, List, Option, IsSome, get_or, refl, sym, ◌∙◌, ap, subst}
+use Rattle.std.proofs.Common.{◌≡◌, ℕ, ◌+◌, ◌*◌, ◌%◌, ◌/◌, List, length, Some, Option, IsSome, set, sym, ◌∙◌, ap, subst, arith}
+use Rattle.slab.specs.Slab.{Slab, get, with_value}
 use Rattle.node_list.specs.declared.node.ListNode.{ListNode}
 use Rattle.node_list.specs.declared.packed.PackedHeader.{PackedHeader}
-use Rattle.slab.specs.Slab.{Slab, get, slab_len, with_value}
-use Rattle.node_list.specs.inside.Slots.{placeholder, unpacked_node, nodes_of}
-use Rattle.node_list.specs.inside.FreeList.{headers, first_free}
-use Rattle.node_list.proofs.SlotLaws.{has-header, nodes-header, set_next-node}
-use Rattle.node_list.proofs.FreePlaceLaws.{has-live, live-node, headers-set, len-written}
-use Rattle.node_list.proofs.PartLaws.{replace-invariant}
+use Rattle.node_list.specs.inside.PackedHeader.{next_in}
+use Rattle.node_list.specs.inside.Woven.{dummy_node, woven}
+use Rattle.node_list.proofs.NodeLaws.{at-odd, dummy-of, set-item, set-dummy, length-set_dummy}
 use Rattle.node_list.proofs.nodes.Nodes.set_next.Goals as goal
 
-pub index_mut-packed-requires : goal.index_mut-packed-requires
-index_mut-packed-requires c =
+pub set_next-requires-clause-has : goal.set_next-requires-clause-has
+set_next-requires-clause-has c =
     let P : Slab ListNode → Type 0 = λ v. IsSome (get v c.args.at) in
-    has-live c.self.inside.nodes c.self.inside.items.items c.args.at (subst P (sym c.self.view_is) c.requires.has)
+    let O : Option ListNode → Type 0 = λ o. IsSome o in
+    subst O (at-odd c.self.inside.dummies.items c.self.inside.items c.args.at c.if-at-eq1.true) (subst P (sym c.self.view_is) c.requires.has)
 
-pub returns : goal.returns
-returns c =
+pub index_mut-header-requires : goal.index_mut-header-requires
+index_mut-header-requires c =
     let P : Slab ListNode → Type 0 = λ v. IsSome (get v c.args.at) in
-    let some = subst P (sym c.self.view_is) c.requires.has in
-    let slot = get_or c.self.inside.items.items c.args.at placeholder in
-    let old = c.index_mut-packed.result.now in
-    let new = c.with_next.result in
-    let slots : nodes_of (headers (with_value c.self.inside.nodes c.args.at new)).slots c.self.inside.items.items ≡ set (nodes_of (headers c.self.inside.nodes).slots c.self.inside.items.items) c.args.at (Some (unpacked_node new slot)) =
-    ap (λ (os : List (Option PackedHeader)). nodes_of os c.self.inside.items.items) (headers-set c.self.inside.nodes c.args.at new c.with_next.ensures.live)
-    ∙ nodes-header (headers c.self.inside.nodes).slots c.self.inside.items.items c.args.at new in
-    let allocated = len-written c.self.inside.nodes c.args.at new (has-live c.self.inside.nodes c.self.inside.items.items c.args.at some) in
+    let d = dummy-of c.self.inside.dummies.items c.self.inside.items c.args.at (omega (arith, c.if-at-eq1.false)) (subst P (sym c.self.view_is) c.requires.has) in
+    omega (arith, d.1.1.within, c.self.inside.dummies.ok.0)
+
+pub returns-then-at-eq1 : goal.returns-then-at-eq1
+returns-then-at-eq1 c =
+    let ps = c.self.inside.dummies.items in
+    let items = c.self.inside.items in
+    let at = c.args.at in
+    let h = c.set_next.ensures in
+    let new : ListNode = record h.node { next = c.args.next } in
     record {
-      node = unpacked_node old slot;
-      was = sym (ap (λ (v : Slab ListNode). get v c.args.at) c.self.view_is) ∙ live-node c.self.inside.nodes c.self.inside.items.items c.args.at old slot some c.index_mut-packed.ensures.value refl;
-      now = ap (λ (zs : List (Option ListNode)). let z : Slab ListNode = record { slots = zs; vacant_key = first_free c.self.inside.free_head c.self.inside.nodes.vacant_key; capacity = slab_len (with_value c.self.inside.nodes c.args.at new) } in z) slots
-          ∙ (ap (λ k. let z : Slab ListNode = record { slots = set (nodes_of (headers c.self.inside.nodes).slots c.self.inside.items.items) c.args.at (Some (unpacked_node new slot)); vacant_key = first_free c.self.inside.free_head c.self.inside.nodes.vacant_key; capacity = k } in z) allocated
-          ∙ (ap (λ (v : Slab ListNode). with_value v c.args.at (unpacked_node new slot)) c.self.view_is
-          ∙ ap (λ (m : ListNode). with_value c.args.self.now c.args.at m) (set_next-node old new slot c.args.next c.with_next.ensures.key c.with_next.ensures.next c.with_next.ensures.item)));
+      node = h.node;
+      was = sym (ap (λ (v : Slab ListNode). get v at) c.self.view_is) ∙ (at-odd ps items at c.if-at-eq1.true ∙ h.was);
+      now = ap (λ (v : Slab ListNode). woven ps v) h.now
+          ∙ (ap (λ (zs : List (Option ListNode)). let z : Slab ListNode = record { slots = zs; vacant_key = items.vacant_key; capacity = length ps + items.capacity } in z)
+          (sym (set-item ps items at h.node (Some new) (omega (arith, c.if-at-eq1.true)) h.was))
+          ∙ ap (λ (v : Slab ListNode). with_value v at new) c.self.view_is);
     }
 
-pub invariant_of-self : goal.invariant_of-self
-invariant_of-self c =
-    let P : Slab ListNode → Type 0 = λ v. IsSome (get v c.args.at) in
-    let some = has-header (headers c.self.inside.nodes) c.self.inside.items.items c.args.at (subst P (sym c.self.view_is) c.requires.has) in
-    replace-invariant c.self.inside.nodes c.self.inside.items c.args.at c.index_mut-packed.result.now c.with_next.result c.self.inside.first_item_bound c.self.inside.free_head c.self.inside.len some
-    c.index_mut-packed.ensures.value c.with_next.ensures.live c.with_next.ensures.item c.self.invariant
+pub returns-else-at-eq1 : goal.returns-else-at-eq1
+returns-else-at-eq1 c =
+    let ps = c.self.inside.dummies.items in
+    let items = c.self.inside.items in
+    let at = c.args.at in
+    let q = c.with_next.result in
+    let P : Slab ListNode → Type 0 = λ v. IsSome (get v at) in
+    let even : at % 2 ≡ 0 = omega (arith, c.if-at-eq1.false) in
+    let d = dummy-of ps items at even (subst P (sym c.self.view_is) c.requires.has) in
+    let same : c.index_mut-header.result.now ≡ d.1.1.header = c.index_mut-header.ensures.value ∙ d.1.1.is _ in
+    let new : dummy_node q.reversed (next_in q) ≡ record d.0 { next = c.args.next } = λ t. let z : ListNode = record { split_key = (ap (λ (n : ℕ). 2 * n) (c.with_next.ensures.key ∙ ap (λ (p : PackedHeader). p.reversed) same) ∙ sym (ap (λ (m : ListNode). m.split_key) d.1.1.shows)) t; next = c.with_next.ensures.next t; item = (sym (ap (λ (m : ListNode). m.item) d.1.1.shows)) t } in z in
+    record {
+      node = d.0;
+      was = sym (ap (λ (v : Slab ListNode). get v at) c.self.view_is) ∙ d.1.0;
+      now = ap (λ (zs : List (Option ListNode)). let z : Slab ListNode = record { slots = zs; vacant_key = items.vacant_key; capacity = length (set ps (at / 2) q) + items.capacity } in z) (set-dummy ps items at q even d.1.1.within)
+          ∙ (ap (λ n. let z : Slab ListNode = record { slots = set (woven ps items).slots at (Some (dummy_node q.reversed (next_in q))); vacant_key = items.vacant_key; capacity = n + items.capacity } in z) (length-set_dummy ps (at / 2) q)
+          ∙ (ap (λ (v : Slab ListNode). with_value v at (dummy_node q.reversed (next_in q))) c.self.view_is
+          ∙ ap (λ (m : ListNode). with_value c.args.self.now at m) new));
+    }

@@ -1,8 +1,9 @@
 use Rattle.bucket_table.specs.inside.Intervals.{SetsFirst}
-use Rattle.std.proofs.Common.{◌≡◌, ◌≤◌, ◌/◌, ◌^◌, ℕ, Some, None, get_or, ◌∙◌, sym, ap, subst, arith}
+use Rattle.std.proofs.Common.{◌≡◌, ◌≤◌, ◌+◌, ◌*◌, ◌/◌, ◌^◌, ℕ, Some, None, get_or, ◌∙◌, sym, ap, subst, arith}
 use Rattle.split_key.specs.Keys.{key_of_item}
 use Rattle.node_list.specs.Cells.{new_cell, new_item}
 use Rattle.node_list.specs.Changes.{put_cell}
+use Rattle.node_list.specs.Places.{HasSplitKeyAtMost}
 use Rattle.bucket_table.specs.declared.split.hints.Hints.{Hints}
 use Rattle.bucket_table.proofs.hints.Start.{lesser-up-to}
 use Rattle.bucket_table.proofs.hints.Rehash.{previous-put}
@@ -11,6 +12,7 @@ use Rattle.bucket_table.proofs.directory.Placed.{placed-parity}
 use Rattle.bucket_table.proofs.hints.Rebuild.{item-small}
 use Rattle.bucket_table.proofs.hints.Invariant.{rows-put}
 use Rattle.bucket_table.proofs.split.index.SplitIndex.insert.Goals as goal
+use Rattle.bucket_table.proofs.split.index.SplitIndex.insert.Goals.{After-insert_item-at}
 
 pub catch_up-requires : goal.catch_up-requires
 catch_up-requires g c = record { hints = right g.H.KeyHash.hash c.args.self.now c.requires.rows }
@@ -30,7 +32,14 @@ pub refresh-start-requires-clause-parity : goal.refresh-start-requires-clause-pa
 refresh-start-requires-clause-parity g c = placed-parity (g.H.KeyHash.hash c.args.self.now.hasher) c.args.self.now.directory c.args.self.now.list.cells c.requires.rows.rows.split.placed
 
 pub insert_item-at-requires-clause-start : goal.insert_item-at-requires-clause-start
-insert_item-at-requires-clause-start g c = lesser-up-to c.item_key-split_key.result c.refresh-start.result c.args.self.now.list.cells c.refresh-start.ensures.below
+insert_item-at-requires-clause-start g c =
+    let P : ℕ → Type 0 = λ k. HasSplitKeyAtMost k c.refresh-start.result c.args.self.now.list.cells in
+    let same : c.item_key-split_key.result ≡ 2 * c.rev32.result + 1 = c.item_key-split_key.ensures ∙ ap (λ r. 2 * r + 1) (sym c.rev32.ensures) in
+    subst P same (lesser-up-to c.item_key-split_key.result c.refresh-start.result c.args.self.now.list.cells c.refresh-start.ensures.below)
+
+-- the list after the insertion
+now-is : (c : After-insert_item-at) → c.insert_item-at.new.self.cells ≡ put_cell (new_cell c.insert_item-at.result (key_of_item c.args.hash) (Some (new_item c.args.key c.args.objects))) c.args.self.now.list.cells
+now-is c = c.insert_item-at.ensures.cells ∙ ap (λ (r : ℕ). put_cell (new_cell c.insert_item-at.result (2 * r + 1) (Some (new_item c.args.key c.args.objects))) c.args.self.now.list.cells) c.rev32.ensures
 
 pub returns-clause-rows : goal.returns-clause-rows
 returns-clause-rows g c =
@@ -40,6 +49,7 @@ returns-clause-rows g c =
     let hints = c.refresh-start.new.self in
     let split = c.item_key-split_key.result in
     let put = c.insert_item-at in
+    let now = now-is (goal.at.returns-clause-rows g c).After-insert_item-at ∙ ap (λ (k : ℕ). put_cell (new_cell put.result k (Some (new_item c.args.key c.args.objects))) cells) (sym c.item_key-split_key.ensures) in
     let same = ap (λ (h : Hints). h.interval_bits) c.refresh-start.ensures.rest in
     let narrower : hints.interval_bits ≤ index.hints.interval_bits = omega (arith, same, c.catch_up.ensures.interval_bits) in
     let learned = anew g.H.KeyHash.hash index c.requires.rows hints narrower c.refresh-start.ensures.hints in
@@ -48,9 +58,9 @@ returns-clause-rows g c =
     let gone = subst G (sym c.refresh-start.ensures.rest) c.catch_up.ensures.previous in
     record {
       rows = rows-put hash_of index.directory hints.interval_bits hints.current cells learned.rows c.set_first.new.self c.is_new_first-is_first.result put.result split c.args.key c.args.objects put.new.self.cells
-          put.ensures.fresh (c.item_key-split_key.ensures ∙ ap key_of_item c.requires.hash) c.requires.new put.ensures.cells
+          put.ensures.fresh (c.item_key-split_key.ensures ∙ ap key_of_item c.requires.hash) c.requires.new now
           (subst S c.interval_of-interval.ensures c.set_first.ensures) c.is_new_first-is_first.ensures.first c.is_new_first-is_first.ensures.keeps;
-      previous = previous-put hints.interval_bits put.result split (new_item c.args.key c.args.objects) hints.previous cells put.new.self.cells c.refresh-start.ensures.hints.previous gone put.ensures.cells;
+      previous = previous-put hints.interval_bits put.result split (new_item c.args.key c.args.objects) hints.previous cells put.new.self.cells c.refresh-start.ensures.hints.previous gone now;
     }
 
 pub returns-clause-now : goal.returns-clause-now
@@ -59,5 +69,5 @@ returns-clause-now g c =
     record {
       at = put.result;
       fresh = put.ensures.fresh;
-      is = put.ensures.cells ∙ ap (λ (k : ℕ). put_cell (new_cell put.result k (Some (new_item c.args.key c.args.objects))) c.args.self.now.list.cells) c.item_key-split_key.ensures;
+      is = now-is (goal.at.returns-clause-now g c).After-insert_item-at;
     }

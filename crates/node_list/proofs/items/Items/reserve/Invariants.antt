@@ -1,6 +1,6 @@
 use Rattle.std.proofs.Common.{◌≡◌, ◌≤◌, ◌+◌, ◌-◌}
 use Rattle.slab.specs.Slab.{slab_len, SameValues}
-use Rattle.node_list.proofs.nodes.Nodes.reserve.Given as goal
+use Rattle.node_list.proofs.items.Items.reserve.Given as goal
 
 abbrev pub invariant-loop-self : goal.invariant-loop-self
 invariant-loop-self l = record {
