@@ -5,6 +5,9 @@ use Rattle.std.proofs.lemmas.Bool.Decides.{nat_tests}
 use Rattle.std.proofs.Math.Nat.{le_of_lt}
 use Rattle.ets_term.specs.declared.term.Term.{Term}
 use Rattle.node_list.specs.Cells.{Cell, Sorted, StartsFrom}
+use Rattle.slab.specs.Slab.{Slab, get}
+use Rattle.node_list.specs.declared.node.ListNode.{ListNode}
+use Rattle.node_list.specs.inside.Slots.{HoldsAt}
 use Rattle.node_list.specs.Places.{from}
 use Rattle.node_list.specs.Search.{is_it, holds, place_of, visited_cells}
 use Rattle.node_list.specs.Changes.{put_cell, without}
@@ -187,3 +190,15 @@ search-on key term c cs h e = record {
   found = place_of-on key term c cs e;
   passed = visited_cells-more key term c cs (neither key c (is_it key term c) h e);
 }
+
+pub not_it-held : (key : ℕ) (term : Term) (c : Cell) → holds term c.item ≡ false → is_it key term c ≡ false
+not_it-held key term c h = grind (arith, nat_tests)
+
+pub not_it-other : (key : ℕ) (term : Term) (c : Cell) → (c.split_key ≡ key → ⊥) → is_it key term c ≡ false
+not_it-other key term c h = grind (arith, nat_tests)
+
+-- what the answer says of the node that was read
+pub held : (s : Slab ListNode) (at : ℕ) (term : Term) (node : ListNode) (answer says : Bool) → get s at ≡ Some node → HoldsAt s at term answer → answer ≡ says → holds term node.item ≡ says
+held s at term node answer says is h e =
+    let same : node ≡ h.node = cc (is, h.is) in
+    ap (λ (n : ListNode). holds term n.item) same ∙ (sym h.holds ∙ e)

@@ -112,6 +112,6 @@ woven-same dummies old new same j =
       | inr is ↦ get-by_odd xs new.slots j (omega (arith, is)) ∙ (same (j / 2) ∙ sym (get-by_odd xs old.slots j (omega (arith, is))))
     ]
 
-pub weave-none : weave {T = ListNode} [] [] ≡ []
+pub weave-empty : (ps : List PackedHeader) (ys : List (Option ListNode)) → ps ≡ [] → ys ≡ [] → weave (map stored_dummy ps) ys ≡ []
 unfolding weave
-weave-none = refl
+weave-empty ps ys p y = λ i. weave (map stored_dummy (p i)) (y i)

@@ -2,7 +2,6 @@ pub mod Lent
 pub mod NodeLending
 pub mod ItemLending
 pub mod PackedHeader
-pub mod NodeRef
 pub mod Slots
 pub mod FreeList
 pub mod Woven

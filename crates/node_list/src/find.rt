@@ -29,15 +29,15 @@ pub fn find_from(
     // The place of the node to read next, or `None` after the last node.
     let mut at = Some(start);
     while let Some(place) = at {
-        let node = nodes.read(place, steps);
-        if split_key < node.header.split_key {
+        let header = nodes.read(place, steps);
+        if split_key < header.split_key {
             // Split keys never fall along the list, so no later node has this split key.
             return None;
         }
-        if node.header.split_key == split_key && node.holds(term) {
+        if header.split_key == split_key && nodes.holds(place, term) {
             return Some(place);
         }
-        at = node.header.next.get();
+        at = header.next.get();
     }
     None
 }

@@ -27,9 +27,8 @@
 #![tactic(auto)]
 
 // The modules: the `list`, its `nodes`, and the `items` among them with the first-item bound (`first_item`). A node as it
-// is removed and stored (`node`), its header (`packed`, `header`, `link`), and a node as a search sees it (`node_ref`,
-// `reader`). The operations `find`, `insert` and `unlink`. The objects of an item (`chain`), and the counter of visited
-// nodes (`steps`).
+// is removed and stored (`node`), its header (`packed`, `header`, `link`), and how a search reads it (`reader`). The
+// operations `find`, `insert` and `unlink`. The objects of an item (`chain`), and the counter of visited nodes (`steps`).
 mod chain;
 mod find;
 mod first_item;
@@ -39,7 +38,6 @@ mod items;
 mod link;
 mod list;
 mod node;
-mod node_ref;
 mod nodes;
 mod packed;
 mod reader;

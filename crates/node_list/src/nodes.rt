@@ -6,7 +6,6 @@ ghost use Rattle.slab.specs.Slab.{get, slab_len, ContainsKey, HasRoomFor, SameVa
 ghost use Rattle.node_list.specs.inside.FreeList.{item_node};
 ghost use Rattle.node_list.specs.inside.Slots.{HasHeader, HasChain, HasChainLength, HasItemOrNone, ChangesLink, HasItemIn, IsNextItemIn};
 ghost use Rattle.node_list.specs.inside.PackedHeader.{Fits};
-ghost use Rattle.node_list.specs.inside.NodeRef.{node_of_ref};
 ghost use Rattle.node_list.specs.inside.NodeLending.{LendsChainIn};
 ghost use Rattle.node_list.specs.inside.Woven.{dummy_node};
 
@@ -15,7 +14,6 @@ use crate::header::NodeHeader;
 use crate::items::Items;
 use crate::link::Link;
 use crate::node::{Item, ListNode};
-use crate::node_ref::NodeRef;
 use crate::packed::PackedHeader;
 use std::alloc::{AllocError, Global};
 use std::marker::Model;
@@ -140,25 +138,6 @@ impl Nodes {
             self.items.header(at / 2)
         } else {
             self.dummies[at / 2].header(0)
-        }
-    }
-
-    /// Returns a reference to the node at a place. A search reads the node's key only if split keys are equal.
-    #[inline(always)]
-    pub fn node_ref(&self, at: usize) -> NodeRef<'_>
-        requires { ContainsKey self.now at }
-        ensures { get self.now at ≡ Some (node_of_ref result) }
-    {
-        if at % 2 == 1 {
-            NodeRef {
-                header: self.items.header(at / 2),
-                item: Some(self.items.item(at / 2)),
-            }
-        } else {
-            NodeRef {
-                header: self.dummies[at / 2].header(0),
-                item: None,
-            }
         }
     }
 

@@ -1,14 +1,15 @@
 //! The counting reader: the only way for a search to read a node, so that a search counts the nodes that it reads.
-ghost use Rattle.std.specs.Prelude.{◌≡◌, Some};
-ghost use Rattle.slab.specs.Slab.{get, ContainsKey};
-ghost use Rattle.node_list.specs.inside.NodeRef.{node_of_ref};
+ghost use Rattle.std.specs.Prelude.{◌≡◌};
+ghost use Rattle.slab.specs.Slab.{ContainsKey};
+ghost use Rattle.node_list.specs.inside.Slots.{HasHeader, HoldsAt};
 ghost use Rattle.node_list.specs.Ticks.{tick};
 
-use crate::node_ref::NodeRef;
+use crate::header::NodeHeader;
 use crate::nodes::Nodes;
 use crate::steps::Steps;
+use ets_term::Term;
 
-/// The nodes of a list, for a search. The only way to read a node is `read`, which counts the node.
+/// The nodes of a list, for a search. `read` counts the node that it reads.
 #[derive(Clone, Copy)]
 pub struct CountingReader<'a> {
     /// The nodes to read, by place.
@@ -23,13 +24,26 @@ impl<'a> CountingReader<'a> {
         CountingReader { nodes }
     }
 
-    /// Returns a reference to the node at a place, and adds 1 to `steps`.
-    pub fn read(self, at: usize, steps: &mut Steps) -> NodeRef<'a>
+    /// Returns the header of the node at a place, and adds 1 to `steps`.
+    #[inline(always)]
+    pub fn read(self, at: usize, steps: &mut Steps) -> NodeHeader
         requires { ContainsKey self.nodes.now at }
-        ensures node { get self.entry.nodes.now at ≡ Some (node_of_ref result) }
+        ensures header { HasHeader self.entry.nodes.now at result }
         ensures ticks { steps.new ≡ tick steps.old }
     {
         steps.tick();
-        self.nodes.node_ref(at)
+        self.nodes.header(at)
+    }
+
+    /// Checks whether the node at a place, which was read before, is an item whose key is `term`.
+    #[inline(always)]
+    pub fn holds(self, at: usize, term: &Term) -> bool
+        requires { ContainsKey self.nodes.now at }
+        ensures { HoldsAt self.entry.nodes.now at term.now result }
+    {
+        match self.nodes.item(at) {
+            Some(item) => item.term.is_equal(term),
+            None => false,
+        }
     }
 }

@@ -1,10 +1,11 @@
 -- The nodes of a list by place.
-use Rattle.std.specs.Prelude.{◌≡◌, ◌≤◌, ◌<◌, ℕ, List, length, Option, Some, None, IsSome, option_map}
+use Rattle.std.specs.Prelude.{◌≡◌, ◌≤◌, ◌<◌, ℕ, Bool, List, length, Option, Some, None, IsSome, option_map}
 use Rattle.slab.specs.Slab.{Slab, get, with_value}
 use Rattle.ets_term.specs.declared.term.Term.{Term}
 use Rattle.node_list.specs.declared.node.Item.{Item}
 use Rattle.node_list.specs.declared.node.ListNode.{ListNode}
 use Rattle.node_list.specs.declared.header.NodeHeader.{NodeHeader}
+use Rattle.node_list.specs.Search.{holds}
 use Rattle.node_list.specs.inside.PackedHeader.{Fits}
 
 -- the node at a place has this split key and this link
@@ -55,3 +56,9 @@ pub record HasChainLength (s : Slab ListNode) (at count : ℕ) : Type 0 where
   pub node : ListNode
   pub is : get s at ≡ Some node
   pub length : option_map (λ (i : Item). length i.chain) node.item ≡ Some count
+
+-- the answer says whether the node at a place is an item whose key is `term`
+pub record HoldsAt (s : Slab ListNode) (at : ℕ) (term : Term) (answer : Bool) : Type 0 where
+  pub node : ListNode
+  pub is : get s at ≡ Some node
+  pub holds : answer ≡ holds term node.item

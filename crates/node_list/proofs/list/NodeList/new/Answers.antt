@@ -22,11 +22,11 @@ alone s t at next empty first none u len =
 
 pub invariant_of-result : goal.invariant_of-result
 invariant_of-result c =
-    let t = c.push_dummy-head.new.self in
-    let a = alone c.new-nodes.result t c.in_ok-head.head c.none.result c.new-nodes.ensures.empty c.in_ok-head.ensures.first c.none.ensures c.in_ok-head.ensures.updates c.in_ok-head.ensures.len in
+    let t = c.push_dummy.new.self in
+    let a = alone c.new-nodes.result t c.in_ok-_head._head c.none.result c.new-nodes.ensures.empty c.in_ok-_head.ensures.first c.none.ensures c.in_ok-_head.ensures.updates c.in_ok-_head.ensures.len in
     let P : List Cell → Type 0 = λ zs. Sorted zs in
     let D : List Cell → Type 0 = λ zs. StartsWithDummy zs in
     record { linked = a.linked; sorted = subst P (sym a.is) (tt, tt); first = subst D (sym a.is) (refl, refl); counted = a.one ∙ ap length (sym a.is) }
 
 pub returns : goal.returns
-returns c = (alone c.new-nodes.result c.push_dummy-head.new.self c.in_ok-head.head c.none.result c.new-nodes.ensures.empty c.in_ok-head.ensures.first c.none.ensures c.in_ok-head.ensures.updates c.in_ok-head.ensures.len).is
+returns c = (alone c.new-nodes.result c.push_dummy.new.self c.in_ok-_head._head c.none.result c.new-nodes.ensures.empty c.in_ok-_head.ensures.first c.none.ensures c.in_ok-_head.ensures.updates c.in_ok-_head.ensures.len).is

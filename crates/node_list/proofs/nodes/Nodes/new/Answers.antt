@@ -1,8 +1,7 @@
-use Rattle.std.proofs.Common.{[], List, Option, map, ap, ◌∙◌}
-use Rattle.node_list.specs.declared.node.ListNode.{ListNode}
-use Rattle.node_list.specs.inside.Woven.{weave}
-use Rattle.node_list.proofs.WeaveLaws.{weave-none}
+use Rattle.std.proofs.Common.{[], ap}
+use Rattle.node_list.specs.declared.packed.PackedHeader.{PackedHeader}
+use Rattle.node_list.proofs.WeaveLaws.{weave-empty}
 use Rattle.node_list.proofs.nodes.Nodes.new.Goals as goal
 
 pub returns : goal.returns
-returns c = ap (λ (ys : List (Option ListNode)). weave [] ys) c.new-2.ensures.empty ∙ weave-none
+returns c = record { empty = weave-empty c.new.result.items c.new-2.result.slots c.new.ensures.items c.new-2.ensures.empty }
