@@ -58,7 +58,11 @@ pub fn insert_item_from(nodes: &mut Nodes, start: usize, reversed: u32, item: It
 /// Inserts a dummy after all nodes whose split keys are at most its own, and returns its place. `reversed` is its split
 /// key without the last bit, which is 0. `start` is the place of a node whose split key is at most the dummy's. If
 /// memory is refused, returns an error and changes nothing.
-pub fn insert_dummy_from(nodes: &mut Nodes, start: usize, reversed: u32) -> Result<usize, AllocError>
+pub fn insert_dummy_from(
+    nodes: &mut Nodes,
+    start: usize,
+    reversed: u32,
+) -> Result<usize, AllocError>
     requires linked { IsLinked nodes.old (Some 0) }
     requires sorted { Sorted (cells_from nodes.old (Some 0)) }
     requires start { HasSplitKeyAtMost (2 * reversed) start (cells_from nodes.old (Some 0)) }

@@ -36,9 +36,7 @@ impl<H: KeyHash + Copy + Drop> SplitIndex<H> {
         let start = self.hints.refresh(&self.list, split_key, before);
         let is_first = self.hints.is_new_first(&self.list, split_key);
         let interval = self.hints.interval_of(split_key);
-        let at = self
-            .list
-            .insert_item(start, rev32(hash), key, objects);
+        let at = self.list.insert_item(start, rev32(hash), key, objects);
         self.hints.current.set_first(is_first, interval, at);
     }
 }
