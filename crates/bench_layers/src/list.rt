@@ -71,7 +71,7 @@ fn build_empty_list(
 {
     let mut list = BucketedList::new(alloc, (item_count + buckets) as usize, buckets as usize)?;
     for _bucket in 1..buckets {
-        list.add_dummy();
+        list.add_dummy()?;
     }
     Ok(list)
 }

@@ -8,7 +8,7 @@ ghost use Rattle.bench_layers.specs.Buckets.{HasDummies, IsReady};
 use ets_term::{Fnv, Integer, Items, KeyHash, Term};
 use node_list::{At, Chain, NodeList, Steps};
 use packed_term::{Object, Packed};
-use split_key::{bucket_of, dummy_key, item_key, laws, parent};
+use split_key::{bucket_of, item_key, laws, parent, rev32};
 use std::alloc::{AllocError, Global};
 
 /// A node list, sorted by split key, and the place of the dummy of each bucket: the sentinel node at the start of the
@@ -37,25 +37,25 @@ impl BucketedList {
     }
 
     /// Inserts the dummy of the next bucket. The search for its place begins at the dummy of its parent bucket, whose
-    /// number is the same without the highest bit.
-    pub fn add_dummy(&mut self)
+    /// number is the same without the highest bit. If memory is refused, returns an error and inserts nothing.
+    pub fn add_dummy(&mut self) -> Result<(), AllocError>
         requires dummies { HasDummies self.old.dummies.items self.old.list.cells }
         requires some { 0 < vec_len self.old.dummies }
         requires few { vec_len self.old.dummies < 2 ^ 32 }
-        requires room { HasRoom self.old.list 1 }
         requires capacity { vec_len self.old.dummies < vec_capacity self.old.dummies }
-        ensures dummies { HasDummies self.new.dummies.items self.new.list.cells }
-        ensures len { vec_len self.new.dummies ≡ vec_len self.old.dummies + 1 }
+        ensures dummies { OnOk result (HasDummies self.new.dummies.items self.new.list.cells) }
+        ensures len { OnOk result (vec_len self.new.dummies ≡ vec_len self.old.dummies + 1) }
         ensures capacity { vec_capacity self.new.dummies ≡ vec_capacity self.old.dummies }
-        ensures nodes { length self.new.list.cells ≡ length self.old.list.cells + 1 }
-        ensures room { self.new.list.capacity ≡ self.old.list.capacity }
+        ensures nodes { OnOk result (length self.new.list.cells ≡ length self.old.list.cells + 1) }
+        ensures room { OnOk result (self.new.list.capacity ≡ self.old.list.capacity + 1) }
     {
         let bucket = self.dummies.len() as u32;
         let parent_bucket = parent(bucket);
         laws::parent_comes_before(bucket, parent_bucket);
         let start = self.dummies[parent_bucket as usize];
-        let at = self.list.insert_dummy(start, dummy_key(bucket));
+        let at = self.list.insert_dummy(start, rev32(bucket))?;
         self.dummies.push_reserved(at);
+        Ok(())
     }
 
     /// Returns the place of the dummy of this hash's bucket. A search or an insertion begins there.
@@ -84,7 +84,7 @@ impl BucketedList {
         let start = self.start(hash);
         let own_key = Packed::pack(alloc, &key)?;
         let chain = Chain::one(alloc, object);
-        self.list.insert_item(start, item_key(hash), own_key, chain);
+        self.list.insert_item(start, rev32(hash), own_key, chain);
         Ok(())
     }
 

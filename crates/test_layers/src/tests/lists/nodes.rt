@@ -1,6 +1,6 @@
 //! Checks of one node list. Each inserts nodes into a new list, which has the head only, and then reads, searches or
 //! changes the list.
-ghost use Rattle.std.specs.Prelude.{◌≡◌, [], ◌∷◌, Some, IfOk};
+ghost use Rattle.std.specs.Prelude.{◌≡◌, ◌+◌, ◌*◌, [], ◌∷◌, Some, IfOk};
 ghost use Rattle.std.specs.Borrow.{sem};
 ghost use Rattle.ets_term.specs.declared.term.Term.TheVariants.{Int};
 ghost use Rattle.node_list.specs.Cells.{new_cell, new_item};
@@ -42,23 +42,28 @@ fn count_visited(list: &NodeList, key: u64) -> u64 {
     search_for(list, key, Term::Pid(0)).1
 }
 
-/// Inserts a dummy with this split key. Returns its place.
-fn add_dummy(list: &mut NodeList, key: u64) -> Result<At, AllocError> {
-    list.reserve(1)?;
+/// Inserts a dummy with this split key, without its last bit. Returns its place.
+fn add_dummy(list: &mut NodeList, reversed: u32) -> Result<At, AllocError> {
     let head = list.head();
-    Ok(list.insert_dummy(head, key))
+    list.insert_dummy(head, reversed)
 }
 
-/// Inserts an item with this split key. Its term and its only object are `number`. Returns its place.
-fn add_item(list: &mut NodeList, alloc: Global, key: u64, number: i64) -> Result<At, AllocError>
+/// Inserts an item with this split key, without its last bit. Its term and its only object are `number`. Returns its
+/// place.
+fn add_item(
+    list: &mut NodeList,
+    alloc: Global,
+    reversed: u32,
+    number: i64,
+) -> Result<At, AllocError>
     ensures cells { IfOk result (λ at. list.new.cells
-        ≡ put_cell (new_cell at key (Some (new_item (Int number) (Int number ∷ [])))) list.old.cells) }
+        ≡ put_cell (new_cell at (2 * reversed + 1) (Some (new_item (Int number) (Int number ∷ [])))) list.old.cells) }
     ensures fresh { IfOk result (λ at. IsFresh at list.old.cells) }
 {
     list.reserve(1)?;
     let head = list.head();
     let chain = Chain::one(alloc, Object::from(number));
-    Ok(list.insert_item(head, key, Packed::from(number), chain))
+    Ok(list.insert_item(head, reversed, Packed::from(number), chain))
 }
 
 /// How many nodes a search visits.
@@ -102,7 +107,7 @@ fn has_head(list: &NodeList) -> bool {
 
 /// Inserts an item of split key 5 and number 1. Returns whether it is read at its place, with its split key.
 fn reads_item(list: &mut NodeList, alloc: Global) -> Result<bool, AllocError> {
-    let at = add_item(list, alloc, 5, 1)?;
+    let at = add_item(list, alloc, 2, 1)?;
     list.reveal_invariant();
     Ok(list.split_key(at) == 5 && is_item(list, at, 1) && has_head(list))
 }
@@ -116,7 +121,7 @@ fn pushes_and_pops(chain: &mut Chain) -> Result<bool, AllocError> {
 
 /// Inserts an item. Returns whether terms can be pushed to its chain and popped.
 fn changes_chain(list: &mut NodeList, alloc: Global) -> Result<bool, AllocError> {
-    let at = add_item(list, alloc, 5, 1)?;
+    let at = add_item(list, alloc, 2, 1)?;
     pushes_and_pops(list.chain_mut(at))
 }
 
@@ -145,24 +150,24 @@ fn unlinks_item(
     alloc: Global,
     wanted: &[(u64, Visits)],
 ) -> Result<bool, AllocError> {
-    add_dummy(list, 8)?;
-    let at = add_item(list, alloc, 5, 1)?;
+    add_dummy(list, 4)?;
+    let at = add_item(list, alloc, 2, 1)?;
     let unlinked = unlinks(list, at, 1) && has_two_nodes(list, wanted);
-    Ok(add_item(list, alloc, 9, 1)? == at && unlinked)
+    Ok(add_item(list, alloc, 4, 1)? == at && unlinked)
 }
 
-/// Inserts the items 1 and 2, and unlinks item 1, so that only the place 2 has an item. Returns whether item 1 was
+/// Inserts the items 1 and 2, and unlinks item 1, so that only the second place of an item has one. Returns whether item 1 was
 /// unlinked.
 fn unlinks_first_of_two(list: &mut NodeList, alloc: Global) -> Result<bool, AllocError> {
-    let first = add_item(list, alloc, 9, 1)?;
-    add_item(list, alloc, 5, 2)?;
+    let first = add_item(list, alloc, 4, 1)?;
+    add_item(list, alloc, 2, 2)?;
     Ok(unlinks(list, first, 1))
 }
 
 /// Inserts a dummy and item 3, and unlinks the item. Returns whether item 3 was unlinked.
 fn adds_and_unlinks(list: &mut NodeList, alloc: Global) -> Result<bool, AllocError> {
-    add_dummy(list, 6)?;
-    let last = add_item(list, alloc, 7, 3)?;
+    add_dummy(list, 3)?;
+    let last = add_item(list, alloc, 3, 3)?;
     Ok(unlinks(list, last, 3))
 }
 
@@ -170,7 +175,7 @@ fn adds_and_unlinks(list: &mut NodeList, alloc: Global) -> Result<bool, AllocErr
 /// nothing.
 fn holds_only_dummies(list: &mut NodeList) -> Result<bool, AllocError> {
     let head_is_not_an_item = list.next_item_at(0) == None;
-    add_dummy(list, 8)?;
+    add_dummy(list, 4)?;
     let dummy_is_not_an_item = list.next_item_at(0) == None && list.next_item_at(2) == None;
     let is_refused = list.reserve(usize::MAX).is_err();
     Ok(

@@ -23,10 +23,10 @@ const ITEM_OF_HASH_3: u64 = 6_442_450_945;
 
 /// Inserts the dummies of the buckets 1 to 3, and an item of hash 3, after the dummy of bucket 0.
 fn add_in_split_order(list: &mut NodeList, alloc: Global) -> Result<(), AllocError> {
-    add_dummy(list, DUMMY_1)?;
-    add_item(list, alloc, ITEM_OF_HASH_3, 3)?;
-    add_dummy(list, DUMMY_2)?;
-    add_dummy(list, DUMMY_3)?;
+    add_dummy(list, (DUMMY_1 / 2) as u32)?;
+    add_item(list, alloc, (ITEM_OF_HASH_3 / 2) as u32, 3)?;
+    add_dummy(list, (DUMMY_2 / 2) as u32)?;
+    add_dummy(list, (DUMMY_3 / 2) as u32)?;
     Ok(())
 }
 
@@ -53,9 +53,9 @@ pub(super) fn has_split_order(
 
 /// Inserts two items of split key 5 and one of split key 7. Returns the places of the first two.
 fn add_equal_keys(list: &mut NodeList, alloc: Global) -> Result<(At, At), AllocError> {
-    let first = add_item(list, alloc, 5, 1)?;
-    let second = add_item(list, alloc, 5, 2)?;
-    add_item(list, alloc, 7, 1)?;
+    let first = add_item(list, alloc, 2, 1)?;
+    let second = add_item(list, alloc, 2, 2)?;
+    add_item(list, alloc, 3, 1)?;
     Ok((first, second))
 }
 
@@ -72,12 +72,12 @@ pub(super) fn finds_equal_keys(list: &mut NodeList, alloc: Global) -> Result<boo
 }
 
 /// How many nodes a long list has, the head included: enough for its memory to grow many times.
-const NODES: u64 = 2_100;
+const NODES: u32 = 2_100;
 
-/// The greatest split key of a long list.
-const LAST_KEY: u64 = 2_099;
+/// The greatest number of an item of a long list. The item with the number N has the split key 2N + 1.
+const LAST: u32 = 2_099;
 
-/// Inserts an item of each split key from `LAST_KEY` down to 1, each after the head.
+/// Inserts the items from `LAST` down to 1, each after the head.
 fn add_many_nodes(list: &mut NodeList, alloc: Global) -> Result<(), AllocError> {
     for number in 1..NODES {
         add_item(list, alloc, NODES - number, 1)?;
@@ -85,15 +85,16 @@ fn add_many_nodes(list: &mut NodeList, alloc: Global) -> Result<(), AllocError> 
     Ok(())
 }
 
-/// Returns whether the nodes of a long list are in the order of their split keys. A search for `key` visits the nodes 0
-/// to `key`, and the next one if there is one.
+/// Returns whether the nodes of a long list are in the order of their split keys. A search for item `number` visits the
+/// head and the items up to it, and the next one if there is one.
 fn has_keys_in_order(list: &NodeList) -> bool {
-    for key in 0..LAST_KEY {
-        if count_visited(list, key) != key + 2 {
+    for number in 0..LAST {
+        let number = u64::from(number);
+        if count_visited(list, 2 * number + 1) != number + 2 {
             return false;
         }
     }
-    count_visited(list, LAST_KEY) == NODES
+    count_visited(list, 2 * u64::from(LAST) + 1) == u64::from(NODES)
 }
 
 /// Returns whether a list of `NODES` nodes has them in order.

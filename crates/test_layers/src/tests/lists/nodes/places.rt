@@ -14,18 +14,19 @@ fn first_place_mismatch(list: &NodeList, wanted: &[Option<At>]) -> Option<usize>
     None
 }
 
-/// Inserts a dummy, two items, a dummy and an item. They get the places 1 to 5 in this order, whatever their keys.
+/// Inserts a dummy, two items, a dummy and an item. The dummies get the places 2 and 4, and the items 1, 3 and 5,
+/// whatever their keys.
 fn add_five_nodes(list: &mut NodeList, alloc: Global) -> Result<(), AllocError> {
-    add_dummy(list, 8)?;
-    add_item(list, alloc, 9, 1)?;
-    add_item(list, alloc, 5, 2)?;
     add_dummy(list, 4)?;
-    add_item(list, alloc, 7, 3)?;
+    add_item(list, alloc, 4, 1)?;
+    add_item(list, alloc, 2, 2)?;
+    add_dummy(list, 2)?;
+    add_item(list, alloc, 3, 3)?;
     Ok(())
 }
 
 /// The place of the first item that `add_five_nodes` inserts.
-const FIRST_ITEM: Option<At> = Some(2);
+const FIRST_ITEM: Option<At> = Some(1);
 
 /// The place of the second item that `add_five_nodes` inserts.
 const SECOND_ITEM: Option<At> = Some(3);
@@ -33,12 +34,12 @@ const SECOND_ITEM: Option<At> = Some(3);
 /// The place of the third item that `add_five_nodes` inserts.
 const THIRD_ITEM: Option<At> = Some(5);
 
-/// What `next_item_at` returns from the places 0 to 6 after `add_five_nodes`: the head, a dummy, two items, a dummy, an
-/// item, and past the end.
+/// What `next_item_at` returns from the places 0 to 6 after `add_five_nodes`: the head, an item, a dummy, an item, a
+/// dummy, an item, and past the end.
 pub(super) const PLACES_OF_FIVE: [Option<At>; 7] = [
     FIRST_ITEM,
     FIRST_ITEM,
-    FIRST_ITEM,
+    SECOND_ITEM,
     SECOND_ITEM,
     THIRD_ITEM,
     THIRD_ITEM,
@@ -56,12 +57,12 @@ pub(super) fn finds_places(
 }
 
 /// The place of the only item that `unlinks_first_of_two` leaves.
-const ONLY_ITEM: Option<At> = Some(2);
+const ONLY_ITEM: Option<At> = Some(3);
 
-/// What `next_item_at` returns from the places 0 to 6, if only the place 2 has an item: the second that
+/// What `next_item_at` returns from the places 0 to 6, if only the place 3 has an item: the second that
 /// `unlinks_first_of_two` inserts.
 pub(super) const PLACE_OF_SECOND: [Option<At>; 7] = [
-    ONLY_ITEM, ONLY_ITEM, ONLY_ITEM, None, None, None, None,
+    ONLY_ITEM, ONLY_ITEM, ONLY_ITEM, ONLY_ITEM, None, None, None,
 ];
 
 /// Returns whether `next_item_at` skips the places of unlinked items, also after a dummy is inserted.
