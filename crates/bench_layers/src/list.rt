@@ -69,7 +69,7 @@ fn build_empty_list(
     ensures ready { IfOk result (λ l. IsReady l) }
     ensures room { IfOk result (λ l. HasRoom l.list item_count) }
 {
-    let mut list = BucketedList::new(alloc, (item_count + buckets) as usize, buckets as usize)?;
+    let mut list = BucketedList::new(alloc, item_count as usize, buckets as usize)?;
     for _bucket in 1..buckets {
         list.add_dummy()?;
     }

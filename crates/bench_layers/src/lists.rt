@@ -20,16 +20,16 @@ pub struct BucketedList {
 }
 
 impl BucketedList {
-    /// Builds a list whose only node is the dummy of bucket 0. It has capacity for `nodes` more nodes and `buckets`
-    /// more buckets.
-    pub fn new(alloc: Global, nodes: usize, buckets: usize) -> Result<BucketedList, AllocError>
+    /// Builds a list whose only node is the dummy of bucket 0. It has capacity for `items` items, and for the places of
+    /// `buckets` more dummies.
+    pub fn new(alloc: Global, items: usize, buckets: usize) -> Result<BucketedList, AllocError>
         ensures dummies { IfOk result (λ l. HasDummies l.dummies.items l.list.cells) }
         ensures one { IfOk result (λ l. vec_len l.dummies ≡ 1) }
-        ensures room { IfOk result (λ l. HasRoom l.list nodes) }
+        ensures room { IfOk result (λ l. HasRoom l.list items) }
         ensures capacity { IfOk result (λ l. 1 + buckets ≤ vec_capacity l.dummies) }
     {
         let mut list = NodeList::new(alloc)?;
-        list.reserve(nodes)?;
+        list.reserve(items)?;
         let mut dummies = Vec::new(alloc);
         dummies.push(list.head())?;
         dummies.reserve(buckets)?;

@@ -7,5 +7,5 @@ invariant-loop-bucket l = record {
   dummies : HasDummies l.list.dummies.items l.list.list.cells;
   len : vec_len l.list.dummies ≡ l._bucket;
   capacity : l.buckets ≤ vec_capacity l.list.dummies;
-  room : length l.list.list.cells + l.item_count + l.buckets ≤ l.list.list.capacity + l._bucket;
+  room : length l.list.list.cells + l.item_count ≤ l.list.list.capacity;
 }
