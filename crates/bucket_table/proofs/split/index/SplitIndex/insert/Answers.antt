@@ -1,7 +1,8 @@
 use Rattle.bucket_table.specs.inside.Intervals.{SetsFirst}
-use Rattle.std.proofs.Common.{◌≡◌, ◌≤◌, ◌+◌, ◌*◌, ◌/◌, ◌^◌, ℕ, Some, None, get_or, ◌∙◌, sym, ap, subst, arith}
-use Rattle.split_key.specs.Keys.{key_of_item}
-use Rattle.node_list.specs.Cells.{new_cell, new_item}
+use Rattle.std.proofs.Common.{◌≡◌, ◌≤◌, ◌+◌, ◌*◌, ◌/◌, ◌^◌, ℕ, List, Some, None, get_or, ◌∙◌, sym, ap, subst, arith}
+use Rattle.ets_term.specs.declared.term.Term.{Term}
+use Rattle.split_key.specs.Keys.{rev, key_of_item}
+use Rattle.node_list.specs.Cells.{Cell, new_cell, new_item}
 use Rattle.node_list.specs.Changes.{put_cell}
 use Rattle.node_list.specs.Places.{HasSplitKeyAtMost}
 use Rattle.bucket_table.specs.declared.split.hints.Hints.{Hints}
@@ -12,7 +13,6 @@ use Rattle.bucket_table.proofs.directory.Placed.{placed-parity}
 use Rattle.bucket_table.proofs.hints.Rebuild.{item-small}
 use Rattle.bucket_table.proofs.hints.Invariant.{rows-put}
 use Rattle.bucket_table.proofs.split.index.SplitIndex.insert.Goals as goal
-use Rattle.bucket_table.proofs.split.index.SplitIndex.insert.Goals.{After-insert_item-at}
 
 pub catch_up-requires : goal.catch_up-requires
 catch_up-requires g c = record { hints = right g.H.KeyHash.hash c.args.self.now c.requires.rows }
@@ -38,8 +38,8 @@ insert_item-at-requires-clause-start g c =
     subst P same (lesser-up-to c.item_key-split_key.result c.refresh-start.result c.args.self.now.list.cells c.refresh-start.ensures.below)
 
 -- the list after the insertion
-now-is : (c : After-insert_item-at) → c.insert_item-at.new.self.cells ≡ put_cell (new_cell c.insert_item-at.result (key_of_item c.args.hash) (Some (new_item c.args.key c.args.objects))) c.args.self.now.list.cells
-now-is c = c.insert_item-at.ensures.cells ∙ ap (λ (r : ℕ). put_cell (new_cell c.insert_item-at.result (2 * r + 1) (Some (new_item c.args.key c.args.objects))) c.args.self.now.list.cells) c.rev32.ensures
+now-is : (at r hash : ℕ) (key : Term) (objects : List Term) (old new : List Cell) → r ≡ rev 32 hash → new ≡ put_cell (new_cell at (2 * r + 1) (Some (new_item key objects))) old → new ≡ put_cell (new_cell at (key_of_item hash) (Some (new_item key objects))) old
+now-is at r hash key objects old new same is = is ∙ ap (λ (n : ℕ). put_cell (new_cell at (2 * n + 1) (Some (new_item key objects))) old) same
 
 pub returns-clause-rows : goal.returns-clause-rows
 returns-clause-rows g c =
@@ -49,7 +49,7 @@ returns-clause-rows g c =
     let hints = c.refresh-start.new.self in
     let split = c.item_key-split_key.result in
     let put = c.insert_item-at in
-    let now = now-is (goal.at.returns-clause-rows g c).After-insert_item-at ∙ ap (λ (k : ℕ). put_cell (new_cell put.result k (Some (new_item c.args.key c.args.objects))) cells) (sym c.item_key-split_key.ensures) in
+    let now = now-is put.result c.rev32.result c.args.hash c.args.key c.args.objects cells put.new.self.cells c.rev32.ensures put.ensures.cells ∙ ap (λ (k : ℕ). put_cell (new_cell put.result k (Some (new_item c.args.key c.args.objects))) cells) (sym c.item_key-split_key.ensures) in
     let same = ap (λ (h : Hints). h.interval_bits) c.refresh-start.ensures.rest in
     let narrower : hints.interval_bits ≤ index.hints.interval_bits = omega (arith, same, c.catch_up.ensures.interval_bits) in
     let learned = anew g.H.KeyHash.hash index c.requires.rows hints narrower c.refresh-start.ensures.hints in
@@ -69,5 +69,5 @@ returns-clause-now g c =
     record {
       at = put.result;
       fresh = put.ensures.fresh;
-      is = now-is (goal.at.returns-clause-now g c).After-insert_item-at;
+      is = now-is put.result c.rev32.result c.args.hash c.args.key c.args.objects c.args.self.now.list.cells put.new.self.cells c.rev32.ensures put.ensures.cells;
     }

@@ -21,8 +21,8 @@ use Rattle.bucket_table.proofs.slots.Distinct.{slots-put-dummy}
 use Rattle.bucket_table.proofs.directory.Change.{none-is, ready-none, ready-set}
 use Rattle.bucket_table.proofs.split.rows.SplitRowsRows.ready.Goals as goal
 
-pub insert_dummy-requires-clause-start : goal.insert_dummy-requires-clause-start
-insert_dummy-requires-clause-start g c =
+pub insert_dummy-requires : goal.insert_dummy-requires
+insert_dummy-requires g c =
     let K : ℕ → Type 0 = λ r. HasSplitKeyAtMost (2 * r) c.dummy_start-start.result c.self.inside.index.list.cells in
     subst K (sym c.rev32.ensures) c.dummy_start-start.ensures
 
