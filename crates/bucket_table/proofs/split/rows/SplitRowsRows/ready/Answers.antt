@@ -24,7 +24,7 @@ use Rattle.bucket_table.proofs.split.rows.SplitRowsRows.ready.Goals as goal
 pub insert_dummy-requires : goal.insert_dummy-requires
 insert_dummy-requires g c =
     let K : ℕ → Type 0 = λ r. HasSplitKeyAtMost (2 * r) c.dummy_start-start.result c.self.inside.index.list.cells in
-    subst K (sym c.rev32.ensures) c.dummy_start-start.ensures
+    record { start = subst K (sym c.rev32.ensures) c.dummy_start-start.ensures }
 
 pub rebuild_with_parent-requires-clause-rows : goal.rebuild_with_parent-requires-clause-rows
 rebuild_with_parent-requires-clause-rows g c =
