@@ -10,7 +10,7 @@
 //!
 //! *Mechanism.* `SplitRows` is a split-ordered list (Shalev and Shavit): one list of nodes, sorted by split keys. A
 //! bucket is a part of the list that starts at a sentinel, its dummy. The directory has the place of each dummy.
-//! The hints are a cache: for each *interval*, at most an eighth of a bucket, they give the place of its first item. A
+//! The hints are a cache: for each *interval*, at most a quarter of a bucket, they give the place of its first item. A
 //! hint may also say that the interval is empty, or be unknown. A search starts at a hint, or without one at the dummy
 //! of the nearest ready bucket. That is the key's bucket or an ancestor of it. An insertion refreshes the hint of its
 //! interval if that hint is unknown.

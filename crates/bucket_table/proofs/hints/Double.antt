@@ -33,38 +33,38 @@ pub not-wider : {E : Type 0} (result : Result (Unit {0}) E) (old new : Hints) �
 not-wider (Ok _) old new ok err = let bits : new.interval_bits + 1 ≡ old.interval_bits = ok.narrow in omega arith
 not-wider (Err _) old new ok err = let bits : new.interval_bits ≡ old.interval_bits = ap (λ (h : Hints). h.interval_bits) err in omega arith
 
--- With eight intervals a bucket, there are eight times as many intervals as buckets.
-exact : (interval_bits d : ℕ) → interval_bits + d ≡ 30 → 2 ^ 33 / 2 ^ interval_bits ≡ 8 * 2 ^ d
+-- With four intervals a bucket, there are four times as many intervals as buckets.
+exact : (interval_bits d : ℕ) → interval_bits + d ≡ 31 → 2 ^ 33 / 2 ^ interval_bits ≡ 4 * 2 ^ d
 exact interval_bits d e =
-    let k : 33 ≡ (d + 3) + interval_bits = omega arith in
-    let p : 2 ^ 33 ≡ 2 ^ (d + 3) * 2 ^ interval_bits = ap (λ (z : ℕ). 2 ^ z) k ∙ pow-add 2 (d + 3) interval_bits in
-    let q : 2 ^ (d + 3) ≡ 2 ^ d * 2 ^ 3 = pow-add 2 d 3 in
-    let r : 2 ^ 33 / 2 ^ interval_bits ≡ 2 ^ (d + 3) = ap (λ (z : ℕ). z / 2 ^ interval_bits) p ∙ mul-div_cancel (2 ^ (d + 3)) (pow_pos interval_bits) in
+    let k : 33 ≡ (d + 2) + interval_bits = omega arith in
+    let p : 2 ^ 33 ≡ 2 ^ (d + 2) * 2 ^ interval_bits = ap (λ (z : ℕ). 2 ^ z) k ∙ pow-add 2 (d + 2) interval_bits in
+    let q : 2 ^ (d + 2) ≡ 2 ^ d * 2 ^ 2 = pow-add 2 d 2 in
+    let r : 2 ^ 33 / 2 ^ interval_bits ≡ 2 ^ (d + 2) = ap (λ (z : ℕ). z / 2 ^ interval_bits) p ∙ mul-div_cancel (2 ^ (d + 2)) (pow_pos interval_bits) in
     omega (arith, q, r)
 
 module _ (directory : List (Option ℕ)) (interval_bits : ℕ) (current : List (Option (Option ℕ))) (cells : List Cell) (h : HintsInvariant directory interval_bits current cells) where
   size : 2 * length directory ≡ 2 ^ suc h.doublings
   size = ap (λ (z : ℕ). 2 * z) h.size ∙ sym (pow-suc h.doublings)
 
-  -- With more than eight intervals a bucket, there are enough for twice as many buckets.
-  pub enough : 8 * length directory < 2 ^ 33 / 2 ^ interval_bits → HasIntervalsFor (2 * length directory) interval_bits
+  -- With more than four intervals a bucket, there are enough for twice as many buckets.
+  pub enough : 4 * length directory < 2 ^ 33 / 2 ^ interval_bits → HasIntervalsFor (2 * length directory) interval_bits
   enough more =
-      let most : interval_bits + h.doublings ≤ 30 = h.narrow in
+      let most : interval_bits + h.doublings ≤ 31 = h.narrow in
       let buckets : length directory ≡ 2 ^ h.doublings = h.size in
       record {
         doublings = suc h.doublings;
         size = size;
         narrow =
-            elim (cases_lt (interval_bits + h.doublings) 30) [
+            elim (cases_lt (interval_bits + h.doublings) 31) [
               | inl less ↦ omega arith
-              | inr all ↦ let e : interval_bits + h.doublings ≡ 30 = omega arith in let x = exact interval_bits h.doublings e in absurd (omega (arith, x, buckets, more))
+              | inr all ↦ let e : interval_bits + h.doublings ≡ 31 = omega arith in let x = exact interval_bits h.doublings e in absurd (omega (arith, x, buckets, more))
             ];
       }
 
   -- There are also enough after a doubling.
   enough-doubled : (narrower : ℕ) → narrower + 1 ≡ interval_bits → HasIntervalsFor (2 * length directory) narrower
   enough-doubled narrower e =
-      let most : interval_bits + h.doublings ≤ 30 = h.narrow in
+      let most : interval_bits + h.doublings ≤ 31 = h.narrow in
       record { doublings = suc h.doublings; size = size; narrow = omega arith }
 
   pub enough-tried : {E : Type 0} (result : Result (Unit {0}) E) (old new : Hints) → old.interval_bits ≡ interval_bits → OnOk result (IsDoubled old new) → OnOk result (HasIntervalsFor (2 * length directory) new.interval_bits)

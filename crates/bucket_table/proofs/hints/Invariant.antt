@@ -24,7 +24,7 @@ use Rattle.bucket_table.proofs.hints.Change.{hints-put, hints-dummy, hints-with}
 -- Other hints that are right, of intervals that are not wider, keep the invariants.
 pub rows-hinted : (hash_of : Term → ℕ) (directory : List (Option ℕ)) (interval_bits narrower : ℕ) (current after : List (Option (Option ℕ))) (cells : List Cell) → ListInvariant hash_of directory interval_bits current cells → narrower ≤ interval_bits → AreSound (2 ^ narrower) after cells → ListInvariant hash_of directory narrower after cells
 rows-hinted hash_of directory interval_bits narrower current after cells r e h =
-    let narrow : interval_bits + r.hinted.doublings ≤ 30 = r.hinted.narrow in
+    let narrow : interval_bits + r.hinted.doublings ≤ 31 = r.hinted.narrow in
     record {
       split = r.split;
       hinted = record { doublings = r.hinted.doublings; size = r.hinted.size; narrow = omega arith; hints = h };
@@ -45,10 +45,10 @@ hints-empty width n current cs none is f first e = none f ∙ go n f first (ap (
     go (suc n) zero first e = cc
     go (suc n) (suc f) first e = go n f first e
 
-pub new-rows : (hash_of : Term → ℕ) (head : ℕ) (directory : List (Option ℕ)) (current : List (Option (Option ℕ))) (n : ℕ) (cells : List Cell) → directory ≡ Some head ∷ None ∷ [] → cells ≡ new_cell 0 0 None ∷ [] → first_place cells ≡ Some head → current ≡ replicate n (Some None) → ListInvariant hash_of directory 29 current cells
+pub new-rows : (hash_of : Term → ℕ) (head : ℕ) (directory : List (Option ℕ)) (current : List (Option (Option ℕ))) (n : ℕ) (cells : List Cell) → directory ≡ Some head ∷ None ∷ [] → cells ≡ new_cell 0 0 None ∷ [] → first_place cells ≡ Some head → current ≡ replicate n (Some None) → ListInvariant hash_of directory 30 current cells
 new-rows hash_of head directory current n cells d e f h = record {
   split = new-split hash_of head directory cells d e f;
-  hinted = record { doublings = 1; size = ap length d; narrow = omega arith; hints = hints-empty (2 ^ 29) n current cells (λ g. ap (first_in (2 ^ 29) g) e ∙ none-first (2 ^ 29) g 0) h };
+  hinted = record { doublings = 1; size = ap length d; narrow = omega arith; hints = hints-empty (2 ^ 30) n current cells (λ g. ap (first_in (2 ^ 30) g) e ∙ none-first (2 ^ 30) g 0) h };
 }
 
 -- A node with a greater split key comes later.

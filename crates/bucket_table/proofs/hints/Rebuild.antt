@@ -21,7 +21,7 @@ use Rattle.bucket_table.proofs.list.Content.{item-cases, placed-key}
 use Rattle.bucket_table.proofs.list.Passed.{placed-from, apart-from}
 use Rattle.bucket_table.proofs.hints.First.{first-here, first-on}
 use Rattle.bucket_table.proofs.directory.Placed.{IsParity, parity-of}
-use Rattle.bucket_table.proofs.hints.Search.{is_in-yes, border, eight}
+use Rattle.bucket_table.proofs.hints.Search.{is_in-yes, border, four}
 
 -- ---- parts of keys
 
@@ -129,7 +129,7 @@ before-start hash_of directory width m g start b (c ∷ cs) d ds some edge late 
           first-on width g c cs out ∙ (before-start hash_of directory width m g start b cs d ds some edge late k o.1 p.1 later ∙ ap (first_in width g) (sym (from-on start c cs other)))
     ]
 
-module _ (hash_of : Term → ℕ) (directory : List (Option ℕ)) (interval_bits bucket start j : ℕ) (cs : List Cell) (i : DirectoryInvariant hash_of directory cs) (size : length directory ≡ 2 ^ j) (narrow : interval_bits + j ≤ 30) (o : Sorted cs) (a : HasDistinctPlaces cs) (entry : get_or directory bucket None ≡ Some start) (within : bucket < length directory) where
+module _ (hash_of : Term → ℕ) (directory : List (Option ℕ)) (interval_bits bucket start j : ℕ) (cs : List Cell) (i : DirectoryInvariant hash_of directory cs) (size : length directory ≡ 2 ^ j) (narrow : interval_bits + j ≤ 31) (o : Sorted cs) (a : HasDistinctPlaces cs) (entry : get_or directory bucket None ≡ Some start) (within : bucket < length directory) where
   below-size : bucket < 2 ^ j
   below-size = let P : ℕ → Type 0 = λ z. bucket < z in subst P size within
 
@@ -277,7 +277,7 @@ module _ (hash_of : Term → ℕ) (directory : List (Option ℕ)) (interval_bits
     some-one : (x y : ℕ) (p q : Option ℕ) → p ≡ q → p ≡ Some x → q ≡ Some y → x ≡ y
     some-one x y p q e f h = cc
 
-    pub ends-at-dummy : here.cell.item ≡ None → EmptyHintsAreSound (2 ^ interval_bits) (key_of_dummy bucket / 2 ^ interval_bits) (key_of_dummy bucket / 2 ^ interval_bits + 8) current cs
+    pub ends-at-dummy : here.cell.item ≡ None → EmptyHintsAreSound (2 ^ interval_bits) (key_of_dummy bucket / 2 ^ interval_bits) (key_of_dummy bucket / 2 ^ interval_bits + 4) current cs
     ends-at-dummy none g late early known =
         let h = here in
         let F : List Cell → Type 0 = λ zs. IsFresh start zs in
@@ -288,7 +288,7 @@ module _ (hash_of : Term → ℕ) (directory : List (Option ℕ)) (interval_bits
         let P : Option Item → Type 0 = λ z. HasSplitKey hash_of directory h.cell.at h.cell.split_key z in
         let pl = subst R h.is s.placed in
         let k : IsInDirectory directory h.cell.at h.cell.split_key = subst P none pl.0 in
-        let q : 8 * 2 ^ interval_bits ≤ 2 * 2 ^ (32 - j) = eight j interval_bits narrow in
+        let q : 4 * 2 ^ interval_bits ≤ 2 * 2 ^ (32 - j) = four j interval_bits narrow in
         let full : j + (32 - j) ≡ 32 = omega arith in
         let w : bucket_width (2 ^ j) ≡ 2 * 2 ^ (32 - j) = bucket_width-even j (32 - j) full in
         let up : key_of_dummy bucket + bucket_width (2 ^ j) ≤ h.cell.split_key =
@@ -301,15 +301,15 @@ module _ (hash_of : Term → ℕ) (directory : List (Option ℕ)) (interval_bits
               absurd (f'.0 (some-one h.cell.at start (get_or directory k.bucket None) (get_or directory bucket None) (ap (λ (z : ℕ). get_or directory z None) same) k.entry entry)))
           | inr most ↦ most
         ] in
-        let far : (first + 8) * 2 ^ interval_bits ≤ h.cell.split_key = omega (arith, up, edge, w, q) in
-        let part : first + 8 ≤ h.cell.split_key / 2 ^ interval_bits = from-part (first + 8) (2 ^ interval_bits) h.cell.split_key (pow_pos interval_bits) far in
+        let far : (first + 4) * 2 ^ interval_bits ≤ h.cell.split_key = omega (arith, up, edge, w, q) in
+        let part : first + 4 ≤ h.cell.split_key / 2 ^ interval_bits = from-part (first + 4) (2 ^ interval_bits) h.cell.split_key (pow_pos interval_bits) far in
         none-before g late known (omega (arith, part, part-is, early))
 
-    pub ends-past : (f : ℕ) → f ≡ here.cell.split_key / 2 ^ interval_bits → key_of_dummy bucket / 2 ^ interval_bits + 8 ≤ f → EmptyHintsAreSound (2 ^ interval_bits) (key_of_dummy bucket / 2 ^ interval_bits) (key_of_dummy bucket / 2 ^ interval_bits + 8) current cs
+    pub ends-past : (f : ℕ) → f ≡ here.cell.split_key / 2 ^ interval_bits → key_of_dummy bucket / 2 ^ interval_bits + 4 ≤ f → EmptyHintsAreSound (2 ^ interval_bits) (key_of_dummy bucket / 2 ^ interval_bits) (key_of_dummy bucket / 2 ^ interval_bits + 4) current cs
     ends-past f fe past g late early known = none-before g late known (omega (arith, fe, past, early))
 
   -- The end of the list ends it too.
-  pub ends-there : (current : List (Option (Option ℕ))) (at : Option ℕ) → at ≡ None → IsRebuiltUpTo hash_of directory (2 ^ interval_bits) start (key_of_dummy bucket) current at cs → EmptyHintsAreSound (2 ^ interval_bits) (key_of_dummy bucket / 2 ^ interval_bits) (key_of_dummy bucket / 2 ^ interval_bits + 8) current cs
+  pub ends-there : (current : List (Option (Option ℕ))) (at : Option ℕ) → at ≡ None → IsRebuiltUpTo hash_of directory (2 ^ interval_bits) start (key_of_dummy bucket) current at cs → EmptyHintsAreSound (2 ^ interval_bits) (key_of_dummy bucket / 2 ^ interval_bits) (key_of_dummy bucket / 2 ^ interval_bits + 4) current cs
   ends-there current at none s g late early known = s.seen g late known ∙ ap (first_in (2 ^ interval_bits) g) (sym s.is ∙ ap (λ (z : Option ℕ). tail_from z cs) none)
 
 -- ---- hints

@@ -11,7 +11,7 @@ module _ {H : Type 0} (hash_of : H → Term → ℕ) (index : SplitIndex H) (r :
   -- Its hints are right.
   pub right : HintsAreSound index.hints index.list.cells
   right =
-      let narrow : index.hints.interval_bits + r.rows.hinted.doublings ≤ 30 = r.rows.hinted.narrow in
+      let narrow : index.hints.interval_bits + r.rows.hinted.doublings ≤ 31 = r.rows.hinted.narrow in
       record { narrow = omega arith; current = r.rows.hinted.hints; previous = r.previous }
 
   -- Other hints of intervals that are not wider are right.
@@ -24,7 +24,7 @@ module _ {H : Type 0} (hash_of : H → Term → ℕ) (index : SplitIndex H) (r :
   -- Other current hints that are right replace the old ones.
   pub with-current : (hints : Hints) → hints ≡ record index.hints { current = hints.current } → AreSound (2 ^ index.hints.interval_bits) hints.current index.list.cells → RowsInvariant hash_of (record index { hints = hints })
   with-current hints rest sound =
-      let narrow : index.hints.interval_bits + r.rows.hinted.doublings ≤ 30 = r.rows.hinted.narrow in
+      let narrow : index.hints.interval_bits + r.rows.hinted.doublings ≤ 31 = r.rows.hinted.narrow in
       let interval_bits : hints.interval_bits ≡ index.hints.interval_bits = ap (λ (h : Hints). h.interval_bits) rest in
       let P : ℕ → Type 0 = λ z. AreSound (2 ^ z) hints.current index.list.cells in
       let Q : Hints → Type 0 = λ h. AreSound (2 ^ (h.interval_bits + 1)) h.previous index.list.cells in

@@ -169,12 +169,12 @@ same-side m width a b some low e =
 aligned : (r k s w : ℕ) → k ≡ s * w → 2 * (r * k) ≡ (r * (2 * w)) * s
 aligned r k s w e = let m : r * k ≡ r * (s * w) = ap (λ (z : ℕ). r * z) e in omega (arith, m)
 
--- A bucket has at least eight intervals.
-pub eight : (j interval_bits : ℕ) → interval_bits + j ≤ 30 → 8 * 2 ^ interval_bits ≤ 2 * 2 ^ (32 - j)
-eight j interval_bits e =
-    let most : interval_bits + 2 ≤ 32 - j = omega arith in
-    let p : 2 ^ (interval_bits + 2) ≡ 2 ^ interval_bits * 2 ^ 2 = pow-add 2 interval_bits 2 in
-    let q : 2 ^ (interval_bits + 2) ≤ 2 ^ (32 - j) = pow_mono most in
+-- A bucket has at least four intervals.
+pub four : (j interval_bits : ℕ) → interval_bits + j ≤ 31 → 4 * 2 ^ interval_bits ≤ 2 * 2 ^ (32 - j)
+four j interval_bits e =
+    let most : interval_bits + 1 ≤ 32 - j = omega arith in
+    let p : 2 ^ (interval_bits + 1) ≡ 2 ^ interval_bits * 2 ^ 1 = pow-add 2 interval_bits 1 in
+    let q : 2 ^ (interval_bits + 1) ≤ 2 ^ (32 - j) = pow_mono most in
     omega (arith, p, q)
 
 -- A bucket's dummy is at the border of an interval.
@@ -196,7 +196,7 @@ module _ (hash_of : Term → ℕ) (directory : List (Option ℕ)) (cs : List Cel
       subst W (sym same-mod) (mod_below (hash_of term) (2 ^ h.doublings) (pow_pos h.doublings))
 
   narrow : interval_bits + 1 + h.doublings ≤ 32
-  narrow = let n : interval_bits + h.doublings ≤ 30 = h.narrow in omega arith
+  narrow = let n : interval_bits + h.doublings ≤ 31 = h.narrow in omega arith
 
   pub own-edge : (m : ℕ) × (key_of_dummy (hash_of term % length directory) ≡ m * 2 ^ interval_bits)
   own-edge = border h.doublings interval_bits (hash_of term % length directory) (omega (arith, narrow)) within

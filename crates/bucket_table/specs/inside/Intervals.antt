@@ -48,18 +48,18 @@ pub record IsDoubled (old new : Hints) : Type 0 where
   pub current : AreUnknown new.current
   pub previous : new.previous ≡ old.current
 
--- There are at least eight intervals for each of this number of buckets, a power of two.
+-- There are at least four intervals for each of this number of buckets, a power of two.
 pub record HasIntervalsFor (buckets interval_bits : ℕ) : Type 0 where
   pub doublings : ℕ
   pub size : buckets ≡ 2 ^ doublings
-  pub narrow : interval_bits + doublings ≤ 30
+  pub narrow : interval_bits + doublings ≤ 31
 
--- A bucket has at least eight intervals, and the hints are right.
+-- A bucket has at least four intervals, and the hints are right.
 pub record HintsInvariant (directory : List (Option ℕ)) (interval_bits : ℕ) (current : List (Option (Option ℕ)))
     (cells : List Cell) : Type 0 where
   pub doublings : ℕ
   pub size : length directory ≡ 2 ^ doublings
-  pub narrow : interval_bits + doublings ≤ 30
+  pub narrow : interval_bits + doublings ≤ 31
   pub hints : AreSound (2 ^ interval_bits) current cells
 
 pub record ListInvariant (hash_of : Term → ℕ) (directory : List (Option ℕ)) (interval_bits : ℕ)

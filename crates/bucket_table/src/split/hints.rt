@@ -1,4 +1,4 @@
-//! The hints, a cache by which a search starts near its goal. An interval is a part of the split keys: at most an eighth
+//! The hints, a cache by which a search starts near its goal. An interval is a part of the split keys: at most a quarter
 //! of a bucket's. Its hint is the place of its first item, *empty* or *unknown*. A doubling makes intervals half as wide.
 //! The *previous* hints are from before the last doubling. A rehash splits them into *current* hints.
 ghost use Rattle.std.specs.Prelude.{◌≡◌, ◌⊎◌, ◌<◌, ◌/◌, ◌^◌, [], Some, None, IfOk, IfSome, replicate};
@@ -16,7 +16,7 @@ use node_list::At;
 use std::alloc::{AllocError, Global};
 
 /// The least number of intervals of a bucket, and the number of intervals in a group.
-pub const INTERVALS_PER_BUCKET: usize = 8;
+pub const INTERVALS_PER_BUCKET: usize = 4;
 
 /// The number of bits of a split key: 32 bits of the hash, reversed, and a last bit. The last bit is 1 for an item and
 /// 0 for a dummy.
@@ -39,17 +39,17 @@ pub struct Hints {
 impl Hints {
     /// Creates the hints of two buckets without items.
     pub fn new(alloc: Global) -> Result<Hints, AllocError>
-        ensures current { IfOk result (λ hints. hints.current ≡ replicate 16 (Some None)) }
+        ensures current { IfOk result (λ hints. hints.current ≡ replicate 8 (Some None)) }
         ensures previous { IfOk result (λ hints. hints.previous ≡ []) }
-        ensures interval_bits { IfOk result (λ hints. hints.interval_bits ≡ 29) }
+        ensures interval_bits { IfOk result (λ hints. hints.interval_bits ≡ 30) }
     {
         let current = HintList::of_empty_intervals(alloc, 2 * INTERVALS_PER_BUCKET)?;
         Ok(Hints {
             current,
             previous: HintList::new(alloc),
             rehash_index: 0,
-            // Two buckets have 16 = 2^4 intervals, so the highest four bits of a split key number its interval.
-            interval_bits: SPLIT_KEY_BITS - 4,
+            // Two buckets have 8 = 2^3 intervals, so the highest three bits of a split key number its interval.
+            interval_bits: SPLIT_KEY_BITS - 3,
         })
     }
 
@@ -85,7 +85,7 @@ impl Hints {
         None
     }
 
-    /// Reads the current hints of the lower intervals of the same group of eight, the nearest first. Returns the first
+    /// Reads the current hints of the lower intervals of the same group of four, the nearest first. Returns the first
     /// place that such a hint has: the place of the first item of its interval. Returns `None` if no such hint has a
     /// place. All intervals of a group are of one bucket.
     #[inline(always)]

@@ -1,6 +1,6 @@
 //! The index of the slots: the split-ordered list, the directory and the hints, which change together. The directory
 //! has the place of each bucket's dummy (its first node). A hint caches the place of the first item of an interval (at
-//! most an eighth of a bucket).
+//! most a quarter of a bucket).
 ghost use Rattle.std.specs.Prelude.{◌≡◌, ◌∷◌, [], true, false, None, IfOk, map, is_some};
 ghost use Rattle.node_list.specs.Cells.{new_cell};
 ghost use Rattle.bucket_table.specs.inside.Directory.{IsFirstUnready};

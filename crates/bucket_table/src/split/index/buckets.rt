@@ -49,7 +49,7 @@ impl<H: KeyHash + Copy + Drop> SplitIndex<H> {
         self.nearest_ready(bucket)
     }
 
-    /// Doubles the number of intervals if a bucket would have fewer than eight after a doubling of the buckets.
+    /// Doubles the number of intervals if a bucket would have fewer than four after a doubling of the buckets.
     fn narrow_intervals(&mut self) -> Result<(), AllocError>
         requires rows { RowsInvariant H.hash self.old }
         requires few { length self.old.directory < 2 ^ 20 }
@@ -63,7 +63,7 @@ impl<H: KeyHash + Copy + Drop> SplitIndex<H> {
         self.hints.double()
     }
 
-    /// Doubles the number of buckets, with at least eight intervals for each. The new buckets are not ready. If memory
+    /// Doubles the number of buckets, with at least four intervals for each. The new buckets are not ready. If memory
     /// is refused, adds no bucket.
     pub fn double_buckets(&mut self) -> Result<(), AllocError>
         requires rows { RowsInvariant H.hash self.old }

@@ -1,5 +1,5 @@
-//! When a bucket becomes ready, one scan sets its first eight hints, and another sets those of its parent if that is
-//! ready. A bucket has at least eight intervals. Hints past the end of the list of hints stay unknown. The parent is the
+//! When a bucket becomes ready, one scan sets its first four hints, and another sets those of its parent if that is
+//! ready. A bucket has at least four intervals. Hints past the end of the list of hints stay unknown. The parent is the
 //! bucket that a doubling split to create this bucket. A hint caches the place of the first item of an interval.
 
 ghost use Rattle.std.specs.Prelude.{◌≡◌, ◌<◌, Some, None, length, get_or};
@@ -39,7 +39,7 @@ impl<H: KeyHash + Copy + Drop> SplitIndex<H> {
         }
     }
 
-    /// Rebuilds the hints of the first eight intervals of a ready bucket, whose dummy is at `start`, by one scan. First
+    /// Rebuilds the hints of the first four intervals of a ready bucket, whose dummy is at `start`, by one scan. First
     /// sets those that the list of hints has to empty. Then sets the hint of each interval that has items to its first
     /// item.
     fn rebuild_hints(&mut self, bucket: u32, start: At)

@@ -1,5 +1,5 @@
 //! A change starts at a node before its goal: the first item of an interval by a hint, or else a dummy. A hint caches
-//! the place of the first item of an interval (at most an eighth of a bucket). A dummy is the first node of a bucket.
+//! the place of the first item of an interval (at most a quarter of a bucket). A dummy is the first node of a bucket.
 
 ghost use Rattle.std.specs.Prelude.{◌≡◌, ℕ, ◌<◌, ◌^◌, IfSome, length};
 ghost use Rattle.split_key.specs.Keys.{key_of_item, key_of_dummy};
@@ -29,7 +29,7 @@ impl<H: KeyHash + Copy + Drop> SplitIndex<H> {
     }
 
     /// Returns the first item of the split key's interval, if the item has a lesser split key. Otherwise returns the
-    /// first item of a lower interval in the same group of eight, if a current hint has its place. Returns `None` if
+    /// first item of a lower interval in the same group of four, if a current hint has its place. Returns `None` if
     /// neither is found.
     #[inline(always)]
     fn near_start(&self, split_key: u64) -> Option<At>

@@ -6,7 +6,7 @@ use Rattle.bucket_table.proofs.split.index.SplitIndex.narrow_intervals.Goals as 
 pub returns-then-intervals-len-clause-ok : goal.returns-then-intervals-len-clause-ok
 returns-then-intervals-len-clause-ok g c =
     let index = c.args.self.now in
-    let more : 8 * length index.directory < 2 ^ 33 / 2 ^ index.hints.interval_bits = omega (arith, c.intervals.ensures, c.len.ensures, c.if-intervals-len.true) in
+    let more : 4 * length index.directory < 2 ^ 33 / 2 ^ index.hints.interval_bits = omega (arith, c.intervals.ensures, c.len.ensures, c.if-intervals-len.true) in
     enough index.directory index.hints.interval_bits index.hints.current index.list.cells c.requires.rows.rows.hinted more
 
 pub returns-clause-rows : goal.returns-clause-rows

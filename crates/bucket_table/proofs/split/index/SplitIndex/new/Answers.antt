@@ -15,7 +15,7 @@ returns-clause-rows g c =
     let hash_of = g.H.KeyHash.hash c.args.hasher in
     let R : ℕ → Type 0 = λ interval_bits. ListInvariant hash_of directory interval_bits hints.current cells in
     record {
-      rows = subst R (sym e.interval_bits) (new-rows hash_of c.head-head.result directory hints.current 16 cells c.in_ok-directory.ensures c.in_ok-list.ensures c.head-head.ensures.first e.current);
+      rows = subst R (sym e.interval_bits) (new-rows hash_of c.head-head.result directory hints.current 8 cells c.in_ok-directory.ensures c.in_ok-list.ensures c.head-head.ensures.first e.current);
       previous = hints-nil _ hints.previous cells e.previous;
     }
 

@@ -30,10 +30,10 @@ loop-at-init g c =
     let index = c.args.self.now in
     let hash_of = g.H.KeyHash.hash index.hasher in
     let Q : Option ℕ → Type 0 = λ z. IsRebuiltUpTo hash_of index.directory (2 ^ index.hints.interval_bits) c.args.start (key_of_dummy c.args.bucket) c.set_empty.new.self z index.list.cells in
-    let N : ℕ → Type 0 = λ z. AreSoundOutside (2 ^ c.args.self.now.hints.interval_bits) z (z + 8) c.set_empty.new.self c.args.self.now.list.cells in
+    let N : ℕ → Type 0 = λ z. AreSoundOutside (2 ^ c.args.self.now.hints.interval_bits) z (z + 4) c.set_empty.new.self c.args.self.now.list.cells in
     record {
       rest = refl;
-      hints = subst N first (cleared-nearly (2 ^ c.args.self.now.hints.interval_bits) c.interval_of-first_interval.result (c.interval_of-first_interval.result + 8) c.args.self.now.hints.current c.set_empty.new.self c.args.self.now.list.cells h.hints c.set_empty.ensures);
+      hints = subst N first (cleared-nearly (2 ^ c.args.self.now.hints.interval_bits) c.interval_of-first_interval.result (c.interval_of-first_interval.result + 4) c.args.self.now.hints.current c.set_empty.new.self c.args.self.now.list.cells h.hints c.set_empty.ensures);
       rebuilt = subst Q (sym c.after-at.ensures) (rebuild-start hash_of index.directory index.hints.interval_bits c.args.bucket c.args.start h.doublings index.list.cells c.requires.rows.rows.split h.size h.narrow c.reveal_invariant.ensures.sorted c.reveal_invariant.ensures.apart c.requires.start (entry-within index.directory c.args.bucket c.args.start c.requires.start) c.set_empty.new.self);
     }
 
@@ -54,9 +54,9 @@ returns-then-interval-end-clause-rows g c =
     let k = read-key (g.H.KeyHash.hash c.args.self.now.hasher) c.args.self.now.directory c.args.self.now.hints.interval_bits c.args.bucket c.args.start h.doublings c.args.self.now.list.cells c.requires.rows.rows.split h.size h.narrow c.reveal_invariant.ensures.sorted c.reveal_invariant.ensures.apart c.requires.start (entry-within c.args.self.now.directory c.args.bucket c.args.start c.requires.start) c.loop-at.hints.current c.in-Some.place c.loop-at.at c.in-Some.is c.loop-at.invariant.rebuilt c.split_key-split_key.result c.split_key-split_key.ensures in
     let e = first-is _ _ c.args.bucket c.args.self.now.hints.interval_bits c.interval_of-first_interval.ensures c.dummy_key.ensures in
     let i = interval-is c.loop-at.hints c.args.self.now.hints _ c.split_key-split_key.result c.interval_of-interval.ensures c.loop-at.invariant.rest in
-    let past : key_of_dummy c.args.bucket / 2 ^ c.args.self.now.hints.interval_bits + 8 ≤ c.split_key-split_key.result / 2 ^ c.args.self.now.hints.interval_bits = omega (arith, e, i, c.if-interval-end.true) in
+    let past : key_of_dummy c.args.bucket / 2 ^ c.args.self.now.hints.interval_bits + 4 ≤ c.split_key-split_key.result / 2 ^ c.args.self.now.hints.interval_bits = omega (arith, e, i, c.if-interval-end.true) in
     let index = c.args.self.now in
-    let after = nearly-hints (2 ^ c.args.self.now.hints.interval_bits) (key_of_dummy c.args.bucket / 2 ^ c.args.self.now.hints.interval_bits) (key_of_dummy c.args.bucket / 2 ^ c.args.self.now.hints.interval_bits + 8) c.loop-at.hints.current c.args.self.now.list.cells c.loop-at.invariant.hints (ends-past (g.H.KeyHash.hash c.args.self.now.hasher) c.args.self.now.directory c.args.self.now.hints.interval_bits c.args.bucket c.args.start h.doublings c.args.self.now.list.cells c.requires.rows.rows.split h.size h.narrow c.reveal_invariant.ensures.sorted c.reveal_invariant.ensures.apart c.requires.start (entry-within c.args.self.now.directory c.args.bucket c.args.start c.requires.start) c.loop-at.hints.current c.in-Some.place c.loop-at.at c.in-Some.is c.loop-at.invariant.rebuilt (c.split_key-split_key.result / 2 ^ c.args.self.now.hints.interval_bits) (ap (λ (z : ℕ). z / 2 ^ c.args.self.now.hints.interval_bits) k) past) in
+    let after = nearly-hints (2 ^ c.args.self.now.hints.interval_bits) (key_of_dummy c.args.bucket / 2 ^ c.args.self.now.hints.interval_bits) (key_of_dummy c.args.bucket / 2 ^ c.args.self.now.hints.interval_bits + 4) c.loop-at.hints.current c.args.self.now.list.cells c.loop-at.invariant.hints (ends-past (g.H.KeyHash.hash c.args.self.now.hasher) c.args.self.now.directory c.args.self.now.hints.interval_bits c.args.bucket c.args.start h.doublings c.args.self.now.list.cells c.requires.rows.rows.split h.size h.narrow c.reveal_invariant.ensures.sorted c.reveal_invariant.ensures.apart c.requires.start (entry-within c.args.self.now.directory c.args.bucket c.args.start c.requires.start) c.loop-at.hints.current c.in-Some.place c.loop-at.at c.in-Some.is c.loop-at.invariant.rebuilt (c.split_key-split_key.result / 2 ^ c.args.self.now.hints.interval_bits) (ap (λ (z : ℕ). z / 2 ^ c.args.self.now.hints.interval_bits) k) past) in
     with-current g.H.KeyHash.hash index c.requires.rows c.loop-at.hints c.loop-at.invariant.rest after
 
 pub after-at-requires-in-Some : goal.after-at-requires-in-Some
@@ -75,7 +75,7 @@ pub returns-then-split_key-ne1-clause-rows : goal.returns-then-split_key-ne1-cla
 returns-then-split_key-ne1-clause-rows g c =
     let h = c.requires.rows.rows.hinted in
     let index = c.args.self.now in
-    let after = nearly-hints (2 ^ c.args.self.now.hints.interval_bits) (key_of_dummy c.args.bucket / 2 ^ c.args.self.now.hints.interval_bits) (key_of_dummy c.args.bucket / 2 ^ c.args.self.now.hints.interval_bits + 8) c.loop-at.hints.current c.args.self.now.list.cells c.loop-at.invariant.hints (ends-at-dummy (g.H.KeyHash.hash c.args.self.now.hasher) c.args.self.now.directory c.args.self.now.hints.interval_bits c.args.bucket c.args.start h.doublings c.args.self.now.list.cells c.requires.rows.rows.split h.size h.narrow c.reveal_invariant.ensures.sorted c.reveal_invariant.ensures.apart c.requires.start (entry-within c.args.self.now.directory c.args.bucket c.args.start c.requires.start) c.loop-at.hints.current c.in-Some.place c.loop-at.at c.in-Some.is c.loop-at.invariant.rebuilt (no-item-here (g.H.KeyHash.hash c.args.self.now.hasher) c.args.self.now.directory c.args.self.now.hints.interval_bits c.args.bucket c.args.start h.doublings c.args.self.now.list.cells c.requires.rows.rows.split h.size h.narrow c.reveal_invariant.ensures.sorted c.reveal_invariant.ensures.apart c.requires.start (entry-within c.args.self.now.directory c.args.bucket c.args.start c.requires.start) c.loop-at.hints.current c.in-Some.place c.loop-at.at c.in-Some.is c.loop-at.invariant.rebuilt c.split_key-split_key.result c.split_key-split_key.ensures c.if-split_key-ne1.true)) in
+    let after = nearly-hints (2 ^ c.args.self.now.hints.interval_bits) (key_of_dummy c.args.bucket / 2 ^ c.args.self.now.hints.interval_bits) (key_of_dummy c.args.bucket / 2 ^ c.args.self.now.hints.interval_bits + 4) c.loop-at.hints.current c.args.self.now.list.cells c.loop-at.invariant.hints (ends-at-dummy (g.H.KeyHash.hash c.args.self.now.hasher) c.args.self.now.directory c.args.self.now.hints.interval_bits c.args.bucket c.args.start h.doublings c.args.self.now.list.cells c.requires.rows.rows.split h.size h.narrow c.reveal_invariant.ensures.sorted c.reveal_invariant.ensures.apart c.requires.start (entry-within c.args.self.now.directory c.args.bucket c.args.start c.requires.start) c.loop-at.hints.current c.in-Some.place c.loop-at.at c.in-Some.is c.loop-at.invariant.rebuilt (no-item-here (g.H.KeyHash.hash c.args.self.now.hasher) c.args.self.now.directory c.args.self.now.hints.interval_bits c.args.bucket c.args.start h.doublings c.args.self.now.list.cells c.requires.rows.rows.split h.size h.narrow c.reveal_invariant.ensures.sorted c.reveal_invariant.ensures.apart c.requires.start (entry-within c.args.self.now.directory c.args.bucket c.args.start c.requires.start) c.loop-at.hints.current c.in-Some.place c.loop-at.at c.in-Some.is c.loop-at.invariant.rebuilt c.split_key-split_key.result c.split_key-split_key.ensures c.if-split_key-ne1.true)) in
     with-current g.H.KeyHash.hash index c.requires.rows c.loop-at.hints c.loop-at.invariant.rest after
 
 pub loop-at-preserved : goal.loop-at-preserved
@@ -91,7 +91,7 @@ loop-at-preserved g c =
     let item = item-here (g.H.KeyHash.hash c.args.self.now.hasher) c.args.self.now.directory c.args.self.now.hints.interval_bits c.args.bucket c.args.start h.doublings c.args.self.now.list.cells c.requires.rows.rows.split h.size h.narrow c.reveal_invariant.ensures.sorted c.reveal_invariant.ensures.apart c.requires.start within c.loop-at.hints.current c.in-Some.place c.loop-at.at c.in-Some.is c.loop-at.invariant.rebuilt c.split_key-split_key.result c.split_key-split_key.ensures c.if-split_key-ne1.false in
     record {
       rest = ap (λ (h : Hints). record h { current = c.set_if_empty.new.self }) c.loop-at.invariant.rest;
-      hints = hints-step (g.H.KeyHash.hash c.args.self.now.hasher) c.args.self.now.directory c.args.self.now.hints.interval_bits c.args.bucket c.args.start h.doublings c.args.self.now.list.cells c.requires.rows.rows.split h.size h.narrow c.reveal_invariant.ensures.sorted c.reveal_invariant.ensures.apart c.requires.start within c.loop-at.hints.current c.in-Some.place c.loop-at.at c.in-Some.is c.loop-at.invariant.rebuilt (key_of_dummy c.args.bucket / 2 ^ c.args.self.now.hints.interval_bits + 8) c.set_if_empty.new.self c.interval_of-interval.result item.0 item.1 f c.loop-at.invariant.hints c.set_if_empty.ensures;
+      hints = hints-step (g.H.KeyHash.hash c.args.self.now.hasher) c.args.self.now.directory c.args.self.now.hints.interval_bits c.args.bucket c.args.start h.doublings c.args.self.now.list.cells c.requires.rows.rows.split h.size h.narrow c.reveal_invariant.ensures.sorted c.reveal_invariant.ensures.apart c.requires.start within c.loop-at.hints.current c.in-Some.place c.loop-at.at c.in-Some.is c.loop-at.invariant.rebuilt (key_of_dummy c.args.bucket / 2 ^ c.args.self.now.hints.interval_bits + 4) c.set_if_empty.new.self c.interval_of-interval.result item.0 item.1 f c.loop-at.invariant.hints c.set_if_empty.ensures;
       rebuilt = subst Q (sym c.after-at-in-Some.ensures) (rebuild-step hash_of index.directory index.hints.interval_bits c.args.bucket c.args.start h.doublings index.list.cells c.requires.rows.rows.split h.size h.narrow c.reveal_invariant.ensures.sorted c.reveal_invariant.ensures.apart c.requires.start within c.loop-at.hints.current c.in-Some.place c.loop-at.at c.in-Some.is c.loop-at.invariant.rebuilt c.set_if_empty.new.self c.interval_of-interval.result f c.set_if_empty.ensures);
     }
 
@@ -99,5 +99,5 @@ pub returns-clause-rows : goal.returns-clause-rows
 returns-clause-rows g c =
     let h = c.requires.rows.rows.hinted in
     let index = c.args.self.now in
-    let after = nearly-hints (2 ^ c.args.self.now.hints.interval_bits) (key_of_dummy c.args.bucket / 2 ^ c.args.self.now.hints.interval_bits) (key_of_dummy c.args.bucket / 2 ^ c.args.self.now.hints.interval_bits + 8) c.loop-at.hints.current c.args.self.now.list.cells c.loop-at.invariant.hints (ends-there (g.H.KeyHash.hash c.args.self.now.hasher) c.args.self.now.directory c.args.self.now.hints.interval_bits c.args.bucket c.args.start h.doublings c.args.self.now.list.cells c.requires.rows.rows.split h.size h.narrow c.reveal_invariant.ensures.sorted c.reveal_invariant.ensures.apart c.requires.start (entry-within c.args.self.now.directory c.args.bucket c.args.start c.requires.start) c.loop-at.hints.current c.loop-at.at c.in_default.is c.loop-at.invariant.rebuilt) in
+    let after = nearly-hints (2 ^ c.args.self.now.hints.interval_bits) (key_of_dummy c.args.bucket / 2 ^ c.args.self.now.hints.interval_bits) (key_of_dummy c.args.bucket / 2 ^ c.args.self.now.hints.interval_bits + 4) c.loop-at.hints.current c.args.self.now.list.cells c.loop-at.invariant.hints (ends-there (g.H.KeyHash.hash c.args.self.now.hasher) c.args.self.now.directory c.args.self.now.hints.interval_bits c.args.bucket c.args.start h.doublings c.args.self.now.list.cells c.requires.rows.rows.split h.size h.narrow c.reveal_invariant.ensures.sorted c.reveal_invariant.ensures.apart c.requires.start (entry-within c.args.self.now.directory c.args.bucket c.args.start c.requires.start) c.loop-at.hints.current c.loop-at.at c.in_default.is c.loop-at.invariant.rebuilt) in
     with-current g.H.KeyHash.hash index c.requires.rows c.loop-at.hints c.loop-at.invariant.rest after

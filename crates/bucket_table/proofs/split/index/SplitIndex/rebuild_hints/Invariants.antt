@@ -6,7 +6,7 @@ use Rattle.bucket_table.proofs.split.index.SplitIndex.rebuild_hints.Given as goa
 abbrev pub invariant-loop-at : goal.invariant-loop-at
 invariant-loop-at g l = record {
   rest : l.hints ≡ record l.fn.self.hints { current = l.hints.current };
-  hints : AreSoundOutside (2 ^ l.fn.self.hints.interval_bits) (key_of_dummy l.bucket / 2 ^ l.fn.self.hints.interval_bits) (key_of_dummy l.bucket / 2 ^ l.fn.self.hints.interval_bits + 8) l.hints.current l.fn.self.list.cells;
+  hints : AreSoundOutside (2 ^ l.fn.self.hints.interval_bits) (key_of_dummy l.bucket / 2 ^ l.fn.self.hints.interval_bits) (key_of_dummy l.bucket / 2 ^ l.fn.self.hints.interval_bits + 4) l.hints.current l.fn.self.list.cells;
   rebuilt : IsRebuiltUpTo (g.H.KeyHash.hash l.fn.self.hasher) l.fn.self.directory (2 ^ l.fn.self.hints.interval_bits) l.start (key_of_dummy l.bucket) l.hints.current l.at l.fn.self.list.cells;
 }
 
