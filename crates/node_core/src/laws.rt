@@ -1,9 +1,9 @@
 //! Laws of the machine's runs. Each is the contract of a function that does nothing.
 
-ghost use Rattle.node_core.specs.laws.Agreement.{RunsAgree, StepsAreUnique};
+ghost use Rattle.node_core.specs.laws.Agreement.{NodesAgree, RunsAgree, StepsAreUnique};
 ghost use Rattle.node_core.specs.laws.Erasing.{GrowthErases, RunsCut};
 ghost use Rattle.node_core.specs.laws.Kept.{StepsKeepKeys};
-ghost use Rattle.node_core.specs.laws.Outcomes.{RefusalsChangeNothing, StepsHaveOutcomes};
+ghost use Rattle.node_core.specs.laws.Outcomes.{RefusalsChangeNothing, RefusalsKeepBuckets, StepsHaveOutcomes};
 ghost use Rattle.node_core.specs.laws.Reached.{RunsStaySound, ReachedAreSound};
 ghost use Rattle.node_core.specs.laws.Runs.{RunsAreObservable, TranscriptsAreRuns};
 ghost use Rattle.node_core.specs.laws.Walk.{TableWalksAreWhole, SoundStatesHaveSoundKeys};
@@ -48,9 +48,11 @@ pub fn runs_cut()
     ensures { RunsCut }
 {}
 
-/// A refusal changes nothing: a step whose reply is a refusal leaves the state as it was. No step is an exception.
+/// A refusal changes nothing: a step whose reply is a refusal leaves the state as it was. No step is an exception. In a
+/// node, the buckets of tables stay as they were, too.
 pub fn refusals_change_nothing()
-    ensures { RefusalsChangeNothing }
+    ensures machine { RefusalsChangeNothing }
+    ensures node { RefusalsKeepBuckets }
 {}
 
 /// Every step has an outcome: in each state that a run reaches from the empty one, each step has a reply and a state
@@ -67,7 +69,9 @@ pub fn replies_are_unique()
 
 /// Two runs with the same steps but for growth, from one sound state, have replies that agree up to the order of keys.
 /// They end in states that differ in the order of slots alone. A reply differs at most if it lists all objects or
-/// results, or is the key of a traversal.
+/// results, or is the key of a traversal. So two new nodes give the same replies to the same calls up to that order,
+/// whatever their hash functions are, and however their tables grow.
 pub fn runs_agree()
-    ensures { RunsAgree }
+    ensures runs { RunsAgree }
+    ensures nodes { NodesAgree }
 {}

@@ -9,10 +9,13 @@ use Rattle.node_core.specs.declared.call_name.CallName.TheVariants.{Tab2list, Ma
 use Rattle.node_core.specs.declared.step.Step.{Step}
 use Rattle.node_core.specs.declared.step.Step.TheVariants.{Ask}
 use Rattle.node_core.specs.declared.step.Reply.{Reply}
-use Rattle.node_core.specs.State.{State}
+use Rattle.node_core.specs.declared.limits.Limits.{Limits}
+use Rattle.node_core.specs.State.{State, empty}
+use Rattle.node_core.specs.Observable.{observable}
 use Rattle.node_core.specs.CallName.{call_name}
 use Rattle.node_core.specs.Values.{is_value}
 use Rattle.node_core.specs.Machine.{step, run}
+use Rattle.node_core.specs.Buckets.{run_on_buckets}
 use Rattle.node_core.specs.rules.Replies.{list_reply}
 use Rattle.node_core.specs.laws.Erasing.{without_growth}
 use Rattle.node_core.specs.laws.Kept.{slots_in}
@@ -60,3 +63,13 @@ RunsAgree =
     → run old steps replies one → run old others answers other
     → AllZip (λ a b. Agree a.0 a.1 b.1) (without_growth steps replies) (without_growth others answers)
     × AreSameButOrder one other
+
+-- two nodes that ran the same steps but for growth, from the empty state, have replies that agree, and the same
+-- observable state but for the order of slots
+abbrev pub NodesAgree : Type 0
+NodesAgree =
+    (limits : Limits) (one other : State) (steps others : List Step) (replies answers : List Reply)
+    → keys_of (without_growth steps replies) ≡ keys_of (without_growth others answers)
+    → run_on_buckets (empty limits) steps replies one → run_on_buckets (empty limits) others answers other
+    → AllZip (λ a b. Agree a.0 a.1 b.1) (without_growth steps replies) (without_growth others answers)
+    × AreSameButOrder (observable one) (observable other)
