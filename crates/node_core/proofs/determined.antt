@@ -3,7 +3,6 @@ pub mod Forms
 pub mod Contents
 pub mod WholeRules
 pub mod Wholes
-pub mod Laws
 pub mod Shuffles
 pub mod Slots
 pub mod Alike
@@ -17,3 +16,4 @@ pub mod UniqueStates
 pub mod UniqueCalls
 pub mod UniqueShown
 pub mod UniqueRuns
+pub mod Laws

@@ -4,3 +4,4 @@ pub mod Due
 pub mod Keeping
 pub mod Tending
 pub mod Running
+pub mod Sufficing

@@ -1,5 +1,6 @@
 pub mod Agreement
 pub mod Erasing
+pub mod Growth
 pub mod Kept
 pub mod Outcomes
 pub mod Reached

@@ -2,6 +2,7 @@
 
 ghost use Rattle.node_core.specs.laws.Agreement.{NodesAgree, RunsAgree, StepsAreUnique};
 ghost use Rattle.node_core.specs.laws.Erasing.{GrowthErases, RunsCut};
+ghost use Rattle.node_core.specs.laws.Growth.{GrowthSuffices};
 ghost use Rattle.node_core.specs.laws.Kept.{StepsKeepKeys};
 ghost use Rattle.node_core.specs.laws.Outcomes.{RefusalsChangeNothing, RefusalsKeepBuckets, StepsHaveOutcomes};
 ghost use Rattle.node_core.specs.laws.Reached.{RunsStaySound, ReachedAreSound};
@@ -40,6 +41,12 @@ pub fn walks_are_whole()
 /// A run without its growth steps is a run with the other replies. So growth is nothing that a reply can show.
 pub fn growth_erases()
     ensures { GrowthErases }
+{}
+
+/// Growth suffices: once no step of growth is pending, each table has at most four slots a bucket, or the greatest number
+/// of buckets, and each of its buckets is ready.
+pub fn growth_suffices()
+    ensures { GrowthSuffices }
 {}
 
 /// A run can be cut at any point: its first steps are a run, and so are the others, from the state between. So each law
