@@ -175,7 +175,7 @@ module _ (own : ℕ → Bool) (needs : Bool) (old : State) where
     lawful = λ reply new h. subst (λ (s : State). IsLawfulReply own needs old reply s) (sym h.2) (record {
       limits = refl;
       moves =
-          record { most = refl; known = same.known; tables = follows-fixed own old.world.tables found.0 h.0 (λ was here. preserves_at reply h.0 h.1 was here) };
+          record { most = refl; known = same.known; stay = same.stay; tables = follows-fixed own old.world.tables found.0 h.0 (λ was here. preserves_at reply h.0 h.1 was here) };
       quiet = λ n. inl (lawful.flat n found.1.state h.0 reply h.1);
     });
   }

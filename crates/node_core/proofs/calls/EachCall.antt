@@ -29,7 +29,7 @@ use Rattle.node_core.specs.rules.Searching.{match_reply, match_object_reply, sel
 use Rattle.node_core.specs.rules.Walking.{first_reply, next_reply, first_lookup_reply, next_lookup_reply}
 use Rattle.node_core.specs.Woven.{is_step_of}
 use Rattle.node_core.proofs.calls.CallLaws.{IsLawfulReply, IsLawfulCall, tells-lawful, tells-as, either-lawful, reads-lawful, changes-lawful, changes_world-lawful, new_call-lawful, delete_table-lawful, give_away-lawful, set_options_call-lawful, receive-lawful, whereis-lawful, info-lawful, fixtable-lawful}
-use Rattle.node_core.proofs.moves.Moves.{Follows, Moves, moves-same}
+use Rattle.node_core.proofs.moves.Moves.{Follows, StayKnown, Moves, moves-same}
 use Rattle.node_core.proofs.calls.Rules.{IsLawful, insert-lawful, insert_new-lawful, take-lawful, delete-lawful, delete_all-lawful, delete_object-lawful, match_delete-lawful, select_delete-lawful, update_counter-lawful, update_element-lawful}
 use Rattle.node_core.proofs.buckets.ObservableTables.{at-observable}
 use Rattle.node_core.proofs.moves.WorldLaws.{enrol-lawful, end-lawful}
@@ -150,7 +150,8 @@ pub record Remembers (old new : State) : Type 0 where
   pub limits : new.limits ≡ old.limits
   pub most : new.world.max_processes ≡ old.world.max_processes
   pub known : length old.world.processes ≤ length new.world.processes
+  pub stay : StayKnown old.world.processes new.world.processes
 
 pub step-remembers : (old new : State) (s : Step) (reply : Reply) → step old s reply new → Remembers old new
 step-remembers old new s reply h =
-    let done = reply-lawful old new s reply h in record { limits = done.limits; most = done.moves.most; known = done.moves.known }
+    let done = reply-lawful old new s reply h in record { limits = done.limits; most = done.moves.most; known = done.moves.known; stay = done.moves.stay }

@@ -1,11 +1,11 @@
 -- What a step of a process does to the world: each table stays, with its name and its buckets, and keeps its keys and the fixes of others, or
 -- is new; no table and no process is forgotten. What holds of a step here is proved once for each way in which tables change.
 use Rattle.std.proofs.Common.{◌≡◌, ℕ, zero, suc, ◌≤◌, ◌⊎◌, inl, inr, Bool, true, [], ◌∷◌, ◌++◌, Option, None, Some, option_map, refl, sym, subst, ap, ◌∙◌, length, map, arith, length-append}
-use Rattle.std.specs.Prelude.{MatchOption, slice_set}
+use Rattle.std.specs.Prelude.{MatchOption, slice_set, is_some}
 use Rattle.std.proofs.Math.ListN.{length-set}
 use Rattle.std.proofs.lemmas.List.{length-map}
 use Rattle.fixed_walk.specs.TableState.{TableState}
-use Rattle.ownership.specs.World.{Table, Tables, World, table_at, whereis, with_state, with_changed}
+use Rattle.ownership.specs.World.{Table, Tables, Processes, World, process_at, table_at, whereis, with_state, with_changed}
 use Rattle.ownership.specs.inside.States.{table_with_state}
 use Rattle.node_core.specs.rules.Tables.{first_buckets}
 use Rattle.node_core.proofs.moves.Preserves.{AreBounded, Preserves, preserves-same}
@@ -52,6 +52,10 @@ map-at change none (None ∷ xs) zero table at = let e : None ≡ Some table = s
 map-at change none (Some was ∷ xs) zero table at = (was, refl, at)
 map-at change none (x ∷ xs) (suc t) table at = map-at change none xs t table at
 
+-- each process that was enrolled still is
+abbrev pub StayKnown : Processes → Processes → Type 0
+StayKnown old new = (q : ℕ) → is_some (process_at old q) ≡ true → is_some (process_at new q) ≡ true
+
 -- ---- these are the processes that do the step
 module _ (own : ℕ → Bool) where
   pub record Stays (was table : Table) : Type 0 where
@@ -71,6 +75,7 @@ module _ (own : ℕ → Bool) where
   pub record Moves (old new : World) : Type 0 where
     pub most : new.max_processes ≡ old.max_processes
     pub known : length old.processes ≤ length new.processes
+    pub stay : StayKnown old.processes new.processes
     pub tables : Follows old.tables new.tables
 
   pub stays-same : (table : Table) → Stays table table
@@ -147,4 +152,4 @@ module _ (own : ℕ → Bool) where
 
   -- ---- the world
   pub moves-same : (w : World) → Moves w w
-  moves-same w = record { most = refl; known = omega arith; tables = follows-same w.tables }
+  moves-same w = record { most = refl; known = omega arith; stay = λ q h. h; tables = follows-same w.tables }
