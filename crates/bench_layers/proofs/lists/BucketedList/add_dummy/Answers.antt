@@ -7,9 +7,11 @@ use Rattle.bench_layers.specs.Buckets.{HasDummies}
 use Rattle.bench_layers.proofs.DummyLaws.{read-has_key_at_most, push-adds_dummy}
 use Rattle.bench_layers.proofs.lists.BucketedList.add_dummy.Goals as goal
 
-pub insert_dummy-requires-clause-start : goal.insert_dummy-requires-clause-start
-insert_dummy-requires-clause-start c =
-    read-has_key_at_most c.parent-parent_bucket.result c.index-start.result.now (vec_len c.args.self.now.dummies) (2 * c.rev32.result) c.args.self.now.dummies.items c.args.self.now.list.cells c.index-start.ensures (omega (arith, c.parent_comes_before.ensures.below, c.len-bucket.ensures)) c.args.self.now.dummies.ok.0 c.requires.dummies (omega (arith, c.rev32.ensures, c.parent_comes_before.ensures.before))
+pub insert_dummy-requires : goal.insert_dummy-requires
+insert_dummy-requires c = record {
+  start =
+      read-has_key_at_most c.parent-parent_bucket.result c.index-start.result.now (vec_len c.args.self.now.dummies) (2 * c.rev32.result) c.args.self.now.dummies.items c.args.self.now.list.cells c.index-start.ensures (omega (arith, c.parent_comes_before.ensures.below, c.len-bucket.ensures)) c.args.self.now.dummies.ok.0 c.requires.dummies (omega (arith, c.rev32.ensures, c.parent_comes_before.ensures.before));
+}
 
 pub returns-clause-dummies : goal.returns-clause-dummies
 returns-clause-dummies c =
