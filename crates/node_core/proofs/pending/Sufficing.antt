@@ -52,6 +52,7 @@ is-true false e = absurd (cc)
 pub growth-suffices : GrowthSuffices
 growth-suffices s t table none at =
     let own = none-pending 0 s.world.tables t table none at in
-    let parts = not-both own.0 (is_crowded table.state) (position not table.state.buckets) own.1 in
-    (enough (length table.state.content.slots) (length table.state.buckets) max_buckets parts.0,
-     λ bucket within. is-true (get_or table.state.buckets bucket false) (position-None not table.state.buckets bucket false parts.1 within))
+    let parts = not-both own.0 (is_crowded table.state) (position not table.state.buckets) own.1 in (
+      enough (length table.state.content.slots) (length table.state.buckets) max_buckets parts.0,
+      λ bucket within. is-true (get_or table.state.buckets bucket false) (position-None not table.state.buckets bucket false parts.1 within),
+    )
