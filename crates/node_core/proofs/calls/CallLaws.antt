@@ -2,7 +2,6 @@
 -- of a call that changed nothing, or that is named. What holds of a call is proved here once for each form that a call may have.
 use Rattle.std.proofs.Common.{◌≡◌, ℕ, ◌==◌, ◌⊎◌, inl, inr, Bool, true, false, List, Option, None, Some, option_map, option_and_then, Result, Ok, Err, refl, sym, subst, subst₂, ap, ◌∙◌, codes}
 use Rattle.std.specs.Bool.{MatchBool}
-use Rattle.std.specs.Option.{option_map_or}
 use Rattle.ets_term.specs.declared.term.Term.{Term, out-Term}
 use Rattle.ets_term.specs.declared.term.Term.TheVariants.{Tid}
 use Rattle.ets_term.specs.Atoms.{is_atom}

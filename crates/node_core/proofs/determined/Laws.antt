@@ -1,5 +1,5 @@
 -- The laws of refusals, of outcomes, and of two nodes.
-use Rattle.std.proofs.Common.{◌≡◌, ℕ, zero, suc, true, false, List, [], ◌∷◌, Option, None, Some, option_map, refl, ap, ap₂, ◌∙◌}
+use Rattle.std.proofs.Common.{◌≡◌, ℕ, zero, suc, true, false, [], ◌∷◌, Option, None, Some, option_map, refl, ap, ap₂, ◌∙◌}
 use Rattle.std.specs.Prelude.{MatchOption}
 use Rattle.table_ops.specs.Outcomes.{gives}
 use Rattle.fixed_walk.specs.TableState.{TableState}

@@ -46,30 +46,33 @@ length-received processes p = by (process_at processes p)
 -- ---- and each process is still known
 some-set : (q x : ℕ) (es : Processes) (w : Process) → is_some (process_at (set_value (λ k. x == k) es w) q) ≡ is_some (process_at es q)
 some-set q x [] w = refl
-some-set q x (e ∷ es) w = by (x == e.0)
+some-set q x (e ∷ es) w = by (some-set q x es w) (x == e.0)
   where
     here : (b : Bool) → is_some (cond b (Some w) (process_at es q)) ≡ is_some (cond b (Some e.1) (process_at es q))
     here true = refl
     here false = refl
 
-    later : (b : Bool) → is_some (cond b (Some e.1) (process_at (set_value (λ k. x == k) es w) q)) ≡ is_some (cond b (Some e.1) (process_at es q))
-    later true = refl
-    later false = some-set q x es w
+    later : (b : Bool) → is_some (process_at (set_value (λ k. x == k) es w) q) ≡ is_some (process_at es q)
+        → is_some (cond b (Some e.1) (process_at (set_value (λ k. x == k) es w) q)) ≡ is_some (cond b (Some e.1) (process_at es q))
+    later true rest = refl
+    later false rest = rest
 
-    by : (a : Bool) → is_some (process_at (cond a ((e.0, w) ∷ es) (e ∷ set_value (λ k. x == k) es w)) q) ≡ is_some (process_at (e ∷ es) q)
-    by true = here (q == e.0)
-    by false = later (q == e.0)
+    by : is_some (process_at (set_value (λ k. x == k) es w) q) ≡ is_some (process_at es q)
+        → (a : Bool) → is_some (process_at (cond a ((e.0, w) ∷ es) (e ∷ set_value (λ k. x == k) es w)) q) ≡ is_some (process_at (e ∷ es) q)
+    by rest true = here (q == e.0)
+    by rest false = later (q == e.0) rest
 
 stay-set : (x : ℕ) (es : Processes) (w : Process) → StayKnown es (set_value (λ k. x == k) es w)
 stay-set x es w q h = some-set q x es w ∙ h
 
 stay-push : (es : Processes) (x : ℕ × Process) → StayKnown es (es ++ x ∷ [])
 stay-push [] x q h = absurd (true≢false (sym h))
-stay-push (e ∷ es) x q h = by (q == e.0) h
+stay-push (e ∷ es) x q h = by (q == e.0) (stay-push es x q) h
   where
-    by : (b : Bool) → is_some (cond b (Some e.1) (process_at es q)) ≡ true → is_some (cond b (Some e.1) (process_at (es ++ x ∷ []) q)) ≡ true
-    by true h = refl
-    by false h = stay-push es x q h
+    by : (b : Bool) → (is_some (process_at es q) ≡ true → is_some (process_at (es ++ x ∷ []) q) ≡ true)
+        → is_some (cond b (Some e.1) (process_at es q)) ≡ true → is_some (cond b (Some e.1) (process_at (es ++ x ∷ []) q)) ≡ true
+    by true rest h = refl
+    by false rest h = rest h
 
 stay-message : (processes : Processes) (q : ℕ) (message : Term) → StayKnown processes (push_message processes q message)
 stay-message processes q message = by (process_at processes q)
@@ -77,7 +80,7 @@ stay-message processes q message = by (process_at processes q)
     by : (o : Option Process)
         → StayKnown processes (option_map_or (λ process. set_value (λ x. q == x) processes (record process { mailbox = process.mailbox ++ message ∷ [] })) o processes)
     by None r h = h
-    by (Some process) = stay-set q processes (record process { mailbox = process.mailbox ++ message ∷ [] })
+    by (Some process) r h = stay-set q processes (record process { mailbox = process.mailbox ++ message ∷ [] }) r h
 
 stay-messages : (processes : Processes) (messages : List (ℕ × Term)) → StayKnown processes (push_messages processes messages)
 stay-messages processes [] r h = h
@@ -88,7 +91,7 @@ stay-received processes p = by (process_at processes p)
   where
     by : (o : Option Process) → StayKnown processes (option_map_or (λ process. set_value (λ x. p == x) processes (record process { mailbox = [] })) o processes)
     by None r h = h
-    by (Some process) = stay-set p processes (record process { mailbox = [] })
+    by (Some process) r h = stay-set p processes (record process { mailbox = [] }) r h
 
 -- a name that a new named table may have is free
 free-of : (named : Bool) (found : Option ℕ) → (named && is_some found) ≡ false → named ≡ true → found ≡ None

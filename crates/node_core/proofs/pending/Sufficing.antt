@@ -1,10 +1,9 @@
 -- Once no step is pending, each table has enough buckets, and all of them are ready.
-use Rattle.std.proofs.Common.{◌≡◌, ◌⊎◌, ℕ, zero, suc, ◌*◌, ◌<◌, ◌≤◌, ◌&&◌, not, inl, inr, Bool, true, false, List, [], ◌∷◌, Option, None, Some, option_map, refl, sym, subst, ap, ◌∙◌, length, get_or, arith}
+use Rattle.std.proofs.Common.{◌≡◌, ◌⊎◌, ℕ, zero, suc, ◌*◌, ◌≤◌, ◌&&◌, not, inl, inr, Bool, true, false, [], ◌∷◌, Option, None, Some, option_map, refl, subst, length, get_or, arith}
 use Rattle.std.specs.Prelude.{if◌then◌else◌, position, nat_lt}
 use Rattle.std.specs.Option.{option_map_or}
 use Rattle.std.proofs.lemmas.Bool.{cases_lt}
 use Rattle.std.proofs.lemmas.Bool.Decides.{nat_tests}
-use Rattle.fixed_walk.specs.TableState.{TableState}
 use Rattle.ownership.specs.World.{Table, Tables, table_at}
 use Rattle.ownership.proofs.Places.{position-None}
 use Rattle.node_core.specs.declared.step.Step.{Step}
