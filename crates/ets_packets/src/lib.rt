@@ -20,6 +20,7 @@
 mod buffer;
 mod fault;
 mod front;
+pub mod laws;
 mod number;
 mod output;
 mod reply;
