@@ -22,11 +22,11 @@ pub fn lines_of_forms_have_their_commands()
         → IsCallLine name word terms line → Means line (ask name word terms) }
 {}
 
-/// The output of a script is the text of a run of the specification. Each line has an answer: the reply to the step
-/// that its command asks for, or an answer without a step, which is no value. The steps, with their replies, are the
-/// run, from the node's state before the lines to the one after them. This holds of a whole script, of lines that all
-/// have their LF, and of the lines that `Stops` says were answered before a write fault. So the laws of runs hold of each
-/// stretch of a script: each finished traversal of a table that stays fixed is exact.
+/// The output of a script is the text of a run of the specification. Each line makes the step that its command asks for,
+/// and prints the reply, or it makes none, and prints no value. The steps, with their replies, are the run, from the
+/// state of the node before the lines to the one after them. This holds of a whole script, of lines that all have their
+/// LF, and of the lines that `Stops` says were answered before a write fault. So the laws of runs hold of each stretch of
+/// a script: each finished traversal of a table that stays fixed is exact.
 pub fn scripts_are_runs()
     ensures script { LinesAreRuns ⊤ }
     ensures lines { LinesAreRuns ⊥ }
