@@ -2,3 +2,4 @@ pub mod KnownBytes
 mod Exchanges
 mod BufferedPackets
 mod Progress
+mod PacketRuns

@@ -2,6 +2,7 @@ pub mod Packets
 pub mod Requests
 pub mod Replies
 pub mod Exchanges
+pub mod Runs
 pub mod Traffic
 pub mod Output
 pub mod Stops

@@ -4,7 +4,7 @@
 //! store that starts empty, and the replies are in the order of the requests. All replies to packets that were read are
 //! written before the next read. A run that stops early has answered all whole packets before, or has written a prefix
 //! of their replies if a write failed. A packet that is too long is refused. An input that ends inside a packet is a
-//! fault.
+//! fault. A law says that the packets make a run of the specification.
 //!
 //! *Weakness.* Only tests show that replies are flushed before each read. No contract says when memory is available.
 //!
@@ -20,6 +20,7 @@
 mod buffer;
 mod fault;
 mod front;
+pub mod laws;
 mod number;
 mod output;
 mod reply;

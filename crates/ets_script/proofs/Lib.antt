@@ -4,6 +4,7 @@ mod BufferedLines
 mod AnsweredLines
 mod Progress
 mod ScriptEnds
+mod ScriptRuns
 mod Places
 mod NamePlaces
 mod Enrolments

@@ -8,6 +8,7 @@ pub mod Commands
 pub mod LineForms
 pub mod Replies
 pub mod Script
+pub mod Runs
 pub mod Stops
 pub mod Plan
 pub mod Threads

@@ -5,7 +5,8 @@
 //! has answered all whole lines that it read, or has written a prefix of their answers if a write failed. With
 //! `--threads` the whole script is read before anything is written, and a script that stops early has written nothing,
 //! or a prefix of its text if a write failed. A law ties the parser of lines to the table of line forms in
-//! docs/script.md. With `--external` the program answers packets of calls, as `ets_packets` says, in place of lines.
+//! docs/script.md. Another says that the lines make a run of the specification, and that traversals in it are exact.
+//! With `--external` the program answers packets of calls, as `ets_packets` says, in place of lines.
 //!
 //! *Weakness.* Only tests show that answers are flushed before each read, what `refuse` prints, and that
 //! `run_script_with_reasons` reports each refused line. Private contracts say which text it writes for a refused line.
