@@ -81,8 +81,10 @@ class AtATerminal(unittest.TestCase):
         self.assertIn(b"Returns the list of the key's objects", it.type(b"help lookup\n"))
         self.assertIn(b"spawn anna ", it.type(b"help\n"))
         self.assertNotIn(b"**", it.type(b"% a comment\n") + it.type(b"  \n"))
-        # Ctrl-C drops the line, and Ctrl-D leaves.
-        self.assertNotIn(b"**", it.type(b"anna del\x03"))
+        # Ctrl-C drops the line, and Ctrl-D leaves. The echo shows that the shell waits for a key: a signal that comes
+        # earlier is seen at the next key only.
+        it.type(b"anna del", b"anna del")
+        self.assertNotIn(b"**", it.type(b"\x03"))
         os.write(it._at, b"\x04")
         self.assertEqual(it.end(), (b"\r\n", 0))
 
