@@ -35,9 +35,9 @@ fn put_slot_of_process<R: Rows>(
 /// process, so each bucket has one key.
 const BUCKETS: u32 = 8;
 
-/// The searches are for the processes below this number, one for each of the 8 intervals of each bucket. Those from
+/// The searches are for the processes below this number, one for each of the 4 intervals of each bucket. Those from
 /// `BUCKETS` on are missing.
-const SEARCHED_PROCESSES: u32 = 64;
+const SEARCHED_PROCESSES: u32 = 32;
 
 /// The most nodes that a search in a ready bucket of one key visits: the dummy at the bucket's start, the key, and the
 /// node after the bucket.
