@@ -6,7 +6,7 @@ use Rattle.node_core.specs.declared.step.Call.{Call}
 use Rattle.node_core.specs.declared.step.Reply.{Reply}
 use Rattle.node_shared.specs.declared.entry.Entry.{Entry}
 use Rattle.node_shared.specs.Journal.{entry}
-use Rattle.node_shared.specs.Serving.{CallerState, ContinuesTo}
+use Rattle.node_shared.specs.Serving.{CallerState, Continues}
 
 -- the entries of these calls of a process with these replies; a call without a reply has no entry
 abbrev pub call_entries : ℕ → List Call → List Reply → List Entry
@@ -14,17 +14,15 @@ call_entries p [] replies = []
 call_entries p (c ∷ cs) [] = []
 call_entries p (c ∷ cs) (r ∷ rs) = entry (Ask p c) r ∷ call_entries p cs rs
 
--- For each of the further entries, some run of a node has all earlier entries of the caller, in order, and ends with
--- it. The last of these runs has m entries. If there are no further entries, m is n.
-abbrev pub ContinuesEach : Limits → List Entry → ℕ → List Entry → ℕ → Type 0
-ContinuesEach limits entries n [] m = m ≡ n
-ContinuesEach limits entries n (e ∷ es) m =
-    (next : ℕ) × ContinuesTo limits entries e.step next e.reply
-    × ContinuesEach limits (entries ++ e ∷ []) next es m
+-- each of these entries continues what the caller saw, one after another
+abbrev pub ContinuesEach : Limits → CallerState → List Entry → CallerState → Type 0
+ContinuesEach limits old [] new = new ≡ old
+ContinuesEach limits old (e ∷ es) new =
+    (next : CallerState) × Continues limits old e.step e.reply next × ContinuesEach limits next es new
 
 -- the caller made the first of these calls, one for each of these replies, and its record has their entries
 pub record HasAsked (limits : Limits) (old : CallerState) (calls : List Call) (replies : List Reply) (new : CallerState) : Type 0 where
   pub pid : new.own.pid ≡ old.own.pid
   pub few : length replies ≤ length calls
   pub entries : new.own.entries ≡ old.own.entries ++ call_entries old.own.pid calls replies
-  pub order : ContinuesEach limits old.own.entries old.seen (call_entries old.own.pid calls replies) new.seen
+  pub order : ContinuesEach limits old (call_entries old.own.pid calls replies) new
