@@ -6,8 +6,8 @@ use mathlib.Core.List.{IsPrefix}
 use Rattle.node_shared.specs.declared.entry.Entry.{Entry}
 use Rattle.node_shared.specs.declared.history.rule.Line.{Line}
 use Rattle.node_shared.specs.Journal.{is_entry_of, entries_of}
-use Rattle.node_shared.specs.inside.Lines.{Tag, of_server, of_process, is_of, turn_of, entry_if, has_entry_of, history_of, IsExact, MayAdd, MayEnter, IsAdded}
-use Rattle.node_shared.proofs.Lines.{turn-snoc, history-append, history-prefix, since-history, since-entries, none-turn, same-number}
+use Rattle.node_shared.specs.inside.Lines.{Tag, of_server, of_process, is_of, turn_of, entry_if, has_entry_of, history_of, IsExact, IsSpent, MayAdd, MayEnter, IsAdded}
+use Rattle.node_shared.proofs.Lines.{turn-snoc, since-turn, history-append, history-prefix, since-history, since-entries, none-turn, same-number}
 
 and-both : (a b : Bool) → (a && b) ≡ true → (a ≡ true) × (b ≡ true)
 and-both true b e = (refl, e)
@@ -57,6 +57,10 @@ module _ (r key : ℕ) (s v new : List Line) (l : Line) (on : l.chain ≡ r) (ea
 
   pub added-next : turn_of (of_server r) new ≡ Some l.next
   added-next = ap (turn_of (of_server r)) did.1 ∙ turn-snoc (of_server r) did.0 l true is-on
+
+  pub added-spent : IsSpent key new
+  added-spent =
+      (of_server r, did.0, l, ([], append-nil (did.0 ++ l ∷ []) ∙ sym did.1), is-on, since-turn (of_server r) s did.0 (did.3 (of_server r) s early at) ∙ at)
 
   pub added-own : (p : ℕ) → has_entry_of p l.entry ≡ true → turn_of (of_process r p) new ≡ Some l.own
   added-own p its = ap (turn_of (of_process r p)) did.1 ∙ turn-snoc (of_process r p) did.0 l true (ap (λ (b : Bool). b && has_entry_of p l.entry) is-on ∙ its)

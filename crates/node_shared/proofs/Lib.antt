@@ -5,7 +5,6 @@ pub mod Recording
 pub mod Reading
 pub mod Parts
 pub mod Jobs
-pub mod Calls
 pub mod Prefixes
 pub mod Cells
 pub mod Lines
@@ -13,6 +12,7 @@ pub mod Relay
 pub mod Entering
 pub mod Knowing
 pub mod Callers
+pub mod Calls
 pub mod Sent
 pub mod SentNodes
 pub mod SentServers

@@ -8,6 +8,7 @@ use Rattle.logbook.specs.Pages.{Cell, cell}
 use Rattle.node_shared.specs.declared.entry.Entry.{Entry}
 use Rattle.node_shared.specs.declared.history.rule.Line.{Line}
 use Rattle.node_shared.specs.Journal.{is_entry_of, entries_of}
+use Rattle.node_shared.proofs.Prefixes.{prefix_trans}
 use Rattle.node_shared.specs.inside.Lines.{Tag, of_server, of_process, is_of, key_of, turn_from, first_of, turn_of, server_of, Without, entry_if, has_entry_of, history_of, IsHome, IsKept, Since, IsNew}
 
 -- ---- turns
@@ -89,6 +90,13 @@ since-entries r p m log s =
     ∙ (ap (entries_of p) (history-append r m s.0)
     ∙ (filter-append (is_entry_of p) (history_of r m) (history_of r s.0)
     ∙ (ap (λ (es : List Entry). entries_of p (history_of r m) ++ es) (own-without r p s.0 s.2) ∙ append-nil (entries_of p (history_of r m)))))
+
+pub entries-prefix : (p : ℕ) (xs ys : List Entry) → IsPrefix xs ys → IsPrefix (entries_of p xs) (entries_of p ys)
+entries-prefix p xs ys pre = (entries_of p pre.0, sym (filter-append (is_entry_of p) xs pre.0) ∙ ap (entries_of p) pre.1)
+
+-- entries of a process that were among others still are among more
+pub own-within : (p : ℕ) (own xs ys : List Entry) → IsPrefix own (entries_of p xs) → IsPrefix xs ys → IsPrefix own (entries_of p ys)
+own-within p own xs ys has pre = prefix_trans own (entries_of p xs) (entries_of p ys) has (entries-prefix p xs ys pre)
 
 append-none : {A : Type 0} (xs ys : List A) → xs ++ ys ≡ [] → (xs ≡ []) × (ys ≡ [])
 append-none [] ys e = (refl, e)

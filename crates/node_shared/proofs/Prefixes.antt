@@ -19,6 +19,16 @@ prefix_shorter (x ∷ xs) (y ∷ ys) (z ∷ zs) p q le =
     let rest = prefix_shorter xs ys zs (p.0, cc (p.1)) (q.0, cc (q.1)) (omega arith) in
     (rest.0, cc (heads, rest.1))
 
+-- two lists that each begin the other are the same
+pub prefix_both : {A : Type 0} (xs ys : List A) → IsPrefix xs ys → IsPrefix ys xs → ys ≡ xs
+prefix_both [] [] p q = refl
+prefix_both [] (y ∷ ys) p q = absurd (cc (q.1))
+prefix_both (x ∷ xs) [] p q = absurd (cc (p.1))
+prefix_both (x ∷ xs) (y ∷ ys) p q =
+    let heads : y ≡ x = cc (p.1) in
+    let rest = prefix_both xs ys (p.0, cc (p.1)) (q.0, cc (q.1)) in
+    cc (heads, rest)
+
 pub prefix_length : {A : Type 0} (xs ys : List A) → IsPrefix xs ys → length xs ≤ length ys
 prefix_length xs ys p = omega (arith, sym (ap length p.1) ∙ length-append xs p.0)
 

@@ -5,7 +5,7 @@ use mathlib.Core.List.{IsPrefix}
 use prog.Atomic.{either}
 use Rattle.logbook.specs.Pages.{Cell, cell, Nib, keeps, gives, adds, no_nib, may_write, step, Moves}
 use Rattle.node_shared.specs.declared.history.rule.Line.{Line}
-use Rattle.node_shared.specs.inside.Lines.{Tag, of_server, is_of, turn_of, server_of, Without, IsHome, IsKept, Since, IsExact, IsNew, MayTake, MayAdd, MakesPen, AddsLine, Confirms}
+use Rattle.node_shared.specs.inside.Lines.{Tag, of_server, is_of, turn_of, server_of, Without, IsHome, IsKept, IsSpent, Since, IsExact, IsNew, MayTake, MayAdd, MakesPen, AddsLine, Confirms}
 use Rattle.node_shared.proofs.Prefixes.{prefix_trans, prefix_snoc, snoc-same}
 use Rattle.node_shared.proofs.Cells.{home-within, end-away, set-keeps, set-brings, push-keeps, within-set}
 use Rattle.node_shared.proofs.Lines.{since-turn, since-own, idle, without-new}
@@ -43,12 +43,19 @@ makes-moves v e cs log kept pre away =
     let fresh : Without (of_server (length cs)) log = idle cs log kept (of_server (length cs)) (length cs) (end-away cs) [] log refl refl in
     (home-within cs 0 kept.word, kept.word, (adds, [], None, tt, subst (IsKept (set ++ (0, false) ∷ [])) (sym all) kept', inl (refl, refl), (refl, subst (IsNew (length cs)) (sym all) (without-new (length cs) log fresh))))
 
-pub confirms-moves : (v : List Line) (p : Nib) (e : Line) → p.right ≡ may_write → Moves IsKept shown moved 0 (v, (p, None)) stays (Confirms (step 0 0 0 e) (v, (p, None)))
-confirms-moves v p e right cs log kept pre away =
+-- a pen that has added a line is at home
+pub spent-home : (v : List Line) (k : ℕ) → IsSpent k v → (cs : List Cell) (log : List Line) → IsKept cs log → IsPrefix v log → IsHome cs k
+spent-home v k spent cs log kept pre = kept.spent spent.0 spent.1 spent.2 k (prefix_trans (spent.1 ++ spent.2 ∷ []) v log spent.3 pre) spent.4 spent.5
+
+-- the word k may be any that is at home
+pub confirms-moves : (k : ℕ) (v : List Line) (p : Nib) (e : Line) → ((cs : List Cell) (log : List Line) → IsKept cs log → IsPrefix v log → IsHome cs k) → p.right ≡ may_write
+    → Moves IsKept shown moved k (v, (p, None)) stays (Confirms (step k 0 0 e) (v, (p, None)))
+confirms-moves k v p e homes right cs log kept pre away =
     let all : log ++ [] ≡ log = append-nil log in
-    let set = slice_set cs 0 (stays (cell cs 0).0, true) in
-    let kept' : IsKept set log = keep-cells cs set log (set-keeps cs 0 (stays (cell cs 0).0)) kept in
-    (home-within cs 0 kept.word, kept.word, (keeps, [], None, tt, subst (IsKept set) (sym all) kept', inl (refl, refl), (refl, subst (IsExact v p.key) (sym all) (exact cs log v p.key kept pre (away right).1))))
+    let home : IsHome cs k = homes cs log kept pre in
+    let set = slice_set cs k (stays (cell cs k).0, true) in
+    let kept' : IsKept set log = keep-cells cs set log (set-keeps cs k (stays (cell cs k).0)) kept in
+    (home-within cs k home, home, (keeps, [], None, tt, subst (IsKept set) (sym all) kept', inl (refl, refl), (refl, subst (IsExact v p.key) (sym all) (exact cs log v p.key kept pre (away right).1))))
 
 module _ (v : List Line) (p : Nib) (l : Line) (right : p.right ≡ may_write) (may : MayAdd v p.key l) (cs : List Cell) (log : List Line) (kept : IsKept cs log) (pre : IsPrefix v log) (gone : (cell cs p.key).1 ≡ false) where
   -- whose turn it was is the pen

@@ -49,7 +49,7 @@ module _ (B : RattleType) (b : HistoryId.Ghosts B.Denot) (r : IsSend B) where
 
   pub writer_send : IsSend (HistoryWriter.the_row B b)
   writer_send =
-      view_send (writer.the_row B b) _ _ _ _ (recorded_send (writer.the_field B b).row _ _ (writer.the_type B b).to_one (struct_send (shape (writer.the_type B b)) (search sendable, (search (seen.the_send, sendable) depth 60 fits 20000, (pen.the_send, (search sendable, tt))))))
+      view_send (writer.the_row B b) _ _ _ _ (recorded_send (writer.the_field B b).row _ _ (writer.the_type B b).to_one (struct_send (shape (writer.the_type B b)) (search sendable, (search (seen.the_send, sendable) depth 60 fits 20000, (pen.the_send, (search (word.the_send, sendable) depth 60 fits 20000, (search sendable, tt)))))))
 
   pub caller_send : IsSend (Caller.the_row B b)
   caller_send =

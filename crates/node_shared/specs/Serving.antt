@@ -73,16 +73,27 @@ pub record CallerState : Type 0 where
   pub own : RecordState
   pub seen : List Entry
 
--- The caller saw the step with this reply at the end of a run of a node with these limits. The entries before it begin
--- with all that the caller saw, and those of its process among them are exactly its record. Its record has the step too.
-pub record Continues (limits : Limits) (old : CallerState) (s : Step) (r : Reply) (new : CallerState) : Type 0 where
-  pub own : new.own ≡ with_entry old.own s r
+-- The caller saw more: all that it saw before, perhaps with further entries. Those of its process are exactly its record.
+pub record SeesMore (old new : CallerState) : Type 0 where
+  pub own : new.own ≡ old.own
+  pub saw : IsPrefix old.seen new.seen
+  pub exact : entries_of old.own.pid new.seen ≡ old.own.entries
+
+-- The caller added these entries, one right after another, at the end of a run of a node with these limits. The entries
+-- before them begin with all that the caller saw, and those of its process among them are exactly its record. Its
+-- record has the added entries too.
+pub record Continues (limits : Limits) (old : CallerState) (added : List Entry) (new : CallerState) : Type 0 where
+  pub own : new.own ≡ record { pid = old.own.pid; entries = old.own.entries ++ added }
   pub before : List Entry
   pub saw : IsPrefix old.seen before
   pub exact : entries_of old.own.pid before ≡ old.own.entries
-  pub last : new.seen ≡ before ++ entry s r ∷ []
+  pub last : new.seen ≡ before ++ added
   pub state : State
   pub run : IsRun limits new.seen state
+
+-- the same of one step with its reply
+abbrev pub ContinuesBy : Limits → CallerState → Step → Reply → CallerState → Type 0
+ContinuesBy limits old s r new = Continues limits old (entry s r ∷ []) new
 
 -- a process that was not enrolled yet, and saw nothing
 abbrev pub no_caller : ℕ → CallerState
@@ -90,4 +101,4 @@ no_caller p = record { own = record { pid = p; entries = [] }; seen = [] }
 
 -- a new caller of p: it saw its enrolment, after entries of other processes
 abbrev pub IsEnrolledCaller : Limits → ℕ → CallerState → Type 0
-IsEnrolledCaller limits p caller = Continues limits (no_caller p) (Enrol p) (Value (Pid p)) caller
+IsEnrolledCaller limits p caller = ContinuesBy limits (no_caller p) (Enrol p) (Value (Pid p)) caller

@@ -1,11 +1,12 @@
 //! A caller of a server: it makes the calls of one process. Its tokens know, in proofs only, what the caller saw of the
 //! server's history, and which entries it added.
-ghost use Rattle.std.specs.Prelude.{◌≡◌, ◌≤◌, true, [], length, vec_capacity, IfOk, IfErr, OnErr};
+ghost use Rattle.std.specs.Prelude.{◌≡◌, ◌≤◌, true, [], length, vec_capacity, IfOk, IfErr, OnOk, OnErr};
 ghost use mathlib.Core.List.{IsPrefix};
 ghost use Rattle.node_core.specs.declared.step.Step.TheVariants.{End, Ask};
 ghost use Rattle.node_core.specs.Woven.{is_step_of};
 ghost use Rattle.node_shared.specs.Calling.{HasAsked};
-ghost use Rattle.node_shared.specs.Serving.{Continues, entry_count};
+ghost use Rattle.node_shared.specs.Journal.{entries_of};
+ghost use Rattle.node_shared.specs.Serving.{Continues, ContinuesBy, ServesStep, entry_count};
 ghost use Rattle.node_shared.specs.inside.Lines.{head_of};
 
 mod looks;
@@ -35,6 +36,8 @@ pub struct Caller<B: HistoryId> {
 
 impl<B: HistoryId> Model for Caller<B> {
     ghost use Rattle.std.specs.Prelude.{◌≡◌};
+    ghost use mathlib.Core.List.{IsPrefix};
+    ghost use Rattle.node_shared.specs.Journal.{entries_of};
     ghost use Rattle.node_shared.specs.Serving.{CallerState, entry_count};
     ghost use Rattle.node_shared.specs.inside.Codes.{caller_code};
 
@@ -44,13 +47,15 @@ impl<B: HistoryId> Model for Caller<B> {
 
     ghost view = { λ c. record { own = c.writer; seen = c.seen } };
 
-    ghost invariant = { λ c. c.count ≡ entry_count c.seen };
+    ghost invariant = { λ c. (c.count ≡ entry_count c.seen)
+        × IsPrefix c.writer.entries (entries_of c.writer.pid c.seen) };
 }
 
 impl<B: HistoryId> Caller<B> {
-    /// Makes the caller of a process, which saw `count` entries.
+    /// Makes the caller of a process, which saw `count` entries, its own among them.
     pub(crate) fn new(writer: HistoryWriter<B>, seen: SeenHistory<B>, count: u64) -> Self
-        requires { count ≡ entry_count seen }
+        requires count { count ≡ entry_count seen }
+        requires own { IsPrefix writer.entries (entries_of writer.pid seen) }
         ensures { result ≡ record { own = writer; seen = seen } }
     {
         Caller {
@@ -95,7 +100,7 @@ impl<B: HistoryId> Caller<B> {
         server: &Server<B, H>,
         call: Call,
     ) -> Result<Reply, AllocError>
-        ensures ok { IfOk result (λ r. Continues B.limits self.old (Ask self.old.own.pid call) r self.new) }
+        ensures ok { IfOk result (λ r. ContinuesBy B.limits self.old (Ask self.old.own.pid call) r self.new) }
         ensures err { OnErr result (self.new ≡ self.old) }
     {
         let event = Step::Ask(self.pid(), call);
@@ -141,6 +146,7 @@ impl<B: HistoryId> Caller<B> {
         ensures all { IfOk result (λ replies. length replies.items ≡ length calls.items) }
         ensures err { IfErr result (λ fault. HasAsked B.limits self.old calls.items fault.replies self.new) }
     {
+        self.look_alone(word, served);
         let mut replies = Vec::new(*calls.allocator());
         if replies.reserve(calls.len()).is_err() {
             return Err(fault_after(replies));
@@ -155,7 +161,7 @@ impl<B: HistoryId> Caller<B> {
     }
 
     /// Makes the calls in order, until one runs out of memory: then the fault has the replies so far. `replies` is
-    /// passed empty, with room for all replies, and is returned with them.
+    /// passed empty, with room for all replies, and is returned with them. The caller has seen the whole history.
     fn ask_each<H: KeyHash + Copy + Drop>(
         &mut self,
         word: &HistoryWord,
@@ -164,6 +170,8 @@ impl<B: HistoryId> Caller<B> {
         mut replies: Vec<Reply>,
     ) -> Result<Vec<Reply>, RunFault>
         requires word { word.now ≡ head_of B.book }
+        requires all { self.old.seen ≡ served.old.history }
+        requires more { Continues B.limits self.old [] self.old }
         requires none { replies.items ≡ [] }
         requires room { length calls.items ≤ vec_capacity replies }
         ensures ok { IfOk result (λ replies. HasAsked B.limits self.old calls.items replies.items self.new) }
@@ -187,7 +195,7 @@ impl<B: HistoryId> Caller<B> {
         rt: &R,
         server: &Server<B, H>,
     ) -> Result<Reply, AllocError>
-        ensures ok { IfOk result (λ r. Continues B.limits self.old (End self.old.own.pid) r self.new) }
+        ensures ok { IfOk result (λ r. ContinuesBy B.limits self.old (End self.old.own.pid) r self.new) }
         ensures err { OnErr result (self.new ≡ self.old) }
     {
         let event = Step::End(self.pid());
@@ -202,7 +210,7 @@ impl<B: HistoryId> Caller<B> {
         event: Step,
     ) -> Result<Reply, AllocError>
         requires { is_step_of self.old.own.pid event ≡ true }
-        ensures ok { IfOk result (λ r. Continues B.limits self.old event r self.new) }
+        ensures ok { IfOk result (λ r. ContinuesBy B.limits self.old event r self.new) }
         ensures err { OnErr result (self.new ≡ self.old) }
     {
         match &server.lock.kind {
@@ -220,7 +228,9 @@ impl<B: HistoryId> Caller<B> {
     ) -> Result<Reply, AllocError>
         requires word { word.now ≡ head_of B.book }
         requires own { is_step_of self.old.own.pid event ≡ true }
-        ensures ok { IfOk result (λ r. Continues B.limits self.old event r self.new) }
+        ensures ok { IfOk result (λ r. ContinuesBy B.limits self.old event r self.new) }
+        ensures step { IfOk result (λ r. ServesStep served.old event r served.new) }
+        ensures all { OnOk result (self.new.seen ≡ served.new.history) }
         ensures err { OnErr result (self.new ≡ self.old) }
     {
         let reply = served.step(word, &mut self.writer, &mut self.seen, event)?;

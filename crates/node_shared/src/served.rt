@@ -128,6 +128,7 @@ impl<B: HistoryId, H: KeyHash + Copy + Drop> ServedNode<B, H> {
         ensures same { self.new ≡ self.old }
         ensures seen { seen.new ≡ self.old.history }
         ensures before { IsPrefix seen.old self.old.history }
+        ensures run { IsRun B.limits self.old.history self.old.state }
     {
         self.owner.show(word, seen);
     }

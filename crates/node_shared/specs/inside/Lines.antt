@@ -6,9 +6,13 @@ use Rattle.node_shared.specs.declared.entry.Entry.{Entry}
 use Rattle.node_shared.specs.declared.history.rule.Line.{Line}
 use Rattle.node_shared.specs.Journal.{is_entry_of, entries_of}
 
+-- the name of a word of a book
+abbrev pub word_of : Book → ℕ → Named
+word_of b k = record { tracked = true; key = k; book = b }
+
 -- the name of the word that all servers of a book share
 abbrev pub head_of : Book → Named
-head_of b = record { tracked = true; key = 0; book = b }
+head_of b = word_of b 0
 
 -- a line that says nothing
 abbrev pub no_line : Line
@@ -72,6 +76,11 @@ IsHome cells k = (cell cells k).1 ≡ true
 pub record IsKept (cells : List Cell) (log : List Line) : Type 0 where
   pub word : IsHome cells 0
   pub spent : (t : Tag) (v : List Line) (l : Line) (k : ℕ) → IsPrefix (v ++ l ∷ []) log → is_of t l ≡ true → turn_of t v ≡ Some k → IsHome cells k
+
+-- the pen with this key has added a line, so its word is at home
+abbrev pub IsSpent : ℕ → List Line → Type 0
+IsSpent k log =
+    (t : Tag) × (v : List Line) × (l : Line) × IsPrefix (v ++ l ∷ []) log × (is_of t l ≡ true) × (turn_of t v ≡ Some k)
 
 -- the log begins with m, and has no line with the tag after it
 abbrev pub Since : Tag → List Line → List Line → Type 0

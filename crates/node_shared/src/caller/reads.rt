@@ -3,9 +3,8 @@
 // `look` may fail to show that the history has all that the caller saw. Then a read takes the lock as a writer, and
 // `look_alone` shows it. This never happens while a history has fewer entries than the greatest `u64`.
 ghost use Rattle.std.specs.Prelude.{◌≡◌, false, if◌then◌else◌, Some, None, IfOk, IfSome, IfNone, OnErr};
-ghost use mathlib.Core.List.{IsPrefix};
 ghost use Rattle.node_core.specs.declared.step.Reply.TheVariants.{NoProcess};
-ghost use Rattle.node_shared.specs.Serving.{AnswersRead, AnswersReads};
+ghost use Rattle.node_shared.specs.Serving.{AnswersRead, AnswersReads, SeesMore};
 ghost use Rattle.node_shared.specs.inside.Lines.{head_of};
 
 use super::Caller;
@@ -29,8 +28,7 @@ impl<B: HistoryId> Caller<B> {
         call: &Call,
     ) -> Result<Option<Reply>, AllocError>
         ensures ok { IfOk result (AnswersRead B.limits self.new.seen self.old.own.pid call.now) }
-        ensures own { self.new.own ≡ self.old.own }
-        ensures seen { IsPrefix self.old.seen self.new.seen }
+        ensures more { SeesMore self.old self.new }
     {
         match &server.lock.kind {
             AnyLock::Single(lock) => {
@@ -58,8 +56,8 @@ impl<B: HistoryId> Caller<B> {
         call: &Call,
     ) -> Option<Result<Option<Reply>, AllocError>>
         ensures ok { IfSome result (λ r. IfOk r (AnswersRead B.limits self.new.seen self.old.own.pid call.now)) }
-        ensures own { self.new.own ≡ self.old.own }
-        ensures seen { IsPrefix self.old.seen self.new.seen }
+        ensures more { IfSome result (λ _. SeesMore self.old self.new) }
+        ensures unseen { IfNone result (self.new ≡ self.old) }
     {
         if !self.look(served) {
             return None;
@@ -76,8 +74,7 @@ impl<B: HistoryId> Caller<B> {
     ) -> Result<Option<Reply>, AllocError>
         requires { word.now ≡ head_of B.book }
         ensures ok { IfOk result (AnswersRead B.limits self.new.seen self.old.own.pid call.now) }
-        ensures own { self.new.own ≡ self.old.own }
-        ensures seen { IsPrefix self.old.seen self.new.seen }
+        ensures more { SeesMore self.old self.new }
     {
         self.look_alone(word, served);
         served.read(self.pid(), call)
@@ -94,8 +91,7 @@ impl<B: HistoryId> Caller<B> {
     ) -> Result<bool, AllocError>
         ensures ok { IfOk result (λ replied. AnswersRead B.limits self.new.seen self.old.own.pid call.now
             (if replied then Some reply.new else None)) }
-        ensures own { self.new.own ≡ self.old.own }
-        ensures seen { IsPrefix self.old.seen self.new.seen }
+        ensures more { SeesMore self.old self.new }
         ensures reply { IfOk result (λ replied. replied ≡ false → reply.new ≡ reply.old) }
         ensures err { OnErr result (reply.new ≡ NoProcess) }
     {
@@ -127,8 +123,8 @@ impl<B: HistoryId> Caller<B> {
     ) -> Option<Result<bool, AllocError>>
         ensures ok { IfSome result (λ r. IfOk r (λ replied.
             AnswersRead B.limits self.new.seen self.old.own.pid call.now (if replied then Some reply.new else None))) }
-        ensures own { self.new.own ≡ self.old.own }
-        ensures seen { IsPrefix self.old.seen self.new.seen }
+        ensures more { IfSome result (λ _. SeesMore self.old self.new) }
+        ensures unseen { IfNone result (self.new ≡ self.old) }
         ensures reply { IfSome result (λ r. IfOk r (λ replied. replied ≡ false → reply.new ≡ reply.old)) }
         ensures err { IfSome result (λ r. OnErr r (reply.new ≡ NoProcess)) }
         ensures none { IfNone result (reply.new ≡ reply.old) }
@@ -150,8 +146,7 @@ impl<B: HistoryId> Caller<B> {
         requires { word.now ≡ head_of B.book }
         ensures ok { IfOk result (λ replied. AnswersRead B.limits self.new.seen self.old.own.pid call.now
             (if replied then Some reply.new else None)) }
-        ensures own { self.new.own ≡ self.old.own }
-        ensures seen { IsPrefix self.old.seen self.new.seen }
+        ensures more { SeesMore self.old self.new }
         ensures reply { IfOk result (λ replied. replied ≡ false → reply.new ≡ reply.old) }
         ensures err { OnErr result (reply.new ≡ NoProcess) }
     {
@@ -170,8 +165,7 @@ impl<B: HistoryId> Caller<B> {
     ) -> Result<Vec<Option<Reply>>, AllocError>
         ensures ok { IfOk result (λ replies.
             AnswersReads B.limits self.new.seen self.old.own.pid calls.now replies.items) }
-        ensures own { self.new.own ≡ self.old.own }
-        ensures seen { IsPrefix self.old.seen self.new.seen }
+        ensures more { SeesMore self.old self.new }
     {
         match &server.lock.kind {
             AnyLock::Single(lock) => {
@@ -201,8 +195,8 @@ impl<B: HistoryId> Caller<B> {
     ) -> Option<Result<Vec<Option<Reply>>, AllocError>>
         ensures ok { IfSome result (λ r. IfOk r (λ replies.
             AnswersReads B.limits self.new.seen self.old.own.pid calls.now replies.items)) }
-        ensures own { self.new.own ≡ self.old.own }
-        ensures seen { IsPrefix self.old.seen self.new.seen }
+        ensures more { IfSome result (λ _. SeesMore self.old self.new) }
+        ensures unseen { IfNone result (self.new ≡ self.old) }
     {
         if !self.look(served) {
             return None;
@@ -221,8 +215,7 @@ impl<B: HistoryId> Caller<B> {
         requires { word.now ≡ head_of B.book }
         ensures ok { IfOk result (λ replies.
             AnswersReads B.limits self.new.seen self.old.own.pid calls.now replies.items) }
-        ensures own { self.new.own ≡ self.old.own }
-        ensures seen { IsPrefix self.old.seen self.new.seen }
+        ensures more { SeesMore self.old self.new }
     {
         self.look_alone(word, served);
         served.read_all(alloc, self.pid(), calls)

@@ -36,7 +36,7 @@ impl NewHistory {
     {
         let (mut seen, mut first, _second) = Seen::open(Start::alone(), 0, 0);
         let word = Word::tracked(0, &mut first);
-        let turn = new_pen(&word, &mut seen);
+        let (turn, _) = new_pen(&word, &mut seen);
         Ok(NewHistory { word, seen, turn })
     }
 
@@ -118,8 +118,8 @@ impl<B: HistoryId> HistoryOwner<B> {
         let mut now = self.seen.again();
         now.learn(&writer.mine);
         now.learn(&seen.seen);
-        let next = new_pen(word, &mut now);
-        let own = new_pen(word, &mut now);
+        let (next, _) = new_pen(word, &mut now);
+        let (own, _) = new_pen(word, &mut now);
         let to = Turn {
             next: mem::replace(&mut writer.turn, now.no_pen()),
         };
@@ -158,15 +158,21 @@ impl<B: HistoryId> HistoryOwner<B> {
         ensures same { result.1 ≡ added }
     {
         let mut now = self.seen.again();
-        let next = new_pen(word, &mut now);
-        let own = new_pen(word, &mut now);
+        let (next, _) = new_pen(word, &mut now);
+        let (own, _) = new_pen(word, &mut now);
+        let (opener, home) = new_pen(word, &mut now);
+        let to = Turn { next: opener };
+        // The opener adds the entry. So its word is then at home, and the writer gets it.
         let turn = mem::replace(&mut self.turn, now.no_pen());
+        open_turn::<B>(word, &mut now, &self.seen, turn, &to);
+        let opened = now.again();
+        let Turn { next: turn } = to;
         let line = Added {
             entry: added,
             next,
             own,
         };
-        add_entry::<B>(word, &mut now, &self.seen, &self.seen, turn, &line);
+        add_entry::<B>(word, &mut now, &opened, &opened, turn, &line);
         let Added { entry, next, own } = line;
         self.seen = now.again();
         self.turn = next;
@@ -174,6 +180,7 @@ impl<B: HistoryId> HistoryOwner<B> {
             pid,
             mine: now,
             turn: own,
+            word: home,
             id: PhantomData,
         };
         (writer, entry)
@@ -186,7 +193,7 @@ impl<B: HistoryId> HistoryOwner<B> {
         ensures all { self.new ≡ self.old ++ added ∷ [] }
     {
         let mut now = self.seen.again();
-        let next = new_pen(word, &mut now);
+        let (next, _) = new_pen(word, &mut now);
         let turn = mem::replace(&mut self.turn, now.no_pen());
         let line = Added {
             entry: added,

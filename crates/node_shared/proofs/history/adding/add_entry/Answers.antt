@@ -2,7 +2,7 @@ use Rattle.std.proofs.Common.{◌≡◌, ℕ, Some, refl, sym, ◌∙◌, ap, su
 use Rattle.node_shared.specs.declared.history.rule.Line.{Line}
 use Rattle.node_shared.specs.inside.Lines.{IsAdded}
 use Rattle.node_shared.proofs.Relay.{adds-moves}
-use Rattle.node_shared.proofs.Entering.{may-add, added-all, added-next, added-own, added-before, added-exact}
+use Rattle.node_shared.proofs.Entering.{may-add, added-all, added-next, added-spent, added-own, added-before, added-exact}
 use Rattle.node_shared.proofs.history.adding.add_entry.Goals as goal
 
 pub compare_exchange-requires : goal.compare_exchange-requires
@@ -43,6 +43,17 @@ returns-clause-next g c =
     let new = c.compare_exchange.new.seen.log in
     let did : IsAdded v key line new = subst (λ (a : Line). IsAdded v key a new) c.plain-offer.ensures.1 c.compare_exchange.ensures.7 in
     added-next r key s v new line refl c.requires.early c.requires.turn did
+
+pub returns-clause-spent : goal.returns-clause-spent
+returns-clause-spent g c =
+    let r = g.B.HistoryId.root in
+    let line : Line = record { entry = Some c.args.added.now.entry; chain = r; next = c.args.added.now.next.nib.key; own = c.args.added.now.own.nib.key } in
+    let s = c.args.server.now.log in
+    let v = c.args.seen.now.log in
+    let key = c.args.turn.nib.key in
+    let new = c.compare_exchange.new.seen.log in
+    let did : IsAdded v key line new = subst (λ (a : Line). IsAdded v key a new) c.plain-offer.ensures.1 c.compare_exchange.ensures.7 in
+    added-spent r key s v new line refl c.requires.early c.requires.turn did
 
 pub returns-clause-own : goal.returns-clause-own
 returns-clause-own g c =

@@ -12,7 +12,7 @@ compare_exchange-requires g c =
       c.requires.books.0 ∙ sym (ap (λ w. w.book) h),
       c.requires.books.1 ∙ sym (ap (λ w. w.book) h),
       offer.0,
-      rw (ap (λ w. w.key) h, offer.3) (confirms-moves c.args.seen.now.log c.args.turn.now.nib no_line c.requires.right),
+      rw (ap (λ w. w.key) h, offer.3) (confirms-moves 0 c.args.seen.now.log c.args.turn.now.nib no_line (λ cs log kept pre. kept.word) c.requires.right),
     )
 
 pub returns-clause-same : goal.returns-clause-same
