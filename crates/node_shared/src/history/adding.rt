@@ -110,7 +110,7 @@ pub(super) fn confirm<B: HistoryId>(
 }
 
 /// Adds nothing. The pen of a process, whose turn it is, shows that the process has no entry more. The word may be any
-/// that is at home: it tells the same as the one that all servers share.
+/// that is at home: such a step shows the same on each word of a book.
 pub(super) fn confirm_own<B: HistoryId>(
     word: &HistoryWord,
     pid: u32,
