@@ -29,7 +29,7 @@ pub(crate) fn time_server<R: Alloc<A = Global> + Clock + Threads + Wait + Sync>(
         processes: caller_count,
         ..Limits::usual()
     };
-    let history = NewHistory::new(rt.alloc())?;
+    let history = NewHistory::new();
     time_server_within::<Brand, R>(rt, history, limits, plan)
 }
 

@@ -1,5 +1,5 @@
 //! The owner of a history, which knows all of it and adds entries.
-ghost use Rattle.std.specs.Prelude.{◌≡◌, ℕ, true, false, [], ◌∷◌, ◌++◌, Some, IfOk};
+ghost use Rattle.std.specs.Prelude.{◌≡◌, ℕ, true, false, [], ◌∷◌, ◌++◌, Some};
 ghost use mathlib.Core.List.{IsPrefix};
 ghost use Rattle.logbook.specs.Pages.{may_write};
 ghost use Rattle.node_shared.specs.Journal.{is_entry_of, entries_of};
@@ -11,7 +11,6 @@ use crate::history::rule::{Added, Turn};
 use crate::history::writer::HistoryWriter;
 use crate::history::{HistoryId, HistoryWord, SeenHistory, Token};
 use logbook::{Pen, Seen, Start, Word};
-use std::alloc::{AllocError, Global};
 use std::marker::{Model, PhantomData};
 use std::mem;
 
@@ -31,13 +30,13 @@ pub struct NewHistory {
 
 impl NewHistory {
     /// Creates an empty history. It takes no memory.
-    pub fn new(_alloc: Global) -> Result<NewHistory, AllocError>
-        ensures { IfOk result (λ o. history_of o.turn.nib.key o.seen.log ≡ []) }
+    pub fn new() -> NewHistory
+        ensures { history_of result.turn.nib.key result.seen.log ≡ [] }
     {
         let (mut seen, mut first, _second) = Seen::open(Start::alone(), 0, 0);
         let word = Word::tracked(0, &mut first);
         let (turn, _) = new_pen(&word, &mut seen);
-        Ok(NewHistory { word, seen, turn })
+        NewHistory { word, seen, turn }
     }
 
     /// Gives the history the name `B`, and returns its word and its owner.

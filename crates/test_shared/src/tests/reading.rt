@@ -197,7 +197,7 @@ fn new_server_replies_to_reads<B: HistoryId, R: Wait>(
 #[test]
 fn a_caller_reads_what_it_inserted(rt: HostRuntime) -> Result<(), Fail> {
     for locking in [Locking::Single, Locking::Sharded] {
-        let history = NewHistory::new(rt.alloc())?;
+        let history = NewHistory::new();
         let is_right = new_server_replies_to_reads::<Brand, _>(
             &rt,
             rt.alloc(),

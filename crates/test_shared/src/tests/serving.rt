@@ -135,7 +135,7 @@ fn new_server_serves_one_caller<B: HistoryId, R: Wait>(
 
 #[test]
 fn a_server_runs_calls_and_pending_steps(rt: HostRuntime) -> Result<(), Fail> {
-    let history = NewHistory::new(rt.alloc())?;
+    let history = NewHistory::new();
     let is_right = new_server_serves_one_caller::<Brand, _>(&rt, rt.alloc(), history, limits(1));
     assert!(rt; is_right.ok_or("no memory, or a refused call")?);
     Ok(())
@@ -245,7 +245,7 @@ fn objects_of_new_server<B: HistoryId + Send + Sync, R: Threads + Wait + Sync>(
 
 #[test]
 fn two_callers_insert_at_once(rt: HostRuntime) -> Result<(), Fail> {
-    let history = NewHistory::new(rt.alloc())?;
+    let history = NewHistory::new();
     let objects = objects_of_new_server::<Brand, _>(&rt, rt.alloc(), history, limits(2));
     // Twice `INSERTIONS`.
     assert_eq!(rt; objects, Some(100));

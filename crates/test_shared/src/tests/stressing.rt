@@ -196,7 +196,7 @@ fn teams_are_right<B: HistoryId + Send + Sync, R: Threads + Wait + Sync>(
 /// replies.
 fn two_rounds_are_right<R: Threads + Wait + Sync>(rt: &R, alloc: Global) -> Option<bool> {
     for locking in [Locking::Single, Locking::Sharded] {
-        let history = NewHistory::new(alloc).ok()?;
+        let history = NewHistory::new();
         if !new_server_is_right::<Brand, R>(rt, alloc, locking, history, limits(46))? {
             return Some(false);
         }

@@ -68,7 +68,7 @@ fn new_server_serves_two_callers<B: HistoryId, R: Wait>(
 
 #[test]
 fn a_caller_reads_what_another_one_told_it(rt: HostRuntime) -> Result<(), Fail> {
-    let history = NewHistory::new(rt.alloc())?;
+    let history = NewHistory::new();
     let is_right = new_server_serves_two_callers::<Brand, _>(&rt, rt.alloc(), history, limits(2));
     assert!(rt; is_right.ok_or("no memory, or a refused enrolment")?);
     Ok(())
