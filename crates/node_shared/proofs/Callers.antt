@@ -1,14 +1,16 @@
 -- What a caller saw, after a step and after it learns.
-use Rattle.std.proofs.Common.{◌≡◌, ◌≢◌, ◌≤◌, ◌^◌, ◌-◌, List, [], ◌∷◌, ◌++◌, length, refl, arith, ap, subst, sym, ◌∙◌, append_assoc, append-nil}
+use Rattle.std.proofs.Common.{◌≡◌, ◌≢◌, ◌≤◌, ◌^◌, ◌-◌, Bool, true, if◌then◌else◌, List, [], ◌∷◌, ◌++◌, filter, length, refl, arith, ap, subst, sym, ◌∙◌, append_assoc, append-nil}
 use Rattle.std.specs.Prelude.{min}
 use mathlib.Core.List.{IsPrefix}
 use Rattle.std.proofs.lemmas.Grind.{common_steps}
+use Rattle.std.proofs.lemmas.List.Elements.{filter-append}
 use Rattle.node_core.specs.declared.limits.Limits.{Limits}
 use Rattle.node_core.specs.declared.step.Step.{Step}
 use Rattle.node_core.specs.declared.step.Reply.{Reply}
 use Rattle.node_core.specs.State.{State}
+use Rattle.node_core.specs.Woven.{is_step_of}
 use Rattle.node_shared.specs.declared.entry.Entry.{Entry}
-use Rattle.node_shared.specs.Journal.{entry, IsRun, entries_of}
+use Rattle.node_shared.specs.Journal.{entry, IsRun, is_entry_of, entries_of}
 use Rattle.node_shared.specs.Records.{RecordState, with_entry}
 use Rattle.node_shared.specs.Serving.{ServedState, ServesStep, CallerState, SeesMore, Continues, ContinuesBy, entry_count}
 use Rattle.node_shared.proofs.Prefixes.{prefix_self, prefix_trans, prefix_length}
@@ -19,6 +21,17 @@ pub continues : (limits : Limits) (old new : CallerState) (served now : ServedSt
     → ContinuesBy limits old s r new
 continues limits old new served now s r does run own seen saw exact =
     record { own = own; before = served.history; saw = saw; exact = exact; last = seen ∙ does.1; state = now.state; run = subst (λ (es : List Entry). IsRun limits es now.state) (sym seen) run }
+
+-- after its step the caller saw all of its own entries
+pub own-last : (own now : RecordState) (old seen : List Entry) (s : Step) (r : Reply) → is_step_of own.pid s ≡ true → entries_of own.pid old ≡ own.entries → now ≡ with_entry own s r
+    → seen ≡ old ++ entry s r ∷ [] → IsPrefix now.entries (entries_of now.pid seen)
+own-last own now old seen s r is exact made all =
+    let p = own.pid in
+    let e : Entry = entry s r in
+    let one : filter (is_entry_of p) (e ∷ []) ≡ e ∷ [] = ap (λ (b : Bool). if b then e ∷ [] else []) is in
+    let last : entries_of p (old ++ e ∷ []) ≡ own.entries ++ e ∷ [] = filter-append (is_entry_of p) old (e ∷ []) ∙ (λ i. exact i ++ one i) in
+    let same : entries_of now.pid seen ≡ now.entries = ap (λ (o : RecordState). entries_of o.pid seen) made ∙ (ap (entries_of p) all ∙ (last ∙ ap (λ (o : RecordState). o.entries) (sym made))) in
+    ([], append-nil now.entries ∙ sym same)
 
 -- a caller that saw the whole history, before it adds an entry
 pub continues-none : (limits : Limits) (c : CallerState) (state : State) → IsRun limits c.seen state → entries_of c.own.pid c.seen ≡ c.own.entries → Continues limits c [] c

@@ -55,11 +55,11 @@ enrol-fresh old new p r granted h = by (is_some (process_at old.world.processes 
 
 last-known : (p : ℕ) (es : Processes) (own : Process) → is_some (process_at (es ++ (p, own) ∷ []) p) ≡ true
 last-known p [] own = let here : (p == p) ≡ true = grind (arith, nat_tests) in ap (λ (b : Bool). is_some (cond b (Some own) None)) here
-last-known p (e ∷ es) own = by (p == e.0)
+last-known p (e ∷ es) own = by (p == e.0) (last-known p es own)
   where
-    by : (b : Bool) → is_some (cond b (Some e.1) (process_at (es ++ (p, own) ∷ []) p)) ≡ true
-    by true = refl
-    by false = last-known p es own
+    by : (b : Bool) → is_some (process_at (es ++ (p, own) ∷ []) p) ≡ true → is_some (cond b (Some e.1) (process_at (es ++ (p, own) ∷ []) p)) ≡ true
+    by true rest = refl
+    by false rest = rest
 
 -- and is known afterwards
 pub enrol-known : (old new : State) (p : ℕ) (r : Reply) → is_value r ≡ true → step old (Enrol p) r new → is_some (process_at new.world.processes p) ≡ true

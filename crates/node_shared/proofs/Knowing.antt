@@ -29,7 +29,7 @@ was-false true b stays now = absurd (true≢false (sym (stays refl) ∙ now))
 was-false false b stays now = refl
 
 no-entry : (p : ℕ) (e : Entry) (b : Bool) → is_entry_of p e ≡ b → b ≡ false → filter (is_entry_of p) (e ∷ []) ≡ []
-no-entry p e b is no = ap (λ (c : Bool). if c then e ∷ [] else []) (is ∙ no)
+no-entry p e b is off = ap (λ (c : Bool). if c then e ∷ [] else []) (is ∙ off)
 
 module _ (h : List Entry) (old new : State) (s : Step) (r : Reply) (was : AreKnown h old) (does : TakesStep old s r new) where
   stays : (p : ℕ) → is_some (process_at old.world.processes p) ≡ true → is_some (process_at new.world.processes p) ≡ true

@@ -1,5 +1,5 @@
 //! The owner of a history, which knows all of it and adds entries.
-ghost use Rattle.std.specs.Prelude.{◌≡◌, ℕ, true, false, [], ◌∷◌, ◌++◌, Some};
+ghost use Rattle.std.specs.Prelude.{◌≡◌, ℕ, true, false, [], ◌∷◌, ◌++◌, length, Some};
 ghost use mathlib.Core.List.{IsPrefix};
 ghost use Rattle.logbook.specs.Pages.{may_write};
 ghost use Rattle.node_shared.specs.Journal.{is_entry_of, entries_of};
@@ -25,7 +25,7 @@ pub struct NewHistory {
     ghost pen_is: { turn.book ≡ seen.book },
     ghost may: { turn.nib.right ≡ may_write },
     ghost first: { turn_of (of_server turn.nib.key) seen.log ≡ Some turn.nib.key },
-    ghost none: { history_of turn.nib.key seen.log ≡ [] },
+    ghost none: { length (history_of turn.nib.key seen.log) ≡ 0 },
 }
 
 impl NewHistory {

@@ -1,4 +1,4 @@
-use Rattle.std.proofs.Common.{◌≡◌, ℕ, true, false, [], sym, ap, subst, rules, ◌∙◌}
+use Rattle.std.proofs.Common.{◌≡◌, ℕ, true, false, List, [], sym, ap, subst, rules, ◌∙◌}
 use Rattle.std.specs.Prelude.{is_some}
 use Rattle.ownership.specs.World.{process_at}
 use Rattle.node_core.specs.declared.step.Step.TheVariants.{Enrol}
@@ -6,7 +6,7 @@ use Rattle.node_core.specs.Values.{is_value}
 use Rattle.node_core.specs.Observable.{observable}
 use Rattle.node_core.proofs.calls.Enrolling.{not-enrolled}
 use Rattle.node_shared.specs.declared.entry.Entry.{Entry}
-use Rattle.node_shared.specs.Journal.{entry, entries_of}
+use Rattle.node_shared.specs.Journal.{entry, IsRun, entries_of}
 use Rattle.node_shared.specs.Serving.{ServedState}
 use Rattle.node_shared.proofs.Growing.{run-on, counts-on}
 use Rattle.node_shared.proofs.Lines.{same-number}
@@ -57,6 +57,13 @@ returns-clause-none g c =
     let granted : is_value c.in-Ok.reply ≡ true = search rules in
     let none : entries_of c.args.pid c.self.inside.owner ≡ [] = c.self.invariant.2 c.args.pid (enrol-fresh (observable c.self.inside.node) (observable c.step.new.self) c.args.pid c.in-Ok.reply granted c.in-Ok.ensures.ok) in
     ap (λ (s : ServedState). entries_of c.args.pid s.history) (sym c.self.view_is) ∙ none
+
+pub returns-clause-run : goal.returns-clause-run
+returns-clause-run g c =
+    let did = c.in-Ok.ensures in
+    let limits = g.B.HistoryId.limits in
+    let new = c.step.new.self in
+    subst (λ (es : List Entry). IsRun limits es new) (sym c.enter_first-writer.ensures.all) (run-on limits c.self.inside.node new c.self.inside.owner (Enrol c.args.pid) c.in-Ok.reply c.self.invariant.0 (did.ok, did.buckets))
 
 pub returns-then-not-is_value-clause-refused_run : goal.returns-then-not-is_value-clause-refused_run
 returns-then-not-is_value-clause-refused_run g c =
