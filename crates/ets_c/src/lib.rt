@@ -29,6 +29,7 @@ ghost use Rattle.node_text.specs.Answers.{written_reply};
 ghost use Rattle.node_text.specs.Calls.{HandleOpens, HandleGets, HandleSteps, HandleCalls, HandleCallsExternal, RewritesReply, WritesLastReason};
 
 mod handle;
+pub mod laws;
 mod request_handle;
 mod request_ptr;
 pub mod requests;
