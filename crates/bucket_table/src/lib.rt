@@ -16,8 +16,8 @@
 //! interval if that hint is unknown.
 //!
 //! A doubling moves no node. If it makes intervals half as wide, it keeps the old hints as previous hints, and each
-//! insertion rehashes a few of them. An insertion also halves the intervals if there are more nodes than intervals. So
-//! searches stay short while buckets wait to become ready.
+//! insertion rehashes a few of them. An insertion also halves the intervals if they have more than two nodes on average.
+//! So searches stay short while buckets wait to become ready.
 //!
 //! The directory is written when buckets become ready. The order of the slots is that of their places, and a traversal
 //! reads the places forward. `PlainRows` keeps the slots in insertion order, in one bucket.

@@ -127,7 +127,7 @@ impl Chain {
 
     /// Sets the element at `index`, counted from 0, of the first term, and drops the old element. Changes nothing if
     /// the chain is empty, the term is not a tuple or the tuple has no such element; `value` is then dropped.
-    #[inline]
+    #[inline(always)]
     pub fn set_element(&mut self, index: usize, value: Packed)
         ensures { self.new ≡ with_element_in_first index value self.old }
     {

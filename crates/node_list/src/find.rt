@@ -13,6 +13,7 @@ use ets_term::Term;
 /// Returns the place of the first node from `start` on with this split key whose item has the key `term`, or `None` if
 /// no node has both. Adds the number of nodes that it reads to `steps`. Ends at the first node with a greater split
 /// key.
+#[inline(always)]
 pub fn find_from(
     nodes: CountingReader<'_>,
     start: usize,

@@ -151,6 +151,7 @@ impl NodeList {
     /// Returns the place of the first item from `start` on with this split key and the key `term`, or `None` if no item
     /// has both. Adds the number of nodes that it reads to `steps`. It reads up to the item found or the first node
     /// with a greater split key, or else to the end.
+    #[inline(always)]
     pub fn find(&self, start: At, split_key: u64, term: &Term, steps: &mut Steps) -> Option<At>
         requires { IsPlaceOf start self.now.cells }
         ensures found { result ≡ place_of split_key term.now (from start self.now.cells) }

@@ -146,6 +146,7 @@ impl Object {
 
     /// Sets the element at `index`, counted from 0, and drops the old element. Changes nothing if the term is not a
     /// tuple or has no such element; `value` is then dropped. Takes no memory.
+    #[inline(always)]
     pub fn set_element(&mut self, index: usize, value: Packed)
         ensures { self.new ≡ with_element index value self.old }
     {

@@ -48,14 +48,20 @@ impl Model for Packed {
 }
 
 impl Packed {
-    /// Returns the packed form of a term, or an error if memory is refused.
+    /// Returns the packed form of a term, or an error if memory is refused. An integer of 64 bits calls no other
+    /// function.
+    #[inline(always)]
     pub fn pack(alloc: Global, term: &Term) -> Result<Packed, AllocError>
         ensures { IfOk result (λ p. p ≡ term.now) }
     {
+        if let Term::Int(n) = term {
+            return Packed::integer(alloc, *n);
+        }
         pack(alloc, term)
     }
 
     /// Returns the packed form of an integer, or an error if memory is refused. An integer of 64 bits takes no memory.
+    #[inline(always)]
     pub fn integer(alloc: Global, n: Integer) -> Result<Packed, AllocError>
         ensures made { IfOk result (λ p. p ≡ Int n) }
         ensures small { FitsSigned w64 n → IsOk result }
@@ -88,10 +94,15 @@ impl Packed {
         copy(alloc, self)
     }
 
-    /// Returns whether this term equals a term (`=:=`). Takes no memory.
+    /// Returns whether this term equals a term (`=:=`). Takes no memory. For integers of 64 bits it calls no other
+    /// function.
+    #[inline(always)]
     pub fn is_equal(&self, term: &Term) -> bool
         ensures { result ≡ same self.now term.now }
     {
+        if let (Form::Small(m), Term::Int(n)) = (&self.form, term) {
+            return i128::from(*m) == *n;
+        }
         is_equal(self, term)
     }
 

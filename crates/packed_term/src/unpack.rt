@@ -33,13 +33,17 @@ pub(crate) fn unpack(alloc: Global, packed: &Packed) -> Result<Term, AllocError>
     }
 }
 
-/// Returns the terms of packed ones.
+/// Returns the terms of packed ones. For an integer of 64 bits it calls no other function.
 #[cycle(unpack)]
 pub(crate) fn unpack_all(alloc: Global, parts: &[Packed]) -> Result<Items<Term>, AllocError>
     ensures { IfOk result (λ v. v ≡ parts.now) }
 {
     let mut all = Vec::with_capacity(alloc, parts.len())?;
     for part in parts {
+        if let Form::Small(n) = &part.form {
+            all.push_reserved(Term::Int(i128::from(*n)));
+            continue;
+        }
         all.push_reserved(unpack(alloc, part)?);
     }
     Ok(Items::from_vec(all))

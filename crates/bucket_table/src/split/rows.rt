@@ -159,7 +159,7 @@ impl<H: KeyHash + Copy + Drop> Rows for SplitRows<H> {
         self.index.list.chain_mut(place).replace(0, object)
     }
 
-    #[inline]
+    #[inline(always)]
     fn set_element_at(&mut self, place: Place, index: usize, value: Packed) {
         self.index.list.reveal_invariant();
         self.index.list.chain_mut(place).set_element(index, value);

@@ -35,15 +35,15 @@ impl Hints {
         Ok(())
     }
 
-    /// Doubles the number of intervals if each interval has a current hint and the list has more nodes than intervals.
-    /// If memory is refused, the hints stay as they are, and a later insertion tries again.
+    /// Doubles the number of intervals if each interval has a current hint and half of the list's nodes outnumber the
+    /// intervals. If memory is refused, the hints stay as they are, and a later insertion tries again.
     pub fn double_if_crowded(&mut self, list: &NodeList)
         requires hints { HintsAreSound self.old list.now.cells }
         ensures hints { HintsAreSound self.new list.now.cells }
         ensures interval_bits { self.new.interval_bits ≤ self.old.interval_bits }
     {
         let intervals = self.intervals();
-        let is_crowded = self.current.len() >= intervals && intervals < list.len();
+        let is_crowded = self.current.len() >= intervals && intervals < list.len() / 2;
         if is_crowded && self.interval_bits > MIN_INTERVAL_BITS {
             let _outcome = self.double();
         }

@@ -9,6 +9,9 @@ use super::Hints;
 use crate::split::hint::Hint;
 use node_list::NodeList;
 
+/// The number of previous hints that one insertion rehashes: 32 bytes, half a line of the processor's cache.
+const HINTS_REHASHED_AT_INSERTION: usize = 8;
+
 impl Hints {
     /// Returns the hints of the lower and the upper half of the previous interval `pair`. The halves are the current
     /// intervals `2 * pair` and `2 * pair + 1`. If the first item of the pair is in the upper half, the lower half is
@@ -49,6 +52,17 @@ impl Hints {
         }
     }
 
+    /// Rehashes as many previous hints from `first_pair` on as one insertion does.
+    fn rehash_pairs(&mut self, list: &NodeList, first_pair: usize)
+        requires hints { HintsAreSound self.old list.now.cells }
+        ensures hints { HintsAreSound self.new list.now.cells }
+        ensures interval_bits { self.new.interval_bits ≡ self.old.interval_bits }
+    {
+        for pair in first_pair..first_pair.saturating_add(HINTS_REHASHED_AT_INSERTION) {
+            self.rehash_pair(list, pair);
+        }
+    }
+
     /// Rehashes the previous hint of the interval of a split key.
     pub fn rehash_interval(&mut self, list: &NodeList, split_key: u64)
         requires hints { HintsAreSound self.old list.now.cells }
@@ -59,7 +73,7 @@ impl Hints {
         self.rehash_pair(list, self.interval_of(split_key) / 2);
     }
 
-    /// Rehashes the next three previous hints, and adds unknown current hints if some are missing. If all previous
+    /// Rehashes the next eight previous hints, and adds unknown current hints if some are missing. If all previous
     /// hints were rehashed before this call, frees the memory of some of them instead of rehashing. If none is left,
     /// doubles the number of intervals if the list is crowded.
     fn rehash_step(&mut self, list: &NodeList)
@@ -70,10 +84,8 @@ impl Hints {
         self.extend_generation();
         let rehash_index = self.rehash_index;
         if rehash_index < self.previous.len() {
-            self.rehash_pair(list, rehash_index);
-            self.rehash_pair(list, rehash_index + 1);
-            self.rehash_pair(list, rehash_index + 2);
-            self.rehash_index = rehash_index.saturating_add(3);
+            self.rehash_pairs(list, rehash_index);
+            self.rehash_index = rehash_index.saturating_add(HINTS_REHASHED_AT_INSERTION);
         } else if self.previous.len() > 0 {
             self.previous.shrink();
         } else {
@@ -82,8 +94,8 @@ impl Hints {
     }
 
     /// Does an insertion's part of the work on hints: a part of the rehash, which includes the previous hint of its split
-    /// key, or a doubling of the number of intervals. It does nothing if there are no previous hints and the list has no
-    /// more nodes than current hints.
+    /// key, or a doubling of the number of intervals. It does nothing if there are no previous hints and half of the
+    /// list's nodes are no more than the current hints.
     #[inline(always)]
     pub fn catch_up(&mut self, list: &NodeList, split_key: u64)
         requires hints { HintsAreSound self.old list.now.cells }
@@ -91,7 +103,7 @@ impl Hints {
         ensures interval_bits { self.new.interval_bits ≤ self.old.interval_bits }
         ensures previous { get_or self.new.previous (split_key / 2 ^ self.new.interval_bits / 2) None ≡ None }
     {
-        if self.previous.len() > 0 || self.current.len() < list.len() {
+        if self.previous.len() > 0 || self.current.len() < list.len() / 2 {
             self.rehash_now(list, split_key);
         }
     }

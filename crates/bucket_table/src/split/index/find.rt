@@ -14,6 +14,7 @@ use split_key::{dummy_key, item_key};
 impl<H: KeyHash + Copy + Drop> SplitIndex<H> {
     /// Returns the place of the key's item, if it has one. The search starts at a hint, or without one at a dummy.
     /// `hash` is the key's hash, and `steps` counts the visited nodes.
+    #[inline(always)]
     pub fn find(&self, hash: u32, key: &Term, steps: &mut Steps) -> Option<At>
         requires rows { RowsInvariant H.hash self.now }
         requires hash { hash ≡ H.hash self.now.hasher key.now }
@@ -32,7 +33,9 @@ impl<H: KeyHash + Copy + Drop> SplitIndex<H> {
         }
     }
 
-    /// Does the same search as `find`, but by the previous hint of the key's interval.
+    /// Does the same search as `find`, but by the previous hint of the key's interval. Not inlined, because most
+    /// intervals have a current hint.
+    #[inline(never)]
     fn find_by_previous_hint(&self, hash: u32, key: &Term, steps: &mut Steps) -> Option<At>
         requires rows { RowsInvariant H.hash self.now }
         requires hash { hash ≡ H.hash self.now.hasher key.now }
@@ -53,6 +56,7 @@ impl<H: KeyHash + Copy + Drop> SplitIndex<H> {
 
     /// Does the same search as `find`, but from the nearest known hint below, or else from the dummy of the nearest
     /// ready bucket.
+    #[inline(never)]
     fn find_without_hint(&self, hash: u32, key: &Term, steps: &mut Steps) -> Option<At>
         requires rows { RowsInvariant H.hash self.now }
         requires hash { hash ≡ H.hash self.now.hasher key.now }
@@ -72,6 +76,7 @@ impl<H: KeyHash + Copy + Drop> SplitIndex<H> {
     }
 
     /// Does the same search as `find`, but from the node at `start`.
+    #[inline(always)]
     fn find_from(&self, start: At, hash: u32, key: &Term, steps: &mut Steps) -> Option<At>
         requires hash { hash ≡ H.hash self.now.hasher key.now }
         requires start { CanStartSearch (H.hash self.now.hasher) self.now.directory key.now start
