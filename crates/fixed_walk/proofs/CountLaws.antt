@@ -1,14 +1,16 @@
 -- The number of fixes by process, from entries in any order.
 use Rattle.std.proofs.Common.{◌≡◌, ◌≢◌, ℕ, ◌+◌, ◌-◌, ◌<◌, nat_eq, zero, suc, Bool, true, false, cond, unwrap_or, List, [], ◌∷◌, Option, None, Some, refl, sym, ap, subst, true≢false, ◌∙◌, length, arith, add-one}
-use Rattle.std.specs.Prelude.{nat_lt}
+use Rattle.std.specs.Prelude.{nat_lt, Box}
 use Rattle.std.proofs.lemmas.Bool.Decides.{nat_tests}
 use Rattle.std.specs.Ordering.{nat_cmp, is_eq, eq_by_cmp}
 use Rattle.std.specs.Cmp.{nat_cmp_total}
 use Rattle.std.specs.Map.{lookup}
 use Rattle.std.specs.FinMap.{FinMap, find, entries, get-entries, len-entries, get, len, empty, insert, remove, from_entries, get-from_entries, get-insert, get-remove, get-empty, len-empty, same_map, nat_cmp-IsAntisymmetric, empty_of_len}
 use Rattle.std.specs.List.{slice_get}
+use Rattle.std.specs.Global.{Global}
 use Rattle.fixed_walk.specs.Fixes.{FixCounts, fix_count, is_fixed, with_count}
 use Rattle.fixed_walk.specs.Invariants.{AreCounted, IsFixedBySome}
+use Rattle.fixed_walk.specs.inside.LazyFixes.{boxed_fixes}
 
 eq_symm : (a b : ℕ) → nat_eq a b ≡ nat_eq b a
 eq_symm a b = grind (arith, nat_tests)
@@ -110,6 +112,13 @@ free-cleared m p h = let none = none-fixed m h in ap (λ m. with_count m p 0) no
 pub free-released : (m : FixCounts) (p : ℕ) → is_fixed m ≡ false → with_count m p (fix_count m p - 1) ≡ m
 free-released m p h = let none = none-fixed m h in ap (λ m. with_count m p (fix_count m p - 1)) none ∙ (none-released p ∙ sym none)
 
+-- without a box there are no fixes
+pub no-box : (box : Option (Box FixCounts Global)) (m : FixCounts) → box ≡ None → boxed_fixes box ≡ m → is_fixed m ≡ false
+no-box box m none is = ap is_fixed (sym is ∙ ap boxed_fixes none) ∙ no-entries [] refl
+
+pub free-counted : (m : FixCounts) (p : ℕ) → is_fixed m ≡ false → 0 ≡ fix_count m p
+free-counted m p h = sym (ap (λ m. fix_count m p) (none-fixed m h) ∙ ap (λ o. unwrap_or o 0) (get-empty nat_cmp p))
+
 -- ---- no entry is zero
 counted-at : (b : Bool) (v : ℕ) (rest : Option ℕ) → 0 < v → rest ≢ Some 0 → cond b (Some v) rest ≢ Some 0
 counted-at true v rest h r e = let zero_is : v ≡ 0 = cc in absurd (omega (arith, h, zero_is))
@@ -158,3 +167,6 @@ count-some m p (Some v) e h = positive (len m) (len-some m p v e)
 -- a table is fixed exactly if the number of a process is above zero
 pub fixed-by-some : (m : FixCounts) → AreCounted m → IsFixedBySome m
 fixed-by-some m a = (λ h. some-entry m (entries m) refl a h, λ c. count-some m c.0 (get m c.0) refl c.1)
+
+pub free-by-none : (m : FixCounts) → is_fixed m ≡ false → IsFixedBySome m
+free-by-none m h = fixed-by-some m (subst AreCounted (sym (none-fixed m h)) counted-empty)

@@ -1,2 +1,3 @@
 pub mod Codes
 pub mod From
+pub mod LazyFixes

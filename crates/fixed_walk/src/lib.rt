@@ -8,8 +8,8 @@
 //! returns no key twice, and each key that has objects at each of its calls, however the table changes and grows.
 //!
 //! *Mechanism.* The calls on objects are those of `Table`; they leave tombstones if the table is fixed. A map has the
-//! number of fixes of each process that has some. A traversal remembers only the last key, and continues after its slot
-//! in the order of places.
+//! number of fixes of each process that has some; the first fix of a table makes it. A traversal remembers only the
+//! last key, and continues after its slot in the order of places.
 //!
 //! *Weakness.* Each call of a traversal visits the tombstones before its result, and over `SplitRows` reads the places
 //! without a slot too. The last release removes all tombstones with `Rows::purge`, and takes as long as this does.
@@ -18,10 +18,12 @@
 //! insert keys ahead of it without limit.
 #![tactic(auto)]
 
-// The modules: a table with its fixes (`walked`), the counts of `fixes`, faults (`fault`) and `laws`.
+// The modules: a table with its fixes (`walked`), the counts of `fixes`, the box of these counts, which the first fix
+// makes (`lazy_fixes`), faults (`fault`) and `laws`.
 mod fault;
 mod fixes;
 pub mod laws;
+mod lazy_fixes;
 mod walked;
 
 pub use fault::{Badarg, FixFault};

@@ -8,7 +8,7 @@ ghost use Rattle.bucket_table.specs.Slots.{object_count};
 ghost use Rattle.table_ops.specs.Invariants.{IsContent};
 ghost use Rattle.fixed_walk.specs.Invariants.{IsFixedBySome, HasNoTombstones, TombstonesOnlyWhileFixed, with_fixes};
 
-use crate::fixes::Fixes;
+use crate::lazy_fixes::LazyFixes;
 use bucket_table::{Growth, Readying, Rows};
 use std::alloc::{AllocError, Global};
 use std::marker::Model;
@@ -27,7 +27,7 @@ mod walk;
 #[derive(Drop)]
 pub struct Walked<R: Rows> {
     table: Table<R>,
-    fixes: Fixes,
+    fixes: LazyFixes,
 }
 
 // The value that contracts see of this type (`view`), and what is true of its fields between calls (`invariant`).
@@ -51,11 +51,11 @@ impl<R: Rows> Walked<R> {
         requires { HasNoTombstones table.content.slots }
         ensures { result ≡ with_fixes table map.empty }
     {
-        Walked::from_parts(table, Fixes::new(alloc))
+        Walked::from_parts(table, LazyFixes::new(alloc))
     }
 
     /// Wraps a table without tombstones, with these fixes.
-    pub(crate) fn from_parts(table: Table<R>, fixes: Fixes) -> Self
+    pub(crate) fn from_parts(table: Table<R>, fixes: LazyFixes) -> Self
         requires { HasNoTombstones table.content.slots }
         ensures { result ≡ with_fixes table fixes }
     {
