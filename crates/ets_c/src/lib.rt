@@ -21,14 +21,17 @@
 //! a term the list of the arguments counts too, so an argument may have 126.
 #![tactic(auto)]
 
+ghost use denote.Param.Send.{IsSend};
 ghost use Rattle.std.specs.Prelude.{◌≡◌, None};
 ghost use Rattle.term_text.specs.Printed.{text_of_term};
 ghost use Rattle.external_term.specs.Encoding.{encode_with_version};
 ghost use Rattle.node_core.specs.declared.step.Step.TheVariants.{Enrol, End};
 ghost use Rattle.node_text.specs.Answers.{written_reply};
+ghost use Rattle.ets_c.specs.contracts.handle.Handle as handle_type;
 ghost use Rattle.node_text.specs.Calls.{HandleOpens, HandleGets, HandleSteps, HandleCalls, HandleCallsExternal, RewritesReply, WritesLastReason};
 
 mod handle;
+pub mod laws;
 mod request_handle;
 mod request_ptr;
 pub mod requests;
@@ -245,7 +248,9 @@ pub extern "C" fn yoyoash_close(alloc: Global, handle: &mut Handle)
     let _ended = handle.take(alloc);
 }
 
-/// Proves that a handle may move to another thread: `is_send` accepts its type.
-pub fn handles_are_send() {
+/// A handle may move to another thread: its type is `Send`.
+pub fn handles_are_send()
+    ensures { IsSend handle_type.the_row }
+{
     is_send::<Handle>();
 }

@@ -4,6 +4,8 @@ ghost use Rattle.std.specs.Prelude.{◌≡◌, None};
 ghost use Rattle.term_text.specs.Printed.{text_of_term};
 ghost use Rattle.external_term.specs.Encoding.{encode_with_version};
 ghost use Rattle.node_text.specs.Answers.{written_reply};
+ghost use denote.Param.Send.{IsSend};
+ghost use Rattle.ets_c.specs.contracts.request_handle.RequestHandle as request_handle_type;
 ghost use Rattle.node_text.specs.Requests.{Reads, ReadsExternal, HandleReads, HandleRuns, WritesRequestReply, WritesRequestReason};
 
 use crate::handle::Handle;
@@ -153,7 +155,9 @@ pub extern "C" fn yoyoash_request_close(alloc: Global, request: &mut RequestHand
     let _ended = request.take(alloc);
 }
 
-/// Proves that the handle of a request may move to another thread: `is_send` accepts its type.
-pub fn request_handles_are_send() {
+/// The handle of a request may move to another thread: its type is `Send`.
+pub fn request_handles_are_send()
+    ensures { IsSend request_handle_type.the_row }
+{
     is_send::<RequestHandle>();
 }
