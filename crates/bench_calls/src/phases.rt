@@ -67,11 +67,21 @@ impl Phase {
         }
     }
 
-    /// Builds the steps of the phase, one for each of `count` keys.
-    pub(crate) fn steps(self, alloc: Global, count: u32) -> Result<Vec<Step>, AllocError> {
+    /// Returns the `count` keys of the phase in its order.
+    pub(crate) fn keys(self, alloc: Global, count: u32) -> Result<Vec<u64>, AllocError> {
+        shuffle(alloc, u64::from(count), self.seed())
+    }
+
+    /// Builds the steps of the phase, one for each of these keys. The table has `count` objects.
+    pub(crate) fn steps(
+        self,
+        alloc: Global,
+        keys: &[u64],
+        count: u32,
+    ) -> Result<Vec<Step>, AllocError> {
         let mut steps = Vec::new(alloc);
-        for k in shuffle(alloc, u64::from(count), self.seed())? {
-            steps.push(ask_step(self.call(alloc, k, count)?))?;
+        for k in keys {
+            steps.push(ask_step(self.call(alloc, *k, count)?))?;
         }
         Ok(steps)
     }

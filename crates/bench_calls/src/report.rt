@@ -21,6 +21,10 @@ use std::time::{Duration, Instant};
 /// Limits how often a small table is built: as often as its steps fit into this number, and at least once.
 const MIN_TIMED_STEPS: u32 = 300_000;
 
+/// The number of steps that are built before the clock runs. They stay in the processor's cache, as a call does that a
+/// program has just made.
+const STEPS_BUILT: usize = 1_000;
+
 /// The number of clients, and of callers of a server, in the part `check`.
 const CLIENTS: u32 = 3;
 
@@ -37,8 +41,7 @@ struct PhaseTime {
 }
 
 impl PhaseTime {
-    /// Runs the phase once more, and stores its time if that is the least so far. The steps are built before the clock
-    /// runs.
+    /// Runs the phase once more, and stores its time if that is the least so far. The clock stops while steps are built.
     fn run_once<H: KeyHash + Copy + Drop>(
         &mut self,
         rt: &(impl Print + Alloc<A = Global> + Clock),
@@ -46,10 +49,16 @@ impl PhaseTime {
         node: &mut Node<H>,
         count: u32,
     ) -> io::Result<()> {
-        let steps = self.phase.steps(rt.alloc(), count)?;
-        let start = Instant::now(rt)?;
-        let right_count = self.phase.run(way, node, steps.as_slice())?;
-        self.least_nanoseconds = self.least_nanoseconds.min(nanoseconds(start.elapsed(rt)?));
+        let mut total_nanoseconds: u64 = 0;
+        let mut right_count: u64 = 0;
+        for keys in self.phase.keys(rt.alloc(), count)?.chunks(STEPS_BUILT) {
+            let steps = self.phase.steps(rt.alloc(), keys, count)?;
+            let start = Instant::now(rt)?;
+            let right = self.phase.run(way, node, steps.as_slice())?;
+            total_nanoseconds = total_nanoseconds.saturating_add(nanoseconds(start.elapsed(rt)?));
+            right_count = right_count.wrapping_add(right);
+        }
+        self.least_nanoseconds = self.least_nanoseconds.min(total_nanoseconds);
         if right_count != u64::from(count) {
             println!(rt; "calls {} went wrong", self.phase.name())?;
         }
@@ -247,7 +256,8 @@ fn print_table_counts<H: KeyHash + Copy + Drop>(
     count: u32,
 ) -> io::Result<()> {
     for phase in PHASES {
-        let steps = phase.steps(rt.alloc(), count)?;
+        let keys = phase.keys(rt.alloc(), count)?;
+        let steps = phase.steps(rt.alloc(), keys.as_slice(), count)?;
         let right_count = phase.run(way, node, steps.as_slice())?;
         println!(rt; "{} {} {}", name, phase.name(), right_count)?;
     }
