@@ -1,7 +1,6 @@
 -- The entries of several calls of a caller.
 use Rattle.std.proofs.Common.{◌≡◌, ℕ, suc, ◌+◌, List, [], ◌∷◌, ◌++◌, length, refl, sym, ap, ◌∙◌, subst, arith, length-append}
 use Rattle.node_core.specs.declared.limits.Limits.{Limits}
-use Rattle.node_core.specs.declared.step.Step.{Step}
 use Rattle.node_core.specs.declared.step.Step.TheVariants.{Ask}
 use Rattle.node_core.specs.declared.step.Call.{Call}
 use Rattle.node_core.specs.declared.step.Reply.{Reply}

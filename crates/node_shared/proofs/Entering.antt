@@ -1,12 +1,12 @@
 -- Lines that are added: whose turn it is for them, and what they leave.
-use Rattle.std.proofs.Common.{◌≡◌, ◌⊎◌, inl, inr, ⊎_elim, ℕ, ◌==◌, ◌&&◌, Bool, true, false, List, [], ◌∷◌, ◌++◌, Option, None, Some, refl, sym, ap, subst, ◌∙◌, arith}
+use Rattle.std.proofs.Common.{◌≡◌, inl, inr, ⊎_elim, ℕ, ◌==◌, ◌&&◌, Bool, true, false, List, [], ◌∷◌, ◌++◌, None, Some, refl, sym, ap, subst, ◌∙◌, arith}
 use Rattle.std.proofs.lemmas.Bool.Decides.{nat_tests}
 use Rattle.std.proofs.lemmas.List.{append-nil}
 use mathlib.Core.List.{IsPrefix}
 use Rattle.node_shared.specs.declared.entry.Entry.{Entry}
 use Rattle.node_shared.specs.declared.history.rule.Line.{Line}
-use Rattle.node_shared.specs.Journal.{is_entry_of, entries_of}
-use Rattle.node_shared.specs.inside.Lines.{Tag, of_server, of_process, is_of, turn_of, entry_if, has_entry_of, history_of, IsExact, IsSpent, MayAdd, MayEnter, IsAdded}
+use Rattle.node_shared.specs.Journal.{entries_of}
+use Rattle.node_shared.specs.inside.Lines.{of_server, of_process, turn_of, entry_if, has_entry_of, history_of, IsExact, IsSpent, MayAdd, MayEnter, IsAdded}
 use Rattle.node_shared.proofs.Lines.{turn-snoc, since-turn, history-append, history-prefix, since-history, since-entries, none-turn, same-number}
 
 and-both : (a b : Bool) → (a && b) ≡ true → (a ≡ true) × (b ≡ true)

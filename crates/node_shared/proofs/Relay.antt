@@ -1,11 +1,11 @@
 -- The steps keep the rule of the lines.
-use Rattle.std.proofs.Common.{◌≡◌, ◌⊎◌, inl, inr, ⊎_elim, ℕ, ◌==◌, true, false, List, [], ◌∷◌, ◌++◌, length, slice_set, Option, None, Some, refl, sym, ap, subst, ◌∙◌}
+use Rattle.std.proofs.Common.{◌≡◌, inl, ⊎_elim, ℕ, ◌==◌, true, false, List, [], ◌∷◌, ◌++◌, length, slice_set, None, Some, refl, sym, ap, subst, ◌∙◌}
 use Rattle.std.proofs.lemmas.List.{append-nil}
 use mathlib.Core.List.{IsPrefix}
 use prog.Atomic.{either}
 use Rattle.logbook.specs.Pages.{Cell, cell, Nib, keeps, gives, adds, no_nib, may_write, step, Moves}
 use Rattle.node_shared.specs.declared.history.rule.Line.{Line}
-use Rattle.node_shared.specs.inside.Lines.{Tag, of_server, is_of, turn_of, server_of, Without, IsHome, IsKept, IsSpent, Since, IsExact, IsNew, MayTake, MayAdd, MakesPen, AddsLine, Confirms}
+use Rattle.node_shared.specs.inside.Lines.{Tag, of_server, is_of, turn_of, server_of, Without, IsHome, IsKept, IsSpent, IsExact, IsNew, MayTake, MayAdd, MakesPen, AddsLine, Confirms}
 use Rattle.node_shared.proofs.Prefixes.{prefix_trans, prefix_snoc, snoc-same}
 use Rattle.node_shared.proofs.Cells.{home-within, end-away, set-keeps, set-brings, push-keeps, within-set}
 use Rattle.node_shared.proofs.Lines.{since-turn, since-own, idle, without-new}

@@ -1,14 +1,12 @@
 -- A caller may go to another thread. Threads may share a server where its hasher may go from one to another and be shared.
 use denote.RattleType.{RattleType}
-use denote.Builtin.{u64, u32}
+use denote.Builtin.{u64}
 use denote.Param.Send.{IsSend, IsSync, sendable, part_keyless, view_send, view_sync, recorded_send, recorded_sync, struct_send, struct_sync}
 use denote.Struct.Declared.{shape}
 use Rattle.std.specs.declared.clone.Clone as Clone
 use Rattle.std.proofs.Crossing.{crosses}
 use Rattle.std.proofs.sync.RwLock.TheSendSync as lock
-use Rattle.logbook.specs.contracts.tokens.Seen as Seen
 use Rattle.logbook.specs.contracts.tokens.Pen as Pen
-use Rattle.logbook.specs.declared.tokens.Rule as Rule
 use Rattle.logbook.proofs.tokens.Seen.TheSendSync as seen
 use Rattle.logbook.proofs.tokens.Pen.TheSendSync as pen
 use Rattle.logbook.proofs.word.Word.TheSendSync as word

@@ -16,7 +16,7 @@ use Rattle.node_core.specs.Reads.{Reads}
 use Rattle.node_core.specs.Pending.{due}
 use Rattle.node_shared.specs.declared.entry.Entry.{Entry}
 use Rattle.node_shared.specs.Journal.{entry, TakesStep, IsRun, entries_of}
-use Rattle.node_shared.specs.Records.{RecordState, with_entry}
+use Rattle.node_shared.specs.Records.{RecordState}
 use Rattle.node_shared.specs.Running.{IsEnrolRefusal}
 
 -- a state, and the steps with their replies that led to it

@@ -3,7 +3,7 @@ use Rattle.node_shared.specs.declared.entry.Entry.{Entry}
 use Rattle.node_shared.specs.Journal.{IsRun}
 use Rattle.node_shared.specs.Serving.{Continues}
 use Rattle.node_shared.proofs.Callers.{continues-seen, continues-after}
-use Rattle.node_shared.proofs.Calls.{ask-none, ask-after}
+use Rattle.node_shared.proofs.Calls.{ask-none}
 use Rattle.node_shared.proofs.caller.Caller.ask_and_grow.Goals as goal
 
 pub ask_each-requires-clause-more : goal.ask_each-requires-clause-more

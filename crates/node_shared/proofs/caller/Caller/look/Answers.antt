@@ -1,4 +1,3 @@
-use Rattle.std.proofs.Common.{◌≡◌}
 use Rattle.node_shared.proofs.Lines.{own-within}
 use Rattle.node_shared.proofs.caller.Caller.look.Goals as goal
 

@@ -1,4 +1,4 @@
-use Rattle.std.proofs.Common.{◌≡◌, ap, subst, List}
+use Rattle.std.proofs.Common.{ap, subst, List}
 use mathlib.Core.List.{IsPrefix}
 use Rattle.node_shared.specs.declared.history.rule.Line.{Line}
 use Rattle.node_shared.proofs.Lines.{history-prefix}

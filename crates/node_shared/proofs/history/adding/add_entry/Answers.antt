@@ -1,4 +1,4 @@
-use Rattle.std.proofs.Common.{◌≡◌, ℕ, Some, refl, sym, ◌∙◌, ap, subst}
+use Rattle.std.proofs.Common.{Some, refl, sym, ◌∙◌, ap, subst}
 use Rattle.node_shared.specs.declared.history.rule.Line.{Line}
 use Rattle.node_shared.specs.inside.Lines.{IsAdded}
 use Rattle.node_shared.proofs.Relay.{adds-moves}

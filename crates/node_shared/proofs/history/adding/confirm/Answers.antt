@@ -1,5 +1,5 @@
-use Rattle.std.proofs.Common.{◌≡◌, sym, ◌∙◌, ap}
-use Rattle.node_shared.specs.inside.Lines.{no_line, of_server}
+use Rattle.std.proofs.Common.{sym, ◌∙◌, ap}
+use Rattle.node_shared.specs.inside.Lines.{no_line}
 use Rattle.node_shared.proofs.Relay.{confirms-moves}
 use Rattle.node_shared.proofs.Entering.{so-far, so-before}
 use Rattle.node_shared.proofs.history.adding.confirm.Goals as goal

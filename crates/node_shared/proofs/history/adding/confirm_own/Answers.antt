@@ -1,5 +1,5 @@
-use Rattle.std.proofs.Common.{◌≡◌, sym, ◌∙◌, ap}
-use Rattle.node_shared.specs.inside.Lines.{no_line, of_process, IsHome}
+use Rattle.std.proofs.Common.{sym, ◌∙◌, ap}
+use Rattle.node_shared.specs.inside.Lines.{no_line, of_process}
 use Rattle.node_shared.proofs.Prefixes.{prefix_trans}
 use Rattle.node_shared.proofs.Lines.{since-entries}
 use Rattle.node_shared.proofs.Relay.{confirms-moves, spent-home}

@@ -1,4 +1,4 @@
-use Rattle.std.proofs.Common.{◌≡◌, sym, ◌∙◌, ap}
+use Rattle.std.proofs.Common.{sym, ◌∙◌, ap}
 use Rattle.node_shared.specs.inside.Lines.{no_line}
 use Rattle.node_shared.proofs.Relay.{makes-moves}
 use Rattle.node_shared.proofs.history.adding.new_pen.Goals as goal

@@ -1,8 +1,7 @@
-use Rattle.std.proofs.Common.{◌≡◌, ℕ, None, refl, sym, ◌∙◌, ap, subst}
+use Rattle.std.proofs.Common.{None, refl, sym, ◌∙◌, ap, subst}
 use Rattle.std.proofs.lemmas.List.{append-nil}
 use Rattle.node_shared.specs.declared.history.rule.Line.{Line}
-use Rattle.node_shared.specs.inside.Lines.{IsAdded, has_entry_of, history_of}
-use Rattle.node_shared.proofs.Prefixes.{prefix_self}
+use Rattle.node_shared.specs.inside.Lines.{IsAdded, history_of}
 use Rattle.node_shared.proofs.Relay.{adds-moves}
 use Rattle.node_shared.proofs.Entering.{may-add, no-own, added-all, added-next, added-before}
 use Rattle.node_shared.proofs.history.adding.open_turn.Goals as goal

@@ -1,4 +1,4 @@
-use Rattle.std.proofs.Common.{◌≡◌, ◌≢◌, [], List, sym, ap, subst, ◌∙◌}
+use Rattle.std.proofs.Common.{◌≢◌, [], List, sym, subst, ◌∙◌}
 use Rattle.node_shared.specs.declared.entry.Entry.{Entry}
 use Rattle.node_shared.specs.Journal.{entry, IsRun, entries_of}
 use Rattle.node_shared.proofs.Growing.{run-on, counts-on}

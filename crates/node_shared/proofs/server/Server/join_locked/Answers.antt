@@ -1,5 +1,4 @@
 use Rattle.std.proofs.Common.{◌≡◌, [], refl, subst, ap, ◌∙◌}
-use mathlib.Core.List.{IsPrefix}
 use Rattle.ets_term.specs.declared.term.Term.TheVariants.{Pid}
 use Rattle.node_core.specs.declared.step.Step.TheVariants.{Enrol}
 use Rattle.node_core.specs.declared.step.Reply.{Reply}

@@ -1,4 +1,3 @@
-use Rattle.std.proofs.Common.{◌≡◌}
 use Rattle.node_shared.specs.inside.Lines.{history_of}
 use Rattle.node_shared.proofs.Prefixes.{prefix_trans}
 use Rattle.node_shared.proofs.Lines.{history-prefix}

@@ -1,7 +1,6 @@
-use Rattle.std.proofs.Common.{◌≡◌, List, ap, subst, sym, ◌∙◌}
+use Rattle.std.proofs.Common.{List, subst}
 use mathlib.Core.List.{IsPrefix}
 use Rattle.node_shared.specs.declared.entry.Entry.{Entry}
-use Rattle.node_shared.specs.declared.history.rule.Line.{Line}
 use Rattle.node_shared.specs.Journal.{entries_of}
 use Rattle.node_shared.specs.inside.Lines.{history_of}
 use Rattle.node_shared.proofs.Prefixes.{prefix_trans, prefix_both}
