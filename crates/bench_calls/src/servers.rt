@@ -29,7 +29,7 @@ pub(crate) fn time_server<R: Alloc<A = Global> + Clock + Threads + Wait + Sync>(
         processes: caller_count,
         ..Limits::usual()
     };
-    let history = NewHistory::new(rt.alloc())?;
+    let history = NewHistory::new();
     time_server_within::<Brand, R>(rt, history, limits, plan)
 }
 
@@ -38,7 +38,8 @@ fn time_server_within<
     B: HistoryId + Send + Sync,
     R: Alloc<A = Global> + Clock + Threads + Wait + Sync,
 >(rt: &R, history: NewHistory, limits: Limits, plan: Plan) -> io::Result<Timing>
-    requires table { history.word.shared.table_id ≡ B.word }
+    requires book { history.seen.book ≡ B.book }
+    requires root { history.turn.nib.key ≡ B.root }
     requires limits { limits ≡ B.limits }
     requires some { 0 < limits.processes }
 {
@@ -226,7 +227,7 @@ fn read_in_lists<B: HistoryId, H: KeyHash + Copy + Drop, R: Wait>(
     rt: &R,
     alloc: Global,
     server: &Server<B, H>,
-    caller: &Caller<B>,
+    caller: &mut Caller<B>,
     calls: &[Call],
 ) -> Result<u64, AllocError> {
     let mut found: u64 = 0;

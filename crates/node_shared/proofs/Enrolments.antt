@@ -1,11 +1,13 @@
 -- The replies to a step that enrols a process.
-use Rattle.std.proofs.Common.{◌≡◌, ℕ, Bool, true, false, Result, Ok, Err, refl, sym, ap, ◌∙◌, length, inl, inr}
+use Rattle.std.proofs.Common.{◌≡◌, ℕ, ◌==◌, Bool, true, false, cond, [], ◌∷◌, ◌++◌, Some, None, Result, Ok, Err, refl, sym, ap, ◌∙◌, length, inl, inr, arith}
 use Rattle.std.specs.Prelude.{nat_le, is_some}
 use Rattle.std.specs.Bool.{MatchBool}
+use Rattle.std.proofs.lemmas.Bool.Decides.{nat_tests}
 use Rattle.ets_term.specs.declared.term.Term.TheVariants.{Pid}
 use Rattle.ownership.specs.declared.fault.WorldFault.{WorldFault}
 use Rattle.ownership.specs.declared.fault.WorldFault.TheVariants as fault
-use Rattle.ownership.specs.World.{World, process_at}
+use Rattle.ownership.specs.declared.process.Process.{Process}
+use Rattle.ownership.specs.World.{World, Processes, process_at}
 use Rattle.ownership.specs.Tables.{after_enrol}
 use Rattle.node_core.specs.declared.step.Step.TheVariants.{Enrol}
 use Rattle.node_core.specs.declared.step.Reply.{Reply}
@@ -41,3 +43,30 @@ enrol-refused old new p r refused h = by (is_some (process_at old.world.processe
     by true full x a b = let same : r ≡ Badarg = rw a.0 at b in inl same
     by false true x a b = let same : r ≡ SystemLimit = rw a.0 at b in inr same
     by false false x a b = let same : r ≡ Value (Pid p) = rw a.0 at b in let bad : true ≡ false = differs (Value (Pid p)) r true false same refl refused in absurd (cc)
+
+-- a number that is enrolled was not known before
+pub enrol-fresh : (old new : State) (p : ℕ) (r : Reply) → is_value r ≡ true → step old (Enrol p) r new → is_some (process_at old.world.processes p) ≡ false
+enrol-fresh old new p r granted h = by (is_some (process_at old.world.processes p)) (nat_le old.world.max_processes (length old.world.processes)) refl h.0 h.1 h.2
+  where
+    by : (known full : Bool) → is_some (process_at old.world.processes p) ≡ known → (x : Result (Unit {0}) WorldFault) → Enrols old.world new.world p known full x → WorldResultToReply (λ _. Value (Pid p)) x r
+        → is_some (process_at old.world.processes p) ≡ false
+    by true full k x a b = let same : r ≡ Badarg = rw a.0 at b in let bad : false ≡ true = differs Badarg r false true same refl granted in absurd (cc)
+    by false full k x a b = k
+
+last-known : (p : ℕ) (es : Processes) (own : Process) → is_some (process_at (es ++ (p, own) ∷ []) p) ≡ true
+last-known p [] own = let here : (p == p) ≡ true = grind (arith, nat_tests) in ap (λ (b : Bool). is_some (cond b (Some own) None)) here
+last-known p (e ∷ es) own = by (p == e.0) (last-known p es own)
+  where
+    by : (b : Bool) → is_some (process_at (es ++ (p, own) ∷ []) p) ≡ true → is_some (cond b (Some e.1) (process_at (es ++ (p, own) ∷ []) p)) ≡ true
+    by true rest = refl
+    by false rest = rest
+
+-- and is known afterwards
+pub enrol-known : (old new : State) (p : ℕ) (r : Reply) → is_value r ≡ true → step old (Enrol p) r new → is_some (process_at new.world.processes p) ≡ true
+enrol-known old new p r granted h = by (is_some (process_at old.world.processes p)) (nat_le old.world.max_processes (length old.world.processes)) h.0 h.1 h.2
+  where
+    by : (known full : Bool) (x : Result (Unit {0}) WorldFault) → Enrols old.world new.world p known full x → WorldResultToReply (λ _. Value (Pid p)) x r
+        → is_some (process_at new.world.processes p) ≡ true
+    by true full x a b = let same : r ≡ Badarg = rw a.0 at b in let bad : false ≡ true = differs Badarg r false true same refl granted in absurd (cc)
+    by false true x a b = let same : r ≡ SystemLimit = rw a.0 at b in let bad : false ≡ true = differs SystemLimit r false true same refl granted in absurd (cc)
+    by false false x a b = ap (λ (w : World). is_some (process_at w.processes p)) a.1 ∙ last-known p old.world.processes (record { lives = true; mailbox = [] })

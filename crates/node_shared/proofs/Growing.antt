@@ -21,9 +21,8 @@ use Rattle.node_core.proofs.pending.Tending.{due-tends}
 use Rattle.node_shared.specs.declared.entry.Entry.{Entry}
 use Rattle.node_shared.specs.Journal.{entry, TakesStep, IsRun, process_of, process_entries}
 use Rattle.node_shared.specs.BookInvariant.{BookInvariant}
-use Rattle.node_shared.specs.History.{IsSubsequence}
 use Rattle.node_shared.specs.Running.{EndsRun}
-use Rattle.node_shared.specs.Serving.{Continues, ContinuesTo, entry_count}
+use Rattle.node_shared.specs.Serving.{entry_count}
 
 abbrev step_of : Entry → Step
 step_of e = e.step
@@ -38,15 +37,6 @@ pub run-on : (limits : Limits) (old new : State) (es : List Entry) (s : Step) (r
 run-on limits old new es s r run does =
     let pushed = run-on-buckets-push (empty limits) old new (map step_of es) (map reply_of es) s r run does.0 does.1 in
     rw (map-append step_of es (entry s r ∷ []), map-append reply_of es (entry s r ∷ [])) pushed
-
--- a step that is done after a run, with entries that are in it
-pub continues : (limits : Limits) (old new : State) (es own : List Entry) (s : Step) (r : Reply) → IsSubsequence own es → IsRun limits es old → TakesStep old s r new → Continues limits own s r
-continues limits old new es own s r stand run does = (es, new, stand, run-on limits old new es s r run does)
-
--- and that run has as many entries as it has
-pub continues-to : (limits : Limits) (old new : State) (es own : List Entry) (s : Step) (r : Reply) → IsSubsequence own es → IsRun limits es old → TakesStep old s r new
-    → ContinuesTo limits own s (entry_count (es ++ entry s r ∷ [])) r
-continues-to limits old new es own s r stand run does = (es, new, stand, run-on limits old new es s r run does, refl)
 
 -- the number of entries with one more
 pub counts-on : (es : List Entry) (e : Entry) (n : ℕ) → n ≡ entry_count es → min (n + 1) (2 ^ 64 - 1) ≡ entry_count (es ++ e ∷ [])

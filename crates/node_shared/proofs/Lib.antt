@@ -5,8 +5,14 @@ pub mod Recording
 pub mod Reading
 pub mod Parts
 pub mod Jobs
+pub mod Prefixes
+pub mod Cells
+pub mod Lines
+pub mod Relay
+pub mod Entering
+pub mod Knowing
+pub mod Callers
 pub mod Calls
-pub mod Ordering
 pub mod Sent
 pub mod SentNodes
 pub mod SentServers

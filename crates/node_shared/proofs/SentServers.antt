@@ -6,32 +6,29 @@ use denote.Struct.Declared.{shape}
 use Rattle.std.specs.declared.clone.Clone as Clone
 use Rattle.std.proofs.Crossing.{crosses}
 use Rattle.std.proofs.sync.RwLock.TheSendSync as lock
-use Rattle.atomic_table.specs.contracts.shared.Seat as Seat
-use Rattle.atomic_table.proofs.shared.Seat.TheSendSync as seat
-use Rattle.atomic_table.proofs.owned.Table.TheSendSync as table
+use Rattle.logbook.specs.contracts.tokens.Pen as Pen
+use Rattle.logbook.proofs.tokens.Seen.TheSendSync as seen
+use Rattle.logbook.proofs.tokens.Pen.TheSendSync as pen
+use Rattle.logbook.proofs.word.Word.TheSendSync as word
 use Rattle.ets_term.specs.declared.key_hash.KeyHash as KeyHash
 use Rattle.node_core.proofs.Sent.{node_send}
 use Rattle.node_shared.proofs.SentNodes.{node_sync}
 use Rattle.node_shared.specs.declared.history.HistoryId as HistoryId
-use Rattle.node_shared.specs.contracts.entry.Entry as Entry
-use Rattle.node_shared.specs.contracts.history.rule.HistoryView as HistoryView
-use Rattle.node_shared.specs.contracts.history.HistoryOwner as HistoryOwner
-use Rattle.node_shared.specs.contracts.history.HistoryOwner.TheInside as owner
-use Rattle.node_shared.specs.contracts.history.HistoryWriter as HistoryWriter
-use Rattle.node_shared.specs.contracts.history.HistoryWriter.TheInside as writer
+use Rattle.node_shared.specs.contracts.history.SeenHistory as SeenHistory
+use Rattle.node_shared.specs.contracts.history.SeenHistory.TheInside as shown
+use Rattle.node_shared.specs.contracts.history.owner.HistoryOwner as HistoryOwner
+use Rattle.node_shared.specs.contracts.history.owner.HistoryOwner.TheInside as owner
+use Rattle.node_shared.specs.contracts.history.writer.HistoryWriter as HistoryWriter
+use Rattle.node_shared.specs.contracts.history.writer.HistoryWriter.TheInside as writer
 use Rattle.node_shared.specs.contracts.served.ServedNode as ServedNode
 use Rattle.node_shared.specs.contracts.served.ServedNode.TheInside as served
 use Rattle.node_shared.specs.contracts.server.Server as Server
 use Rattle.node_shared.specs.contracts.caller.Caller as Caller
 use Rattle.node_shared.specs.contracts.caller.Caller.TheInside as caller
-use Rattle.node_shared.proofs.Sent.{entry_send}
 
-seat_send : IsSend (Seat.the_row Entry.the_row HistoryView.the_row)
-seat_send = seat.the_send Entry.the_row HistoryView.the_row entry_send
-
--- a seat has no bytes, and no `&` to it lets anything be done with it
-seat_sync : IsSync (Seat.the_row Entry.the_row HistoryView.the_row)
-seat_sync = record { shared = λ d b o κ q. part_keyless (Seat.the_row Entry.the_row HistoryView.the_row) seat_send q d b o }
+-- a pen has no bytes, and no `&` to it lets anything be done with it
+pen_sync : IsSync Pen.the_row
+pen_sync = record { shared = λ d b o κ q. part_keyless Pen.the_row pen.the_send q d b o }
 
 number_send : IsSend u64
 number_send = search sendable
@@ -40,17 +37,21 @@ number_sync : IsSync u64
 number_sync = search sendable
 
 module _ (B : RattleType) (b : HistoryId.Ghosts B.Denot) (r : IsSend B) where
+  pub shown_send : IsSend (SeenHistory.the_row B b)
+  shown_send =
+      view_send (shown.the_row B b) _ _ _ _ (recorded_send (shown.the_field B b).row _ _ (shown.the_type B b).to_one (struct_send (shape (shown.the_type B b)) (search (seen.the_send, sendable) depth 60 fits 20000, (search sendable, tt))))
+
   pub owner_send : IsSend (HistoryOwner.the_row B b)
   owner_send =
-      view_send (owner.the_row B b) _ _ _ _ (recorded_send (owner.the_field B b).row _ _ (owner.the_type B b).to_one (struct_send (shape (owner.the_type B b)) (seat_send, (search sendable, tt))))
+      view_send (owner.the_row B b) _ _ _ _ (recorded_send (owner.the_field B b).row _ _ (owner.the_type B b).to_one (struct_send (shape (owner.the_type B b)) (search (seen.the_send, sendable) depth 60 fits 20000, (pen.the_send, (search sendable, tt)))))
 
   pub writer_send : IsSend (HistoryWriter.the_row B b)
   writer_send =
-      view_send (writer.the_row B b) _ _ _ _ (recorded_send (writer.the_field B b).row _ _ (writer.the_type B b).to_one (struct_send (shape (writer.the_type B b)) (seat_send, (search sendable, tt))))
+      view_send (writer.the_row B b) _ _ _ _ (recorded_send (writer.the_field B b).row _ _ (writer.the_type B b).to_one (struct_send (shape (writer.the_type B b)) (search sendable, (search (seen.the_send, sendable) depth 60 fits 20000, (pen.the_send, (search (word.the_send, sendable) depth 60 fits 20000, (search sendable, tt)))))))
 
   pub caller_send : IsSend (Caller.the_row B b)
   caller_send =
-      view_send (caller.the_row B b) _ _ _ _ (recorded_send (caller.the_field B b).row _ _ (caller.the_type B b).to_one (struct_send (shape (caller.the_type B b)) (search sendable, (writer_send, (number_send, tt)))))
+      view_send (caller.the_row B b) _ _ _ _ (recorded_send (caller.the_field B b).row _ _ (caller.the_type B b).to_one (struct_send (shape (caller.the_type B b)) (writer_send, (shown_send, (number_send, tt)))))
 
   module _ (H : RattleType) (k : KeyHash.Ghosts H.Denot) (c : Clone.Ghosts H.Denot) (s : IsSend H) where
     pub served_send : IsSend (ServedNode.the_row B H b k c)
@@ -63,7 +64,7 @@ module _ (B : RattleType) (b : HistoryId.Ghosts B.Denot) (r : IsSend B) where
     module _ (y : IsSync B) (z : IsSync H) where
       owner_sync : IsSync (HistoryOwner.the_row B b)
       owner_sync =
-          view_sync (owner.the_row B b) _ _ _ _ (recorded_sync (owner.the_field B b).row _ _ (owner.the_type B b).to_one (struct_sync (shape (owner.the_type B b)) (seat_sync, (search sendable, tt))))
+          view_sync (owner.the_row B b) _ _ _ _ (recorded_sync (owner.the_field B b).row _ _ (owner.the_type B b).to_one (struct_sync (shape (owner.the_type B b)) (search (seen.the_sync, sendable) depth 60 fits 20000, (pen_sync, (search sendable, tt)))))
 
       pub served_sync : IsSync (ServedNode.the_row B H b k c)
       served_sync =
@@ -75,6 +76,6 @@ module _ (B : RattleType) (b : HistoryId.Ghosts B.Denot) (r : IsSend B) where
       pub server_sync : IsSync (Server.the_row B H b k c)
       server_sync =
           recorded_sync (Server.the_field B H b k c).row _ _ (Server.the_type B H b k c).to_one (struct_sync (shape (Server.the_type B H b k c)) (
-            search (entry_send, table.the_field_sync, crosses, sendable) depth 60 fits 20000,
+            search (word.the_sync, crosses, sendable) depth 60 fits 20000,
             (search (served_send, served_sync, lock.the_field_sync, crosses, sendable) depth 60 fits 20000, tt),
           ))

@@ -1,12 +1,12 @@
 -- The state of a caller after several calls under one hold of the lock.
-use Rattle.std.specs.Prelude.{◌≡◌, ℕ, ◌≤◌, List, [], ◌∷◌, ◌++◌, length}
+use Rattle.std.specs.Prelude.{ℕ, ◌≤◌, List, [], ◌∷◌, length}
 use Rattle.node_core.specs.declared.limits.Limits.{Limits}
 use Rattle.node_core.specs.declared.step.Step.TheVariants.{Ask}
 use Rattle.node_core.specs.declared.step.Call.{Call}
 use Rattle.node_core.specs.declared.step.Reply.{Reply}
 use Rattle.node_shared.specs.declared.entry.Entry.{Entry}
 use Rattle.node_shared.specs.Journal.{entry}
-use Rattle.node_shared.specs.Serving.{CallerState, ContinuesTo}
+use Rattle.node_shared.specs.Serving.{CallerState, Continues}
 
 -- the entries of these calls of a process with these replies; a call without a reply has no entry
 abbrev pub call_entries : ℕ → List Call → List Reply → List Entry
@@ -14,17 +14,7 @@ call_entries p [] replies = []
 call_entries p (c ∷ cs) [] = []
 call_entries p (c ∷ cs) (r ∷ rs) = entry (Ask p c) r ∷ call_entries p cs rs
 
--- For each of the further entries, some run of a node has all earlier entries of the caller, in order, and ends with
--- it. The last of these runs has m entries. If there are no further entries, m is n.
-abbrev pub ContinuesEach : Limits → List Entry → ℕ → List Entry → ℕ → Type 0
-ContinuesEach limits entries n [] m = m ≡ n
-ContinuesEach limits entries n (e ∷ es) m =
-    (next : ℕ) × ContinuesTo limits entries e.step next e.reply
-    × ContinuesEach limits (entries ++ e ∷ []) next es m
-
--- the caller made the first of these calls, one for each of these replies, and its record has their entries
-pub record HasAsked (limits : Limits) (old : CallerState) (calls : List Call) (replies : List Reply) (new : CallerState) : Type 0 where
-  pub pid : new.own.pid ≡ old.own.pid
-  pub few : length replies ≤ length calls
-  pub entries : new.own.entries ≡ old.own.entries ++ call_entries old.own.pid calls replies
-  pub order : ContinuesEach limits old.own.entries old.seen (call_entries old.own.pid calls replies) new.seen
+-- the caller made the first of these calls, one for each of these replies, with no step of others between them
+abbrev pub HasAsked : Limits → CallerState → List Call → List Reply → CallerState → Type 0
+HasAsked limits old calls replies new =
+    (length replies ≤ length calls) × Continues limits old (call_entries old.own.pid calls replies) new

@@ -1,2 +1,4 @@
 pub mod Closing
 pub mod Codes
+pub mod Lines
+pub mod Known

@@ -1,14 +1,18 @@
-//! A caller of a server: it makes the calls of one process. Its writer is a token of the server's history that knows,
-//! in proofs only, the entries which this caller added.
-ghost use Rattle.std.specs.Prelude.{◌≡◌, ◌≤◌, [], length, vec_capacity, IfOk, IfErr, OnErr};
+//! A caller of a server: it makes the calls of one process. Its tokens know, in proofs only, what the caller saw of the
+//! server's history, and which entries it added.
+ghost use Rattle.std.specs.Prelude.{◌≡◌, ◌≤◌, true, [], length, vec_capacity, IfOk, IfErr, OnOk, OnErr};
+ghost use mathlib.Core.List.{IsPrefix};
 ghost use Rattle.node_core.specs.declared.step.Step.TheVariants.{End, Ask};
-ghost use Rattle.node_shared.specs.Records.{with_entry};
+ghost use Rattle.node_core.specs.Woven.{is_step_of};
 ghost use Rattle.node_shared.specs.Calling.{HasAsked};
-ghost use Rattle.node_shared.specs.Serving.{ContinuesTo};
+ghost use Rattle.node_shared.specs.Journal.{entries_of};
+ghost use Rattle.node_shared.specs.Serving.{Continues, ContinuesBy, ServesStep, entry_count};
+ghost use Rattle.node_shared.specs.inside.Lines.{head_of};
 
+mod looks;
 mod reads;
 
-use crate::history::{HistoryId, HistoryWord, HistoryWriter};
+use crate::history::{HistoryId, HistoryWord, HistoryWriter, SeenHistory};
 use crate::served::ServedNode;
 use crate::server::Server;
 use crate::server_lock::AnyLock;
@@ -18,57 +22,88 @@ use std::alloc::{AllocError, Global};
 use std::marker::Model;
 use std::sync::Wait;
 
-/// Makes the calls of one process of a server. A contract sees the process, and its own steps with their replies, which
-/// are in the server's history in this order. These entries exist in proofs only. `seen` is the length of the history
-/// after the last of them.
+/// Makes the calls of one process of a server. A contract sees the process, its own steps with their replies, and all
+/// entries of the server's history that the caller saw. The entries exist in proofs only; `count` is how many it saw.
 #[derive(Drop)]
 pub struct Caller<B: HistoryId> {
-    pid: u32,
     /// The token that knows, in proofs only, which entries this caller added.
     writer: HistoryWriter<B>,
-    /// The length of the history after the caller's last own step.
-    seen: u64,
+    /// The token that knows, in proofs only, the entries that this caller saw.
+    seen: SeenHistory<B>,
+    /// The number of the entries that this caller saw, at most the greatest `u64`.
+    count: u64,
 }
 
 impl<B: HistoryId> Model for Caller<B> {
-    ghost use Rattle.node_shared.specs.Serving.{CallerState};
+    ghost use Rattle.std.specs.Prelude.{◌≡◌};
+    ghost use mathlib.Core.List.{IsPrefix};
+    ghost use Rattle.node_shared.specs.Journal.{entries_of};
+    ghost use Rattle.node_shared.specs.Serving.{CallerState, entry_count};
     ghost use Rattle.node_shared.specs.inside.Codes.{caller_code};
 
     ghost Value = { CallerState };
 
     ghost coded = { caller_code };
 
-    ghost view = { λ c. record { own = record { pid = c.pid; entries = c.writer }; seen = c.seen } };
+    ghost view = { λ c. record { own = c.writer; seen = c.seen } };
+
+    ghost invariant = { λ c. (c.count ≡ entry_count c.seen)
+        × IsPrefix c.writer.entries (entries_of c.writer.pid c.seen) };
 }
 
 impl<B: HistoryId> Caller<B> {
-    /// Makes the caller of a process, with the writer of its part of the history.
-    pub(crate) fn new(pid: u32, writer: HistoryWriter<B>, seen: u64) -> Self
-        ensures { result ≡ record { own = record { pid = pid; entries = writer }; seen = seen } }
+    /// Makes the caller of a process, which saw `count` entries, its own among them.
+    pub(crate) fn new(writer: HistoryWriter<B>, seen: SeenHistory<B>, count: u64) -> Self
+        requires count { count ≡ entry_count seen }
+        requires own { IsPrefix writer.entries (entries_of writer.pid seen) }
+        ensures { result ≡ record { own = writer; seen = seen } }
     {
-        Caller { pid, writer, seen }
+        Caller {
+            writer,
+            seen,
+            count,
+        }
     }
 
     /// Returns the number of the process. It takes no memory.
     pub fn pid(&self) -> u32
         ensures { result ≡ self.now.own.pid }
     {
-        self.pid
+        self.writer.pid()
     }
 
-    /// Makes a call and returns its reply. Some run of the node has all earlier replies of this caller, in order, and
-    /// ends with this call and this reply. Running out of memory changes nothing. It may wait for the lock.
+    /// Learns all that another caller of this server saw: the next calls of this caller come after it. Call it when the
+    /// other caller tells this one something.
+    pub fn learn(&mut self, other: &Caller<B>)
+        ensures own { self.new.own ≡ self.old.own }
+        ensures this { IsPrefix self.old.seen self.new.seen }
+        ensures that { IsPrefix other.now.seen self.new.seen }
+    {
+        if self.count < other.count {
+            self.seen.begins(&other.seen);
+            self.seen = other.seen.again();
+            self.count = other.count;
+        } else if other.count < u64::MAX {
+            other.seen.begins(&self.seen);
+        } else {
+            // Both counts are the greatest `u64`, so they tell nothing.
+            self.seen = self.seen.with(&other.seen);
+        }
+    }
+
+    /// Makes a call and returns its reply. The call is the last of a run of the node, after all that this caller saw,
+    /// and after exactly its own earlier calls with their replies. Running out of memory changes nothing. It may wait
+    /// for the lock.
     pub fn ask<H: KeyHash + Copy + Drop, R: Wait>(
         &mut self,
         rt: &R,
         server: &Server<B, H>,
         call: Call,
     ) -> Result<Reply, AllocError>
-        ensures ok { IfOk result (λ r. self.new.own ≡ with_entry self.old.own (Ask self.old.own.pid call) r) }
-        ensures order { IfOk result (ContinuesTo B.limits self.old.own.entries (Ask self.old.own.pid call) self.new.seen) }
+        ensures ok { IfOk result (λ r. ContinuesBy B.limits self.old (Ask self.old.own.pid call) r self.new) }
         ensures err { OnErr result (self.new ≡ self.old) }
     {
-        let event = Step::Ask(self.pid, call);
+        let event = Step::Ask(self.pid(), call);
         self.step(rt, server, event)
     }
 
@@ -106,12 +141,12 @@ impl<B: HistoryId> Caller<B> {
         calls: Vec<Call>,
         max_growth_steps: u32,
     ) -> Result<Vec<Reply>, RunFault>
-        requires table { word.now.shared.table_id ≡ B.word }
-        requires one { word.now.shared.table_id.words ≡ 1 }
+        requires word { word.now ≡ head_of B.book }
         ensures ok { IfOk result (λ replies. HasAsked B.limits self.old calls.items replies.items self.new) }
         ensures all { IfOk result (λ replies. length replies.items ≡ length calls.items) }
         ensures err { IfErr result (λ fault. HasAsked B.limits self.old calls.items fault.replies self.new) }
     {
+        self.look_alone(word, served);
         let mut replies = Vec::new(*calls.allocator());
         if replies.reserve(calls.len()).is_err() {
             return Err(fault_after(replies));
@@ -126,7 +161,7 @@ impl<B: HistoryId> Caller<B> {
     }
 
     /// Makes the calls in order, until one runs out of memory: then the fault has the replies so far. `replies` is
-    /// passed empty, with room for all replies, and is returned with them.
+    /// passed empty, with room for all replies, and is returned with them. The caller has seen the whole history.
     fn ask_each<H: KeyHash + Copy + Drop>(
         &mut self,
         word: &HistoryWord,
@@ -134,8 +169,9 @@ impl<B: HistoryId> Caller<B> {
         calls: Vec<Call>,
         mut replies: Vec<Reply>,
     ) -> Result<Vec<Reply>, RunFault>
-        requires table { word.now.shared.table_id ≡ B.word }
-        requires one { word.now.shared.table_id.words ≡ 1 }
+        requires word { word.now ≡ head_of B.book }
+        requires all { self.old.seen ≡ served.old.history }
+        requires more { Continues B.limits self.old [] self.old }
         requires none { replies.items ≡ [] }
         requires room { length calls.items ≤ vec_capacity replies }
         ensures ok { IfOk result (λ replies. HasAsked B.limits self.old calls.items replies.items self.new) }
@@ -143,7 +179,7 @@ impl<B: HistoryId> Caller<B> {
         ensures err { IfErr result (λ fault. HasAsked B.limits self.old calls.items fault.replies self.new) }
     {
         for call in calls {
-            let next = Step::Ask(self.pid, call);
+            let next = Step::Ask(self.pid(), call);
             match self.step_locked(word, served, next) {
                 Ok(reply) => replies.push_reserved(reply),
                 Err(_) => return Err(fault_after(replies)),
@@ -159,11 +195,10 @@ impl<B: HistoryId> Caller<B> {
         rt: &R,
         server: &Server<B, H>,
     ) -> Result<Reply, AllocError>
-        ensures ok { IfOk result (λ r. self.new.own ≡ with_entry self.old.own (End self.old.own.pid) r) }
-        ensures order { IfOk result (ContinuesTo B.limits self.old.own.entries (End self.old.own.pid) self.new.seen) }
+        ensures ok { IfOk result (λ r. ContinuesBy B.limits self.old (End self.old.own.pid) r self.new) }
         ensures err { OnErr result (self.new ≡ self.old) }
     {
-        let event = Step::End(self.pid);
+        let event = Step::End(self.pid());
         self.step(rt, server, event)
     }
 
@@ -174,8 +209,8 @@ impl<B: HistoryId> Caller<B> {
         server: &Server<B, H>,
         event: Step,
     ) -> Result<Reply, AllocError>
-        ensures ok { IfOk result (λ r. self.new.own ≡ with_entry self.old.own event r) }
-        ensures order { IfOk result (ContinuesTo B.limits self.old.own.entries event self.new.seen) }
+        requires { is_step_of self.old.own.pid event ≡ true }
+        ensures ok { IfOk result (λ r. ContinuesBy B.limits self.old event r self.new) }
         ensures err { OnErr result (self.new ≡ self.old) }
     {
         match &server.lock.kind {
@@ -184,21 +219,22 @@ impl<B: HistoryId> Caller<B> {
         }
     }
 
-    /// Runs a step on the node under the lock, sets `seen` to the new length of the history, and returns the reply.
+    /// Runs a step on the node under the lock, after which this caller saw the whole history, and returns the reply.
     fn step_locked<H: KeyHash + Copy + Drop>(
         &mut self,
         word: &HistoryWord,
         served: &mut ServedNode<B, H>,
         event: Step,
     ) -> Result<Reply, AllocError>
-        requires table { word.now.shared.table_id ≡ B.word }
-        requires one { word.now.shared.table_id.words ≡ 1 }
-        ensures ok { IfOk result (λ r. self.new.own ≡ with_entry self.old.own event r) }
-        ensures order { IfOk result (ContinuesTo B.limits self.old.own.entries event self.new.seen) }
+        requires word { word.now ≡ head_of B.book }
+        requires own { is_step_of self.old.own.pid event ≡ true }
+        ensures ok { IfOk result (λ r. ContinuesBy B.limits self.old event r self.new) }
+        ensures step { IfOk result (λ r. ServesStep served.old event r served.new) }
+        ensures all { OnOk result (self.new.seen ≡ served.new.history) }
         ensures err { OnErr result (self.new ≡ self.old) }
     {
-        let reply = served.step(word, &mut self.writer, event)?;
-        self.seen = served.count();
+        let reply = served.step(word, &mut self.writer, &mut self.seen, event)?;
+        self.count = served.count();
         Ok(reply)
     }
 }

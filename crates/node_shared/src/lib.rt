@@ -6,17 +6,16 @@
 //! `close` returns a transcript, the record of each client is its process's part of that run, and no process is without
 //! a client. Process numbers are drawn without a lock, each once, from 0 on.
 //!
-//! A `Server` stores nothing of a call. The steps under its lock are such a run too, which exists only in proofs. For
-//! each reply that a caller gets, there is a run that has all of the caller's earlier replies, in order, and ends with
-//! this reply.
+//! A `Server` stores nothing of a call. The steps under its lock are such a run too, which exists only in proofs. Each
+//! reply of a caller is that of a run, after all that the caller saw, and after exactly its own earlier calls.
 //!
 //! *Weakness.* A call that waits for the lock need not return. No contract speaks of time, of fairness, or of the order
 //! of calls of clients that did not communicate.
 //!
 //! *Mechanism.* A step is run, and added to the journal, under one lock. A ledger counts the entries of processes: the
 //! book has the total, and each client's share its own part. The type parameter `L` names the ledger, so that no other
-//! node can reply to a client. `close` compares the records with the journal. In proofs, tokens of one atomic word know
-//! a server's history: the owner, under the lock, knows all of it, and each caller its own steps.
+//! node can reply to a client. `close` compares the records with the journal. In proofs, tokens know a server's
+//! history: the owner, under the lock, knows all of it, and each caller what it saw.
 //!
 //! *Limits.* At most 4,096 numbers can be drawn. The journal of a `Shared` grows for as long as it is shared.
 #![tactic(auto)]
@@ -43,7 +42,7 @@ pub use caller::Caller;
 pub use client::Client;
 pub use entry::Entry;
 pub use gate::Gate;
-pub use history::{HistoryId, HistoryOwner, HistoryWord, HistoryWriter, NewHistory};
+pub use history::{HistoryId, HistoryOwner, HistoryWord, HistoryWriter, NewHistory, SeenHistory};
 pub use job::{Job, Worked};
 pub use pids::{Drawn, MAX_PIDS, Pids, PidsFault, Seat};
 pub use served::ServedNode;

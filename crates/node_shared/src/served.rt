@@ -1,6 +1,7 @@
 //! The served node: what is under the lock of a server, a node and the token that knows its history. The history has
 //! all steps with their replies in proofs only; at run time its length is stored.
-ghost use Rattle.std.specs.Prelude.{◌≡◌, true, false, if◌then◌else◌, Some, None, [], ◌∷◌, ◌++◌, IfOk, OnErr, IfErr};
+ghost use Rattle.std.specs.Prelude.{◌≡◌, true, false, if◌then◌else◌, Some, None, [], ◌∷◌, IfOk, OnOk, OnErr, IfErr};
+ghost use mathlib.Core.List.{IsPrefix};
 ghost use Rattle.ets_term.specs.declared.term.Term.TheVariants.{Pid};
 ghost use Rattle.node_core.specs.declared.step.Reply.TheVariants.{NoProcess, Value};
 ghost use Rattle.node_core.specs.Observable.{observable};
@@ -8,12 +9,16 @@ ghost use Rattle.node_core.specs.Reads.{Reads};
 ghost use Rattle.node_core.specs.Values.{is_value};
 ghost use Rattle.node_core.specs.State.{empty};
 ghost use Rattle.node_core.specs.declared.step.Step.TheVariants.{Enrol};
-ghost use Rattle.node_shared.specs.Journal.{entry, IsRun};
-ghost use Rattle.node_shared.specs.Serving.{AreRead, ContinuesTo, entry_count, RefusesCaller, ServesGrowth, ServesStep, TriesServingGrowth};
+ghost use Rattle.node_core.specs.Woven.{is_step_of};
+ghost use Rattle.node_shared.specs.Journal.{entries_of, IsRun};
+ghost use Rattle.node_shared.specs.Records.{enrolled_record, with_entry};
+ghost use Rattle.node_shared.specs.Serving.{AreRead, entry_count, RefusesCaller, ServesGrowth, ServesStep, TriesServingGrowth};
 ghost use Rattle.node_shared.specs.Faults.{Refuses, RefusesWith};
+ghost use Rattle.node_shared.specs.inside.Lines.{head_of};
 
 use crate::book::BookFault;
-use crate::history::{HistoryId, HistoryOwner, HistoryWord, HistoryWriter};
+use crate::entry::Entry;
+use crate::history::{HistoryId, HistoryOwner, HistoryWord, HistoryWriter, SeenHistory};
 use ets_term::KeyHash;
 use node_core::{Call, Limits, Node, Reply, Step};
 use std::alloc::{AllocError, Global};
@@ -36,6 +41,7 @@ impl<B: HistoryId, H: KeyHash + Copy + Drop> Model for ServedNode<B, H> {
     ghost use Rattle.node_shared.specs.Journal.{IsRun};
     ghost use Rattle.node_shared.specs.Serving.{ServedState, entry_count};
     ghost use Rattle.node_shared.specs.inside.Codes.{served_code};
+    ghost use Rattle.node_shared.specs.inside.Known.{AreKnown};
 
     ghost Value = { ServedState };
 
@@ -43,11 +49,11 @@ impl<B: HistoryId, H: KeyHash + Copy + Drop> Model for ServedNode<B, H> {
 
     ghost view = { λ s. record { state = s.node; history = s.owner } };
 
-    ghost invariant = { λ s. IsRun B.limits s.owner s.node × (s.count ≡ entry_count s.owner) };
+    ghost invariant = { λ s. IsRun B.limits s.owner s.node × (s.count ≡ entry_count s.owner)
+        × AreKnown s.owner s.node };
 }
 
-// The clauses `table` and `one` require that `word` is the history's atomic word: the only one of the table of atomic
-// words with the identifier `B.word`.
+// The clause `word` requires that `word` is the history's atomic word.
 impl<B: HistoryId, H: KeyHash + Copy + Drop> ServedNode<B, H> {
     /// Creates a node without processes and tables, and the owner of an empty history.
     pub fn new(alloc: Global, owner: HistoryOwner<B>, limits: Limits, hasher: H) -> Self
@@ -109,41 +115,67 @@ impl<B: HistoryId, H: KeyHash + Copy + Drop> ServedNode<B, H> {
         Ok(replies)
     }
 
-    /// Runs a step, adds its entry to the history and to the writer's entries, and returns the reply. Running out of
-    /// memory changes nothing.
-    pub fn step(
+    /// Returns a token of the history, which takes no memory.
+    pub(crate) fn seen(&self) -> SeenHistory<B>
+        ensures { result ≡ self.now.history }
+    {
+        self.owner.seen()
+    }
+
+    /// Shows that the history has all that `seen` has, which becomes the whole history. The node does not change.
+    pub(crate) fn show(&mut self, word: &HistoryWord, seen: &mut SeenHistory<B>)
+        requires word { word.now ≡ head_of B.book }
+        ensures same { self.new ≡ self.old }
+        ensures seen { seen.new ≡ self.old.history }
+        ensures before { IsPrefix seen.old self.old.history }
+        ensures run { IsRun B.limits self.old.history self.old.state }
+    {
+        self.owner.show(word, seen);
+    }
+
+    /// Runs a step of the writer's process, adds its entry to the history and to the writer's entries, and returns the
+    /// reply. The history had all that `seen` has, and of the process the writer's entries. `seen` becomes the whole
+    /// history. Running out of memory changes nothing.
+    pub(crate) fn step(
         &mut self,
         word: &HistoryWord,
         writer: &mut HistoryWriter<B>,
+        seen: &mut SeenHistory<B>,
         event: Step,
     ) -> Result<Reply, AllocError>
-        requires table { word.now.shared.table_id ≡ B.word }
-        requires one { word.now.shared.table_id.words ≡ 1 }
+        requires word { word.now ≡ head_of B.book }
+        requires own { is_step_of writer.old.pid event ≡ true }
         ensures step { IfOk result (λ r. ServesStep self.old event r self.new) }
-        ensures own { IfOk result (λ r. writer.new ≡ writer.old ++ entry event r ∷ []) }
-        ensures order { IfOk result (ContinuesTo B.limits writer.old event (entry_count self.new.history)) }
-        ensures err { OnErr result ((self.new ≡ self.old) × (writer.new ≡ writer.old)) }
+        ensures own { IfOk result (λ r. writer.new ≡ with_entry writer.old event r) }
+        ensures seen { OnOk result (seen.new ≡ self.new.history) }
+        ensures before { OnOk result (IsPrefix seen.old self.old.history) }
+        ensures exact { OnOk result (entries_of writer.old.pid self.old.history ≡ writer.old.entries) }
+        ensures run { OnOk result (IsRun B.limits self.new.history self.new.state) }
+        ensures err { OnErr result ((self.new ≡ self.old) × (writer.new ≡ writer.old) × (seen.new ≡ seen.old)) }
     {
         let reply = self.node.step(&event)?;
-        let reply = self.owner.enter(word, writer, event, reply);
+        writer.has_joined();
+        let added = Entry { step: event, reply };
+        let entered = self.owner.enter(word, writer, seen, added);
         self.count = self.count.saturating_add(1);
+        let Entry { step: _, reply } = entered;
         Ok(reply)
     }
 
     /// Enrols a process, adds the entry to the history, and returns the writer of the process's entries and the reply.
-    /// A fault changes nothing.
-    pub fn join(
+    /// The history had no entry of the process. A fault changes nothing.
+    pub(crate) fn join(
         &mut self,
         word: &HistoryWord,
         pid: u32,
     ) -> Result<(HistoryWriter<B>, Reply), BookFault>
-        requires table { word.now.shared.table_id ≡ B.word }
-        requires one { word.now.shared.table_id.words ≡ 1 }
+        requires word { word.now ≡ head_of B.book }
         ensures step { IfOk result (λ joined. ServesStep self.old (Enrol pid) joined.1 self.new) }
         ensures value { IfOk result (λ joined. is_value joined.1 ≡ true) }
         ensures pid { IfOk result (λ joined. joined.1 ≡ Value (Pid pid)) }
-        ensures own { IfOk result (λ joined. joined.0 ≡ entry (Enrol pid) joined.1 ∷ []) }
-        ensures order { IfOk result (λ joined. ContinuesTo B.limits [] (Enrol pid) (entry_count self.new.history) joined.1) }
+        ensures own { IfOk result (λ joined. joined.0 ≡ enrolled_record pid joined.1) }
+        ensures none { OnOk result (entries_of pid self.old.history ≡ []) }
+        ensures run { OnOk result (IsRun B.limits self.new.history self.new.state) }
         ensures err { OnErr result (self.new ≡ self.old) }
         ensures refused { IfErr result (Refuses self.old.state pid) }
         ensures refused_run { IfErr result (RefusesWith (RefusesCaller B.limits pid)) }
@@ -155,18 +187,18 @@ impl<B: HistoryId, H: KeyHash + Copy + Drop> ServedNode<B, H> {
         if !reply.is_value() {
             return Err(BookFault::Refused(reply));
         }
-        let mut writer = self.owner.new_writer(word);
-        let reply = self.owner.enter(word, &mut writer, enrol, reply);
+        let added = Entry { step: enrol, reply };
+        let (writer, entered) = self.owner.enter_first(word, pid, added);
         self.count = self.count.saturating_add(1);
+        let Entry { step: _, reply } = entered;
         Ok((writer, reply))
     }
 
     /// Runs the node's pending growth step, if there is one, and adds its entry to the history. The step doubles the
     /// buckets of a table, or readies one bucket. Returns whether it ran one: `false` if none is pending. Running out
     /// of memory changes nothing.
-    pub fn tend(&mut self, word: &HistoryWord) -> Result<bool, AllocError>
-        requires table { word.now.shared.table_id ≡ B.word }
-        requires one { word.now.shared.table_id.words ≡ 1 }
+    pub(crate) fn tend(&mut self, word: &HistoryWord) -> Result<bool, AllocError>
+        requires word { word.now ≡ head_of B.book }
         ensures growth { IfOk result (ServesGrowth self.old self.new) }
         ensures err { OnErr result (self.new ≡ self.old) }
     {
@@ -174,9 +206,7 @@ impl<B: HistoryId, H: KeyHash + Copy + Drop> ServedNode<B, H> {
             return Ok(false);
         };
         let reply = self.node.step(&due)?;
-        // A growth step is a step of no process, so a new writer adds its entry, and is dropped.
-        let mut maintenance_writer = self.owner.new_writer(word);
-        let _reply = self.owner.enter(word, &mut maintenance_writer, due, reply);
+        self.owner.enter_growth(word, Entry { step: due, reply });
         self.count = self.count.saturating_add(1);
         Ok(true)
     }
@@ -184,8 +214,7 @@ impl<B: HistoryId, H: KeyHash + Copy + Drop> ServedNode<B, H> {
     /// Runs the pending growth step as `tend` does. Returns whether it ran one. `false` means that none is pending or
     /// that memory ran out, and that nothing changed.
     pub(crate) fn try_tend(&mut self, word: &HistoryWord) -> bool
-        requires table { word.now.shared.table_id ≡ B.word }
-        requires one { word.now.shared.table_id.words ≡ 1 }
+        requires word { word.now ≡ head_of B.book }
         ensures { TriesServingGrowth self.old self.new result }
     {
         matches!(self.tend(word), Ok(true))

@@ -1,5 +1,5 @@
 //! A server: a node that threads share through a lock, and that stores no journal. Its history, all steps with their
-//! replies, exists only in proofs, as what tokens of one atomic word know.
+//! replies, exists only in proofs, as what tokens know.
 ghost use Rattle.std.specs.Prelude.{◌≡◌, ◌≤◌, true, false, IfOk, IfErr};
 ghost use Rattle.ets_term.specs.declared.term.Term.TheVariants.{Pid};
 ghost use Rattle.node_core.specs.declared.step.Reply.TheVariants.{Value};
@@ -7,6 +7,7 @@ ghost use Rattle.node_core.specs.Values.{is_value};
 ghost use Rattle.node_shared.specs.Records.{enrolled_record};
 ghost use Rattle.node_shared.specs.Serving.{IsEnrolledCaller, RefusesCaller};
 ghost use Rattle.node_shared.specs.Faults.{HandsBack, JoinRefusesWith, RefusesWith};
+ghost use Rattle.node_shared.specs.inside.Lines.{head_of};
 
 use crate::book::BookFault;
 use crate::caller::Caller;
@@ -29,8 +30,7 @@ pub struct Server<B: HistoryId, H: KeyHash + Copy + Drop> {
     pub(crate) word: HistoryWord,
     /// The lock, with the node and the owner of its history under it.
     pub(crate) lock: ServerLock<B, H>,
-    ghost table: { word.shared.table_id ≡ B.word },
-    ghost one_word: { word.shared.table_id.words ≡ 1 },
+    ghost word_is: { word ≡ head_of B.book },
 }
 
 impl<B: HistoryId, H: KeyHash + Copy + Drop> Server<B, H> {
@@ -44,7 +44,8 @@ impl<B: HistoryId, H: KeyHash + Copy + Drop> Server<B, H> {
         limits: Limits,
         hasher: H,
     ) -> Result<Self, AllocError>
-        requires table { history.word.shared.table_id ≡ B.word }
+        requires book { history.seen.book ≡ B.book }
+        requires root { history.turn.nib.key ≡ B.root }
         requires limits { limits ≡ B.limits }
         ensures { IfOk result (λ server. server.word ≡ history.word) }
     {
@@ -92,7 +93,7 @@ impl<B: HistoryId, H: KeyHash + Copy + Drop> Server<B, H> {
         ensures refused_run { IfErr result (RefusesWith (RefusesCaller B.limits pid)) }
     {
         let (writer, _reply) = served.join(&self.word, pid)?;
-        Ok(Caller::new(pid, writer, served.count()))
+        Ok(Caller::new(writer, served.seen(), served.count()))
     }
 
     /// Runs at most `turns` pending growth steps, and takes the lock anew for each. Such a step doubles the buckets of

@@ -29,6 +29,7 @@ mod numbering; // the numbers that a `Gate` gets
 mod reading; // reads of a server
 mod serving; // calls of a server
 mod stressing; // many calls of a server
+mod telling; // callers that tell each other something
 
 /// Returns the usual limits, but with this number of processes.
 fn limits(processes: u32) -> Limits

@@ -21,7 +21,7 @@ record_code =
 
 abbrev pub caller_code : Coded CallerState
 caller_code =
-    code_by (RecordState × ℕ) (coded× record_code coded_ℕ)
+    code_by (RecordState × List Entry) (coded× record_code (coded_list entry.the_row.coded))
     (λ c. (c.own, c.seen)) (λ p. record { own = p.0; seen = p.1 }) (λ _. refl)
 
 abbrev pub served_code : Coded ServedState

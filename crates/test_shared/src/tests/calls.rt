@@ -129,7 +129,7 @@ pub(super) fn read_gives_list<B: HistoryId, H: KeyHash + Copy + Drop, R: Wait>(
     rt: &R,
     alloc: Global,
     server: &Server<B, H>,
-    caller: &Caller<B>,
+    caller: &mut Caller<B>,
     text: (&str, Result<String, AllocError>),
     count: usize,
 ) -> Option<bool> {

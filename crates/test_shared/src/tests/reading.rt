@@ -54,7 +54,7 @@ fn push_reply(alloc: Global, reply: Option<&Reply>, text: &mut String) -> Result
 fn push_read<B: HistoryId, R: Wait>(
     rt: &R,
     server: &Server<B, Fnv>,
-    caller: &Caller<B>,
+    caller: &mut Caller<B>,
     request: &Call,
     text: &mut String,
 ) -> Option<()> {
@@ -68,7 +68,7 @@ fn single_reads_are_right<B: HistoryId, R: Wait>(
     rt: &R,
     alloc: Global,
     server: &Server<B, Fnv>,
-    caller: &Caller<B>,
+    caller: &mut Caller<B>,
 ) -> Option<bool> {
     let calls = build_calls(alloc, &READS)?;
     let mut text = String::new(alloc);
@@ -83,7 +83,7 @@ fn reads_by_read_all_are_right<B: HistoryId, R: Wait>(
     rt: &R,
     alloc: Global,
     server: &Server<B, Fnv>,
-    caller: &Caller<B>,
+    caller: &mut Caller<B>,
 ) -> Option<bool> {
     let calls = build_calls(alloc, &READS)?;
     let replies = caller.read_all(rt, alloc, server, calls.as_slice()).ok()?;
@@ -99,7 +99,7 @@ fn reads_by_read_all_are_right<B: HistoryId, R: Wait>(
 fn push_read_into<B: HistoryId, R: Wait>(
     rt: &R,
     server: &Server<B, Fnv>,
-    caller: &Caller<B>,
+    caller: &mut Caller<B>,
     (request, reply): (&Call, &mut Reply),
     text: &mut String,
 ) -> Option<()> {
@@ -115,7 +115,7 @@ fn reads_into_one_reply_are_right<B: HistoryId, R: Wait>(
     rt: &R,
     alloc: Global,
     server: &Server<B, Fnv>,
-    caller: &Caller<B>,
+    caller: &mut Caller<B>,
 ) -> Option<bool> {
     let calls = build_calls(alloc, &READS_INTO)?;
     let mut reply = Reply::NoProcess;
@@ -177,8 +177,8 @@ fn new_caller_reads_what_it_inserted<B: HistoryId, R: Wait>(
     reads_what_it_inserted(rt, alloc, server, callers.first_mut()?)
 }
 
-/// Creates a server, and returns whether a caller reads what it inserted. `B` names the history and the limits. In the
-/// contract, the table is the kit's table of shared words, which has the word of the history.
+/// Creates a server, and returns whether a caller reads what it inserted. `B` names the history and the limits, by
+/// the book of the kit's crate `logbook` that has the history, and the key of its first pen.
 fn new_server_replies_to_reads<B: HistoryId, R: Wait>(
     rt: &R,
     alloc: Global,
@@ -186,7 +186,8 @@ fn new_server_replies_to_reads<B: HistoryId, R: Wait>(
     history: NewHistory,
     limits: Limits,
 ) -> Option<bool>
-    requires table { history.word.shared.table_id ≡ B.word }
+    requires book { history.seen.book ≡ B.book }
+    requires root { history.turn.nib.key ≡ B.root }
     requires limits { limits ≡ B.limits }
 {
     let server = Server::<B, Fnv>::new(alloc, locking, history, limits, Fnv).ok()?;
@@ -196,7 +197,7 @@ fn new_server_replies_to_reads<B: HistoryId, R: Wait>(
 #[test]
 fn a_caller_reads_what_it_inserted(rt: HostRuntime) -> Result<(), Fail> {
     for locking in [Locking::Single, Locking::Sharded] {
-        let history = NewHistory::new(rt.alloc())?;
+        let history = NewHistory::new();
         let is_right = new_server_replies_to_reads::<Brand, _>(
             &rt,
             rt.alloc(),

@@ -1,8 +1,8 @@
 //! Tests of a server, which runs the calls of its callers, and pending growth steps in `keep` and at the end of
 //! `ask_all`.
 // Callers in threads may call it at the same time. Nine objects in a new table make four growth steps pending. `B`
-// names the history and the limits of a server. In contracts, the table is the kit's table of shared words, which has
-// the word of the history.
+// names the history and the limits of a server. In contracts, the book is that of the kit's crate `logbook` which has
+// the history, and the root is the key of its first pen.
 ghost use Rattle.std.specs.Prelude.{◌≡◌};
 ghost use Rattle.std.specs.Thread.{IsSync};
 
@@ -125,7 +125,8 @@ fn new_server_serves_one_caller<B: HistoryId, R: Wait>(
     history: NewHistory,
     limits: Limits,
 ) -> Option<bool>
-    requires table { history.word.shared.table_id ≡ B.word }
+    requires book { history.seen.book ≡ B.book }
+    requires root { history.turn.nib.key ≡ B.root }
     requires limits { limits ≡ B.limits }
 {
     let server = Server::<B, Fnv>::new(alloc, Locking::Single, history, limits, Fnv).ok()?;
@@ -134,7 +135,7 @@ fn new_server_serves_one_caller<B: HistoryId, R: Wait>(
 
 #[test]
 fn a_server_runs_calls_and_pending_steps(rt: HostRuntime) -> Result<(), Fail> {
-    let history = NewHistory::new(rt.alloc())?;
+    let history = NewHistory::new();
     let is_right = new_server_serves_one_caller::<Brand, _>(&rt, rt.alloc(), history, limits(1));
     assert!(rt; is_right.ok_or("no memory, or a refused call")?);
     Ok(())
@@ -234,7 +235,8 @@ fn objects_of_new_server<B: HistoryId + Send + Sync, R: Threads + Wait + Sync>(
     history: NewHistory,
     limits: Limits,
 ) -> Option<u64>
-    requires table { history.word.shared.table_id ≡ B.word }
+    requires book { history.seen.book ≡ B.book }
+    requires root { history.turn.nib.key ≡ B.root }
     requires limits { limits ≡ B.limits }
 {
     let server = Server::<B, Fnv>::new(alloc, Locking::Sharded, history, limits, Fnv).ok()?;
@@ -243,7 +245,7 @@ fn objects_of_new_server<B: HistoryId + Send + Sync, R: Threads + Wait + Sync>(
 
 #[test]
 fn two_callers_insert_at_once(rt: HostRuntime) -> Result<(), Fail> {
-    let history = NewHistory::new(rt.alloc())?;
+    let history = NewHistory::new();
     let objects = objects_of_new_server::<Brand, _>(&rt, rt.alloc(), history, limits(2));
     // Twice `INSERTIONS`.
     assert_eq!(rt; objects, Some(100));

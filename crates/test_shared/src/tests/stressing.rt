@@ -165,7 +165,8 @@ fn team_is_right<B: HistoryId, H: KeyHash + Copy + Drop, R: Wait>(
 }
 
 /// Creates a server, and lets all teams make their calls. Returns whether all have only right replies. `B` names the
-/// history and the limits. The table in the contract is the kit's table of shared words, which has one word.
+/// history and the limits: the book of the kit's crate `logbook` has the history, and the root is the key of its first
+/// pen.
 fn new_server_is_right<B: HistoryId + Send + Sync, R: Threads + Wait + Sync>(
     rt: &R,
     alloc: Global,
@@ -173,7 +174,8 @@ fn new_server_is_right<B: HistoryId + Send + Sync, R: Threads + Wait + Sync>(
     history: NewHistory,
     limits: Limits,
 ) -> Option<bool>
-    requires table { history.word.shared.table_id ≡ B.word }
+    requires book { history.seen.book ≡ B.book }
+    requires root { history.turn.nib.key ≡ B.root }
     requires limits { limits ≡ B.limits }
 {
     let server = Server::<B, Fnv>::new(alloc, locking, history, limits, Fnv).ok()?;
@@ -194,7 +196,7 @@ fn teams_are_right<B: HistoryId + Send + Sync, R: Threads + Wait + Sync>(
 /// replies.
 fn two_rounds_are_right<R: Threads + Wait + Sync>(rt: &R, alloc: Global) -> Option<bool> {
     for locking in [Locking::Single, Locking::Sharded] {
-        let history = NewHistory::new(alloc).ok()?;
+        let history = NewHistory::new();
         if !new_server_is_right::<Brand, R>(rt, alloc, locking, history, limits(46))? {
             return Some(false);
         }

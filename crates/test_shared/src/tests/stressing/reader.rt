@@ -105,7 +105,7 @@ fn visits_each_kept_key_once<B: HistoryId, H: KeyHash + Copy + Drop, R: Wait>(
     rt: &R,
     alloc: Global,
     server: &Server<B, H>,
-    caller: &Caller<B>,
+    caller: &mut Caller<B>,
     writer: u32,
 ) -> Option<bool> {
     let mut visits = Vec::new(alloc);
@@ -118,7 +118,7 @@ fn visits_each_kept_key_once<B: HistoryId, H: KeyHash + Copy + Drop, R: Wait>(
 fn count_visits<B: HistoryId, H: KeyHash + Copy + Drop, R: Wait>(
     rt: &R,
     server: &Server<B, H>,
-    caller: &Caller<B>,
+    caller: &mut Caller<B>,
     writer: u32,
     visits: &mut Vec<u8>,
 ) -> Option<()> {
@@ -145,7 +145,7 @@ fn key_of<B: HistoryId, H: KeyHash + Copy + Drop, R: Wait>(
     rt: &R,
     alloc: Global,
     server: &Server<B, H>,
-    caller: &Caller<B>,
+    caller: &mut Caller<B>,
     text: (&str, Result<String, AllocError>),
 ) -> Option<Option<u32>> {
     let request = build_formatted_call(alloc, text)?;

@@ -9,5 +9,6 @@ invariant-loop-call g l = record {
   len : into_iter_len l.call-iterator ≡ length (into_iter_items l.call-iterator);
   count : length l.replies.items ≡ length l.yielded;
   room : length l.fn.calls.items ≤ vec_capacity l.replies;
+  seen : l.self.seen ≡ l.served.history;
   calls_made : HasAsked g.B.HistoryId.limits l.fn.self l.fn.calls.items l.replies.items l.self;
 }

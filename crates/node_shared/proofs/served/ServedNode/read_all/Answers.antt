@@ -1,4 +1,4 @@
-use Rattle.std.proofs.Common.{◌≡◌, ◌<◌, ap, ◌+◌, ◌∙◌, length, vec_len, arith}
+use Rattle.std.proofs.Common.{◌<◌, ap, ◌+◌, ◌∙◌, length, arith}
 use Rattle.node_core.specs.Observable.{observable}
 use Rattle.node_shared.proofs.Reading.{read-next}
 use Rattle.node_shared.proofs.served.ServedNode.read_all.Goals as goal
