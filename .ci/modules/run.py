@@ -73,6 +73,7 @@ def on_the_program(copy, log):
         tried("the examples, cut at every byte", "tests/program/cuts"),
         tried("failing devices", "tests/program/devices"),
         tried("packets", "tests/program/packets", r"^packets: "),
+        tried("instructions of a line", "tests/program/instructions", r"^instructions: "),
         tried("refused memory", "tests/program/refusals", r"^refusals: "),
         Part(
             "refused memory in tests",
