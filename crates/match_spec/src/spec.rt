@@ -23,6 +23,7 @@ use crate::spec::check::{ClauseParts, clause_parts, is_good};
 use crate::spec::clause::{Clause, first_result_is_true, result_of_first};
 use crate::spec::quick::{QuickTest, quick_test};
 use ets_term::{Items, Position, Term};
+use packed_term::Object;
 use std::alloc::{AllocError, Global};
 use std::marker::Model;
 
@@ -104,6 +105,18 @@ impl Spec {
     {
         match &self.quick {
             Some(quick) => quick.rejects(object),
+            None => false,
+        }
+    }
+
+    /// Checks whether the quick test shows that no clause applies to a packed object, without unpacking it. If the
+    /// result is `false`, the object may still have no result.
+    #[inline(always)]
+    pub fn rejects_packed(&self, object: &Object) -> bool
+        ensures { result ≡ true → result_of (data_of self.now) (data_of object.now) ≡ None }
+    {
+        match &self.quick {
+            Some(quick) => quick.rejects_packed(object),
             None => false,
         }
     }
