@@ -4,7 +4,7 @@
 //! *Guarantee.* `compile` refuses a term exactly if it is not a pattern or match specification. `Pattern::bindings`
 //! returns the only bindings by which a term matches, or `None` if it does not match. `Spec::result` returns the result
 //! of the first clause that matches the object and whose conditions hold. If `bound_key` returns a key, every object
-//! that matches has it.
+//! that matches has it. An object that `rejects_packed` rejects has no result.
 //!
 //! *Weakness.* Each result is a new term, and `'$$'` copies all bindings.
 //!
@@ -12,6 +12,7 @@
 //! variable is compiled to the path of its first occurrence in the pattern. Bindings are read in the object by these
 //! paths. Matching an object takes no memory, except where an expression makes a new value. A match specification of
 //! one clause may keep a quick test of one element, which rejects most objects before the clause is tried.
+//! `Spec::rejects_packed` makes this test on a packed object, which need not be unpacked if it is rejected.
 //!
 //! *Limits.* Variables have numbers up to 100,000,000.
 //!

@@ -1,5 +1,5 @@
 //! A cheap necessary condition of a match specification with a single clause. It checks the length of the object, and
-//! compares one element with an integer.
+//! compares one element with an integer. The object is a term or packed.
 ghost use Rattle.std.specs.Prelude.{◌≡◌, [], ◌∷◌, true, false, map, IfSome};
 ghost use Rattle.ets_term.specs.Data.{tuple, data_of, data_list};
 ghost use Rattle.match_spec.specs.inside.QuickTests.{rejects, rejects_element, IsComparison, IsNecessary, RejectsClause, RejectsAll};
