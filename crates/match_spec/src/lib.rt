@@ -11,8 +11,8 @@
 //! *Mechanism.* A compiled pattern or match specification keeps its raw term, and contracts see only that term. A
 //! variable is compiled to the path of its first occurrence in the pattern. Bindings are read in the object by these
 //! paths. Matching an object takes no memory, except where an expression makes a new value. A match specification of
-//! one clause may keep a quick test of one element, which rejects most objects before the clause is tried.
-//! `Spec::rejects_packed` makes this test on a packed object, which need not be unpacked if it is rejected.
+//! one clause may keep a quick test of one element. `Spec::rejects_packed` makes this test on a packed object. It
+//! rejects most objects, which then need not be unpacked.
 //!
 //! *Limits.* Variables have numbers up to 100,000,000.
 //!

@@ -80,9 +80,6 @@ impl Spec {
     pub fn result(&self, alloc: Global, object: &Term) -> Result<Option<Term>, AllocError>
         ensures { IfOk result (λ value. option_map data_of value ≡ result_of (data_of self.now) (data_of object.now)) }
     {
-        if self.rejects(object) {
-            return Ok(None);
-        }
         result_of_first(alloc, self.clauses.as_slice(), object)
     }
 
@@ -91,22 +88,7 @@ impl Spec {
         ensures { IfOk result (λ b. b
             ≡ option_map_or is_true (result_of (data_of self.now) (data_of object.now)) false) }
     {
-        if self.rejects(object) {
-            return Ok(false);
-        }
         first_result_is_true(alloc, self.clauses.as_slice(), object)
-    }
-
-    /// Checks whether the quick test shows that no clause applies to the object. If the result is `false`, the clauses
-    /// must be tried.
-    #[inline(always)]
-    fn rejects(&self, object: &Term) -> bool
-        ensures { result ≡ true → result_of (data_of self.now) (data_of object.now) ≡ None }
-    {
-        match &self.quick {
-            Some(quick) => quick.rejects(object),
-            None => false,
-        }
     }
 
     /// Checks whether the quick test shows that no clause applies to a packed object, without unpacking it. If the

@@ -1,5 +1,5 @@
 //! A cheap necessary condition of a match specification with a single clause. It checks the length of the object, and
-//! compares one element with an integer. The object is a term or packed.
+//! compares one element with an integer. The object is packed.
 ghost use Rattle.std.specs.Prelude.{◌≡◌, [], ◌∷◌, true, false, map, IfSome};
 ghost use Rattle.ets_term.specs.Data.{tuple, data_of, data_list};
 ghost use Rattle.match_spec.specs.inside.QuickTests.{rejects, rejects_element, IsComparison, IsNecessary, RejectsClause, RejectsAll};
@@ -23,44 +23,6 @@ pub(crate) struct QuickTest {
 }
 
 impl QuickTest {
-    /// Checks whether the object fails the test. The clause then does not apply to it.
-    #[inline(always)]
-    pub(crate) fn rejects(&self, object: &Term) -> bool
-        ensures { result ≡ rejects self.now (data_of object.now) }
-    {
-        match object {
-            Term::Tuple(items) => self.rejects_items(items.as_slice()),
-            _ => true,
-        }
-    }
-
-    /// Checks whether a tuple of these items fails the test.
-    #[inline(always)]
-    #[tactic(auto, using(crate::proofs::QuickLaws::rejects_length, crate::proofs::QuickLaws::rejects_by_element, crate::proofs::QuickLaws::rejects_nothing))]
-    fn rejects_items(&self, items: &[Term]) -> bool
-        ensures { result ≡ rejects self.now (tuple (data_list (map data_of items.now))) }
-    {
-        if items.len() != self.len {
-            return true;
-        }
-        // A tuple without this element cannot fail the comparison.
-        if self.index >= items.len() {
-            return false;
-        }
-        self.rejects_element(&items[self.index])
-    }
-
-    /// Checks whether this element fails the test. Only an integer can fail.
-    #[inline(always)]
-    fn rejects_element(&self, element: &Term) -> bool
-        ensures { result ≡ rejects_element self.now (data_of element.now) }
-    {
-        match element {
-            Term::Int(n) => !integer_comparison_holds(self.comparison, *n, self.value),
-            _ => false,
-        }
-    }
-
     /// Checks whether a packed object fails the test, without unpacking it. The clause then does not apply to it. If
     /// the result is `false`, a term that is not a tuple may still fail the test.
     #[inline(always)]
