@@ -51,6 +51,19 @@ class Terminal:
         os.write(self._at, keys)
         return self.until(mark)
 
+    def interrupt(self, keys, mark=PROMPT):
+        """Types these keys and Ctrl-C. Types Ctrl-C again after each second without output, at most 30 times: a signal
+        that comes between the prompt and the shell's read does not wake the read. Returns what the shell prints."""
+        os.write(self._at, keys + b"\x03")
+        tries = 30
+        while mark not in self.printed and tries:
+            if select.select([self._at], [], [], 1)[0]:
+                self.printed += os.read(self._at, 65_536)
+            else:
+                tries -= 1
+                os.write(self._at, b"\x03")
+        return self.until(mark)
+
     def end(self):
         """Reads to the end. Returns the rest and the exit status."""
         try:
@@ -84,7 +97,7 @@ class AtATerminal(unittest.TestCase):
         self.assertIn(b"spawn anna ", it.type(b"help\n"))
         self.assertNotIn(b"**", it.type(b"% a comment\n") + it.type(b"  \n"))
         # Ctrl-C drops the line, and Ctrl-D leaves.
-        self.assertNotIn(b"**", it.type(b"anna del\x03"))
+        self.assertNotIn(b"**", it.interrupt(b"anna del"))
         os.write(it._at, b"\x04")
         self.assertEqual(it.end(), (b"\r\n", 0))
 
