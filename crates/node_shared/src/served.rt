@@ -116,10 +116,10 @@ impl<B: HistoryId, H: KeyHash + Copy + Drop> ServedNode<B, H> {
     }
 
     /// Returns a token of the history, which takes no memory.
-    pub(crate) fn seen(&self) -> SeenHistory<B>
+    pub(crate) fn token(&self) -> SeenHistory<B>
         ensures { result ≡ self.now.history }
     {
-        self.owner.seen()
+        self.owner.token()
     }
 
     /// Shows that the history has all that `seen` has, which becomes the whole history. The node does not change.
