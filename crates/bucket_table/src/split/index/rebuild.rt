@@ -1,6 +1,7 @@
 //! When a bucket becomes ready, one scan sets its first four hints, and another sets those of its parent if that is
-//! ready. A bucket has at least four intervals. Hints past the end of the list of hints stay unknown. The parent is the
-//! bucket that a doubling split to create this bucket. A hint caches the place of the first item of an interval.
+//! ready. A scan reads each node of the bucket, so there is none if all four hints are known. A bucket has at least four
+//! intervals. Hints past the end of the list of hints stay unknown. The parent is the bucket that a doubling split to
+//! create this bucket. A hint caches the place of the first item of an interval.
 
 ghost use Rattle.std.specs.Prelude.{◌≡◌, ◌<◌, Some, None, length, get_or};
 ghost use Rattle.bucket_table.specs.inside.SplitIndex.{RowsInvariant, KeepsDirectory};
@@ -39,9 +40,9 @@ impl<H: KeyHash + Copy + Drop> SplitIndex<H> {
         }
     }
 
-    /// Rebuilds the hints of the first four intervals of a ready bucket, whose dummy is at `start`, by one scan. First
-    /// sets those that the list of hints has to empty. Then sets the hint of each interval that has items to its first
-    /// item.
+    /// Rebuilds the hints of the first four intervals of a ready bucket, whose dummy is at `start`, by one scan, unless
+    /// they are known. First sets those that the list of hints has to empty. Then sets the hint of each interval that
+    /// has items to its first item.
     fn rebuild_hints(&mut self, bucket: u32, start: At)
         requires rows { RowsInvariant H.hash self.old }
         requires start { get_or self.old.directory bucket None ≡ Some start }
@@ -51,6 +52,13 @@ impl<H: KeyHash + Copy + Drop> SplitIndex<H> {
     {
         self.list.reveal_invariant();
         let first_interval = self.hints.interval_of(dummy_key(bucket));
+        if self
+            .hints
+            .current
+            .are_known(first_interval, INTERVALS_PER_BUCKET)
+        {
+            return;
+        }
         let end = first_interval + INTERVALS_PER_BUCKET;
         self.hints.current.set_empty(first_interval, end);
         let list = &self.list;

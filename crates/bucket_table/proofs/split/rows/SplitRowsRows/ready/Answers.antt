@@ -1,7 +1,7 @@
 use Rattle.std.proofs.Common.{◌≡◌, ◌<◌, ◌≤◌, ◌+◌, ◌*◌, ◌^◌, ℕ, List, Option, Some, None, length, is_some, map, set, sym, ◌∙◌, ap, subst, arith}
 use Rattle.std.proofs.lemmas.List.{length-map, length-set}
 use Rattle.split_key.specs.Keys.{key_of_dummy}
-use Rattle.node_list.specs.Cells.{Cell, new_cell}
+use Rattle.node_list.specs.Cells.{new_cell}
 use Rattle.node_list.specs.Changes.{put_cell}
 use Rattle.node_list.specs.Places.{HasSplitKeyAtMost}
 use Rattle.bucket_table.specs.Readying.{IsReadied}
