@@ -13,7 +13,7 @@ use Rattle.bucket_table.proofs.list.Content.{fresh-apart}
 use Rattle.bucket_table.proofs.hints.First.{first-here, first-on, First, first-node, first-without-other}
 use Rattle.bucket_table.proofs.hints.Change.{out-in, others-put}
 use Rattle.bucket_table.proofs.hints.Search.{is_in-yes, inside}
-use Rattle.bucket_table.proofs.hints.Rebuild.{none-from}
+use Rattle.bucket_table.proofs.hints.Parts.{none-from}
 
 some-is : (a b : ℕ) (o : Option ℕ) → o ≡ Some a → o ≡ Some b → a ≡ b
 some-is a b o e f = cc

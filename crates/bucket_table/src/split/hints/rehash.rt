@@ -1,12 +1,12 @@
 //! After a doubling, each insertion splits a few of the previous hints, which are those of the old number of buckets.
-//! Each removal splits the previous hint of its item's interval. A hint caches the place of the first item of an
-//! interval. A previous interval is two current intervals, a *pair*.
+//! Each removal splits the previous hint of its item's interval, and a bucket that becomes ready those of its intervals.
+//! A hint caches the place of the first item of an interval. A previous interval is two current intervals, a *pair*.
 
 ghost use Rattle.std.specs.Prelude.{◌≡◌, ◌+◌, ◌*◌, ◌/◌, ◌^◌, ◌≤◌, None, get_or};
 ghost use Rattle.bucket_table.specs.inside.Directory.{HaveParity};
 ghost use Rattle.bucket_table.specs.inside.Intervals.{HintsAreSound, IsSoundHint};
 
-use super::Hints;
+use super::{Hints, INTERVALS_PER_BUCKET};
 use crate::split::hint::Hint;
 use node_list::NodeList;
 
@@ -58,16 +58,27 @@ impl Hints {
         }
     }
 
-    /// Rehashes as many previous hints from `first_pair` on as one insertion does.
-    fn rehash_pairs(&mut self, list: &NodeList, first_pair: usize)
+    /// Rehashes `count` previous hints from `first_pair` on.
+    fn rehash_pairs(&mut self, list: &NodeList, first_pair: usize, count: usize)
         requires parity { HaveParity list.now.cells }
         requires hints { HintsAreSound self.old list.now.cells }
         ensures hints { HintsAreSound self.new list.now.cells }
         ensures interval_bits { self.new.interval_bits ≡ self.old.interval_bits }
     {
-        for pair in first_pair..first_pair.saturating_add(HINTS_REHASHED_AT_INSERTION) {
+        for pair in first_pair..first_pair.saturating_add(count) {
             self.rehash_pair(list, pair);
         }
+    }
+
+    /// Rehashes the previous hints of the first four intervals of a bucket, whose dummy has this split key.
+    pub fn rehash_bucket(&mut self, list: &NodeList, split_key: u64)
+        requires parity { HaveParity list.now.cells }
+        requires hints { HintsAreSound self.old list.now.cells }
+        ensures hints { HintsAreSound self.new list.now.cells }
+        ensures interval_bits { self.new.interval_bits ≡ self.old.interval_bits }
+    {
+        let first_pair = self.interval_of(split_key) / 2;
+        self.rehash_pairs(list, first_pair, INTERVALS_PER_BUCKET / 2);
     }
 
     /// Rehashes the previous hint of the interval of a split key.
@@ -93,7 +104,7 @@ impl Hints {
         self.extend_generation();
         let rehash_index = self.rehash_index;
         if rehash_index < self.previous.len() {
-            self.rehash_pairs(list, rehash_index);
+            self.rehash_pairs(list, rehash_index, HINTS_REHASHED_AT_INSERTION);
             self.rehash_index = rehash_index.saturating_add(HINTS_REHASHED_AT_INSERTION);
         } else if self.previous.len() > 0 {
             self.previous.shrink();

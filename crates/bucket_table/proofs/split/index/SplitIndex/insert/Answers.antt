@@ -10,7 +10,7 @@ use Rattle.bucket_table.proofs.hints.Start.{lesser-up-to}
 use Rattle.bucket_table.proofs.hints.Rehash.{previous-put}
 use Rattle.bucket_table.proofs.hints.Replace.{right, anew}
 use Rattle.bucket_table.proofs.directory.Placed.{placed-parity}
-use Rattle.bucket_table.proofs.hints.Rebuild.{item-small}
+use Rattle.bucket_table.proofs.hints.Parts.{item-small}
 use Rattle.bucket_table.proofs.hints.Invariant.{rows-put}
 use Rattle.bucket_table.proofs.split.index.SplitIndex.insert.Goals as goal
 
