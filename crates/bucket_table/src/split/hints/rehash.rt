@@ -70,15 +70,19 @@ impl Hints {
         }
     }
 
-    /// Rehashes the previous hints of the first four intervals of a bucket, whose dummy has this split key.
+    /// Adds unknown current hints if some are missing. Then rehashes the previous hints of the first four intervals of a
+    /// bucket, whose dummy has this split key, if the list has the current ones.
     pub fn rehash_bucket(&mut self, list: &NodeList, split_key: u64)
         requires parity { HaveParity list.now.cells }
         requires hints { HintsAreSound self.old list.now.cells }
         ensures hints { HintsAreSound self.new list.now.cells }
         ensures interval_bits { self.new.interval_bits ≡ self.old.interval_bits }
     {
-        let first_pair = self.interval_of(split_key) / 2;
-        self.rehash_pairs(list, first_pair, INTERVALS_PER_BUCKET / 2);
+        self.extend_generation();
+        let interval = self.interval_of(split_key);
+        if interval <= self.current.len().saturating_sub(INTERVALS_PER_BUCKET) {
+            self.rehash_pairs(list, interval / 2, INTERVALS_PER_BUCKET / 2);
+        }
     }
 
     /// Rehashes the previous hint of the interval of a split key.
