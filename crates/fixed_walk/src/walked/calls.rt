@@ -1,7 +1,6 @@
 //! Lookups, insertions, updates and deletions in a table with fixes. In a fixed table, a key that loses its last object
 //! keeps its slot as a tombstone, which an insertion of the key fills again.
 ghost use Rattle.std.specs.Prelude.{◌≡◌, [], ◌∷◌, None, option_copied, OnOk, OnErr};
-ghost use Rattle.counters.specs.declared.ops.Ops.TheVariants.{One};
 ghost use Rattle.counters.specs.declared.elements.ElementSpecs.TheVariants as elements;
 ghost use Rattle.table_ops.specs.Content.{objects_under, is_present};
 ghost use Rattle.table_ops.specs.Drop.{has_key, every_object, DeletesObject};
@@ -15,7 +14,7 @@ ghost use Rattle.fixed_walk.specs.TableState.{on_content, after_delete};
 
 use super::Walked;
 use bucket_table::Rows;
-use counters::{ElementSpecs, Op, Ops};
+use counters::{ElementSpecs, Ops};
 use ets_term::{Items, Position, Term};
 use packed_term::Object;
 use std::alloc::AllocError;
@@ -101,6 +100,7 @@ impl<R: Rows> Walked<R> {
     /// Refuses with `SystemLimit` a new value that is out of range, and a new object that is too deep or past the
     /// limit.
     #[tactic(auto, using(crate::proofs::TombstoneLaws::no_tombstones))]
+    #[inline(always)]
     pub fn update_counter(
         &mut self,
         key: &Term,
@@ -112,17 +112,6 @@ impl<R: Rows> Walked<R> {
             self.old result self.new }
     {
         self.table.update_counter(key, ops, default)
-    }
-
-    /// Does one operation on a counter of a key's object, as `update_counter` does without a Default. It takes no
-    /// memory.
-    #[tactic(auto, using(crate::proofs::TombstoneLaws::no_tombstones))]
-    #[inline(always)]
-    pub fn update_one_counter(&mut self, key: &Term, op: Op) -> Result<Term, Refusal>
-        ensures { RefinesChange (on_content (UpdatesCounter key.now (One op) None) self.old)
-            self.old result self.new }
-    {
-        self.table.update_one_counter(key, op)
     }
 
     /// Writes elements of a key's object in place and returns `true` (stdlib manual, ets:update_element/3 and /4). If

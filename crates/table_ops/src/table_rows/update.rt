@@ -32,6 +32,7 @@ impl<R: Rows> TableRows<R> {
     }
 
     /// Returns whether each operation has a position that an update may name.
+    #[inline(always)]
     pub(crate) fn ops_avoid_key(&self, ops: &Ops) -> bool
         ensures { result ≡ ops_avoid_key self.now.keypos ops.now }
     {
@@ -62,6 +63,7 @@ impl<R: Rows> TableRows<R> {
     }
 
     /// Returns whether the Default is absent, or becomes an object if `key` is set at keypos.
+    #[inline(always)]
     pub(crate) fn default_is_object(&self, key: &Term, default: Option<&Term>) -> bool
         ensures { result ≡ default_is_object self.now.keypos key.now (option_copied default.entry) }
     {
@@ -89,6 +91,7 @@ impl<R: Rows> TableRows<R> {
 
     /// Updates counters of the only object of the slot at a place, and returns the new value or list of values. A
     /// single counter is set without moving the object.
+    #[inline(always)]
     pub(crate) fn update_counter_at(
         &mut self,
         place: Place,
@@ -107,11 +110,7 @@ impl<R: Rows> TableRows<R> {
 
     /// Updates one counter of the only object of the slot at a place, without moving the object. Returns the new value.
     #[inline(always)]
-    pub(crate) fn update_one_counter_at(
-        &mut self,
-        place: Place,
-        op: Op,
-    ) -> Result<Term, CounterFault>
+    fn update_one_counter_at(&mut self, place: Place, op: Op) -> Result<Term, CounterFault>
         requires { HasOneObject (R.slots self.old.rows) (R.key_at self.old.rows place) }
         ensures slots { UpdatesCounterAt (One op) (R.key_at self.old.rows place)
             (R.slots self.old.rows) result (R.slots self.new.rows) }
@@ -128,6 +127,7 @@ impl<R: Rows> TableRows<R> {
 
     /// Updates counters of the only object of the slot at a place, and returns the new value or list of values. The
     /// object is unpacked, changed, and packed again before it replaces the old one.
+    #[inline(never)]
     fn update_counters_at(&mut self, place: Place, ops: &Ops) -> Result<Term, CounterFault>
         requires { HasOneObject (R.slots self.old.rows) (R.key_at self.old.rows place) }
         ensures slots { UpdatesCounterAt ops.now (R.key_at self.old.rows place)
