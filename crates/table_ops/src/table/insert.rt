@@ -111,8 +111,7 @@ impl<R: Rows> Table<R> {
         if object.is_too_deep() {
             return Err(Refusal::SystemLimit);
         }
-        let below_limit = self.count < self.inner.limit as usize;
-        let undo = self.inner.put(below_limit, entry, key, object)?;
+        let undo = self.inner.put(self.count, entry, key, object)?;
         self.count += undo.added_objects();
         Ok(true)
     }
