@@ -54,9 +54,8 @@ impl<R: Rows> Table<R> {
             key,
             ops,
         )?;
-        let below_limit = self.count < self.inner.limit as usize;
-        self.inner.insert_default(below_limit, entry, key, object)?;
-        self.count += 1;
+        let undo = self.inner.put(self.count, entry, key, &object)?;
+        self.count += undo.added_objects();
         Ok(answer)
     }
 
@@ -94,9 +93,8 @@ impl<R: Rows> Table<R> {
             return Ok(false);
         };
         let object = start_with_elements(self.inner.alloc, default, self.inner.keypos, key, specs)?;
-        let below_limit = self.count < self.inner.limit as usize;
-        self.inner.insert_default(below_limit, entry, key, object)?;
-        self.count += 1;
+        let undo = self.inner.put(self.count, entry, key, &object)?;
+        self.count += undo.added_objects();
         Ok(true)
     }
 
