@@ -11,7 +11,7 @@ use Rattle.table_ops.specs.inside.TableRows.{content_of}
 use Rattle.table_ops.proofs.TableRowsLaws.{of-slots, holds-kept}
 use Rattle.table_ops.proofs.InvariantLaws.{slots-puts-all}
 use Rattle.table_ops.proofs.InsertLaws.{object-key, one-inserted, one-not-inserted}
-use Rattle.table_ops.proofs.table.Table.put_valid_object.Goals as goal
+use Rattle.table_ops.proofs.table.Table.insert_one.Goals as goal
 
 pub returns-in_err-count-clause-content : goal.returns-in_err-count-clause-content
 returns-in_err-count-clause-content g c =
@@ -22,11 +22,11 @@ returns-in_err-count-clause-content g c =
     let p = err_from_is_err_and c.from_residual.result c.from_residual.ensures.1 in
     let failed : c.from_residual.result ≡ Err f = p.1 ∙ ap Err p.2 in
     let same : old ≡ c.args.self.now.content = ap (λ (t : ContentState). t.content) c.self.view_is in
-    let is : is_object old.keypos object ≡ true = ap (λ (o : Content). is_object o.keypos object) same ∙ c.requires.object in
+    let is : is_object old.keypos object ≡ true = ap (λ (o : Content). is_object o.keypos object) same ∙ c.in_default.ensures.0 in
     let key = object-key (key_of old.keypos object) is in
     let done : RefinesChange (Inserts (object ∷ []) old) old (Err f) new =
     of-slots g.R.Rows.slots c.self.inside.inner c.put_one.new.self c.in_err-count.ensures.keeps.rest (λ (n : Content). RefinesChange (Inserts (object ∷ []) old) old (Err f) n)
-    (one-not-inserted object key.0 old key.1 c.requires.shallow f (g.R.Rows.slots c.put_one.new.self.rows) c.in_err-count.ensures.slots) in
+    (one-not-inserted object key.0 old key.1 c.in_default.ensures.1 f (g.R.Rows.slots c.put_one.new.self.rows) c.in_err-count.ensures.slots) in
     subst (λ (r : Result (Unit {0}) Refusal). RefinesChange (Inserts (object ∷ []) c.args.self.now.content) c.args.self.now.content r new) (sym failed)
     (subst (λ (o : Content). RefinesChange (Inserts (object ∷ []) o) o (Err f) new) same done)
 
@@ -34,7 +34,7 @@ pub invariant_of-self-2 : goal.invariant_of-self-2
 invariant_of-self-2 g c =
     let i = c.self.invariant in
     let p = c.in_ok-count.ensures.slots in
-    let shallow : list_any is_too_deep (c.args.object.now ∷ []) ≡ false = ap (λ (b : Bool). b || false) c.requires.shallow in
+    let shallow : list_any is_too_deep (c.args.object.now ∷ []) ≡ false = ap (λ (b : Bool). b || false) c.in_default.ensures.1 in
     holds-kept g.R.Rows.slots c.self.inside.inner c.put_one.new.self c.in_ok-count.ensures.keeps.rest c.in_ok-count.count (record {
       counted = p.1;
       within = p.2;
@@ -47,8 +47,8 @@ returns-clause-content g c =
     let object = c.args.object.now in
     let old : Content = content_of g.R.Rows.slots c.self.inside.inner in
     let same : old ≡ c.args.self.now.content = ap (λ (t : ContentState). t.content) c.self.view_is in
-    let is : is_object old.keypos object ≡ true = ap (λ (o : Content). is_object o.keypos object) same ∙ c.requires.object in
+    let is : is_object old.keypos object ≡ true = ap (λ (o : Content). is_object o.keypos object) same ∙ c.in_default.ensures.0 in
     let key = object-key (key_of old.keypos object) is in
     rw (← c.self.view_is)
     (of-slots g.R.Rows.slots c.self.inside.inner c.put_one.new.self c.in_ok-count.ensures.keeps.rest (λ (n : Content). Inserts (object ∷ []) old (Ok tt) n)
-    (one-inserted object key.0 old key.1 c.requires.shallow c.in_ok-count.count (g.R.Rows.slots c.put_one.new.self.rows) c.in_ok-count.ensures.slots))
+    (one-inserted object key.0 old key.1 c.in_default.ensures.1 c.in_ok-count.count (g.R.Rows.slots c.put_one.new.self.rows) c.in_ok-count.ensures.slots))
