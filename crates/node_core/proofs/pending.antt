@@ -6,5 +6,5 @@ pub mod Tending
 pub mod Running
 pub mod Sufficing
 pub mod Unready
-pub mod CatchingUp
+pub mod Lagging
 pub mod Searches

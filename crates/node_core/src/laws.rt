@@ -2,7 +2,7 @@
 
 ghost use Rattle.node_core.specs.laws.Agreement.{NodesAgree, RunsAgree, StepsAreUnique};
 ghost use Rattle.node_core.specs.laws.Erasing.{GrowthErases, RunsCut};
-ghost use Rattle.node_core.specs.laws.Growth.{GrowthSuffices, PendingStepsCatchUp, SearchesAreShort, StepsPutGrowthBehind};
+ghost use Rattle.node_core.specs.laws.Growth.{GrowthSuffices, PendingStepsLowerLag, SearchesAreShort, StepsAddLag};
 ghost use Rattle.node_core.specs.laws.Kept.{StepsKeepKeys};
 ghost use Rattle.node_core.specs.laws.Outcomes.{RefusalsChangeNothing, RefusalsKeepBuckets, StepsHaveOutcomes};
 ghost use Rattle.node_core.specs.laws.Reached.{RunsStaySound, ReachedAreSound};
@@ -49,19 +49,18 @@ pub fn growth_suffices()
     ensures { GrowthSuffices }
 {}
 
-/// Growth keeps up. A step that adds at most `m` slots to a table puts growth at most `m` steps further behind, and the
-/// pending step of the table takes it one step forward. A table that is not there is not behind. So take one pending step
-/// of the table after each call that adds at most one slot to it, or as many as slots were added. Then the table always
-/// has at most four slots a bucket, and at most a third of the room under four a bucket is as many buckets as are not
-/// ready, unless it has the greatest number of buckets.
+/// Growth keeps up with insertions. A step that adds at most `m` slots to a table adds at most `m` to the lag of its
+/// growth, and each pending step of the table lowers it by one. So let one pending step of its table follow each call
+/// that adds at most one slot. Then the lag is 0 after that step: the table has at most four slots a bucket, or the
+/// greatest number of buckets. In a node without tables nothing lags.
 pub fn growth_keeps_up()
-    ensures steps { StepsPutGrowthBehind }
-    ensures pending { PendingStepsCatchUp }
+    ensures steps { StepsAddLag }
+    ensures pending { PendingStepsLowerLag }
 {}
 
 /// Searches are short: once no step of growth is pending, searches of a table, one in each bucket, visit at most six nodes
-/// a bucket in the mean, unless the table has the greatest number of buckets. More exactly, they visit two nodes more than
-/// the table has slots a bucket.
+/// a bucket in the mean, unless the table has the greatest number of buckets. More exactly, they visit in total at most
+/// as many nodes as the table has slots, and two a bucket.
 pub fn searches_are_short()
     ensures { SearchesAreShort }
 {}

@@ -1,13 +1,12 @@
 -- Once no step is pending, searches, one in each bucket, visit few nodes in total.
-use Rattle.std.proofs.Common.{◌≡◌, ◌⊎◌, ℕ, zero, suc, ◌+◌, ◌*◌, ◌%◌, ◌<◌, ◌≤◌, inl, inr, Bool, true, false, cond, List, [], ◌∷◌, map, refl, sym, ap, subst, ◌∙◌, length, get_or, arith}
-use Rattle.std.specs.Prelude.{nat_lt, nat_eq, count_by, sum, None, Some}
+use Rattle.std.proofs.Common.{◌≡◌, ℕ, zero, suc, ◌+◌, ◌*◌, ◌%◌, ◌<◌, ◌≤◌, inl, inr, true, false, cond, List, [], ◌∷◌, map, ap, ◌∙◌, length, get_or, arith}
+use Rattle.std.specs.Prelude.{nat_lt, nat_eq, count_by, sum}
 use Rattle.std.specs.List.{range_with_len}
 use Rattle.std.proofs.lemmas.Bool.Decides.{nat_tests}
 use Rattle.std.proofs.lemmas.List.Sums.{sum_by-cons, count_by-le-length}
 use Rattle.std.proofs.lemmas.List.FromFn.{sum_by-map-range_with_len_more}
 use Rattle.ets_term.specs.declared.term.Term.{Term}
-use Rattle.bucket_table.specs.Slots.{Slot}
-use Rattle.bucket_table.specs.Visits.{HasLooked, bucket_keys}
+use Rattle.bucket_table.specs.Visits.{bucket_keys}
 use Rattle.fixed_walk.specs.TableState.{TableState}
 use Rattle.node_core.specs.laws.Growth.{VisitsInBucket, SearchesAreShort}
 use Rattle.node_core.proofs.pending.Sufficing.{growth-suffices}

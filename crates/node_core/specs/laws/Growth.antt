@@ -1,4 +1,4 @@
--- What growth steps do for tables: how far growth is behind, what holds once none is pending, and what searches cost then.
+-- What growth steps do for tables: how far their growth lags, what holds once no step is pending, and what searches cost then.
 use Rattle.std.specs.Prelude.{◌≡◌, ◌⊎◌, ℕ, ◌+◌, ◌*◌, ◌%◌, ◌<◌, ◌≤◌, true, false, not, None, Some, MatchOption, length, get_or, count_by, map, sum}
 use Rattle.std.specs.List.{range_with_len}
 use Rattle.ets_term.specs.declared.term.Term.{Term}
@@ -21,29 +21,29 @@ GrowthSuffices =
     ⊎ (max_buckets ≤ length table.state.buckets))
     × ((bucket : ℕ) → bucket < length table.state.buckets → get_or table.state.buckets bucket false ≡ true)
 
--- Growth is at most n steps behind this table. The table has at most four slots a bucket and n more, where each bucket
+-- The growth of this table lags at most n steps: the table has at most four slots a bucket and n more, where each bucket
 -- that is not ready counts as three slots; or it has the greatest number of buckets.
-abbrev pub IsBehind : ℕ → ℕ → State → Type 0
-IsBehind n t s =
+abbrev pub LagsAtMost : ℕ → ℕ → State → Type 0
+LagsAtMost n t s =
     (table : Table) → table_at s.world.tables t ≡ Some table
     → (1 ≤ length table.state.buckets)
     × ((length table.state.content.slots + 3 * count_by not table.state.buckets ≤ 4 * length table.state.buckets + n)
     ⊎ (max_buckets ≤ length table.state.buckets))
 
--- a step that adds at most m slots to a table puts growth at most m steps further behind
-abbrev pub StepsPutGrowthBehind : Type 0
-StepsPutGrowthBehind =
+-- a step that adds at most m slots to a table adds at most m to the lag of its growth
+abbrev pub StepsAddLag : Type 0
+StepsAddLag =
     (old new : State) (s : Step) (r : Reply) (t n m : ℕ) → step_on_buckets old s r new
-    → length (slots_in t new) ≤ length (slots_in t old) + m → IsBehind n t old → IsBehind (n + m) t new
+    → length (slots_in t new) ≤ length (slots_in t old) + m → LagsAtMost n t old → LagsAtMost (n + m) t new
 
--- the pending step of a table, if it has one, takes growth one step forward
-abbrev pub PendingStepsCatchUp : Type 0
-PendingStepsCatchUp =
+-- the pending step of a table, if it has one, lowers the lag of its growth by one
+abbrev pub PendingStepsLowerLag : Type 0
+PendingStepsLowerLag =
     (old new : State) (r : Reply) (t n : ℕ)
     → MatchOption (pending_step_at old.world.tables t) (new ≡ old) (λ s. step_on_buckets old s r new)
-    → IsBehind (n + 1) t old → IsBehind n t new
+    → LagsAtMost (n + 1) t old → LagsAtMost n t new
 
--- a search of the table for some key of this bucket, which visits so many nodes
+-- a search of the table for some key of this bucket, which visits this number of nodes
 abbrev pub VisitsInBucket : (Term → ℕ) → TableState → ℕ → ℕ → Type 0
 VisitsInBucket hash_of table bucket nodes =
     (key : Term) × (old : ℕ) × (new : ℕ)
