@@ -92,8 +92,9 @@ pub fn replies_are_unique()
 
 /// Two runs with the same steps but for growth, from one sound state, have replies that agree up to the order of keys.
 /// They end in states that differ in the order of slots alone. A reply differs at most if it lists all objects or
-/// results, or is the key of a traversal. So two new nodes give the same replies to the same calls up to that order,
-/// whatever their hash functions are, and however their tables grow.
+/// results, or is the key of a traversal. `first` gives the end of a table in both runs or in neither. So two new nodes
+/// give the same replies to the same calls up to that order, whatever their hash functions are, and however their tables
+/// grow.
 pub fn runs_agree()
     ensures runs { RunsAgree }
     ensures nodes { NodesAgree }
