@@ -1,9 +1,8 @@
 -- What each call of a store does.
-use Rattle.std.specs.Prelude.{◌≡◌, ℕ, ℤ, ◌⊎◌, not, List, Option, Some, None, is_some, option_map}
+use Rattle.std.specs.Prelude.{◌≡◌, ℕ, ℤ, ◌⊎◌, List, Option, Some, None, option_map}
 use Rattle.ets_term.specs.declared.term.Term.{Term}
-use Rattle.node_core.specs.State.{State, empty}
+use Rattle.node_core.specs.State.{empty}
 use Rattle.node_core.specs.Machine.{step}
-use Rattle.node_core.specs.Values.{is_value}
 use Rattle.node_core.specs.declared.limits.Limits.{Limits}
 use Rattle.node_core.specs.declared.step.Step.{Step}
 use Rattle.node_core.specs.declared.step.Step.TheVariants.{Ask}
@@ -28,16 +27,10 @@ use Rattle.node_text.specs.declared.status.TheConstants as is
 abbrev pub new_store : Limits → StoreState
 new_store limits = record { node = empty limits; reply = NoProcess; refusal = None }
 
--- Why a step has the reply that is kept: no reason for a value; for a refusal, the rule that the step breaks, if the
--- specification would refuse the step with this reply once more. A refused step changes nothing.
-pub record Explains (event : Step) (new : StoreState) : Type 0 where
-  pub exactly : is_some new.refusal ≡ not (is_value new.reply)
-  pub named : (after : State) → step new.node event new.reply after
-      → new.refusal ≡ option_map Broken (why new.node event new.reply)
-
--- a step of the specification is run, and its reply and the reason of a refusal are kept
+-- a step of the specification is run; its reply is kept, and the reason if it is refused: the rule that it breaks
 abbrev pub RunsStep : StoreState → Step → StoreState → Type 0
-RunsStep old event new = step old.node event new.reply new.node × Explains event new
+RunsStep old event new =
+    step old.node event new.reply new.node × (new.refusal ≡ option_map Broken (why old.node event new.reply))
 
 -- a step is run, and the status of its reply is returned; or memory runs out, and only the reason of the refusal
 -- changes

@@ -16,17 +16,17 @@ pub loop-found-preserved : goal.loop-found-preserved
 loop-found-preserved g c t table less at = elim (cases_lt t c.loop-found.found-index) [
   | inl before ↦ c.loop-found.invariant t table before at
   | inr past ↦
-    let here : t ≡ c.loop-found.found-index = omega (arith, less, past) in
-    let is : c.found-item.result ≡ Some table =
+      let here : t ≡ c.loop-found.found-index = omega (arith, less, past) in
+      let is : c.found-item.result ≡ Some table =
       c.found-item.is ∙ get_or_default c.args.tables.now c.loop-found.found-index c.found-item.result None c.loop-found-test.true
       ∙ ap (table_at c.args.tables.now) (sym here) ∙ at
-    in
-    elim c.match-found.branch [
-      | in-Some w ↦
-        let same : w.in-Some.owned ≡ table = same_Some _ _ (sym w.in-Some.is ∙ is) in
-        subst (λ (state : TableState). IsContent state.content) (w.table.ensures ∙ ap (λ (own : Table). own.state) same) w.reveal_invariant.ensures.content
-      | in_default w ↦ absurd (w.in_default.not-Some table is)
-    ]
+      in
+      elim c.match-found.branch [
+        | in-Some w ↦
+            let same : w.in-Some.owned ≡ table = same_Some _ _ (sym w.in-Some.is ∙ is) in
+            subst (λ (state : TableState). IsContent state.content) (w.table.ensures ∙ ap (λ (own : Table). own.state) same) w.reveal_invariant.ensures.content
+        | in_default w ↦ absurd (w.in_default.not-Some table is)
+      ]
 ]
 
 pub returns : goal.returns
