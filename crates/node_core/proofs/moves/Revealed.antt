@@ -35,14 +35,14 @@ module _ (s : State) (contents : (t : ℕ) (table : Table) → table_at s.world.
   sound-revealed finds = record {
     keys = λ t table at. let h = seen s t table at in rw h.is (contents t h.own h.here).distinct;
     ends = λ t table at.
-      let h = seen s t table at in
-      let content = contents t h.own h.here in
-      rw h.is (no-end h.own.state.content.kind h.own.state.content.keypos h.own.state.content.slots content.slots);
+        let h = seen s t table at in
+        let content = contents t h.own h.here in
+        rw h.is (no-end h.own.state.content.kind h.own.state.content.keypos h.own.state.content.slots content.slots);
     names = λ t u one other at at' named named' same.
-      let h = seen s t one at in
-      let k = seen s u other at' in
-      let first = finds t h.own h.here (sym (ap (λ (x : Table). x.metadata.named) h.is) ∙ named) in
-      let second = finds u k.own k.here (sym (ap (λ (x : Table). x.metadata.named) k.is) ∙ named') in
-      let name = sym (ap (λ (x : Table). x.metadata.name) h.is) ∙ same ∙ ap (λ (x : Table). x.metadata.name) k.is in
-      same_Some _ _ (sym first ∙ ap (whereis s.world.tables) name ∙ second);
+        let h = seen s t one at in
+        let k = seen s u other at' in
+        let first = finds t h.own h.here (sym (ap (λ (x : Table). x.metadata.named) h.is) ∙ named) in
+        let second = finds u k.own k.here (sym (ap (λ (x : Table). x.metadata.named) k.is) ∙ named') in
+        let name = sym (ap (λ (x : Table). x.metadata.name) h.is) ∙ same ∙ ap (λ (x : Table). x.metadata.name) k.is in
+        same_Some _ _ (sym first ∙ ap (whereis s.world.tables) name ∙ second);
   }

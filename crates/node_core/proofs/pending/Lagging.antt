@@ -64,11 +64,13 @@ module _ (old new : State) (t n m : ℕ) (table : Table) (more : length (slots_i
   widened : (was : Table) → table_at old.world.tables t ≡ Some was → Widens was.state.buckets table.state.buckets → Lags (n + m) table.state
   widened was before widens =
       let b = lags was before in
-      let added : length table.state.content.slots ≤ length was.state.content.slots + m = omega (arith, more, ap (λ o. length (slots o)) at, ap (λ o. length (slots o)) before) in
-      (omega (arith, b.0, widens.wide), elim b.1 [
-        | inl few ↦ inl (omega (arith, few, widens.room, added))
-        | inr most ↦ inr (omega (arith, most, widens.wide))
-      ])
+      let added : length table.state.content.slots ≤ length was.state.content.slots + m = omega (arith, more, ap (λ o. length (slots o)) at, ap (λ o. length (slots o)) before) in (
+        omega (arith, b.0, widens.wide),
+        elim b.1 [
+          | inl few ↦ inl (omega (arith, few, widens.room, added))
+          | inr most ↦ inr (omega (arith, most, widens.wide))
+        ],
+      )
 
   -- a new table has two
   fresh : table_at old.world.tables t ≡ None → table.state.buckets ≡ first_buckets → Lags (n + m) table.state
@@ -92,9 +94,9 @@ module _ (old new : State) (t n m : ℕ) (table : Table) (more : length (slots_i
       let now : table_at (with_state old.world.tables u h.0) t ≡ Some table = ap (λ (s : State). table_at s.world.tables t) (sym h.2) ∙ at in
       elim (after old.world.tables u h.0 t table now) [
         | inl is ↦
-          let same : own ≡ is.was = cc in
-          widened is.was (ap (table_at old.world.tables) is.here ∙ is.before)
-          (subst (λ (f : TableState). Widens is.was.state.buckets f.buckets) (sym is.now) (subst (λ (o : Table). Widens o.state.buckets h.0.buckets) same (widens own.state h.0 h.1)))
+            let same : own ≡ is.was = cc in
+            widened is.was (ap (table_at old.world.tables) is.here ∙ is.before)
+            (subst (λ (f : TableState). Widens is.was.state.buckets f.buckets) (sym is.now) (subst (λ (o : Table). Widens o.state.buckets h.0.buckets) same (widens own.state h.0 h.1)))
         | inr same ↦ widened table same (widens-same table.state.buckets table.state.buckets refl)
       ]
 
@@ -119,11 +121,13 @@ module _ (n : ℕ) (f : TableState) (lags : Lags (n + 1) f) where
   grown e g Grown is same =
       let c = crowded (length f.content.slots) (length f.buckets) max_buckets e in
       let long : length g.buckets ≡ length f.buckets + length f.buckets = ap (λ bs. length bs) is ∙ length-grown f.buckets in
-      let idle : unready g.buckets ≡ unready f.buckets + length f.buckets = ap unready is ∙ unready-grown f.buckets in
-      (omega (arith, lags.0, long), elim lags.1 [
-        | inl few ↦ inl (omega (arith, lags.0, few, long, idle, ap (λ (xs : List Slot). length xs) same))
-        | inr most ↦ absurd (omega (arith, c.1, most))
-      ])
+      let idle : unready g.buckets ≡ unready f.buckets + length f.buckets = ap unready is ∙ unready-grown f.buckets in (
+        omega (arith, lags.0, long),
+        elim lags.1 [
+          | inl few ↦ inl (omega (arith, lags.0, few, long, idle, ap (λ (xs : List Slot). length xs) same))
+          | inr most ↦ absurd (omega (arith, c.1, most))
+        ],
+      )
   grown e g AtMost is same = let c = crowded (length f.content.slots) (length f.buckets) max_buckets e in absurd (omega (arith, c.1, is.1))
 
   readied : is_crowded f ≡ false → (bucket : ℕ) → position not f.buckets ≡ Some bucket → (g : TableState) → g.buckets ≡ set f.buckets bucket true → g.content.slots ≡ f.content.slots → Lags n g
@@ -131,11 +135,13 @@ module _ (n : ℕ) (f : TableState) (lags : Lags (n + 1) f) where
       let p = position-Some not f.buckets bucket false first in
       let long : length g.buckets ≡ length f.buckets = ap (λ bs. length bs) is ∙ length-set f.buckets bucket true in
       let unset : get_or f.buckets bucket false ≡ false = not-true (get_or f.buckets bucket false) p.1 in
-      let idle : unready g.buckets + 1 ≡ unready f.buckets = ap (λ bs. unready bs + 1) is ∙ unready-readied f.buckets bucket p.0 unset in
-      (omega (arith, lags.0, long), elim lags.1 [
-        | inl few ↦ inl (omega (arith, few, long, idle, ap (λ (xs : List Slot). length xs) same))
-        | inr most ↦ inr (omega (arith, most, long))
-      ])
+      let idle : unready g.buckets + 1 ≡ unready f.buckets = ap (λ bs. unready bs + 1) is ∙ unready-readied f.buckets bucket p.0 unset in (
+        omega (arith, lags.0, long),
+        elim lags.1 [
+          | inl few ↦ inl (omega (arith, few, long, idle, ap (λ (xs : List Slot). length xs) same))
+          | inr most ↦ inr (omega (arith, most, long))
+        ],
+      )
     where
       not-true : (b : Bool) → not b ≡ true → b ≡ false
       not-true true e = absurd (cc)
@@ -143,11 +149,13 @@ module _ (n : ℕ) (f : TableState) (lags : Lags (n + 1) f) where
 
   idle : is_crowded f ≡ false → position not f.buckets ≡ None → Lags n f
   idle e none =
-      let all : unready f.buckets ≡ 0 = unready-none f.buckets (λ i. position-None not f.buckets i false none) in
-      (lags.0, elim (roomy (length f.content.slots) (length f.buckets) max_buckets e) [
-        | inl few ↦ inl (omega (arith, few, all))
-        | inr most ↦ inr most
-      ])
+      let all : unready f.buckets ≡ 0 = unready-none f.buckets (λ i. position-None not f.buckets i false none) in (
+        lags.0,
+        elim (roomy (length f.content.slots) (length f.buckets) max_buckets e) [
+          | inl few ↦ inl (omega (arith, few, all))
+          | inr most ↦ inr most
+        ],
+      )
 
 module _ (old new : State) (r : Reply) (t n : ℕ) (lags : LagsAtMost (n + 1) t old) (table : Table) (at : table_at new.world.tables t ≡ Some table) where
   module _ (was : Table) (before : table_at old.world.tables t ≡ Some was) where

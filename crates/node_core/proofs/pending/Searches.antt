@@ -31,7 +31,7 @@ module _ {X : Type 0} (of : X → ℕ) where
   in-buckets nodes xs zero h = omega arith
   in-buckets nodes xs (suc n) h =
       let next : sum (map nodes (range_with_len 0 (suc n))) ≡ sum (map nodes (range_with_len 0 n)) + nodes n =
-        ap (λ k. sum (map nodes (range_with_len 0 k))) (more n) ∙ sum_by-map-range_with_len_more (λ x. x) nodes 0 n n (omega arith)
+      ap (λ k. sum (map nodes (range_with_len 0 k))) (more n) ∙ sum_by-map-range_with_len_more (λ x. x) nodes 0 n n (omega arith)
       in
       omega (arith, next, in-buckets nodes xs n (λ b less. h b (omega (arith, less))), h n (omega arith), below-more n xs)
 
@@ -49,6 +49,6 @@ pub searches-are-short : SearchesAreShort
 searches-are-short s t table hash_of nodes total none at searched is =
     let enough = growth-suffices s t table none at in
     let all = over-buckets (λ slot. hash_of slot.0 % length table.state.buckets) nodes table.state.content.slots (length table.state.buckets)
-      (λ b within. visits hash_of table.state b (nodes b) (enough.1 b within) (searched b within))
+    (λ b within. visits hash_of table.state b (nodes b) (enough.1 b within) (searched b within))
     in
     (omega (arith, is, all), elim enough.0 [ inl few ↦ inl (omega (arith, is, all, few)) | inr most ↦ inr most ])
