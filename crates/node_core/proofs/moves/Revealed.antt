@@ -1,9 +1,6 @@
 -- A state whose tables have the invariant of content, and whose names each find their table, is sound.
-use Rattle.std.proofs.Common.{◌≡◌, ℕ, true, false, List, [], ◌∷◌, Option, None, Some, option_map, refl, sym, ap, ◌∙◌}
-use Rattle.std.specs.List.{AllByRecursion}
-use Rattle.std.specs.Map.{keys_of}
+use Rattle.std.proofs.Common.{◌≡◌, ℕ, true, List, [], ◌∷◌, Option, None, Some, option_map, refl, sym, ap, ◌∙◌}
 use Rattle.std.proofs.lemmas.Option.{same_Some}
-use Rattle.ets_term.specs.Atoms.{is_atom}
 use Rattle.bucket_table.specs.Slots.{Slot}
 use Rattle.table_ops.specs.declared.kind.Kind.{Kind}
 use Rattle.table_ops.specs.Invariants.{IsContent, AreSlots}
