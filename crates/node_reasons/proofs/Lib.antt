@@ -6,3 +6,4 @@ pub mod ExplainedCalls
 pub mod NamedRules
 pub mod Named
 pub mod Exact
+pub mod Unchanged

@@ -1,9 +1,10 @@
 //! The reason why a step is refused: the first rule that it breaks, in the order of the specification, and the argument
 //! that the rule is about.
 //!
-//! *Guarantee.* `why` returns no reason if the reply is a value. If the step is refused, `why` returns the reason that
-//! specs/Why.antt names. The law in `laws` ties reasons to the specification: a step with a reason is refused as the
-//! reason's rule says, and a step without a reason gets a value. `why` allocates nothing and changes nothing.
+//! *Guarantee.* `why` returns no reason if the reply is a value. If the step was refused, `why` returns the reason that
+//! specs/Why.antt names in the state before the step. The law in `laws` ties reasons to the specification: a step with a
+//! reason is refused as the reason's rule says, and a step without a reason gets a value. `why` allocates nothing and
+//! changes nothing.
 //!
 //! *Weakness.* One reason covers the three limits that an update of counters or elements can exceed.
 //!

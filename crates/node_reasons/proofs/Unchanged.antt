@@ -1,5 +1,5 @@
--- The reason of a step that was run is that in the state before it: a refused step leaves the state as it was, and a step
--- that has a value as its reply breaks no rule.
+-- The reason of a step that was run is the same in the state before it and after it: a refused step leaves the state as it
+-- was, and a step that has a value as its reply breaks no rule.
 use Rattle.std.proofs.Common.{◌≡◌, Bool, true, false, not, Option, None, Some, refl, sym, ap, subst, ◌∙◌}
 use Rattle.std.specs.Prelude.{is_some}
 use Rattle.node_core.specs.declared.step.Reply.{Reply}
@@ -43,3 +43,13 @@ told reason old now event reply exactly named ran = by (is_value reply) refl
     by false e =
         let same = nothing-changed old now event reply ran e in
         named now (subst (λ (s : State). step s event reply now) (sym same) ran) ∙ ap (λ (s : State). why s event reply) same
+
+pub again : (reason : Option Reason) (now : State) (event : Step) (reply : Reply) → is_some reason ≡ not (is_value reply)
+    → ((old : State) → step old event reply now → reason ≡ why old event reply)
+    → (new : State) → step now event reply new → reason ≡ why now event reply
+again reason now event reply exactly named new ran = by (is_value reply) refl
+  where
+    by : (value : Bool) → is_value reply ≡ value → reason ≡ why now event reply
+    by true e = none reason (exactly ∙ ap not e) ∙ sym (no-reason (why now event reply) reply (exact now new event reply ran) e)
+    by false e =
+        named now (subst (λ (s : State). step now event reply s) (nothing-changed now new event reply ran e) ran)
