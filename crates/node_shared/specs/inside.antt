@@ -2,3 +2,4 @@ pub mod Closing
 pub mod Codes
 pub mod Lines
 pub mod Known
+pub mod Steps
