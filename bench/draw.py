@@ -36,7 +36,7 @@ def speed() -> str:
             plot.Panel(
                 title,
                 "objects in the table (logarithmic)",
-                {name: it for name, it in points.items() if it},
+                {name: curve for name, curve in points.items() if curve},
             )
         )
     return plot.curves(
@@ -74,20 +74,30 @@ def limits() -> str:
 def versus() -> str:
     """Ratios to ets, a bar for each: single calls, searches of a whole table, memory, and
     threads."""
-    sized, passes, memory, clients = (
-        of("calls")[str(SIZE)],
-        of("passes"),
-        of("memory"),
-        of("clients"),
+    title = f"Yoyoash compared with Erlang's ets ({SIZE:,} objects where no size is named)"
+    return plot.bars(
+        title,
+        f"Ratio to ets, logarithmic. {machines('calls', 'passes', 'memory', 'clients')}.",
+        [*rows_of_calls(), *rows_of_others()],
     )
+
+
+def rows_of_calls() -> plot.Rows:
+    """Ratios to ets of single calls, with the faster of its two runs."""
+    sized = of("calls")[str(SIZE)]
     ets = {
         operation: min(sized[f"{who} {operation}"] for who in ("ets", "ets,pinned"))
         for operation in CALLS
     }
-    rows = [
+    return [
         row(label, sized[f"calls-into {operation}"], ets[operation], "ns")
         for operation, label in CALLS.items()
     ]
+
+
+def rows_of_others() -> plot.Rows:
+    """Ratios to ets of searches, memory and threads."""
+    passes, memory, clients = of("passes"), of("memory"), of("clients")
     others = (
         (
             "select, one of 1,000,000",
@@ -115,16 +125,10 @@ def versus() -> str:
             "ns",
         ),
     )
-    rows += [
+    return [
         row(label, cell(section, name, ours), cell(section, name, theirs), unit)
         for label, section, name, ours, theirs, unit in others
     ]
-    title = f"Yoyoash compared with Erlang's ets ({SIZE:,} objects where no size is named)"
-    return plot.bars(
-        title,
-        f"Ratio to ets, logarithmic. {machines('calls', 'passes', 'memory', 'clients')}.",
-        rows,
-    )
 
 
 def row(label: str, ours: float, theirs: float, unit: str) -> tuple[str, float, str]:

@@ -108,9 +108,10 @@ def measured(
     less than before."""
     with Talk(command) as talk:
         for name, lines in script.items():
-            told = [(talk.ask(part)[0], len(part)) for part in parts(lines)]
-            spent = 1e9 * sum(seconds for seconds, _ in told) / sum(number for _, number in told)
-            if sum(number for _, number in told) >= FEWEST:
+            answered = [(talk.ask(part)[0], len(part)) for part in parts(lines)]
+            count_answered = sum(number for _, number in answered)
+            spent = 1e9 * sum(seconds for seconds, _ in answered) / count_answered
+            if count_answered >= FEWEST:
                 known = figures.setdefault(name, {})
                 known[count] = min(spent, known.get(count, spent))
 

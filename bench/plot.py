@@ -117,7 +117,7 @@ def curves(title: str, below: str, up: str, panels: list[Panel]) -> str:
         width,
         TOP + 22 + rows * (HEIGHT + BELOW),
         title,
-        f"{below} Panels: {', '.join(it.title for it in panels)}.",
+        f"{below} Panels: {', '.join(panel.title for panel in panels)}.",
         parts,
     )
 
@@ -126,9 +126,9 @@ def bound(figure: float, whole) -> float:
     """The next of 1, 3, 10, 30 .. on the side that `whole` rounds to."""
     steps = [digit * 10**power for power in range(-2, 9) for digit in (1, 3)]
     return (
-        max(it for it in steps if it <= figure)
+        max(step for step in steps if step <= figure)
         if whole is math.floor
-        else min(it for it in steps if it >= figure)
+        else min(step for step in steps if step >= figure)
     )
 
 
