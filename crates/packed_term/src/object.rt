@@ -6,7 +6,7 @@ ghost use Rattle.ets_term.specs.Order.{same};
 ghost use Rattle.packed_term.specs.Elements.{with_element};
 
 use crate::equal::are_equal;
-use crate::pack::{pack, small};
+use crate::pack::small;
 use crate::packed::{Packed, element_of};
 use crate::reuse::unpack_all_into;
 use crate::set::set_at;
@@ -188,6 +188,6 @@ fn pack_any(alloc: Global, term: &Term) -> Result<Object, AllocError>
         }
     }
     Ok(Object {
-        parts: Parts::Other(pack(alloc, term)?),
+        parts: Parts::Other(crate::pack::pack(alloc, term)?),
     })
 }

@@ -10,7 +10,7 @@ ghost use Rattle.packed_term.specs.Elements.{nth};
 use crate::copy::copy;
 use crate::equal::is_equal;
 use crate::form::Form;
-use crate::pack::{pack, pack_wide, small};
+use crate::pack::{pack, pack_wide};
 use crate::reuse::unpack_into;
 use crate::unpack::unpack;
 use ets_term::{Integer, Position, Term};
@@ -54,7 +54,7 @@ impl Packed {
     pub fn pack(alloc: Global, term: &Term) -> Result<Packed, AllocError>
         ensures { IfOk result (λ p. p ≡ term.now) }
     {
-        if let Some(n) = small(term) {
+        if let Some(n) = crate::pack::small(term) {
             return Ok(Packed::from(n));
         }
         // Moves the result of the call by `?`. Without it, the call writes to the result of this function, and then the
