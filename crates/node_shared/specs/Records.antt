@@ -28,6 +28,13 @@ Tends old new did =
     (IsSomeAnd (due old.state) (λ event. (r : Reply) × Enters old event r new))
     ((due old.state ≡ None) × (new ≡ old))
 
+-- the pending growth step is run, and its entry is the last of the journal; or nothing changes
+abbrev pub TriesGrowth : BookState → BookState → Bool → Type 0
+TriesGrowth old new did =
+    MatchBool did
+    (IsSomeAnd (due old.state) (λ event. (r : Reply) × Enters old event r new))
+    (new ≡ old)
+
 -- a process, and the number of entries that are counted for it
 pub record ShareState : Type 0 where
   pub pid : ℕ

@@ -2,4 +2,3 @@ pub mod Closing
 pub mod Codes
 pub mod Lines
 pub mod Known
-pub mod Steps

@@ -6,14 +6,12 @@ ghost use Rattle.node_core.specs.declared.step.Step.TheVariants.{End, Ask};
 ghost use Rattle.node_core.specs.Woven.{is_step_of};
 ghost use Rattle.node_shared.specs.Calling.{HasAsked};
 ghost use Rattle.node_shared.specs.Journal.{entries_of};
-ghost use Rattle.node_shared.specs.Serving.{Continues, ContinuesBy};
-ghost use Rattle.node_shared.specs.inside.Steps.{ServesStep, entry_count};
+ghost use Rattle.node_shared.specs.Serving.{Continues, ContinuesBy, ServesStep, entry_count};
 ghost use Rattle.node_shared.specs.inside.Lines.{head_of};
 
 mod looks;
 mod reads;
 
-use crate::entry::Entry;
 use crate::history::{HistoryId, HistoryWord, HistoryWriter, SeenHistory};
 use crate::served::ServedNode;
 use crate::server::Server;
@@ -40,8 +38,7 @@ impl<B: HistoryId> Model for Caller<B> {
     ghost use Rattle.std.specs.Prelude.{◌≡◌};
     ghost use mathlib.Core.List.{IsPrefix};
     ghost use Rattle.node_shared.specs.Journal.{entries_of};
-    ghost use Rattle.node_shared.specs.Serving.{CallerState};
-    ghost use Rattle.node_shared.specs.inside.Steps.{entry_count};
+    ghost use Rattle.node_shared.specs.Serving.{CallerState, entry_count};
     ghost use Rattle.node_shared.specs.inside.Codes.{caller_code};
 
     ghost Value = { CallerState };
@@ -184,7 +181,7 @@ impl<B: HistoryId> Caller<B> {
         for call in calls {
             let next = Step::Ask(self.pid(), call);
             match self.step_locked(word, served, next) {
-                Ok(Entry { step: _, reply }) => replies.push_reserved(reply),
+                Ok(reply) => replies.push_reserved(reply),
                 Err(_) => return Err(fault_after(replies)),
             }
         }
@@ -205,7 +202,7 @@ impl<B: HistoryId> Caller<B> {
         self.step(rt, server, event)
     }
 
-    /// Takes the lock, of whichever kind, runs one step, and returns its reply. The step is freed after the lock is.
+    /// Takes the lock, of whichever kind, runs one step, and returns its reply.
     fn step<H: KeyHash + Copy + Drop, R: Wait>(
         &mut self,
         rt: &R,
@@ -216,31 +213,29 @@ impl<B: HistoryId> Caller<B> {
         ensures ok { IfOk result (λ r. ContinuesBy B.limits self.old event r self.new) }
         ensures err { OnErr result (self.new ≡ self.old) }
     {
-        let entered = match &server.lock.kind {
+        match &server.lock.kind {
             AnyLock::Single(lock) => self.step_locked(&server.word, &mut *lock.write(rt), event),
             AnyLock::Sharded(lock) => self.step_locked(&server.word, &mut **lock.write(rt), event),
-        }?;
-        let Entry { step: _, reply } = entered;
-        Ok(reply)
+        }
     }
 
-    /// Runs a step on the node under the lock, after which this caller saw the whole history, and returns its entry.
+    /// Runs a step on the node under the lock, after which this caller saw the whole history, and returns the reply.
     fn step_locked<H: KeyHash + Copy + Drop>(
         &mut self,
         word: &HistoryWord,
         served: &mut ServedNode<B, H>,
         event: Step,
-    ) -> Result<Entry, AllocError>
+    ) -> Result<Reply, AllocError>
         requires word { word.now ≡ head_of B.book }
         requires own { is_step_of self.old.own.pid event ≡ true }
-        ensures ok { IfOk result (λ added. ContinuesBy B.limits self.old event added.reply self.new) }
-        ensures step { IfOk result (λ added. ServesStep served.old event added.reply served.new) }
+        ensures ok { IfOk result (λ r. ContinuesBy B.limits self.old event r self.new) }
+        ensures step { IfOk result (λ r. ServesStep served.old event r served.new) }
         ensures all { OnOk result (self.new.seen ≡ served.new.history) }
         ensures err { OnErr result (self.new ≡ self.old) }
     {
-        let entered = served.step(word, &mut self.writer, &mut self.seen, event)?;
+        let reply = served.step(word, &mut self.writer, &mut self.seen, event)?;
         self.count = served.count();
-        Ok(entered)
+        Ok(reply)
     }
 }
 

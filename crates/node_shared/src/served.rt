@@ -12,8 +12,7 @@ ghost use Rattle.node_core.specs.declared.step.Step.TheVariants.{Enrol};
 ghost use Rattle.node_core.specs.Woven.{is_step_of};
 ghost use Rattle.node_shared.specs.Journal.{entries_of, IsRun};
 ghost use Rattle.node_shared.specs.Records.{enrolled_record, with_entry};
-ghost use Rattle.node_shared.specs.Serving.{AreRead, RefusesCaller};
-ghost use Rattle.node_shared.specs.inside.Steps.{entry_count, ServesGrowth, ServesStep, TriesServingGrowth};
+ghost use Rattle.node_shared.specs.Serving.{AreRead, entry_count, RefusesCaller, ServesGrowth, ServesStep, TriesServingGrowth};
 ghost use Rattle.node_shared.specs.Faults.{Refuses, RefusesWith};
 ghost use Rattle.node_shared.specs.inside.Lines.{head_of};
 
@@ -40,8 +39,7 @@ pub struct ServedNode<B: HistoryId, H: KeyHash + Copy + Drop> {
 impl<B: HistoryId, H: KeyHash + Copy + Drop> Model for ServedNode<B, H> {
     ghost use Rattle.std.specs.Prelude.{◌≡◌};
     ghost use Rattle.node_shared.specs.Journal.{IsRun};
-    ghost use Rattle.node_shared.specs.Serving.{ServedState};
-    ghost use Rattle.node_shared.specs.inside.Steps.{entry_count};
+    ghost use Rattle.node_shared.specs.Serving.{ServedState, entry_count};
     ghost use Rattle.node_shared.specs.inside.Codes.{served_code};
     ghost use Rattle.node_shared.specs.inside.Known.{AreKnown};
 
@@ -71,7 +69,7 @@ impl<B: HistoryId, H: KeyHash + Copy + Drop> ServedNode<B, H> {
     }
 
     /// Returns the number of entries of the history, at most the greatest `u64`. It takes no memory.
-    pub(crate) fn count(&self) -> u64
+    pub fn count(&self) -> u64
         ensures { result ≡ entry_count self.now.history }
     {
         self.count
@@ -136,19 +134,19 @@ impl<B: HistoryId, H: KeyHash + Copy + Drop> ServedNode<B, H> {
     }
 
     /// Runs a step of the writer's process, adds its entry to the history and to the writer's entries, and returns the
-    /// entry. So the caller can free the step without the lock. The history had all that `seen` has, and of the process
-    /// the writer's entries. `seen` becomes the whole history. Running out of memory changes nothing.
+    /// reply. The history had all that `seen` has, and of the process the writer's entries. `seen` becomes the whole
+    /// history. Running out of memory changes nothing.
     pub(crate) fn step(
         &mut self,
         word: &HistoryWord,
         writer: &mut HistoryWriter<B>,
         seen: &mut SeenHistory<B>,
         event: Step,
-    ) -> Result<Entry, AllocError>
+    ) -> Result<Reply, AllocError>
         requires word { word.now ≡ head_of B.book }
         requires own { is_step_of writer.old.pid event ≡ true }
-        ensures step { IfOk result (λ added. ServesStep self.old event added.reply self.new) }
-        ensures own { IfOk result (λ added. writer.new ≡ with_entry writer.old event added.reply) }
+        ensures step { IfOk result (λ r. ServesStep self.old event r self.new) }
+        ensures own { IfOk result (λ r. writer.new ≡ with_entry writer.old event r) }
         ensures seen { OnOk result (seen.new ≡ self.new.history) }
         ensures before { OnOk result (IsPrefix seen.old self.old.history) }
         ensures exact { OnOk result (entries_of writer.old.pid self.old.history ≡ writer.old.entries) }
@@ -160,7 +158,8 @@ impl<B: HistoryId, H: KeyHash + Copy + Drop> ServedNode<B, H> {
         let added = Entry { step: event, reply };
         let entered = self.owner.enter(word, writer, seen, added);
         self.count = self.count.saturating_add(1);
-        Ok(entered)
+        let Entry { step: _, reply } = entered;
+        Ok(reply)
     }
 
     /// Enrols a process, adds the entry to the history, and returns the writer of the process's entries and the reply.

@@ -4,8 +4,7 @@ use Rattle.node_core.specs.declared.step.Step.TheVariants.{Enrol}
 use Rattle.node_core.specs.declared.step.Reply.{Reply}
 use Rattle.node_core.specs.declared.step.Reply.TheVariants.{Value}
 use Rattle.node_shared.specs.Records.{RecordState, enrolled_record}
-use Rattle.node_shared.specs.Serving.{CallerState, no_caller}
-use Rattle.node_shared.specs.inside.Steps.{ServesStep}
+use Rattle.node_shared.specs.Serving.{CallerState, ServesStep, no_caller}
 use Rattle.node_shared.proofs.Lines.{same-number}
 use Rattle.node_shared.proofs.Callers.{continues, own-last}
 use Rattle.node_shared.proofs.server.Server.join_locked.Goals as goal
