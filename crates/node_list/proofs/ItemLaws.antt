@@ -1,196 +1,169 @@
 -- What preserves the invariant of the items, and the first item from a place on.
-use Rattle.std.proofs.Common.{◌≡◌, ◌≢◌, ℕ, ◌+◌, ◌<◌, ◌≤◌, ◌^◌, inl, inr, List, length, get_or, set, count_by, is_some, Option, Some, None, IsSome, option_map, Bool, true, false, if◌then◌else◌, refl, sym, ◌∙◌, ap, subst, arith}
+use Rattle.std.proofs.Common.{◌≡◌, ℕ, zero, suc, ◌+◌, ◌<◌, ◌≤◌, ◌^◌, inl, inr, List, [], ◌∷◌, ◌++◌, length, get_or, set, count_by, is_some, Option, Some, None, IsSome, Bool, true, false, if◌then◌else◌, refl, sym, ◌∙◌, ap, subst, arith, length-set}
 use Rattle.std.proofs.lemmas.Bool.{cases_eq, cases_lt}
-use Rattle.slab.specs.Slab.{Slab, get, slab_len, with_value, Updates}
-use Rattle.slab.proofs.SlabLemmas.{Updates-with_value}
-use Rattle.ets_term.specs.declared.term.Term.{Term}
-use Rattle.node_list.specs.declared.node.Item.{Item}
+use Rattle.std.proofs.lemmas.List.{length_push, map-set}
+use Rattle.slab.specs.Slab.{Slab, with_value}
 use Rattle.node_list.specs.declared.node.ListNode.{ListNode}
 use Rattle.node_list.specs.declared.node.StoredItem.{StoredItem}
 use Rattle.node_list.specs.inside.PackedHeader.{is_free, next_in}
-use Rattle.node_list.specs.inside.FreeList.{live_node, live_nodes, stored_node, item_node, free_in, HasNoItemBetween, IsFreeList, ItemsInvariant}
-use Rattle.node_list.specs.inside.Lent.{node_with, nodes_with}
+use Rattle.node_list.specs.inside.FreeList.{live_node, live_nodes, node_at, stored_node, items_view, HasNoItemBetween, IsFreeList, ItemsInvariant}
 use Rattle.node_list.specs.inside.Slots.{HasItemIn, IsLeastItemIn}
-use Rattle.node_list.specs.inside.Walks.{Links}
-use Rattle.node_list.proofs.FreePlaceLaws.{live-none, get-live, live-at, has-place, not-free_at, live-node, map-set, len-written, len-insert, len-remove, len-replace, same-count, add_free_place-same, write-keeps_bound, updates-live}
-use Rattle.node_list.proofs.FreeListLaws.{First, insert-free_list, remove-free_list, set_next-free_list}
+use Rattle.node_list.proofs.FreePlaceLaws.{live-is, live-none, live-at, Writes, writes-set, writes-push, live-past, free-past, len-set, len-push}
+use Rattle.node_list.proofs.FreeListLaws.{rest-free, insert-free_list, remove-free_list, keep-free_list}
 
--- more capacity changes no item
-pub reserve-invariant : (n m : Slab StoredItem) (first_item_bound end : ℕ) (free_head : Option ℕ) (len : ℕ) → m.slots ≡ n.slots
-    → ItemsInvariant n first_item_bound end free_head len → ItemsInvariant m first_item_bound end free_head len
-reserve-invariant n m first_item_bound end free_head len slots a =
-    let P : List (Option StoredItem) → Type 0 = λ zs. (k : ℕ) → IsSome (get_or zs k None) → k < end in
-    let B : List (Option StoredItem) → Type 0 = λ zs. (k : ℕ) → k < first_item_bound → live_node (get_or zs k None) ≡ None in
-    let C : List (Option StoredItem) → Type 0 = λ zs. Links (λ k. free_in (get_or zs k None)) free_head a.free_list.cells in
+-- a write of a node, if the bound is not above its place: below the bound there is still no node
+still-below : (places after : List StoredItem) (at bound lower : ℕ) (s : StoredItem) → Writes places after at s → ((k : ℕ) → k < bound → node_at places k ≡ None) → lower ≤ bound → lower ≤ at → (k : ℕ) → k < lower → node_at after k ≡ None
+still-below places after at bound lower s w below less most k h = w.live.others k (λ same. absurd (omega (arith, same, h, most))) ∙ below k (omega (arith, h, less))
+
+-- what an insertion shows
+pub record Inserted (places after : List StoredItem) (bound : ℕ) (free_head : Option ℕ) (len at : ℕ) (s : StoredItem) : Type 0 where
+  pub was : node_at places at ≡ None
+  pub within : at < length after
+  pub writes : Writes places after at s
+  pub more : count_by is_some (live_nodes after) ≡ count_by is_some (live_nodes places) + 1
+  pub few : length after < 2 ^ 30
+  pub invariant : (lower : ℕ) → lower ≤ bound → lower ≤ at → ItemsInvariant after lower free_head (len + 1)
+
+-- an item is written at the first free place
+pub insert-free : (places : List StoredItem) (at : ℕ) (s : StoredItem) (bound : ℕ) (free_head next : Option ℕ) (len : ℕ) → free_head ≡ Some at → is_free s.header ≡ false → next_in (get_or places at s).header ≡ next
+    → ItemsInvariant places bound free_head len → Inserted places (set places at s) bound next len at s
+insert-free places at s bound free_head next len head live leads a =
+    let r = rest-free places free_head len at a.free_list head in
+    let w = writes-set places at s r.free.within in
+    let same = length-set places at s in
+    let more = len-set places at s None (Some (stored_node s)) r.free.within r.free.live (live-is s live) in
+    let is : r.next ≡ next = sym (r.free.leads s) ∙ leads in
     record {
-      within = subst P (sym slots) a.within;
-      few = a.few;
-      below = subst B (sym slots) a.below;
-      counted = ap (λ (zs : List (Option StoredItem)). count_by is_some (live_nodes zs)) slots ∙ a.counted;
-      free_list = record {
-        cells = a.free_list.cells;
-        links = subst C (sym slots) a.free_list.links;
-        count = a.free_list.count ∙ ap (λ (zs : List (Option StoredItem)). count_by is_some zs) (sym slots);
+      was = r.free.live;
+      within = omega (arith, r.free.within, same);
+      writes = w;
+      more = omega (arith, more);
+      few = omega (arith, a.few, same);
+      invariant = λ lower less most.
+          let I : Option ℕ → Type 0 = λ o. ItemsInvariant (set places at s) lower o (len + 1) in
+          subst I is (record {
+            few = omega (arith, a.few, same);
+            below = still-below places (set places at s) at bound lower s w a.below less most;
+            counted = omega (arith, more, a.counted);
+            free_list = insert-free_list places (set places at s) at len s r w same;
+          });
+    }
+
+-- without a free place, an item is written at the end
+pub insert-push : (places : List StoredItem) (s : StoredItem) (bound : ℕ) (free_head : Option ℕ) (len : ℕ) → length places + 1 < 2 ^ 30 → is_free s.header ≡ false
+    → ItemsInvariant places bound free_head len → Inserted places (places ++ s ∷ []) bound free_head len (length places) s
+insert-push places s bound free_head len room live a =
+    let w = writes-push places s in
+    let longer = length_push places s in
+    let more = len-push places s live in
+    record {
+      was = live-past places;
+      within = omega (arith, longer);
+      writes = w;
+      more = more;
+      few = omega (arith, longer, room);
+      invariant = λ lower less most. record {
+        few = omega (arith, longer, room);
+        below = still-below places (places ++ s ∷ []) (length places) bound lower s w a.below less most;
+        counted = omega (arith, more, a.counted);
+        free_list = keep-free_list places (places ++ s ∷ []) free_head (length places) len 1 s a.free_list (free-past places) w longer;
       };
     }
 
--- one more place, which is free
-pub add_free_place-invariant : (n m : Slab StoredItem) (at : ℕ) (q : StoredItem) (first_item_bound end wider : ℕ) (free_head : Option ℕ) (len : ℕ) → get n at ≡ None → at < wider → end ≤ wider → wider < 2 ^ 30 → Updates n m at (Some q)
-    → slab_len m ≡ slab_len n + 1 → is_free q.header ≡ true → next_in q.header ≡ free_head → ItemsInvariant n first_item_bound end free_head len → ItemsInvariant m first_item_bound wider (Some at) len
-add_free_place-invariant n m at q first_item_bound end wider free_head len none here more fits u longer free next a =
+-- what a removal shows: a free place is written over an item
+pub record Freed (places : List StoredItem) (at : ℕ) (s : StoredItem) (bound : ℕ) (free_head : Option ℕ) (len : ℕ) : Type 0 where
+  pub writes : Writes places (set places at s) at s
+  pub now : node_at (set places at s) at ≡ None
+  pub fewer : count_by is_some (live_nodes (set places at s)) + 1 ≡ count_by is_some (live_nodes places)
+  pub invariant : (higher left : ℕ) → left + 1 ≡ len → HasNoItemBetween bound higher (set places at s) → ItemsInvariant (set places at s) higher (Some at) left
+
+pub freed : (places : List StoredItem) (at : ℕ) (s : StoredItem) (bound : ℕ) (free_head : Option ℕ) (len : ℕ) → IsSome (node_at places at) → is_free s.header ≡ true → next_in s.header ≡ free_head
+    → ItemsInvariant places bound free_head len → Freed places at s bound free_head len
+freed places at s bound free_head len h free next a =
+    let l = live-at places at h in
+    let w = writes-set places at s l.within in
+    let same = length-set places at s in
+    let fewer = len-set places at s (Some (stored_node (get_or places at s))) None l.within (l.shows s) (live-none s free) in
+    let now = w.live.changed ∙ live-none s free in
     record {
-      within = write-keeps_bound n m at wider (Some q) u here (λ k some. omega (arith, a.within k some, more));
-      few = fits;
-      below = λ k h. elim (cases_eq k at) [
-        | inl same ↦ ap (λ j. live_node (get m j)) same ∙ (ap live_node u.changed ∙ live-none q free)
-        | inr other ↦ ap live_node (u.others k other) ∙ a.below k h
-      ];
-      counted = same-count (live_nodes m.slots) (live_nodes n.slots) (add_free_place-same n m at q none u free) ∙ a.counted;
-      free_list = remove-free_list n m free_head at len len q a.free_list (ap free_in none) u free next (omega (arith, longer));
-    }
-
--- the slab after an item is written at the first free place
-pub record Taken (n : Slab StoredItem) (at : ℕ) (q : StoredItem) : Type 0 where
-  pub some : IsSome (get n at)
-  pub updates : Updates n (with_value n at q) at (Some q)
-  pub was : get_or (live_nodes n.slots) at None ≡ None
-  pub allocated : slab_len (with_value n at q) ≡ slab_len n
-  pub len : count_by is_some (live_nodes (with_value n at q).slots) ≡ count_by is_some (live_nodes n.slots) + 1
-
-pub taken : (n : Slab StoredItem) (free_head : Option ℕ) (at : ℕ) (q : StoredItem) → First n free_head at → is_free q.header ≡ false → Taken n at q
-taken n free_head at q f live =
-    let O : Option StoredItem → Type 0 = λ o. IsSome o in
-    let some = subst O (sym f.is) refl in
-    record {
-      some = some;
-      updates = Updates-with_value n at q some;
-      was = get-live n.slots at ∙ (ap live_node f.is ∙ live-none f.stored f.free);
-      allocated = len-written n at q some;
-      len = len-insert n at f.stored q f.is f.free live;
-    }
-
-pub insert-invariant : (n : Slab StoredItem) (at : ℕ) (q : StoredItem) (first_item_bound lower end : ℕ) (free_head : Option ℕ) (len : ℕ) (f : First n free_head at) → free_head ≡ Some at → is_free q.header ≡ false → lower ≤ first_item_bound → lower ≤ at
-    → ItemsInvariant n first_item_bound end free_head len → ItemsInvariant (with_value n at q) lower end (next_in f.stored.header) (len + 1)
-insert-invariant n at q first_item_bound lower end free_head len f head live less most a =
-    let t = taken n free_head at q f live in
-    record {
-      within = write-keeps_bound n (with_value n at q) at end (Some q) t.updates (a.within at t.some) a.within;
-      few = a.few;
-      below = λ k h. elim (cases_eq k at) [
-        | inl same ↦ absurd (omega (arith, same, h, most))
-        | inr other ↦ ap live_node (t.updates.others k other) ∙ a.below k (omega (arith, h, less))
-      ];
-      counted = t.len ∙ ap (λ k. k + 1) a.counted;
-      free_list = insert-free_list n (with_value n at q) free_head at len f.stored q a.free_list head f.is t.updates live t.allocated;
-    }
-
--- the slab after the place of an item becomes free
-pub record Freed (n : Slab StoredItem) (at : ℕ) (q : StoredItem) : Type 0 where
-  pub some : IsSome (get n at)
-  pub updates : Updates n (with_value n at q) at (Some q)
-  pub now : get_or (live_nodes (with_value n at q).slots) at None ≡ None
-  pub allocated : slab_len (with_value n at q) ≡ slab_len n
-  pub len : count_by is_some (live_nodes (with_value n at q).slots) + 1 ≡ count_by is_some (live_nodes n.slots)
-
-pub freed : (n : Slab StoredItem) (at : ℕ) (q : StoredItem) → IsSome (get_or (live_nodes n.slots) at None) → is_free q.header ≡ true → Freed n at q
-freed n at q h free =
-    let l = live-at n at h in
-    let some = has-place n at h in
-    let u = Updates-with_value n at q some in
-    record {
-      some = some;
-      updates = u;
-      now = (updates-live n (with_value n at q) at (Some q) u).0 ∙ live-none q free;
-      allocated = len-written n at q some;
-      len = len-remove n at l.0 q l.1.0 l.1.1 free;
-    }
-
-pub remove-invariant : (n : Slab StoredItem) (at : ℕ) (q : StoredItem) (first_item_bound higher end : ℕ) (free_head : Option ℕ) (len left : ℕ) → IsSome (get_or (live_nodes n.slots) at None) → is_free q.header ≡ true → next_in q.header ≡ free_head → left + 1 ≡ len
-    → HasNoItemBetween first_item_bound higher (with_value n at q) → ItemsInvariant n first_item_bound end free_head len → ItemsInvariant (with_value n at q) higher end (Some at) left
-remove-invariant n at q first_item_bound higher end free_head len left h free next less passed a =
-    let g = freed n at q h free in
-    record {
-      within = write-keeps_bound n (with_value n at q) at end (Some q) g.updates (a.within at g.some) a.within;
-      few = a.few;
-      below = λ k lower. elim (cases_lt k first_item_bound) [
-        | inl under ↦ elim (cases_eq k at) [
-          | inl same ↦ ap (λ j. live_node (get (with_value n at q) j)) same ∙ (ap live_node g.updates.changed ∙ live-none q free)
-          | inr other ↦ ap live_node (g.updates.others k other) ∙ a.below k under
-        ]
-        | inr above ↦ passed k above lower
-      ];
-      counted = omega (arith, g.len, a.counted, less);
-      free_list = remove-free_list n (with_value n at q) free_head at len left q a.free_list (not-free_at n at h) g.updates free next (omega (arith, g.allocated, less));
+      writes = w;
+      now = now;
+      fewer = omega (arith, fewer);
+      invariant = λ higher left less passed. record {
+        few = omega (arith, a.few, same);
+        below = λ k lower. elim (cases_lt k bound) [
+          | inl under ↦ elim (cases_eq k at) [
+            | inl is ↦ ap (λ j. node_at (set places at s) j) is ∙ now
+            | inr other ↦ w.live.others k other ∙ a.below k under
+          ]
+          | inr above ↦ passed k above lower
+        ];
+        counted = omega (arith, fewer, a.counted, less);
+        free_list = remove-free_list places (set places at s) free_head at len left s a.free_list l.free w free next less same;
+      };
     }
 
 -- an item changes, and its place stays
-pub replace-invariant : (n : Slab StoredItem) (at : ℕ) (q : StoredItem) (first_item_bound end : ℕ) (free_head : Option ℕ) (len : ℕ) → IsSome (get_or (live_nodes n.slots) at None) → is_free q.header ≡ false
-    → ItemsInvariant n first_item_bound end free_head len → ItemsInvariant (with_value n at q) first_item_bound end free_head len
-replace-invariant n at q first_item_bound end free_head len h live a =
-    let l = live-at n at h in
-    let some = has-place n at h in
-    let u = Updates-with_value n at q some in
-    let O : Option ListNode → Type 0 = λ o. IsSome o in
+pub replace-invariant : (places : List StoredItem) (at : ℕ) (s : StoredItem) (bound : ℕ) (free_head : Option ℕ) (len : ℕ) → IsSome (node_at places at) → is_free s.header ≡ false
+    → ItemsInvariant places bound free_head len → ItemsInvariant (set places at s) bound free_head len
+replace-invariant places at s bound free_head len h live a =
+    let l = live-at places at h in
+    let w = writes-set places at s l.within in
+    let same = length-set places at s in
+    let as_many = len-set places at s (Some (stored_node (get_or places at s))) (Some (stored_node s)) l.within (l.shows s) (live-is s live) in
     record {
-      within = write-keeps_bound n (with_value n at q) at end (Some q) u (a.within at some) a.within;
-      few = a.few;
+      few = omega (arith, a.few, same);
       below = λ k lower. elim (cases_eq k at) [
-        | inl same ↦
-            let none : get_or (live_nodes n.slots) at None ≡ None = get-live n.slots at ∙ (ap (λ j. live_node (get n j)) (sym same) ∙ a.below k lower) in
+        | inl is ↦
+            let none : node_at places at ≡ None = ap (λ j. node_at places j) (sym is) ∙ a.below k lower in
             absurd (cc (none, h))
-        | inr other ↦ ap live_node (u.others k other) ∙ a.below k lower
+        | inr other ↦ w.live.others k other ∙ a.below k lower
       ];
-      counted = len-replace n at l.0 q l.1.0 l.1.1 live ∙ a.counted;
-      free_list = set_next-free_list n (with_value n at q) free_head at len q a.free_list (not-free_at n at h) u (len-written n at q some);
+      counted = omega (arith, as_many, a.counted);
+      free_list =
+          let L : ℕ → Type 0 = λ n. IsFreeList (set places at s) free_head n in
+          subst L (let n : len + 0 ≡ len = omega arith in n) (keep-free_list places (set places at s) free_head at len 0 s a.free_list l.free w (omega (arith, same)));
     }
 
--- the nodes after an item is replaced
-pub with_value-live : (n : Slab StoredItem) (k : ℕ) (q : StoredItem) → is_free q.header ≡ false → live_nodes (with_value n k q).slots ≡ set (live_nodes n.slots) k (Some (stored_node q))
-with_value-live n k q live = map-set n.slots k (Some q) ∙ ap (λ (o : Option ListNode). set (live_nodes n.slots) k o) (live-some q live)
-  where
-    live-some : (s : StoredItem) → is_free s.header ≡ false → live_node (Some s) ≡ Some (stored_node s)
-    live-some s e = ap {B = Option ListNode} (λ (b : Bool). if b then None else Some (stored_node s)) e
+pub view-set : (places : List StoredItem) (room at : ℕ) (s : StoredItem) → is_free s.header ≡ false → items_view (set places at s) room ≡ with_value (items_view places room) at (stored_node s)
+view-set places room at s live =
+    ap (λ (zs : List (Option ListNode)). let z : Slab ListNode = record (items_view places room) { slots = zs } in z)
+    (map-set live_node places at s ∙ ap (λ (o : Option ListNode). set (live_nodes places) at o) (live-is s live))
 
 -- ---- the first item from a place on
-item-by : (o : Option StoredItem) (m : ListNode) → live_node o ≡ Some m → IsSome m.item
-item-by None m e = absurd (cc)
-item-by (Some s) m e = shown (is_free s.header) e
-  where
-    shown : (b : Bool) → (if b then None else Some (stored_node s)) ≡ Some m → IsSome m.item
-    shown true e = absurd (cc)
-    shown false e = let same : stored_node s ≡ m = cc in let P : ListNode → Type 0 = λ z. IsSome z.item in subst P same refl
+item-by : (s : StoredItem) (b : Bool) (m : ListNode) → (if b then None else Some (stored_node s)) ≡ Some m → IsSome m.item
+item-by s true m e = absurd (cc)
+item-by s false m e = let same : stored_node s ≡ m = cc in let P : ListNode → Type 0 = λ z. IsSome z.item in subst P same refl
 
 -- every node of the items is an item
-pub node-has_item : (n : Slab StoredItem) (k : ℕ) (m : ListNode) → get_or (live_nodes n.slots) k None ≡ Some m → IsSome m.item
-node-has_item n k m e = item-by (get n k) m (sym (get-live n.slots k) ∙ e)
+node-has_item : (places : List StoredItem) (at : ℕ) (m : ListNode) → node_at places at ≡ Some m → IsSome m.item
+node-has_item [] at m e = absurd (cc)
+node-has_item (s ∷ places) zero m e = item-by s (is_free s.header) m e
+node-has_item (s ∷ places) (suc at) m e = node-has_item places at m e
 
 some-node : (o : Option ListNode) → is_some o ≡ true → (m : ListNode) × (o ≡ Some m)
 some-node None e = absurd (cc)
 some-node (Some m) e = (m, refl)
 
 -- no items from a place up to the first with an item, or to the end
-pub least-item : (n : Slab StoredItem) (s : Slab ListNode) (start at : ℕ) → live_nodes n.slots ≡ s.slots → ((k : ℕ) → start ≤ k → k < at → live_node (get n k) ≡ None) → start ≤ at → is_some (live_node (get n at)) ≡ true → IsLeastItemIn start at s
-least-item n s start at is seen h marked =
-    let m = some-node (live_node (get n at)) marked in
-    let there : get_or (live_nodes n.slots) at None ≡ Some m.0 = get-live n.slots at ∙ m.1 in
+pub least-item : (places : List StoredItem) (s : Slab ListNode) (start at : ℕ) → live_nodes places ≡ s.slots → HasNoItemBetween start at places → start ≤ at → is_some (node_at places at) ≡ true → IsLeastItemIn start at s
+least-item places s start at is seen h marked =
+    let m = some-node (node_at places at) marked in
     let G : List (Option ListNode) → Type 0 = λ zs. get_or zs at None ≡ Some m.0 in
     record {
-      has = record { node = m.0; is = subst G is there; has = node-has_item n at m.0 there };
+      has = record { node = m.0; is = subst G is m.1; has = node-has_item places at m.0 m.1 };
       from = h;
       least = λ other has after.
-          let here : live_node (get n other) ≡ Some has.node = sym (get-live n.slots other) ∙ (ap (λ (zs : List (Option ListNode)). get_or zs other None) is ∙ has.is) in
+          let here : node_at places other ≡ Some has.node = ap (λ (zs : List (Option ListNode)). get_or zs other None) is ∙ has.is in
           elim (cases_lt other at) [ inl before ↦ absurd (cc (here, seen other after before)) | inr there ↦ there ];
     }
 
-pub no-item_left : (n : Slab StoredItem) (s : Slab ListNode) (start at end : ℕ) → live_nodes n.slots ≡ s.slots → ((k : ℕ) → start ≤ k → k < at → live_node (get n k) ≡ None) → end ≤ at → ((k : ℕ) → IsSome (get n k) → k < end) → (other : ℕ) → HasItemIn s other → other < start
-no-item_left n s start at end is seen h within other has =
+pub no-item_left : (places : List StoredItem) (s : Slab ListNode) (start at : ℕ) → live_nodes places ≡ s.slots → HasNoItemBetween start at places → length places ≤ at → (other : ℕ) → HasItemIn s other → other < start
+no-item_left places s start at is seen h other has =
     let O : Option ListNode → Type 0 = λ o. IsSome o in
-    let shown : get_or (live_nodes n.slots) other None ≡ Some has.node = ap (λ (zs : List (Option ListNode)). get_or zs other None) is ∙ has.is in
-    let here : live_node (get n other) ≡ Some has.node = sym (get-live n.slots other) ∙ shown in
+    let here : node_at places other ≡ Some has.node = ap (λ (zs : List (Option ListNode)). get_or zs other None) is ∙ has.is in
+    let within = (live-at places other (subst O (sym here) refl)).within in
     elim (cases_lt other start) [
       | inl before ↦ before
-      | inr after ↦ elim (cases_lt other at) [
-        | inl inside ↦ absurd (cc (here, seen other after inside))
-        | inr past ↦ absurd (omega (arith, past, h, within other (has-place n other (subst O (sym shown) refl))))
-      ]
+      | inr after ↦ absurd (cc (here, seen other after (omega (arith, within, h))))
     ]

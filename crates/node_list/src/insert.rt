@@ -33,7 +33,7 @@ fn last_not_above(nodes: &Nodes, start: usize, split_key: u64) -> usize
 
 /// Inserts an item after all nodes whose split keys are at most its own, and returns its place. `reversed` is its split
 /// key without the last bit, which is 1. `start` is the place of a node whose split key is at most the item's, and there
-/// must be a free place.
+/// must be capacity for the item.
 #[inline(always)]
 pub fn insert_item_from(nodes: &mut Nodes, start: usize, reversed: u32, item: Item) -> usize
     requires room { HasRoomFor nodes.old 1 }

@@ -1,8 +1,8 @@
-//! The items of a list by index, in a slab: each with its header, its key and its objects. Places without an item form
+//! The items of a list by index, in an array: each with its header, its key and its objects. Places without an item form
 //! the *free list*: each leads to the next.
-ghost use Rattle.std.specs.Prelude.{◌≡◌, ℕ, ◌+◌, ◌<◌, ◌≤◌, ◌-◌, ◌^◌, [], Some, None, IsOk, OnOk, OnErr, option_map};
+ghost use Rattle.std.specs.Prelude.{◌≡◌, ℕ, ◌+◌, ◌<◌, ◌≤◌, ◌-◌, ◌^◌, min, [], Some, None, IsOk, OnOk, slice_set, slice_index_or, vec_len, vec_capacity};
 ghost use Rattle.std.specs.Borrow.{sem};
-ghost use Rattle.slab.specs.Slab.{get, slab_len, with_value, ContainsKey, HasRoomFor, SameValues, Updates};
+ghost use Rattle.slab.specs.Slab.{get, slab_len, ContainsKey, HasRoomFor, SameValues, Updates};
 ghost use Rattle.node_list.specs.inside.FreeList.{item_node};
 ghost use Rattle.node_list.specs.inside.Slots.{HasHeader, HasChain, HasChainLength, HasItemOrNone, ChangesLink, IsNextItemIn};
 ghost use Rattle.node_list.specs.inside.PackedHeader.{Fits};
@@ -14,7 +14,6 @@ use crate::header::NodeHeader;
 use crate::link::Link;
 use crate::node::{Item, ListNode, StoredItem};
 use crate::packed::PackedHeader;
-use slab::Slab;
 use std::alloc::{AllocError, Global};
 use std::marker::Model;
 use std::mem;
@@ -22,17 +21,15 @@ use std::mem;
 /// The greatest number of places, so that the place of each item in the list fits a link.
 const MAX_PLACES: usize = 1073741823;
 
-/// Items by index. A contract sees one slab of nodes, each of which is an item. Its `capacity` is the number of places,
-/// free places included. A place is added to the slab when memory is reserved, and stays in it. Places without an item
-/// form the free list.
+/// Items by index. A contract sees one slab of nodes, each of which is an item. Its `capacity` is the number of items for
+/// which there is memory. A place is added to the array by an insertion that finds no free place, and stays in it. Places
+/// without an item form the free list.
 #[derive(Drop)]
 pub struct Items {
     /// The items, and the free places.
-    nodes: Slab<StoredItem>,
+    nodes: Vec<StoredItem>,
     /// The first-item bound: no place below it has an item.
     first_item_bound: usize,
-    /// No place from this one on is in the slab.
-    end: usize,
     /// The first free place. The header of each free place has the link to the next.
     free_head: Link,
     /// The number of items.
@@ -43,7 +40,8 @@ pub struct Items {
 
 // The value that contracts see of this type (`view`), and what is true of its fields between calls (`invariant`).
 impl Model for Items {
-    ghost use Rattle.slab.specs.Slab.{Slab as Slots, slab_code, slab_len};
+    ghost use Rattle.std.specs.Prelude.{vec_capacity};
+    ghost use Rattle.slab.specs.Slab.{Slab as Slots, slab_code};
     ghost use Rattle.node_list.specs.declared.node.ListNode.{ListNode};
     ghost use Rattle.node_list.specs.contracts.node.ListNode as node;
 
@@ -51,27 +49,22 @@ impl Model for Items {
 
     ghost coded = { slab_code node.the_row.coded };
 
-    ghost use Rattle.node_list.specs.inside.FreeList.{live_nodes, ItemsInvariant};
+    ghost use Rattle.node_list.specs.inside.FreeList.{items_view, ItemsInvariant};
 
-    ghost view = { λ s. record {
-      slots = live_nodes s.nodes.slots;
-      vacant_key = s.nodes.vacant_key;
-      capacity = slab_len s.nodes;
-    } };
+    ghost view = { λ s. items_view s.nodes.items (vec_capacity s.nodes) };
 
-    ghost invariant = { λ s. ItemsInvariant s.nodes s.first_item_bound s.end s.free_head s.len };
+    ghost invariant = { λ s. ItemsInvariant s.nodes.items s.first_item_bound s.free_head s.len };
 }
 
 impl Items {
-    /// Returns a slab without items. This takes no memory.
+    /// Returns no items. This takes no memory.
     pub fn new(alloc: Global) -> Items
         ensures empty { result.slots ≡ [] }
         ensures capacity { result.capacity ≡ 0 }
     {
         Items {
-            nodes: Slab::new(alloc),
+            nodes: Vec::new(alloc),
             first_item_bound: 0,
-            end: 0,
             free_head: Link::none(),
             len: 0,
             alloc,
@@ -86,41 +79,41 @@ impl Items {
         ensures values { SameValues self.old self.new }
         ensures len { slab_len self.new ≡ slab_len self.old }
     {
-        // Each round adds one free place. The first round reserves the memory for all of them.
-        while self.free_len() < additional {
-            self.add_free_place(additional - self.free_len())?;
+        if self.capacity() - self.len >= additional {
+            return Ok(());
         }
-        Ok(())
+        self.grow(additional)
     }
 
-    /// Returns the number of free places: the places of the slab without an item.
+    /// Returns the number of items for which there is memory, and for whose places a link has bits.
     #[inline]
-    fn free_len(&self) -> usize
-        ensures { slab_len self.now + result ≡ self.now.capacity }
+    fn capacity(&self) -> usize
+        ensures value { result ≡ self.now.capacity }
+        ensures holds_all { slab_len self.now ≤ result }
     {
-        self.nodes.len() - self.len
+        self.nodes.capacity().min(MAX_PLACES)
     }
 
-    /// Adds a place to the slab and to the front of the free list. If the slab has capacity for fewer than `more`
-    /// further places, it grows by at least `more`. If memory is refused, returns an error and adds no place.
-    fn add_free_place(&mut self, more: usize) -> Result<(), AllocError>
-        requires { 0 < more }
-        ensures room { OnOk result (self.new.capacity ≡ self.old.capacity + 1) }
-        ensures err { OnErr result (self.new.capacity ≡ self.old.capacity) }
+    /// Reserves memory for new places, as many as `additional` more items need. There must be capacity for fewer. If memory
+    /// is refused, or a link has no bits for the places, returns an error, and no item changes.
+    #[cold]
+    fn grow(&mut self, additional: usize) -> Result<(), AllocError>
+        requires { self.old.capacity < slab_len self.old + additional }
+        ensures room { OnOk result (HasRoomFor self.new additional) }
+        ensures capacity { self.old.capacity ≤ self.new.capacity }
         ensures values { SameValues self.old self.new }
         ensures len { slab_len self.new ≡ slab_len self.old }
     {
-        reserve_place(&mut self.nodes, more)?;
-        let at = self
-            .nodes
-            .insert_reserved(StoredItem::free(self.alloc, self.free_head));
-        self.free_head = Link::to(at);
-        self.end = self.end.max(at + 1);
-        Ok(())
+        if additional > MAX_PLACES - self.len {
+            return Err(AllocError);
+        }
+        // The free places are used first.
+        let more = additional - (self.nodes.len() - self.len);
+        self.nodes.reserve_exact(extra_capacity(&self.nodes, more))
     }
 
-    /// Inserts an item at the first free place and returns that place. There must be a free place. `reversed` is the
-    /// item's split key without the last bit.
+    /// Inserts an item at the first free place, or else at a new place, and returns the place. There must be capacity for
+    /// it. `reversed` is the item's split key without the last bit.
     #[inline(always)]
     pub fn insert_reserved(&mut self, reversed: u32, next: Link, item: Item) -> usize
         requires room { HasRoomFor self.old 1 }
@@ -131,14 +124,21 @@ impl Items {
         ensures in_range { result < 2 ^ 30 - 1 }
         ensures capacity { self.new.capacity ≡ self.old.capacity }
     {
-        let Some(at) = self.free_head.get() else {
-            // There is a free place, so the free list is not empty.
-            unreachable!()
-        };
         let header = PackedHeader::new(reversed, next);
-        // The old header, of the free place: its link leads to the next free place.
-        let free = write_at(&mut self.nodes, at, StoredItem { header, item });
-        self.free_head = free.next();
+        let stored = StoredItem { header, item };
+        let at = match self.free_head.get() {
+            Some(at) => {
+                // The old header, of the free place: its link leads to the next free place.
+                let free = write_at(&mut self.nodes, at, stored);
+                self.free_head = free.next();
+                at
+            }
+            None => {
+                let at = self.nodes.len();
+                self.nodes.push_reserved(stored);
+                at
+            }
+        };
         self.len += 1;
         self.first_item_bound = self.first_item_bound.min(at);
         at
@@ -157,7 +157,7 @@ impl Items {
         let StoredItem { header, item } = replace_at(&mut self.nodes, at, free);
         self.free_head = Link::to(at);
         self.len -= 1;
-        self.first_item_bound = bound_after_remove(&self.nodes, self.first_item_bound, self.end);
+        self.first_item_bound = bound_after_remove(self.nodes.as_slice(), self.first_item_bound);
         let NodeHeader { split_key, next } = header.header(1);
         ListNode {
             split_key,
@@ -180,7 +180,7 @@ impl Items {
         let _header = write_at(&mut self.nodes, at, free);
         self.free_head = Link::to(at);
         self.len -= 1;
-        self.first_item_bound = bound_after_remove(&self.nodes, self.first_item_bound, self.end);
+        self.first_item_bound = bound_after_remove(self.nodes.as_slice(), self.first_item_bound);
         count
     }
 
@@ -208,8 +208,8 @@ impl Items {
     pub fn next_item_at(&self, start: usize) -> Option<usize>
         ensures { IsNextItemIn start result self.now }
     {
-        for at in start.max(self.first_item_bound)..self.end {
-            if has_item(&self.nodes, at) {
+        for at in start.max(self.first_item_bound)..self.nodes.len() {
+            if has_item(self.nodes.as_slice(), at) {
                 return Some(at);
             }
         }
@@ -257,50 +257,33 @@ impl Items {
     }
 }
 
-/// Returns by how many places the slab grows: the greater of `additional` and `len`, the present number of places.
-/// Such a growth at least doubles the capacity, so its cost is constant per place, on average.
-fn extra_capacity(len: usize, additional: usize) -> usize
+/// Returns for how many places beyond the present ones to reserve memory: for `additional`, or for as many as double the
+/// capacity, whichever is more. So the cost is constant per place, on average.
+fn extra_capacity(nodes: &Vec<StoredItem>, additional: usize) -> usize
     ensures { additional ≤ result }
 {
-    additional.max(len)
-}
-
-/// Reserves capacity for one more place. If the slab has capacity for fewer than `more` further places, it grows by at
-/// least `more`. Returns an error if memory is refused or a link has no bits for the place. The slab may then keep a new
-/// capacity, but no place is added.
-fn reserve_place(nodes: &mut Slab<StoredItem>, more: usize) -> Result<(), AllocError>
-    requires some { 0 < more }
-    ensures room { OnOk result (HasRoomFor nodes.new 1) }
-    ensures fits { OnOk result (nodes.new.vacant_key < 2 ^ 30 - 1) }
-    ensures nodes { nodes.new ≡ record nodes.old { capacity = nodes.new.capacity } }
-{
-    let len = nodes.len();
-    if nodes.capacity() - len < more {
-        nodes.reserve_exact(extra_capacity(len, more))?;
-    }
-    // The place that the slab gives out next.
-    if nodes.vacant_key() >= MAX_PLACES {
-        return Err(AllocError);
-    }
-    Ok(())
+    let capacity = nodes.capacity();
+    additional.max(capacity.saturating_add(capacity - nodes.len()))
 }
 
 /// Replaces what is at a place and returns what was there.
 #[inline(always)]
-fn replace_at(nodes: &mut Slab<StoredItem>, at: usize, stored: StoredItem) -> StoredItem
-    requires { ContainsKey nodes.old at }
-    ensures value { get nodes.old at ≡ Some result }
-    ensures now { nodes.new ≡ with_value nodes.old at stored }
+fn replace_at(nodes: &mut Vec<StoredItem>, at: usize, stored: StoredItem) -> StoredItem
+    requires { at < vec_len nodes.old }
+    ensures value { result ≡ slice_index_or nodes.old.items at result }
+    ensures now { nodes.new.items ≡ slice_set nodes.old.items at stored }
+    ensures capacity { vec_capacity nodes.new ≡ vec_capacity nodes.old }
 {
     mem::replace(&mut nodes[at], stored)
 }
 
 /// Writes a place, drops what was there and returns its header.
 #[inline(always)]
-fn write_at(nodes: &mut Slab<StoredItem>, at: usize, stored: StoredItem) -> PackedHeader
-    requires { ContainsKey nodes.old at }
-    ensures value { option_map (λ s. s.header) (get nodes.old at) ≡ Some result }
-    ensures now { nodes.new ≡ with_value nodes.old at stored }
+fn write_at(nodes: &mut Vec<StoredItem>, at: usize, stored: StoredItem) -> PackedHeader
+    requires { at < vec_len nodes.old }
+    ensures value { (slice_index_or nodes.old.items at stored).header ≡ result }
+    ensures now { nodes.new.items ≡ slice_set nodes.old.items at stored }
+    ensures capacity { vec_capacity nodes.new ≡ vec_capacity nodes.old }
 {
     let place = &mut nodes[at];
     let header = place.header;

@@ -13,11 +13,11 @@
 //! each time.
 //!
 //! *Mechanism.* The nodes are linked in one direction by place numbers. A dummy takes 8 bytes: its split key without
-//! the last bit, which is 0, and its link. An item takes 72 bytes in a slab: the same header, whose last bit is 1, its key
-//! packed in 16 bytes, and its chain in 48. Dummies have the even places, and items the odd ones. A search that passes a
-//! node reads its header, and compares keys only if split keys are equal. `next_item_at` reads the slab forward. Places of
-//! the slab without an item form a *free list*: each leads to the next, the first is used next, and no place is returned
-//! to the slab. They join that list when memory is reserved. So a refusal of memory changes no node.
+//! the last bit, which is 0, and its link. An item takes 72 bytes in an array: the same header, whose last bit is 1, its
+//! key packed in 16 bytes, and its chain in 48. Dummies have the even places, and items the odd ones. A search that passes
+//! a node reads its header, and compares keys only if split keys are equal. `next_item_at` reads the array forward. Places
+//! of the array without an item form a *free list*: each leads to the next, and the first is used next. If there is none,
+//! an insertion adds a place at the end, in memory that is reserved before. So a refusal of memory changes no node.
 //!
 //! *Limits.* A call that takes a place requires that a node of the list has it. So a caller must keep track of the
 //! places of its nodes.
