@@ -3,14 +3,16 @@ use Rattle.std.proofs.Common.{◌≡◌, ◌≢◌, ℕ, suc, ◌+◌, ◌<◌, 
 use Rattle.std.proofs.lemmas.Bool.{cases_lt, cases_eq}
 use Rattle.slab.specs.Slab.{Slab, get, slab_len, Updates, with_value}
 use Rattle.slab.proofs.SlabLemmas.{Updates-with_value}
+use Rattle.node_list.specs.declared.header.NodeHeader.{NodeHeader}
 use Rattle.node_list.specs.declared.node.ListNode.{ListNode}
 use Rattle.node_list.specs.Cells.{Cell, Sorted}
 use Rattle.node_list.specs.Places.{from, HasSplitKeyAtMost, IsFresh}
 use Rattle.node_list.specs.Changes.{put_cell}
+use Rattle.node_list.specs.inside.Slots.{HasHeader, ChangesLink}
 use Rattle.node_list.specs.inside.Walks.{Links, IsLinked, cells_from, cell_of, node_of, NodeHasSplitKeyAtMost, last_not_above_in}
 use Rattle.node_list.proofs.WalkLaws.{walk-is, walk-length, walk-none, cells_from-step_at}
 use Rattle.node_list.proofs.CellLaws.{last_not_above_in-past, last_not_above_in-on, put-past, put-on, from-here, from-on, length-put, length-from, at-most-from}
-use Rattle.node_list.proofs.PlaceLaws.{links-head_fresh, links-fresh, links-frame, links-from}
+use Rattle.node_list.proofs.PlaceLaws.{with_value-len, links-head_fresh, links-fresh, links-frame, links-from}
 
 abbrev pub Past : ℕ → List Cell → Type 0
 Past key [] = Unit {0}
@@ -95,7 +97,7 @@ pub record Begun (s : Slab ListNode) (key start : ℕ) : Type 0 where
   pub up_to : NodeHasSplitKeyAtMost s start key
   pub spot : Spot key (last_not_above_in key start (cells_from s (Some start))) (cells_from s (Some 0))
 
-pub start-spot : (s : Slab ListNode) (key start : ℕ) → IsLinked s (Some 0) → Sorted (cells_from s (Some 0)) → HasSplitKeyAtMost key start (cells_from s (Some 0)) → Begun s key start
+start-spot : (s : Slab ListNode) (key start : ℕ) → IsLinked s (Some 0) → Sorted (cells_from s (Some 0)) → HasSplitKeyAtMost key start (cells_from s (Some 0)) → Begun s key start
 start-spot s key start l o h =
     let f = links-from (get s) start (Some 0) (cells_from s (Some 0)) h.cell h.later l.links h.is in
     let short : length (h.cell ∷ h.later) ≤ slab_len s = omega (arith, ap length h.is, length-from start (cells_from s (Some 0)), walk-length (slab_len s) (get s) (Some 0)) in
@@ -110,7 +112,7 @@ start-spot s key start l o h =
     }
 
 -- the last place of a spot has a node
-pub spot-node : (g : ℕ → Option ListNode) (key last : ℕ) (link : Option ℕ) (cs : List Cell) → Links g link cs → Spot key last cs → (node : ListNode) × (g last ≡ Some node)
+spot-node : (g : ℕ → Option ListNode) (key last : ℕ) (link : Option ℕ) (cs : List Cell) → Links g link cs → Spot key last cs → (node : ListNode) × (g last ≡ Some node)
 spot-node g key last link [] l h = absurd h
 spot-node g key last link (c ∷ cs) l h =
     elim h.1 [
@@ -164,7 +166,7 @@ pub record Inserted (s t : Slab ListNode) (x : Cell) : Type 0 where
   pub cells : cells_from t (Some 0) ≡ put_cell x (cells_from s (Some 0))
 
 -- a node is written at a free place, and then the link to it
-pub insert-list : (s m : Slab ListNode) (x : Cell) (start last : ℕ) (n n' : ListNode)
+insert-list : (s m : Slab ListNode) (x : Cell) (start last : ℕ) (n n' : ListNode)
     → Begun s x.split_key start → IsLinked s (Some 0) → last ≡ last_not_above_in x.split_key start (cells_from s (Some start))
     → get s last ≡ Some n → get s x.at ≡ None → Updates s m x.at (Some (node_of x n.next)) → slab_len m ≡ slab_len s + 1
     → get m last ≡ Some n' → slab_len (with_value m last (record n' { next = Some x.at })) ≡ slab_len s + 1
@@ -189,3 +191,48 @@ insert-list s m x start last n n' b l e was free_head u len now len' =
     } in
     let r = spliced-cells_from s (with_value m last (record n' { next = Some x.at })) last x l p spot len' in
     record { linked = r.0; cells = r.1 }
+
+-- ---- what the insertions of an item and of a dummy share
+-- the search begins at a node that is not above
+pub search-begins : (s : Slab ListNode) (k key start : ℕ) → k ≡ key → IsLinked s (Some 0) → Sorted (cells_from s (Some 0)) → HasSplitKeyAtMost key start (cells_from s (Some 0)) → IsLinked s (Some start) × NodeHasSplitKeyAtMost s start k
+search-begins s k key start is l o h =
+    let P : ℕ → Type 0 = λ z. NodeHasSplitKeyAtMost s start z in
+    let b = start-spot s key start l o h in
+    (b.linked, subst P (sym is) b.up_to)
+
+-- it finds a node
+pub search-finds : (s : Slab ListNode) (k key start last : ℕ) → k ≡ key → IsLinked s (Some 0) → Sorted (cells_from s (Some 0)) → HasSplitKeyAtMost key start (cells_from s (Some 0)) → last ≡ last_not_above_in k start (cells_from s (Some start)) → IsSome (get s last)
+search-finds s k key start last is l o h found =
+    let P : Option ListNode → Type 0 = λ z. IsSome z in
+    let e = found ∙ ap (λ z. last_not_above_in z start (cells_from s (Some start))) is in
+    let n = spot-node (get s) key (last_not_above_in key start (cells_from s (Some start))) (Some 0) (cells_from s (Some 0)) l.links (start-spot s key start l o h).spot in
+    subst P (sym (ap (get s) e ∙ n.1)) refl
+
+-- which stays when a new node is written
+pub last-stays : (s m : Slab ListNode) (last at : ℕ) (node : ListNode) (o : Option ListNode) → get s last ≡ Some node → get s at ≡ None → Updates s m at o → IsSome (get m last)
+last-stays s m last at node o was none u =
+    let apart : last ≢ at = λ same. let f = ap (get s) same ∙ none in absurd (cc (f, was)) in
+    let O : Option ListNode → Type 0 = λ z. IsSome z in
+    subst O (sym (u.others last apart ∙ was)) refl
+
+-- the nodes after an insertion
+pub record Put (s m t : Slab ListNode) (x : Cell) : Type 0 where
+  pub linked : IsLinked t (Some 0)
+  pub cells : cells_from t (Some 0) ≡ put_cell x (cells_from s (Some 0))
+  pub fresh : IsFresh x.at (cells_from s (Some 0))
+  pub capacity : t.capacity ≡ m.capacity
+  pub len : slab_len t ≡ slab_len s + 1
+
+-- a new node is written, and then the link to it
+pub put : (s m t : Slab ListNode) (x : Cell) (k start last : ℕ) (f : NodeHeader) (link : Option ℕ) → k ≡ x.split_key → IsLinked s (Some 0) → Sorted (cells_from s (Some 0)) → HasSplitKeyAtMost x.split_key start (cells_from s (Some 0)) → last ≡ last_not_above_in k start (cells_from s (Some start))
+    → HasHeader s last f → get s x.at ≡ None → Updates s m x.at (Some (node_of x f.next)) → slab_len m ≡ slab_len s + 1 → link ≡ Some x.at → ChangesLink m t last link → Put s m t x
+put s m t x k start last f link is l o h found header none u more to changes =
+    let U : Option ℕ → Type 0 = λ z. Updates s m x.at (Some (node_of x z)) in
+    let C : Option ℕ → Type 0 = λ z. ChangesLink m t last z in
+    let V : Slab ListNode → Type 0 = λ v. Put s m v x in
+    let changed = subst C to changes in
+    let n = changed.node in
+    let e = found ∙ ap (λ z. last_not_above_in z start (cells_from s (Some start))) is in
+    let kept = with_value-len m last n (record n { next = Some x.at }) changed.was in
+    let list = insert-list s m x start last header.node n (start-spot s x.split_key start l o h) l e header.is none (subst U (sym header.next) u) more changed.was (kept ∙ more) in
+    subst V (sym changed.now) (record { linked = list.linked; cells = list.cells; fresh = links-fresh (get s) x.at none (Some 0) (cells_from s (Some 0)) l.links; capacity = refl; len = kept ∙ more })

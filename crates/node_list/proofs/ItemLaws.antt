@@ -1,14 +1,14 @@
 -- What preserves the invariant of the items, and the first item from a place on.
-use Rattle.std.proofs.Common.{◌≡◌, ℕ, zero, suc, ◌+◌, ◌<◌, ◌≤◌, ◌^◌, inl, inr, List, [], ◌∷◌, ◌++◌, length, get_or, set, count_by, is_some, Option, Some, None, IsSome, Bool, true, false, if◌then◌else◌, refl, sym, ◌∙◌, ap, subst, arith, length-set}
+use Rattle.std.proofs.Common.{◌≡◌, ℕ, zero, suc, ◌+◌, ◌-◌, ◌<◌, ◌≤◌, ◌^◌, inl, inr, List, [], ◌∷◌, ◌++◌, length, get_or, set, count_by, is_some, Option, Some, None, IsSome, Bool, true, false, if◌then◌else◌, refl, sym, ◌∙◌, ap, subst, arith, length-set}
 use Rattle.std.proofs.lemmas.Bool.{cases_eq, cases_lt}
 use Rattle.std.proofs.lemmas.List.{length_push, map-set}
-use Rattle.slab.specs.Slab.{Slab, with_value}
+use Rattle.slab.specs.Slab.{Slab, get, with_value, Updates}
 use Rattle.node_list.specs.declared.node.ListNode.{ListNode}
 use Rattle.node_list.specs.declared.node.StoredItem.{StoredItem}
 use Rattle.node_list.specs.inside.PackedHeader.{is_free, next_in}
 use Rattle.node_list.specs.inside.FreeList.{live_node, live_nodes, node_at, stored_node, items_view, HasNoItemBetween, IsFreeList, ItemsInvariant}
 use Rattle.node_list.specs.inside.Slots.{HasItemIn, IsLeastItemIn}
-use Rattle.node_list.proofs.FreePlaceLaws.{live-is, live-none, live-at, Writes, writes-set, writes-push, live-past, free-past, len-set, len-push}
+use Rattle.node_list.proofs.FreePlaceLaws.{live-is, live-none, live-at, WritesIn, Writes, writes-set, writes-push, live-past, free-past, len-set, len-push}
 use Rattle.node_list.proofs.FreeListLaws.{rest-free, insert-free_list, remove-free_list, keep-free_list}
 
 -- a write of a node, if the bound is not above its place: below the bound there is still no node
@@ -71,37 +71,49 @@ insert-push places s bound free_head len room live a =
     }
 
 -- what a removal shows: a free place is written over an item
-pub record Freed (places : List StoredItem) (at : ℕ) (s : StoredItem) (bound : ℕ) (free_head : Option ℕ) (len : ℕ) : Type 0 where
-  pub writes : Writes places (set places at s) at s
-  pub now : node_at (set places at s) at ≡ None
-  pub fewer : count_by is_some (live_nodes (set places at s)) + 1 ≡ count_by is_some (live_nodes places)
-  pub invariant : (higher left : ℕ) → left + 1 ≡ len → HasNoItemBetween bound higher (set places at s) → ItemsInvariant (set places at s) higher (Some at) left
+pub record Freed (places after : List StoredItem) (bound len at : ℕ) : Type 0 where
+  pub live : WritesIn (live_nodes places) (live_nodes after) at None
+  pub fewer : count_by is_some (live_nodes after) + 1 ≡ count_by is_some (live_nodes places)
+  pub invariant : (higher : ℕ) (head : Option ℕ) → head ≡ Some at → HasNoItemBetween bound higher after → ItemsInvariant after higher head (len - 1)
 
-pub freed : (places : List StoredItem) (at : ℕ) (s : StoredItem) (bound : ℕ) (free_head : Option ℕ) (len : ℕ) → IsSome (node_at places at) → is_free s.header ≡ true → next_in s.header ≡ free_head
-    → ItemsInvariant places bound free_head len → Freed places at s bound free_head len
-freed places at s bound free_head len h free next a =
+freed-set : (places : List StoredItem) (at : ℕ) (s : StoredItem) (bound : ℕ) (free_head : Option ℕ) (len : ℕ) → IsSome (node_at places at) → is_free s.header ≡ true → next_in s.header ≡ free_head
+    → ItemsInvariant places bound free_head len → Freed places (set places at s) bound len at
+freed-set places at s bound free_head len h free next a =
     let l = live-at places at h in
     let w = writes-set places at s l.within in
     let same = length-set places at s in
     let fewer = len-set places at s (Some (stored_node (get_or places at s))) None l.within (l.shows s) (live-none s free) in
+    let left : len - 1 + 1 ≡ len = omega (arith, fewer, a.counted) in
     let now = w.live.changed ∙ live-none s free in
     record {
-      writes = w;
-      now = now;
+      live = record { changed = now; others = w.live.others };
       fewer = omega (arith, fewer);
-      invariant = λ higher left less passed. record {
-        few = omega (arith, a.few, same);
-        below = λ k lower. elim (cases_lt k bound) [
-          | inl under ↦ elim (cases_eq k at) [
-            | inl is ↦ ap (λ j. node_at (set places at s) j) is ∙ now
-            | inr other ↦ w.live.others k other ∙ a.below k under
-          ]
-          | inr above ↦ passed k above lower
-        ];
-        counted = omega (arith, fewer, a.counted, less);
-        free_list = remove-free_list places (set places at s) free_head at len left s a.free_list l.free w free next less same;
-      };
+      invariant = λ higher head is passed.
+          let I : Option ℕ → Type 0 = λ o. ItemsInvariant (set places at s) higher o (len - 1) in
+          subst I (sym is) (record {
+            few = omega (arith, a.few, same);
+            below = λ k lower. elim (cases_lt k bound) [
+              | inl under ↦ elim (cases_eq k at) [
+                | inl here ↦ ap (λ j. node_at (set places at s) j) here ∙ now
+                | inr other ↦ w.live.others k other ∙ a.below k under
+              ]
+              | inr above ↦ passed k above lower
+            ];
+            counted = omega (arith, fewer, a.counted, left);
+            free_list = remove-free_list places (set places at s) free_head at len (len - 1) s a.free_list l.free w free next left same;
+          });
     }
+
+pub freed : (places after : List StoredItem) (at : ℕ) (s : StoredItem) (bound : ℕ) (free_head : Option ℕ) (len room : ℕ) (v : Slab ListNode) → items_view places room ≡ v → IsSome (get v at) → is_free s.header ≡ true → next_in s.header ≡ free_head
+    → after ≡ set places at s → ItemsInvariant places bound free_head len → Freed places after bound len at
+freed places after at s bound free_head len room v seen h free next is a =
+    let P : Slab ListNode → Type 0 = λ z. IsSome (get z at) in
+    let F : List StoredItem → Type 0 = λ zs. Freed places zs bound len at in
+    subst F (sym is) (freed-set places at s bound free_head len (subst P (sym seen) h) free next a)
+
+-- what a contract sees of a write of one place
+pub updates-view : (places after : List StoredItem) (room new_room at : ℕ) (o : Option ListNode) (v : Slab ListNode) → items_view places room ≡ v → WritesIn (live_nodes places) (live_nodes after) at o → Updates v (items_view after new_room) at o
+updates-view places after room new_room at o v seen w = record { changed = w.changed; others = λ j other. w.others j other ∙ ap (λ (z : Slab ListNode). get z j) seen }
 
 -- an item changes, and its place stays
 pub replace-invariant : (places : List StoredItem) (at : ℕ) (s : StoredItem) (bound : ℕ) (free_head : Option ℕ) (len : ℕ) → IsSome (node_at places at) → is_free s.header ≡ false

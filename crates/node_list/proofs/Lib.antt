@@ -12,5 +12,6 @@ pub mod InsertLaws
 pub mod ChainLaws
 pub mod UnlinkLaws
 pub mod ListLaws
+pub mod RemovalLaws
 pub mod CountLaws
 pub mod CallerLaws

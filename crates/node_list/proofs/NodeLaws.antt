@@ -132,10 +132,14 @@ dummy-of ps items at even h =
     (n.0, (n.1, dummy-at ps (at / 2) n.0 (sym (at-even ps items at even) ∙ n.1)))
 
 -- the slab after a removal of an item
-pub removed : (ps : List PackedHeader) (old new : Slab ListNode) (at : ℕ) (o : Option ListNode) → at ≡ 2 * (at / 2) + 1 → Updates old new (at / 2) o → Updates (woven ps old) (woven ps new) at o
-removed ps old new at o odd u =
-    let P : ℕ → Type 0 = λ k. Updates (woven ps old) (woven ps new) k o in
-    subst P (sym odd) (woven-updates ps old new (at / 2) o u)
+pub removed : (ps : List PackedHeader) (old new : Slab ListNode) (at : ℕ) (v : Slab ListNode) → woven ps old ≡ v → at ≡ 2 * (at / 2) + 1 → Updates old new (at / 2) None → Updates v (woven ps new) at None
+removed ps old new at v seen odd u =
+    let P : ℕ → Type 0 = λ k. Updates (woven ps old) (woven ps new) k None in
+    let V : Slab ListNode → Type 0 = λ z. Updates z (woven ps new) at None in
+    subst V seen (subst P (sym odd) (woven-updates ps old new (at / 2) None u))
+
+pub len-removed : (ps : List PackedHeader) (old new v : Slab ListNode) → woven ps old ≡ v → slab_len new + 1 ≡ slab_len old → slab_len (woven ps new) + 1 ≡ slab_len v
+len-removed ps old new v seen fewer = omega (arith, len-woven ps new, len-woven ps old, fewer, ap (λ (z : Slab ListNode). slab_len z) seen)
 
 -- ---- a change of a node
 within-items : (xs : List (Option ListNode)) (k : ℕ) (node : ListNode) → get_or xs k None ≡ Some node → k < length xs

@@ -1,10 +1,11 @@
-use Rattle.std.proofs.Common.{ℕ, ◌+◌, ◌-◌, None, Option, List, set, IsSome, count_by, is_some, sym, ◌∙◌, ap, subst, arith}
-use Rattle.slab.specs.Slab.{Slab, get, slab_len, Updates}
+use Rattle.std.proofs.Common.{None, List, ◌∙◌, ap, subst}
+use Rattle.std.specs.Prelude.{vec_capacity}
+use Rattle.slab.specs.Slab.{Slab, slab_len}
 use Rattle.node_list.specs.declared.node.ListNode.{ListNode}
 use Rattle.node_list.specs.declared.node.StoredItem.{StoredItem}
-use Rattle.node_list.specs.inside.FreeList.{live_nodes, items_view, HasNoItemBetween, ItemsInvariant}
+use Rattle.node_list.specs.inside.FreeList.{HasNoItemBetween}
 use Rattle.node_list.proofs.FreeListLaws.{free_head-fits}
-use Rattle.node_list.proofs.ItemLaws.{Freed, freed}
+use Rattle.node_list.proofs.ItemLaws.{Freed, freed, updates-view}
 use Rattle.node_list.proofs.items.Items.discard.Goals as goal
 use Rattle.node_list.proofs.items.Items.discard.Goals.{After-write_at-header}
 
@@ -12,29 +13,19 @@ pub free-free-requires : goal.free-free-requires
 free-free-requires c = free_head-fits c.self.inside.nodes.items c.self.inside.free_head c.self.inside.len c.self.invariant.free_list c.self.invariant.few
 
 -- the places before and after
-gave : (c : After-write_at-header) → Freed c.self.inside.nodes.items c.args.at c.free-free.result c.self.inside.first_item_bound c.self.inside.free_head c.self.inside.len
+gave : (c : After-write_at-header) → Freed c.self.inside.nodes.items c.write_at-header.new.nodes.items c.self.inside.first_item_bound c.self.inside.len c.args.at
 gave c =
-    let P : Slab ListNode → Type 0 = λ v. IsSome (get v c.args.at) in
-    freed c.self.inside.nodes.items c.args.at c.free-free.result c.self.inside.first_item_bound c.self.inside.free_head c.self.inside.len (subst P (sym c.self.view_is) c.requires) c.free-free.ensures.free c.free-free.ensures.next c.self.invariant
+    let s = c.self.inside in
+    freed s.nodes.items c.write_at-header.new.nodes.items c.args.at c.free-free.result s.first_item_bound s.free_head s.len (vec_capacity s.nodes) c.args.self.now c.self.view_is c.requires c.free-free.ensures.free c.free-free.ensures.next c.write_at-header.ensures.now c.self.invariant
 
 pub invariant_of-self : goal.invariant_of-self
 invariant_of-self c =
-    let g = gave (goal.at.invariant_of-self c).After-write_at-header in
-    let left = c.self.inside.len - 1 in
     let B : List StoredItem → Type 0 = λ zs. HasNoItemBetween c.self.inside.first_item_bound c.bound_after_remove-self-inside.result zs in
-    let I : Option ℕ → Type 0 = λ o. ItemsInvariant (set c.self.inside.nodes.items c.args.at c.free-free.result) c.bound_after_remove-self-inside.result o left in
-    let H : List StoredItem → Type 0 = λ zs. ItemsInvariant zs c.bound_after_remove-self-inside.result c.to-self-inside.result left in
-    let passed = subst B (c.as_slice.ensures.value ∙ c.write_at-header.ensures.now) c.bound_after_remove-self-inside.ensures in
-    subst H (sym c.write_at-header.ensures.now) (subst I (sym c.to-self-inside.ensures) (g.invariant c.bound_after_remove-self-inside.result left (omega (arith, g.fewer, c.self.invariant.counted)) passed))
+    (gave (goal.at.invariant_of-self c).After-write_at-header).invariant c.bound_after_remove-self-inside.result c.to-self-inside.result c.to-self-inside.ensures (subst B c.as_slice.ensures.value c.bound_after_remove-self-inside.ensures)
 
 pub returns-clause-updates : goal.returns-clause-updates
 returns-clause-updates c =
-    let g = gave (goal.at.returns-clause-updates c).After-write_at-header in
-    let N : List StoredItem → Type 0 = λ zs. Updates c.args.self.now (items_view zs 0) c.args.at None in
-    let u = subst N (sym c.write_at-header.ensures.now) (record { changed = g.now; others = λ j other. g.writes.live.others j other ∙ ap (λ (v : Slab ListNode). get v j) c.self.view_is }) in
-    record { changed = u.changed; others = u.others }
+    updates-view c.self.inside.nodes.items c.write_at-header.new.nodes.items (vec_capacity c.self.inside.nodes) (vec_capacity c.write_at-header.new.nodes) c.args.at None c.args.self.now c.self.view_is (gave (goal.at.returns-clause-updates c).After-write_at-header).live
 
 pub returns-clause-len : goal.returns-clause-len
-returns-clause-len c =
-    let g = gave (goal.at.returns-clause-len c).After-write_at-header in
-    ap (λ (zs : List StoredItem). count_by is_some (live_nodes zs) + 1) c.write_at-header.ensures.now ∙ (g.fewer ∙ ap (λ (v : Slab ListNode). slab_len v) c.self.view_is)
+returns-clause-len c = (gave (goal.at.returns-clause-len c).After-write_at-header).fewer ∙ ap (λ (v : Slab ListNode). slab_len v) c.self.view_is

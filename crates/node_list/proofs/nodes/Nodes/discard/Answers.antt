@@ -1,8 +1,7 @@
-use Rattle.std.proofs.Common.{◌≡◌, None, Some, Option, IsSome, refl, sym, ◌∙◌, ap, subst, arith}
-use Rattle.slab.specs.Slab.{Slab, get, slab_len, Updates}
+use Rattle.std.proofs.Common.{◌≡◌, Option, IsSome, Some, refl, sym, ◌∙◌, ap, subst}
+use Rattle.slab.specs.Slab.{Slab, get}
 use Rattle.node_list.specs.declared.node.ListNode.{ListNode}
-use Rattle.node_list.specs.inside.Woven.{woven}
-use Rattle.node_list.proofs.NodeLaws.{ItemAt, item-at, len-woven, removed}
+use Rattle.node_list.proofs.NodeLaws.{ItemAt, item-at, removed, len-removed}
 use Rattle.node_list.proofs.nodes.Nodes.discard.Goals as goal
 use Rattle.node_list.proofs.nodes.Nodes.discard.Goals.{After-self}
 
@@ -16,19 +15,10 @@ discard-requires c =
     subst O (sym (item (goal.at.discard-requires c).After-self).is) refl
 
 pub returns-clause-updates : goal.returns-clause-updates
-returns-clause-updates c =
-    let V : Slab ListNode → Type 0 = λ v. Updates v (woven c.self.inside.dummies.items c.discard.new.self) c.args.at None in
-    subst V c.self.view_is (removed c.self.inside.dummies.items c.self.inside.items c.discard.new.self c.args.at None (item (goal.at.returns-clause-updates c).After-self).odd c.discard.ensures.updates)
+returns-clause-updates c = removed c.self.inside.dummies.items c.self.inside.items c.discard.new.self c.args.at c.args.self.now c.self.view_is (item (goal.at.returns-clause-updates c).After-self).odd c.discard.ensures.updates
 
 pub returns-clause-len : goal.returns-clause-len
-returns-clause-len c =
-    omega (
-      arith,
-      len-woven c.self.inside.dummies.items c.discard.new.self,
-      len-woven c.self.inside.dummies.items c.self.inside.items,
-      c.discard.ensures.len,
-      ap (λ (v : Slab ListNode). slab_len v) c.self.view_is,
-    )
+returns-clause-len c = len-removed c.self.inside.dummies.items c.self.inside.items c.discard.new.self c.args.self.now c.self.view_is c.discard.ensures.len
 
 pub returns-clause-count : goal.returns-clause-count
 returns-clause-count c =
