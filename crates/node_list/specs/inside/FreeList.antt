@@ -36,7 +36,7 @@ free_node s = if is_free s.header then Some (record { split_key = 0; next = next
 abbrev pub free_at : List StoredItem → ℕ → Option ListNode
 free_at places at = slice_index_or (map free_node places) at None
 
--- what a contract sees of the places; their memory has room for so many items
+-- what a contract sees of the places, whose memory has space for `room` items
 abbrev pub items_view : List StoredItem → ℕ → Slab ListNode
 items_view places room = record { slots = live_nodes places; vacant_key = 0; capacity = min room (2 ^ 30 - 1) }
 
