@@ -175,7 +175,7 @@ mod tests {
 
     /// Files of the repository that have the texts of reasons.
     const SOURCES: [&str; 3] =
-        ["node_reasons/src/words.rt", "script_reasons/src/words.rt", "node_external/src/call_problem.rt"];
+        ["node_reasons/src/words.rt", "node_reasons/src/syntax_words.rt", "node_text/src/call_problem.rt"];
 
     /// Returns the texts in quotes after `Rule::Name =>` or `Problem::Name =>`, as the library prints them.
     fn texts_of(source: &str) -> Vec<String> {

@@ -6,7 +6,7 @@ pub mod Insert
 pub mod Remove
 pub mod Refresh
 pub mod Rehash
-pub mod Rebuild
+pub mod Parts
 pub mod Start
 pub mod Replace
 pub mod Invariant

@@ -5,7 +5,6 @@ pub mod SplitIndex
 pub mod Search
 pub mod HintWord
 pub mod Intervals
-pub mod Rebuild
 pub mod Sweeps
 pub mod TombstoneLog
 pub mod Order

@@ -20,7 +20,7 @@ pub struct RequestPtr {
 }
 
 impl Model for RequestPtr {
-    ghost use Rattle.ets_c.specs.Holds.{holds};
+    ghost use Rattle.ets_c.specs.inside.Holds.{holds};
     ghost use Rattle.node_text.specs.contracts.store.request.Request.{the_row};
 
     ghost also_owns = { λ h. holds the_row h.alloc h.at h.request };

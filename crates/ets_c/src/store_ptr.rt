@@ -50,7 +50,7 @@ pub struct StorePtr {
 }
 
 impl Model for StorePtr {
-    ghost use Rattle.ets_c.specs.Holds.{holds};
+    ghost use Rattle.ets_c.specs.inside.Holds.{holds};
     ghost use Rattle.node_text.specs.contracts.store.Store.{the_row};
 
     ghost also_owns = { λ h. holds the_row h.alloc h.at h.store };

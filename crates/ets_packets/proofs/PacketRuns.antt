@@ -6,9 +6,9 @@ use Rattle.node_core.specs.declared.step.Step.TheVariants.{Enrol, End, Ask}
 use Rattle.node_core.specs.declared.step.Reply.{Reply}
 use Rattle.node_core.specs.State.{State}
 use Rattle.node_core.specs.Machine.{step, run}
-use Rattle.node_external.specs.Calls.{parse_call}
-use Rattle.node_external.specs.declared.parsed_call.ParsedCall.{ParsedCall}
-use Rattle.node_external.specs.declared.parsed_call.ParsedCall.TheVariants as parsed
+use Rattle.node_text.specs.ExternalCalls.{parse_call}
+use Rattle.node_text.specs.declared.external_call.ExternalCall.{ExternalCall}
+use Rattle.node_text.specs.declared.external_call.ExternalCall.TheVariants as parsed
 use Rattle.node_text.specs.StoreState.{StoreState}
 use Rattle.ets_packets.specs.Requests.{parse_request, call_bytes}
 use Rattle.ets_packets.specs.Replies.{RunsOut, Steps, Calls, AnswersRequest, AnswersBody}
@@ -40,7 +40,7 @@ module _ (most : ℕ) (old : StoreState) (e : Exchange) (new : StoreState) (answ
   stepped event asks (inl (ran, is)) = record { made = Some (event, new.reply); makes = (new.refusal, asks, is); runs = ran.0 }
   stepped event asks (inr out) = ran-out out
 
-  called : (call : ParsedCall) (p : ℕ) → parse_request e.body ≡ request.Call p → parse_call (call_bytes e.body) ≡ call → Calls call p old e.reply new → Did most old e new
+  called : (call : ExternalCall) (p : ℕ) → parse_request e.body ≡ request.Call p → parse_call (call_bytes e.body) ≡ call → Calls call p old e.reply new → Did most old e new
   called (parsed.Call name args) p asked is h = stepped (Ask p (record { name = name; args = args })) (asked, is) h
   called (parsed.Faulty problem at) p asked is (inl (same, replied)) = kept (ap (λ (s : StoreState). s.node) same) (inr replied.0)
   called (parsed.Faulty problem at) p asked is (inr out) = ran-out out

@@ -5,9 +5,9 @@ use Rattle.node_core.specs.declared.step.Reply.{Reply}
 use Rattle.node_core.specs.declared.step.Reply.TheVariants.{Value, Badarg, SystemLimit, NoProcess}
 use Rattle.node_core.specs.declared.step.Step.{Step}
 use Rattle.node_core.specs.declared.step.Step.TheVariants.{Enrol, End, Ask}
-use Rattle.node_external.specs.Calls.{parse_call}
-use Rattle.node_external.specs.declared.parsed_call.ParsedCall.{ParsedCall}
-use Rattle.node_external.specs.declared.parsed_call.ParsedCall.TheVariants as parsed
+use Rattle.node_text.specs.ExternalCalls.{parse_call}
+use Rattle.node_text.specs.declared.external_call.ExternalCall.{ExternalCall}
+use Rattle.node_text.specs.declared.external_call.ExternalCall.TheVariants as parsed
 use Rattle.node_text.specs.Answers.{refusal_text}
 use Rattle.node_text.specs.Calls.{RunsStep}
 use Rattle.node_text.specs.StoreState.{StoreState, with_refusal}
@@ -57,7 +57,7 @@ abbrev pub RefusesCall : LastRefusal → StoreState → PacketReply → StoreSta
 RefusesCall why old r new = ((new ≡ with_refusal why old) × IsTextReply 5 (refusal_text why) r) ⊎ RunsOut old r new
 
 -- a call is made; or bytes that are not a call are refused
-abbrev pub Calls : ParsedCall → ℕ → StoreState → PacketReply → StoreState → Type 0
+abbrev pub Calls : ExternalCall → ℕ → StoreState → PacketReply → StoreState → Type 0
 Calls (parsed.Call name args) pid = Steps (Ask pid (record { name = name; args = args }))
 Calls (parsed.Faulty problem at) pid = RefusesCall (External problem)
 

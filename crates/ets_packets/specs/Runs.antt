@@ -5,8 +5,8 @@ use Rattle.node_core.specs.declared.step.Step.{Step}
 use Rattle.node_core.specs.declared.step.Step.TheVariants.{Enrol, End, Ask}
 use Rattle.node_core.specs.declared.step.Reply.{Reply}
 use Rattle.node_core.specs.Machine.{run}
-use Rattle.node_external.specs.Calls.{parse_call}
-use Rattle.node_external.specs.declared.parsed_call.ParsedCall.TheVariants as parsed
+use Rattle.node_text.specs.ExternalCalls.{parse_call}
+use Rattle.node_text.specs.declared.external_call.ExternalCall.TheVariants as parsed
 use Rattle.node_text.specs.StoreState.{StoreState}
 use Rattle.node_text.specs.declared.last_refusal.LastRefusal.{LastRefusal}
 use Rattle.ets_packets.specs.Requests.{parse_request, call_bytes}

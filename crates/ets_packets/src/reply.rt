@@ -2,7 +2,7 @@
 ghost use Rattle.std.specs.Prelude.{◌≡◌, ◌⊎◌, [], ◌<◌, ◌-◌, ◌^◌, length, codes};
 ghost use Rattle.external_term.specs.Encoding.{encode_with_version};
 ghost use Rattle.ets_packets.specs.Replies.{Answers, Calls, Steps, IsTextReply, IsReplyOf, packet_reply, reason_text};
-ghost use Rattle.node_external.specs.Calls.{parse_call};
+ghost use Rattle.node_text.specs.ExternalCalls.{parse_call};
 
 use crate::request::{CALL_START, Request, parse_request};
 use ets_term::Term;

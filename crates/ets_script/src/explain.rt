@@ -7,8 +7,7 @@ use crate::command::{Command, read_command};
 use crate::script::Script;
 use ets_term::KeyHash;
 use node_core::{Call, Reply, Step};
-use node_reasons::why;
-use script_reasons::{Diagnostic, diagnose_at};
+use node_reasons::{Diagnostic, diagnose_at, why};
 use std::alloc::AllocError;
 
 /// Explains why a line was refused, or returns `None` if it was not. The script must not have changed since it answered

@@ -1,6 +1,6 @@
 //! Writes the reasons of refused lines to a second writer.
 ghost use Rattle.std.specs.Prelude.{◌≡◌, ◌+◌, ◌-◌, ◌<◌, ◌^◌, ◌⊎◌, false, OnOk, OnErr};
-ghost use Rattle.script_reasons.specs.Diagnostics.{diagnostic_text};
+ghost use Rattle.node_reasons.specs.Diagnostics.{diagnostic_text};
 ghost use Rattle.ets_packets.specs.Output.{HasWriterOf};
 ghost use Rattle.ets_script.specs.inside.Explanations.{Explains};
 ghost use Rattle.ets_script.specs.inside.Reasons.{KeepsOutput, WritesAll, WritesText, WritesWhy, reason_line};
@@ -11,7 +11,7 @@ use crate::observer::Observer;
 use crate::script::Script;
 use ets_packets::Output;
 use ets_term::KeyHash;
-use script_reasons::Diagnostic;
+use node_reasons::Diagnostic;
 use std::alloc::{AllocError, Global};
 use std::io::Write;
 

@@ -3,10 +3,14 @@ use Rattle.std.proofs.Common.{◌≡◌, ◌≢◌, ℕ, zero, suc, ℤ, ◌<◌
 use Rattle.std.proofs.lemmas.Bool.Decides.{nat_tests}
 use Rattle.std.proofs.lemmas.List.{length-map}
 use Rattle.std.specs.Option.{option_map_or}
-use Rattle.std.specs.Prelude.{IfSome}
-use Rattle.ets_term.specs.declared.term.Term.{Term}
+use Rattle.std.specs.Prelude.{IfSome, unwrap_or}
+use Rattle.ets_term.specs.declared.term.Term.{Term, out-Term, fold_out-Term}
+use Rattle.ets_term.specs.declared.term.Term.TheFolds.{map-Term}
+use Rattle.ets_term.specs.declared.term.Term.TheOpen.{Term-F}
 use Rattle.ets_term.specs.declared.term.Term.TheVariants.{Int}
-use Rattle.ets_term.specs.Data.{Data, int, atom, pid, tid, tuple, list, binary, DataList, no_terms, term, data_list, data_of}
+use Rattle.ets_term.specs.Data.{Data, int, atom, pid, tid, tuple, list, binary, DataList, no_terms, term, data_list, data_form, data_of}
+use Rattle.ets_term.specs.Depth.{elements}
+use Rattle.ets_term.specs.Views.{as_int, int_form, tuple_form}
 use Rattle.ets_term.specs.Order.{data_order, data_list_len}
 use Rattle.match_spec.specs.declared.expression.Expression.{Expression}
 use Rattle.match_spec.specs.declared.expression.Expression.TheVariants.{Constant, Variable, Apply}
@@ -68,6 +72,38 @@ module _ (q : QuickTest) (ts : List Term) where
 
   pub rejects_nothing : length ts ≡ q.len → length ts ≤ q.index → false ≡ of_items
   rejects_nothing n i = rw (data_list_len_of ts, same_length n, data_list_element-past ts q.index i) refl
+
+-- the test of a stored object, from its elements and their values as integers
+module _ (q : QuickTest) where
+  of_integer : (y : Term-F Term) → option_map_or (λ n. rejects_element q (int n)) (int_form y) false ≡ rejects_element q (data_form (map-Term Term Data data_of y))
+  of_integer (Term-F.Int n) = refl
+  of_integer (Term-F.Atom s) = refl
+  of_integer (Term-F.Pid n) = refl
+  of_integer (Term-F.Tid n) = refl
+  of_integer (Term-F.Tuple ts) = refl
+  of_integer (Term-F.List ts) = refl
+  of_integer (Term-F.Binary s) = refl
+
+  by_value : (t : Term) (o : Option ℤ) → o ≡ as_int t → option_map_or (λ n. rejects_element q (int n)) o false ≡ rejects_element q (data_of t)
+  by_value t o e = ap (λ (w : Option ℤ). option_map_or (λ n. rejects_element q (int n)) w false) e ∙ of_integer (out-Term t) ∙ ap (rejects_element q) (sym (fold_out-Term Data data_form t))
+
+  pub rejects_integer : (t : Term) (o : Option ℤ) (n : ℤ) → o ≡ as_int t → o ≡ Some n → rejects_element q (int n) ≡ rejects_element q (data_of t)
+  rejects_integer t o n e is = rw is at (by_value t o e)
+
+  pub rejects_no_other : (t : Term) (o : Option ℤ) → o ≡ as_int t → o ≡ None → false ≡ rejects_element q (data_of t)
+  rejects_no_other t o e is = rw is at (by_value t o e)
+
+  of_tuple : (y : Term-F Term) → rejects q (tuple (data_list (map data_of (unwrap_or (tuple_form y) [])))) ≡ true → rejects q (data_form (map-Term Term Data data_of y)) ≡ true
+  of_tuple (Term-F.Int n) h = refl
+  of_tuple (Term-F.Atom s) h = refl
+  of_tuple (Term-F.Pid n) h = refl
+  of_tuple (Term-F.Tid n) h = refl
+  of_tuple (Term-F.Tuple ts) h = h
+  of_tuple (Term-F.List ts) h = refl
+  of_tuple (Term-F.Binary s) h = refl
+
+  pub rejects_elements : (t : Term) → rejects q (tuple (data_list (map data_of (elements t)))) ≡ true → rejects q (data_of t) ≡ true
+  rejects_elements t h = ap (rejects q) (fold_out-Term Data data_form t) ∙ of_tuple (out-Term t) h
 
 -- the value of a comparison of an element with an integer
 module _ (paths : List Path) (object : Data) where

@@ -23,6 +23,7 @@ use crate::spec::check::{ClauseParts, clause_parts, is_good};
 use crate::spec::clause::{Clause, first_result_is_true, result_of_first};
 use crate::spec::quick::{QuickTest, quick_test};
 use ets_term::{Items, Position, Term};
+use packed_term::Object;
 use std::alloc::{AllocError, Global};
 use std::marker::Model;
 
@@ -79,9 +80,6 @@ impl Spec {
     pub fn result(&self, alloc: Global, object: &Term) -> Result<Option<Term>, AllocError>
         ensures { IfOk result (λ value. option_map data_of value ≡ result_of (data_of self.now) (data_of object.now)) }
     {
-        if self.rejects(object) {
-            return Ok(None);
-        }
         result_of_first(alloc, self.clauses.as_slice(), object)
     }
 
@@ -90,20 +88,17 @@ impl Spec {
         ensures { IfOk result (λ b. b
             ≡ option_map_or is_true (result_of (data_of self.now) (data_of object.now)) false) }
     {
-        if self.rejects(object) {
-            return Ok(false);
-        }
         first_result_is_true(alloc, self.clauses.as_slice(), object)
     }
 
-    /// Checks whether the quick test shows that no clause applies to the object. If the result is `false`, the clauses
-    /// must be tried.
+    /// Checks whether the quick test shows that no clause applies to a packed object, without unpacking it. If the
+    /// result is `false`, the object may still have no result.
     #[inline(always)]
-    fn rejects(&self, object: &Term) -> bool
+    pub fn rejects_packed(&self, object: &Object) -> bool
         ensures { result ≡ true → result_of (data_of self.now) (data_of object.now) ≡ None }
     {
         match &self.quick {
-            Some(quick) => quick.rejects(object),
+            Some(quick) => quick.rejects_packed(object),
             None => false,
         }
     }

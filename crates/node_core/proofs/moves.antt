@@ -4,3 +4,4 @@ pub mod WorldLaws
 pub mod Preserves
 pub mod EndKeys
 pub mod Reached
+pub mod Revealed

@@ -5,3 +5,6 @@ pub mod Keeping
 pub mod Tending
 pub mod Running
 pub mod Sufficing
+pub mod Unready
+pub mod Lagging
+pub mod Searches

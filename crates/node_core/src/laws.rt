@@ -2,7 +2,7 @@
 
 ghost use Rattle.node_core.specs.laws.Agreement.{NodesAgree, RunsAgree, StepsAreUnique};
 ghost use Rattle.node_core.specs.laws.Erasing.{GrowthErases, RunsCut};
-ghost use Rattle.node_core.specs.laws.Growth.{GrowthSuffices};
+ghost use Rattle.node_core.specs.laws.Growth.{GrowthSuffices, PendingStepsLowerLag, SearchesAreShort, StepsAddLag};
 ghost use Rattle.node_core.specs.laws.Kept.{StepsKeepKeys};
 ghost use Rattle.node_core.specs.laws.Outcomes.{RefusalsChangeNothing, RefusalsKeepBuckets, StepsHaveOutcomes};
 ghost use Rattle.node_core.specs.laws.Reached.{RunsStaySound, ReachedAreSound};
@@ -49,6 +49,22 @@ pub fn growth_suffices()
     ensures { GrowthSuffices }
 {}
 
+/// Growth keeps up with insertions. A step that adds at most `m` slots to a table adds at most `m` to the lag of its
+/// growth, and each pending step of the table lowers it by one. So let one pending step of its table follow each call
+/// that adds at most one slot. Then the lag is 0 after that step: the table has at most four slots a bucket, or the
+/// greatest number of buckets. In a node without tables nothing lags.
+pub fn growth_keeps_up()
+    ensures steps { StepsAddLag }
+    ensures pending { PendingStepsLowerLag }
+{}
+
+/// Searches are short: once no step of growth is pending, searches of a table, one in each bucket, visit at most six nodes
+/// a bucket in the mean, unless the table has the greatest number of buckets. More exactly, they visit in total at most
+/// as many nodes as the table has slots, and two a bucket.
+pub fn searches_are_short()
+    ensures { SearchesAreShort }
+{}
+
 /// A run can be cut at any point: its first steps are a run, and so are the others, from the state between. So each law
 /// of runs holds of each stretch of a run.
 pub fn runs_cut()
@@ -76,8 +92,9 @@ pub fn replies_are_unique()
 
 /// Two runs with the same steps but for growth, from one sound state, have replies that agree up to the order of keys.
 /// They end in states that differ in the order of slots alone. A reply differs at most if it lists all objects or
-/// results, or is the key of a traversal. So two new nodes give the same replies to the same calls up to that order,
-/// whatever their hash functions are, and however their tables grow.
+/// results, or is the key of a traversal. `first` gives the end of a table in both runs or in neither. So two new nodes
+/// give the same replies to the same calls up to that order, whatever their hash functions are, and however their tables
+/// grow.
 pub fn runs_agree()
     ensures runs { RunsAgree }
     ensures nodes { NodesAgree }

@@ -17,18 +17,15 @@ pub record First (s : Slab StoredItem) (free_head : Option ℕ) (at : ℕ) : Typ
   pub is : get s at ≡ Some stored
   pub free : is_free stored.header ≡ true
 
-first-of : (s : Slab StoredItem) (free_head : Option ℕ) (cells : List Cell) → Links (λ k. free_in (get s k)) free_head cells → (at : ℕ) → free_head ≡ Some at → First s free_head at × (0 < length cells)
+first-of : (s : Slab StoredItem) (free_head : Option ℕ) (cells : List Cell) → Links (λ k. free_in (get s k)) free_head cells → (at : ℕ) → free_head ≡ Some at → First s free_head at
 first-of s free_head [] l at e = absurd (cc (l, e))
 first-of s free_head (c ∷ cs) l at e =
     let same : c.at ≡ at = cc (l.0, e) in
     let f = free-by (get s at) (node_of c l.1.0) (ap (λ k. free_in (get s k)) (sym same) ∙ l.1.1) in
-    (record { stored = f.0; is = f.1.0; free = f.1.1.0 }, omega arith)
+    record { stored = f.0; is = f.1.0; free = f.1.1.0 }
 
 pub first-free : (s : Slab StoredItem) (free_head : Option ℕ) (len at : ℕ) → IsFreeList s free_head len → free_head ≡ Some at → First s free_head at
-first-free s free_head len at a e = (first-of s free_head a.cells a.links at e).0
-
-pub some-free : (s : Slab StoredItem) (free_head : Option ℕ) (len at : ℕ) → IsFreeList s free_head len → free_head ≡ Some at → len < slab_len s
-some-free s free_head len at a e = omega (arith, a.count, (first-of s free_head a.cells a.links at e).1)
+first-free s free_head len at a e = first-of s free_head a.cells a.links at e
 
 none-left : (g : ℕ → Option ListNode) (cells : List Cell) → Links g None cells → length cells ≡ 0
 none-left g [] l = refl
@@ -99,14 +96,14 @@ remove-free_list s t free_head at len left q a none u free next n =
       count = omega (arith, a.count, n);
     }
 
--- a change of a node keeps the free list
-pub set_next-free_list : (s t : Slab StoredItem) (free_head : Option ℕ) (at len : ℕ) (q : StoredItem) → IsFreeList s free_head len → free_in (get s at) ≡ None → Updates s t at (Some q) → slab_len t ≡ slab_len s → IsFreeList t free_head len
-set_next-free_list s t free_head at len q a none u same =
+-- a change of a node, and a new place with a node, keep the free list
+pub keep-free_list : (s t : Slab StoredItem) (free_head : Option ℕ) (at len more : ℕ) (q : StoredItem) → IsFreeList s free_head len → free_in (get s at) ≡ None → Updates s t at (Some q) → slab_len s + more ≡ len + slab_len t → IsFreeList t free_head more
+keep-free_list s t free_head at len more q a none u n =
     let g : ℕ → Option ListNode = λ k. free_in (get s k) in
     let h : ℕ → Option ListNode = λ k. free_in (get t k) in
     let fresh : IsFresh at a.cells = links-fresh g at none free_head a.cells a.links in
     record {
       cells = a.cells;
       links = links-frame g h at at (λ k x y. ap free_in (u.others k x)) free_head a.cells a.links fresh fresh;
-      count = omega (arith, a.count, same);
+      count = omega (arith, a.count, n);
     }

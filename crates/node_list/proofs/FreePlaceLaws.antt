@@ -1,5 +1,5 @@
 -- Laws of the places of the slab of items: which have an item, and how many do.
-use Rattle.std.proofs.Common.{◌≡◌, inl, inr, ℕ, zero, suc, ◌+◌, ◌<◌, ◌≤◌, List, [], ◌∷◌, length, map, get_or, set, Option, Some, None, IsSome, is_some, count_by, Bool, true, false, cond, refl, sym, ◌∙◌, ap, subst, arith}
+use Rattle.std.proofs.Common.{◌≡◌, inl, inr, ℕ, zero, suc, ◌+◌, ◌<◌, ◌≤◌, List, [], ◌∷◌, length, get_or, set, Option, Some, None, IsSome, is_some, count_by, Bool, true, false, cond, refl, sym, ◌∙◌, ap, subst, arith}
 use Rattle.std.proofs.lemmas.Bool.{cases_eq}
 use Rattle.std.proofs.lemmas.List.{get_or_past}
 use Rattle.std.proofs.lemmas.List.Sums.{sum_by-set, sum_by-cons}
@@ -127,9 +127,28 @@ same-count (x ∷ xs) (y ∷ ys) h =
     let two : Option ListNode → ℕ = λ z. cond (is_some z) 1 0 in
     omega (arith, same-count xs ys (λ k. h (suc k)), sum_by-cons two x xs, sum_by-cons two y ys, ap two (h zero))
 
+-- slots that differ in one have one node more, if it was empty
+one-one : (o : Option ListNode) (m : ListNode) → o ≡ Some m → ◌≡◌ {A = ℕ} (cond (is_some o) 1 0) 1
+one-one o m e = ap {B = ℕ} (λ (z : Option ListNode). cond (is_some z) 1 0) e
+
+pub one-more : (xs ys : List (Option ListNode)) (k : ℕ) (m : ListNode) → get_or xs k None ≡ None → get_or ys k None ≡ Some m → ((j : ℕ) → (j ≡ k → ⊥) → get_or ys j None ≡ get_or xs j None) → count_by is_some ys ≡ count_by is_some xs + 1
+one-more xs [] k m was is h = absurd (cc)
+one-more [] (y ∷ ys) zero m was is h =
+    let counts : Option ListNode → ℕ = λ z. cond (is_some z) 1 0 in
+    omega (arith, same-count ys [] (λ j. h (suc j) (λ e. absurd (omega (arith, e)))), sum_by-cons counts y ys, one-one y m is)
+one-more (x ∷ xs) (y ∷ ys) zero m was is h =
+    let counts : Option ListNode → ℕ = λ z. cond (is_some z) 1 0 in
+    omega (arith, same-count ys xs (λ j. h (suc j) (λ e. absurd (omega (arith, e)))), sum_by-cons counts y ys, sum_by-cons counts x xs, one-one y m is, none-one x was)
+one-more [] (y ∷ ys) (suc k) m was is h =
+    let counts : Option ListNode → ℕ = λ z. cond (is_some z) 1 0 in
+    omega (arith, one-more [] ys k m refl is (λ j other. h (suc j) (λ e. other (omega (arith, e)))), sum_by-cons counts y ys, none-one y (h zero (λ e. absurd (omega (arith, e)))))
+one-more (x ∷ xs) (y ∷ ys) (suc k) m was is h =
+    let counts : Option ListNode → ℕ = λ z. cond (is_some z) 1 0 in
+    omega (arith, one-more xs ys k m was is (λ j other. h (suc j) (λ e. other (omega (arith, e)))), sum_by-cons counts y ys, sum_by-cons counts x xs, ap counts (h zero (λ e. absurd (omega (arith, e)))))
+
 -- a new place changes no item
-pub add_free_place-same : (n m : Slab StoredItem) (k : ℕ) (q : StoredItem) → get n k ≡ None → Updates n m k (Some q) → is_free q.header ≡ true → (j : ℕ) → get_or (live_nodes m.slots) j None ≡ get_or (live_nodes n.slots) j None
-add_free_place-same n m k q none u free j =
+pub add_place-same : (n m : Slab StoredItem) (k : ℕ) (q : StoredItem) → get n k ≡ None → Updates n m k (Some q) → is_free q.header ≡ true → (j : ℕ) → get_or (live_nodes m.slots) j None ≡ get_or (live_nodes n.slots) j None
+add_place-same n m k q none u free j =
     elim (cases_eq j k) [
       | inl same ↦ ap (λ i. get_or (live_nodes m.slots) i None) same ∙ (get-live m.slots k ∙ (ap live_node u.changed ∙ (live-none q free ∙ (sym (get-live n.slots k ∙ ap live_node none) ∙ ap (λ i. get_or (live_nodes n.slots) i None) (sym same)))))
       | inr other ↦ get-live m.slots j ∙ (ap live_node (u.others j other) ∙ sym (get-live n.slots j))
@@ -166,3 +185,9 @@ write-keeps_bound s t at room o u here h k some =
 pub updates-live : (n m : Slab StoredItem) (k : ℕ) (o : Option StoredItem) → Updates n m k o → (get_or (live_nodes m.slots) k None ≡ live_node o) × ((j : ℕ) → (j ≡ k → ⊥) → get_or (live_nodes m.slots) j None ≡ get_or (live_nodes n.slots) j None)
 updates-live n m k o u =
     (get-live m.slots k ∙ ap live_node u.changed, λ j other. get-live m.slots j ∙ (ap live_node (u.others j other) ∙ sym (get-live n.slots j)))
+
+-- a new place has one item more
+pub len-new : (n m : Slab StoredItem) (k : ℕ) (q : StoredItem) → get n k ≡ None → Updates n m k (Some q) → is_free q.header ≡ false → count_by is_some (live_nodes m.slots) ≡ count_by is_some (live_nodes n.slots) + 1
+len-new n m k q none u live =
+    let l = updates-live n m k (Some q) u in
+    one-more (live_nodes n.slots) (live_nodes m.slots) k (stored_node q) (get-live n.slots k ∙ ap live_node none) (l.0 ∙ live-is q live) l.1

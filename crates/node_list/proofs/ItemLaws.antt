@@ -1,24 +1,44 @@
 -- What preserves the invariant of the items, and the first item from a place on.
-use Rattle.std.proofs.Common.{◌≡◌, ◌≢◌, ℕ, ◌+◌, ◌<◌, ◌≤◌, ◌^◌, inl, inr, List, length, get_or, set, count_by, is_some, Option, Some, None, IsSome, option_map, Bool, true, false, if◌then◌else◌, refl, sym, ◌∙◌, ap, subst, arith}
+use Rattle.std.proofs.Common.{◌≡◌, ℕ, ◌+◌, ◌<◌, ◌≤◌, ◌-◌, ◌^◌, inl, inr, List, get_or, set, count_by, is_some, Option, Some, None, IsSome, Bool, true, false, if◌then◌else◌, refl, sym, ◌∙◌, ap, subst, arith}
 use Rattle.std.proofs.lemmas.Bool.{cases_eq, cases_lt}
-use Rattle.slab.specs.Slab.{Slab, get, slab_len, with_value, Updates}
+use Rattle.slab.specs.Slab.{Slab, get, slab_len, with_value, HasRoomFor, Updates}
 use Rattle.slab.proofs.SlabLemmas.{Updates-with_value}
-use Rattle.ets_term.specs.declared.term.Term.{Term}
-use Rattle.node_list.specs.declared.node.Item.{Item}
 use Rattle.node_list.specs.declared.node.ListNode.{ListNode}
 use Rattle.node_list.specs.declared.node.StoredItem.{StoredItem}
 use Rattle.node_list.specs.inside.PackedHeader.{is_free, next_in}
-use Rattle.node_list.specs.inside.FreeList.{live_node, live_nodes, stored_node, item_node, free_in, HasNoItemBetween, IsFreeList, ItemsInvariant}
-use Rattle.node_list.specs.inside.Lent.{node_with, nodes_with}
+use Rattle.node_list.specs.inside.FreeList.{live_node, live_nodes, stored_node, free_in, HasNoItemBetween, items_view, HasSparePlace, ItemsInvariant}
 use Rattle.node_list.specs.inside.Slots.{HasItemIn, IsLeastItemIn}
 use Rattle.node_list.specs.inside.Walks.{Links}
-use Rattle.node_list.proofs.FreePlaceLaws.{live-none, get-live, live-at, has-place, not-free_at, live-node, map-set, len-written, len-insert, len-remove, len-replace, same-count, add_free_place-same, write-keeps_bound, updates-live}
-use Rattle.node_list.proofs.FreeListLaws.{First, insert-free_list, remove-free_list, set_next-free_list}
+use Rattle.node_list.proofs.FreePlaceLaws.{live-none, get-live, live-at, has-place, not-free_at, map-set, len-written, len-insert, len-remove, len-replace, same-count, len-new, add_place-same, write-keeps_bound, updates-live}
+use Rattle.node_list.proofs.FreeListLaws.{First, no-free, insert-free_list, remove-free_list, keep-free_list}
 
+-- ---- the spare place
+-- a place is spare, and the slab can take it
+pub record Spare (n : Slab StoredItem) (spare : Bool) : Type 0 where
+  pub is : spare ≡ true
+  pub place : HasSparePlace n
+
+is-spare : (spare : Bool) → 0 < (if spare then 1 else 0) → spare ≡ true
+is-spare true h = refl
+is-spare false h = absurd (omega (arith, h))
+
+-- with room for an item and no free place, a place is spare
+pub spare-place : (n : Slab StoredItem) (spare : Bool) (first_item_bound end : ℕ) (free_head : Option ℕ) (len : ℕ) → ItemsInvariant n spare first_item_bound end free_head len → free_head ≡ None → HasRoomFor (items_view n spare) 1 → Spare n spare
+spare-place n spare first_item_bound end free_head len a none room =
+    let is = is-spare spare (omega (arith, room, a.counted, no-free n free_head len a.free_list none)) in
+    record { is = is; place = a.ready is }
+
+-- a write to a place of the slab keeps the spare place
+still-ready : (n : Slab StoredItem) (at : ℕ) (q : StoredItem) (spare : Bool) → IsSome (get n at) → (spare ≡ true → HasSparePlace n) → spare ≡ true → HasSparePlace (with_value n at q)
+still-ready n at q spare some ready is =
+    let r = ready is in
+    record { room = omega (arith, r.room, len-written n at q some); fits = r.fits }
+
+-- ---- the invariant
 -- more capacity changes no item
-pub reserve-invariant : (n m : Slab StoredItem) (first_item_bound end : ℕ) (free_head : Option ℕ) (len : ℕ) → m.slots ≡ n.slots
-    → ItemsInvariant n first_item_bound end free_head len → ItemsInvariant m first_item_bound end free_head len
-reserve-invariant n m first_item_bound end free_head len slots a =
+pub reserve-invariant : (n m : Slab StoredItem) (spare after : Bool) (first_item_bound end : ℕ) (free_head : Option ℕ) (len : ℕ) → m.slots ≡ n.slots → (after ≡ true → HasSparePlace m)
+    → ItemsInvariant n spare first_item_bound end free_head len → ItemsInvariant m after first_item_bound end free_head len
+reserve-invariant n m spare after first_item_bound end free_head len slots ready a =
     let P : List (Option StoredItem) → Type 0 = λ zs. (k : ℕ) → IsSome (get_or zs k None) → k < end in
     let B : List (Option StoredItem) → Type 0 = λ zs. (k : ℕ) → k < first_item_bound → live_node (get_or zs k None) ≡ None in
     let C : List (Option StoredItem) → Type 0 = λ zs. Links (λ k. free_in (get_or zs k None)) free_head a.free_list.cells in
@@ -32,12 +52,13 @@ reserve-invariant n m first_item_bound end free_head len slots a =
         links = subst C (sym slots) a.free_list.links;
         count = a.free_list.count ∙ ap (λ (zs : List (Option StoredItem)). count_by is_some zs) (sym slots);
       };
+      ready = ready;
     }
 
--- one more place, which is free
-pub add_free_place-invariant : (n m : Slab StoredItem) (at : ℕ) (q : StoredItem) (first_item_bound end wider : ℕ) (free_head : Option ℕ) (len : ℕ) → get n at ≡ None → at < wider → end ≤ wider → wider < 2 ^ 30 → Updates n m at (Some q)
-    → slab_len m ≡ slab_len n + 1 → is_free q.header ≡ true → next_in q.header ≡ free_head → ItemsInvariant n first_item_bound end free_head len → ItemsInvariant m first_item_bound wider (Some at) len
-add_free_place-invariant n m at q first_item_bound end wider free_head len none here more fits u longer free next a =
+-- the spare place becomes free
+pub add_place-invariant : (n m : Slab StoredItem) (at : ℕ) (q : StoredItem) (spare : Bool) (first_item_bound end wider : ℕ) (free_head : Option ℕ) (len : ℕ) → get n at ≡ None → at < wider → end ≤ wider → wider < 2 ^ 30 → Updates n m at (Some q)
+    → slab_len m ≡ slab_len n + 1 → is_free q.header ≡ true → next_in q.header ≡ free_head → ItemsInvariant n spare first_item_bound end free_head len → ItemsInvariant m false first_item_bound wider (Some at) len
+add_place-invariant n m at q spare first_item_bound end wider free_head len none here more fits u longer free next a =
     record {
       within = write-keeps_bound n m at wider (Some q) u here (λ k some. omega (arith, a.within k some, more));
       few = fits;
@@ -45,8 +66,9 @@ add_free_place-invariant n m at q first_item_bound end wider free_head len none 
         | inl same ↦ ap (λ j. live_node (get m j)) same ∙ (ap live_node u.changed ∙ live-none q free)
         | inr other ↦ ap live_node (u.others k other) ∙ a.below k h
       ];
-      counted = same-count (live_nodes m.slots) (live_nodes n.slots) (add_free_place-same n m at q none u free) ∙ a.counted;
+      counted = same-count (live_nodes m.slots) (live_nodes n.slots) (add_place-same n m at q none u free) ∙ a.counted;
       free_list = remove-free_list n m free_head at len len q a.free_list (ap free_in none) u free next (omega (arith, longer));
+      ready = λ e. absurd (cc (e));
     }
 
 -- the slab after an item is written at the first free place
@@ -69,19 +91,64 @@ taken n free_head at q f live =
       len = len-insert n at f.stored q f.is f.free live;
     }
 
-pub insert-invariant : (n : Slab StoredItem) (at : ℕ) (q : StoredItem) (first_item_bound lower end : ℕ) (free_head : Option ℕ) (len : ℕ) (f : First n free_head at) → free_head ≡ Some at → is_free q.header ≡ false → lower ≤ first_item_bound → lower ≤ at
-    → ItemsInvariant n first_item_bound end free_head len → ItemsInvariant (with_value n at q) lower end (next_in f.stored.header) (len + 1)
-insert-invariant n at q first_item_bound lower end free_head len f head live less most a =
+-- what an insertion shows
+pub record Inserted (n m : Slab StoredItem) (spare after : Bool) (first_item_bound end : ℕ) (free_head : Option ℕ) (len at : ℕ) (q : StoredItem) : Type 0 where
+  pub was : get_or (live_nodes n.slots) at None ≡ None
+  pub updates : Updates n m at (Some q)
+  pub more : count_by is_some (live_nodes m.slots) ≡ count_by is_some (live_nodes n.slots) + 1
+  pub capacity : (items_view m after).capacity ≡ (items_view n spare).capacity
+  pub fits : at < 2 ^ 30 - 1
+  pub invariant : (lower : ℕ) → lower ≤ first_item_bound → lower ≤ at → ItemsInvariant m after lower end free_head (len + 1)
+
+-- below a bound that is not above the written place, there is still no node
+still-below : (n m : Slab StoredItem) (at first_item_bound lower : ℕ) (o : Option StoredItem) → Updates n m at o → ((k : ℕ) → k < first_item_bound → live_node (get n k) ≡ None) → lower ≤ first_item_bound → lower ≤ at → (k : ℕ) → k < lower → live_node (get m k) ≡ None
+still-below n m at first_item_bound lower o u below less most k h =
+    elim (cases_eq k at) [
+      | inl same ↦ absurd (omega (arith, same, h, most))
+      | inr other ↦ ap live_node (u.others k other) ∙ below k (omega (arith, h, less))
+    ]
+
+-- an item is written to the first free place
+pub insert-free : (n : Slab StoredItem) (at : ℕ) (q : StoredItem) (spare : Bool) (first_item_bound end : ℕ) (free_head : Option ℕ) (len : ℕ) (f : First n free_head at) → free_head ≡ Some at → is_free q.header ≡ false
+    → ItemsInvariant n spare first_item_bound end free_head len → Inserted n (with_value n at q) spare spare first_item_bound end (next_in f.stored.header) len at q
+insert-free n at q spare first_item_bound end free_head len f head live a =
     let t = taken n free_head at q f live in
     record {
-      within = write-keeps_bound n (with_value n at q) at end (Some q) t.updates (a.within at t.some) a.within;
-      few = a.few;
-      below = λ k h. elim (cases_eq k at) [
-        | inl same ↦ absurd (omega (arith, same, h, most))
-        | inr other ↦ ap live_node (t.updates.others k other) ∙ a.below k (omega (arith, h, less))
-      ];
-      counted = t.len ∙ ap (λ k. k + 1) a.counted;
-      free_list = insert-free_list n (with_value n at q) free_head at len f.stored q a.free_list head f.is t.updates live t.allocated;
+      was = t.was;
+      updates = t.updates;
+      more = t.len;
+      capacity = ap (λ k. k + (if spare then 1 else 0)) t.allocated;
+      fits = omega (arith, a.within at t.some, a.few);
+      invariant = λ lower less most. record {
+        within = write-keeps_bound n (with_value n at q) at end (Some q) t.updates (a.within at t.some) a.within;
+        few = a.few;
+        below = still-below n (with_value n at q) at first_item_bound lower (Some q) t.updates a.below less most;
+        counted = t.len ∙ ap (λ k. k + 1) a.counted;
+        free_list = insert-free_list n (with_value n at q) free_head at len f.stored q a.free_list head f.is t.updates live t.allocated;
+        ready = still-ready n at q spare t.some a.ready;
+      };
+    }
+
+-- an item is written to the spare place
+pub insert-spare : (n m : Slab StoredItem) (at : ℕ) (q : StoredItem) (spare : Bool) (first_item_bound end wider : ℕ) (free_head : Option ℕ) (len : ℕ) → spare ≡ true → get n at ≡ None → at < 2 ^ 30 - 1 → at < wider → end ≤ wider → wider < 2 ^ 30
+    → Updates n m at (Some q) → slab_len m ≡ slab_len n + 1 → is_free q.header ≡ false → ItemsInvariant n spare first_item_bound end free_head len → Inserted n m spare false first_item_bound wider free_head len at q
+insert-spare n m at q spare first_item_bound end wider free_head len is none fits here more few u longer live a =
+    let one = len-new n m at q none u live in
+    let S : Bool → Type 0 = λ b. slab_len m + 0 ≡ slab_len n + (if b then 1 else 0) in
+    record {
+      was = get-live n.slots at ∙ ap live_node none;
+      updates = u;
+      more = one;
+      capacity = subst S (sym is) (omega (arith, longer));
+      fits = fits;
+      invariant = λ lower less most. record {
+        within = write-keeps_bound n m at wider (Some q) u here (λ k some. omega (arith, a.within k some, more));
+        few = few;
+        below = still-below n m at first_item_bound lower (Some q) u a.below less most;
+        counted = one ∙ ap (λ k. k + 1) a.counted;
+        free_list = keep-free_list n m free_head at len (len + 1) q a.free_list (ap free_in none) u (omega (arith, longer));
+        ready = λ e. absurd (cc (e));
+      };
     }
 
 -- the slab after the place of an item becomes free
@@ -105,9 +172,9 @@ freed n at q h free =
       len = len-remove n at l.0 q l.1.0 l.1.1 free;
     }
 
-pub remove-invariant : (n : Slab StoredItem) (at : ℕ) (q : StoredItem) (first_item_bound higher end : ℕ) (free_head : Option ℕ) (len left : ℕ) → IsSome (get_or (live_nodes n.slots) at None) → is_free q.header ≡ true → next_in q.header ≡ free_head → left + 1 ≡ len
-    → HasNoItemBetween first_item_bound higher (with_value n at q) → ItemsInvariant n first_item_bound end free_head len → ItemsInvariant (with_value n at q) higher end (Some at) left
-remove-invariant n at q first_item_bound higher end free_head len left h free next less passed a =
+pub remove-invariant : (n : Slab StoredItem) (at : ℕ) (q : StoredItem) (spare : Bool) (first_item_bound higher end : ℕ) (free_head : Option ℕ) (len left : ℕ) → IsSome (get_or (live_nodes n.slots) at None) → is_free q.header ≡ true → next_in q.header ≡ free_head → left + 1 ≡ len
+    → HasNoItemBetween first_item_bound higher (with_value n at q) → ItemsInvariant n spare first_item_bound end free_head len → ItemsInvariant (with_value n at q) spare higher end (Some at) left
+remove-invariant n at q spare first_item_bound higher end free_head len left h free next less passed a =
     let g = freed n at q h free in
     record {
       within = write-keeps_bound n (with_value n at q) at end (Some q) g.updates (a.within at g.some) a.within;
@@ -121,12 +188,13 @@ remove-invariant n at q first_item_bound higher end free_head len left h free ne
       ];
       counted = omega (arith, g.len, a.counted, less);
       free_list = remove-free_list n (with_value n at q) free_head at len left q a.free_list (not-free_at n at h) g.updates free next (omega (arith, g.allocated, less));
+      ready = still-ready n at q spare g.some a.ready;
     }
 
 -- an item changes, and its place stays
-pub replace-invariant : (n : Slab StoredItem) (at : ℕ) (q : StoredItem) (first_item_bound end : ℕ) (free_head : Option ℕ) (len : ℕ) → IsSome (get_or (live_nodes n.slots) at None) → is_free q.header ≡ false
-    → ItemsInvariant n first_item_bound end free_head len → ItemsInvariant (with_value n at q) first_item_bound end free_head len
-replace-invariant n at q first_item_bound end free_head len h live a =
+pub replace-invariant : (n : Slab StoredItem) (at : ℕ) (q : StoredItem) (spare : Bool) (first_item_bound end : ℕ) (free_head : Option ℕ) (len : ℕ) → IsSome (get_or (live_nodes n.slots) at None) → is_free q.header ≡ false
+    → ItemsInvariant n spare first_item_bound end free_head len → ItemsInvariant (with_value n at q) spare first_item_bound end free_head len
+replace-invariant n at q spare first_item_bound end free_head len h live a =
     let l = live-at n at h in
     let some = has-place n at h in
     let u = Updates-with_value n at q some in
@@ -141,7 +209,8 @@ replace-invariant n at q first_item_bound end free_head len h live a =
         | inr other ↦ ap live_node (u.others k other) ∙ a.below k lower
       ];
       counted = len-replace n at l.0 q l.1.0 l.1.1 live ∙ a.counted;
-      free_list = set_next-free_list n (with_value n at q) free_head at len q a.free_list (not-free_at n at h) u (len-written n at q some);
+      free_list = keep-free_list n (with_value n at q) free_head at len len q a.free_list (not-free_at n at h) u (omega (arith, len-written n at q some));
+      ready = still-ready n at q spare some a.ready;
     }
 
 -- the nodes after an item is replaced

@@ -1,16 +1,14 @@
 -- Laws of the nodes of a list: dummies at even places, items at odd ones.
-use Rattle.std.proofs.Common.{◌≡◌, ◌≢◌, ℕ, zero, suc, ◌+◌, ◌*◌, ◌/◌, ◌%◌, ◌<◌, ◌≤◌, inl, inr, List, [], ◌∷◌, ◌++◌, length, map, get_or, set, slice_set, count_by, is_some, Option, Some, None, IsSome, option_map, OnOk, Result, Ok, Err, cond, Bool, refl, sym, ◌∙◌, ap, subst, arith}
+use Rattle.std.proofs.Common.{◌≡◌, ◌≢◌, ℕ, zero, suc, ◌+◌, ◌*◌, ◌/◌, ◌%◌, ◌<◌, inl, inr, List, [], ◌∷◌, ◌++◌, length, map, get_or, set, count_by, is_some, Option, Some, None, IsSome, option_map, OnOk, Result, Ok, Err, cond, refl, sym, ◌∙◌, ap, subst, arith}
 use Rattle.std.proofs.lemmas.Bool.{cases_eq}
 use Rattle.std.proofs.lemmas.List.Sums.{sum_by-cons}
-use Rattle.slab.specs.Slab.{Slab, get, slab_len, with_value, HasRoomFor, Updates}
+use Rattle.slab.specs.Slab.{Slab, get, slab_len, HasRoomFor, Updates}
 use Rattle.ets_term.specs.declared.term.Term.{Term}
-use Rattle.node_list.specs.declared.node.Item.{Item}
 use Rattle.node_list.specs.declared.node.ListNode.{ListNode}
-use Rattle.node_list.specs.declared.header.NodeHeader.{NodeHeader}
 use Rattle.node_list.specs.declared.packed.PackedHeader.{PackedHeader}
-use Rattle.node_list.specs.inside.PackedHeader.{next_in, Fits}
+use Rattle.node_list.specs.inside.PackedHeader.{next_in}
 use Rattle.node_list.specs.inside.Lent.{node_with, nodes_with}
-use Rattle.node_list.specs.inside.Slots.{HasHeader, HasItemIn, HasItemOrNone, HasChain, HasChainLength, ChangesLink, IsLeastItemIn, IsNextItemIn}
+use Rattle.node_list.specs.inside.Slots.{IsNextItemIn}
 use Rattle.node_list.specs.inside.Woven.{dummy_node, stored_dummy, weave, woven}
 use Rattle.node_list.proofs.WeaveLaws.{get-even, get-odd, get-by_even, get-by_odd, count-weave, set-even, set-odd, woven-updates}
 

@@ -23,8 +23,8 @@ use std::mem;
 const MAX_PLACES: usize = 1073741823;
 
 /// Items by index. A contract sees one slab of nodes, each of which is an item. Its `capacity` is the number of places,
-/// free places included. A place is added to the slab when memory is reserved, and stays in it. Places without an item
-/// form the free list.
+/// with the free places and the spare one. A place that is added to the slab stays in it. Places without an item form the
+/// free list.
 #[derive(Drop)]
 pub struct Items {
     /// The items, and the free places.
@@ -35,6 +35,9 @@ pub struct Items {
     end: usize,
     /// The first free place. The header of each free place has the link to the next.
     free_head: Link,
+    /// Whether a place is spare: the slab has capacity for it, and a link has bits for it, but it is not in the slab yet.
+    /// So a new place is written once, with its item. A new free place is written twice.
+    spare: bool,
     /// The number of items.
     len: usize,
     /// The allocator takes no memory of its own.
@@ -43,7 +46,7 @@ pub struct Items {
 
 // The value that contracts see of this type (`view`), and what is true of its fields between calls (`invariant`).
 impl Model for Items {
-    ghost use Rattle.slab.specs.Slab.{Slab as Slots, slab_code, slab_len};
+    ghost use Rattle.slab.specs.Slab.{Slab as Slots, slab_code};
     ghost use Rattle.node_list.specs.declared.node.ListNode.{ListNode};
     ghost use Rattle.node_list.specs.contracts.node.ListNode as node;
 
@@ -51,15 +54,11 @@ impl Model for Items {
 
     ghost coded = { slab_code node.the_row.coded };
 
-    ghost use Rattle.node_list.specs.inside.FreeList.{live_nodes, ItemsInvariant};
+    ghost use Rattle.node_list.specs.inside.FreeList.{items_view, ItemsInvariant};
 
-    ghost view = { λ s. record {
-      slots = live_nodes s.nodes.slots;
-      vacant_key = s.nodes.vacant_key;
-      capacity = slab_len s.nodes;
-    } };
+    ghost view = { λ s. items_view s.nodes s.spare };
 
-    ghost invariant = { λ s. ItemsInvariant s.nodes s.first_item_bound s.end s.free_head s.len };
+    ghost invariant = { λ s. ItemsInvariant s.nodes s.spare s.first_item_bound s.end s.free_head s.len };
 }
 
 impl Items {
@@ -73,6 +72,7 @@ impl Items {
             first_item_bound: 0,
             end: 0,
             free_head: Link::none(),
+            spare: false,
             len: 0,
             alloc,
         }
@@ -86,41 +86,47 @@ impl Items {
         ensures values { SameValues self.old self.new }
         ensures len { slab_len self.new ≡ slab_len self.old }
     {
-        // Each round adds one free place. The first round reserves the memory for all of them.
+        // Each round adds one place. The first round reserves the memory for all of them. The last place stays spare, so
+        // the place for a single item is written once, with the item.
         while self.free_len() < additional {
-            self.add_free_place(additional - self.free_len())?;
+            self.add_place(additional - self.free_len())?;
         }
         Ok(())
     }
 
-    /// Returns the number of free places: the places of the slab without an item.
+    /// Returns the number of places without an item: those of the slab, and the spare one.
     #[inline]
     fn free_len(&self) -> usize
         ensures { slab_len self.now + result ≡ self.now.capacity }
     {
-        self.nodes.len() - self.len
+        let free = self.nodes.len() - self.len;
+        if self.spare { free + 1 } else { free }
     }
 
-    /// Adds a place to the slab and to the front of the free list. If the slab has capacity for fewer than `more`
-    /// further places, it grows by at least `more`. If memory is refused, returns an error and adds no place.
-    fn add_free_place(&mut self, more: usize) -> Result<(), AllocError>
+    /// Adds a place, which is spare. If a place is spare already, it first puts that one at the front of the free list,
+    /// because at most one place is spare. If the slab has capacity for fewer than `more` further places, it grows by at
+    /// least `more`. If memory is refused, returns an error and adds no place.
+    fn add_place(&mut self, more: usize) -> Result<(), AllocError>
         requires { 0 < more }
         ensures room { OnOk result (self.new.capacity ≡ self.old.capacity + 1) }
         ensures err { OnErr result (self.new.capacity ≡ self.old.capacity) }
         ensures values { SameValues self.old self.new }
         ensures len { slab_len self.new ≡ slab_len self.old }
     {
+        if self.spare {
+            let free = StoredItem::free(self.alloc, self.free_head);
+            let place = self.nodes.insert_reserved(free);
+            self.spare = false;
+            self.free_head = Link::to(place);
+            self.end = self.end.max(place + 1);
+        }
         reserve_place(&mut self.nodes, more)?;
-        let at = self
-            .nodes
-            .insert_reserved(StoredItem::free(self.alloc, self.free_head));
-        self.free_head = Link::to(at);
-        self.end = self.end.max(at + 1);
+        self.spare = true;
         Ok(())
     }
 
-    /// Inserts an item at the first free place and returns that place. There must be a free place. `reversed` is the
-    /// item's split key without the last bit.
+    /// Inserts an item at the first free place, or else at the spare place, and returns that place. There must be one of
+    /// them. `reversed` is the item's split key without the last bit.
     #[inline(always)]
     pub fn insert_reserved(&mut self, reversed: u32, next: Link, item: Item) -> usize
         requires room { HasRoomFor self.old 1 }
@@ -131,14 +137,23 @@ impl Items {
         ensures in_range { result < 2 ^ 30 - 1 }
         ensures capacity { self.new.capacity ≡ self.old.capacity }
     {
-        let Some(at) = self.free_head.get() else {
-            // There is a free place, so the free list is not empty.
-            unreachable!()
-        };
         let header = PackedHeader::new(reversed, next);
-        // The old header, of the free place: its link leads to the next free place.
-        let free = write_at(&mut self.nodes, at, StoredItem { header, item });
-        self.free_head = free.next();
+        let stored = StoredItem { header, item };
+        let at = match self.free_head.get() {
+            Some(at) => {
+                // The old header, of the free place: its link leads to the next free place.
+                let free = write_at(&mut self.nodes, at, stored);
+                self.free_head = free.next();
+                at
+            }
+            None => {
+                // No place is free, so one is spare. The slab gets it with the item, so it is written once.
+                let at = self.nodes.insert_reserved(stored);
+                self.spare = false;
+                self.end = self.end.max(at + 1);
+                at
+            }
+        };
         self.len += 1;
         self.first_item_bound = self.first_item_bound.min(at);
         at

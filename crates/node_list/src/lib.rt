@@ -17,7 +17,9 @@
 //! packed in 16 bytes, and its chain in 48. Dummies have the even places, and items the odd ones. A search that passes a
 //! node reads its header, and compares keys only if split keys are equal. `next_item_at` reads the slab forward. Places of
 //! the slab without an item form a *free list*: each leads to the next, the first is used next, and no place is returned
-//! to the slab. They join that list when memory is reserved. So a refusal of memory changes no node.
+//! to the slab. When memory is reserved, new places join that list, all but the last. This one is *spare*: the slab has
+//! memory for it, and gets it with its item, which is thus the first that is written there. So a refusal of memory changes
+//! no node.
 //!
 //! *Limits.* A call that takes a place requires that a node of the list has it. So a caller must keep track of the
 //! places of its nodes.

@@ -22,7 +22,7 @@ use std::marker::Model;
 const MAX_DUMMIES: usize = 1073741823;
 
 /// Nodes by place. A contract sees one slab of nodes: the dummies and the items in turn. Its `capacity` is the number
-/// of dummies and of places of items, free places included.
+/// of dummies and of places of items, with the free places and the spare one.
 #[derive(Drop)]
 pub struct Nodes {
     /// The headers of the dummies. A dummy is never removed.
@@ -90,8 +90,8 @@ impl Nodes {
         Ok(2 * index)
     }
 
-    /// Inserts an item at a free place and returns the place. There must be a free place. `reversed` is the item's split
-    /// key without the last bit.
+    /// Inserts an item at a free place, or else at the spare place, and returns the place. There must be one of them.
+    /// `reversed` is the item's split key without the last bit.
     #[inline(always)]
     pub fn insert_item(&mut self, reversed: u32, next: Link, item: Item) -> usize
         requires room { HasRoomFor self.old 1 }

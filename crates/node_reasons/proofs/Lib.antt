@@ -6,3 +6,7 @@ pub mod ExplainedCalls
 pub mod NamedRules
 pub mod Named
 pub mod Exact
+pub mod Unchanged
+pub mod LexStateLaws
+pub mod Names
+pub mod Signs

@@ -6,4 +6,9 @@ pub mod Tables
 pub mod Calls
 pub mod Why
 pub mod Laws
+pub mod Classes
+pub mod LexStates
+pub mod SyntaxProblems
+pub mod SyntaxWords
+pub mod Diagnostics
 pub mod inside

@@ -1,3 +1,4 @@
+pub mod Advance
 pub mod Forms
 pub mod RefusalReasons
 pub mod RefusalReasonsOfCalls

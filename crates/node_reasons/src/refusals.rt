@@ -17,12 +17,11 @@ use node_core::{Call, CallName, Node, Reply, Step};
 use ownership::World;
 
 /// Returns why a step has this reply: the first rule that the step breaks, with the argument's number, or `None` if the
-/// reply is a value. The node gave this reply to the step, or would give it now. A refused step changes nothing, so the
-/// node is as the step found it. It takes no memory.
+/// reply is a value. The node gave this reply to the step, and has not changed since. It takes no memory.
 pub fn why<H: KeyHash + Copy + Drop>(node: &Node<H>, event: &Step, reply: &Reply) -> Option<Reason>
     ensures exactly { is_some result ≡ not (is_value reply.now) }
-    ensures named { (new : State) → step (observable node.now) event.now reply.now new
-        → result ≡ why (observable node.now) event.now reply.now }
+    ensures named { (old : State) → step old event.now reply.now (observable node.now)
+        → result ≡ why old event.now reply.now }
 {
     explain(node, event, reply)
 }

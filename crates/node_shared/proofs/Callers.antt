@@ -11,7 +11,8 @@ use Rattle.node_core.specs.Woven.{is_step_of}
 use Rattle.node_shared.specs.declared.entry.Entry.{Entry}
 use Rattle.node_shared.specs.Journal.{entry, IsRun, is_entry_of, entries_of}
 use Rattle.node_shared.specs.Records.{RecordState, with_entry}
-use Rattle.node_shared.specs.Serving.{ServedState, ServesStep, CallerState, SeesMore, Continues, ContinuesBy, entry_count}
+use Rattle.node_shared.specs.Serving.{ServedState, CallerState, SeesMore, Continues, ContinuesBy}
+use Rattle.node_shared.specs.inside.Steps.{ServesStep, entry_count}
 use Rattle.node_shared.proofs.Prefixes.{prefix_self, prefix_trans, prefix_length}
 
 -- the step of a caller is the last of the history

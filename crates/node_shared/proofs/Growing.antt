@@ -22,7 +22,7 @@ use Rattle.node_shared.specs.declared.entry.Entry.{Entry}
 use Rattle.node_shared.specs.Journal.{entry, TakesStep, IsRun, process_of, process_entries}
 use Rattle.node_shared.specs.BookInvariant.{BookInvariant}
 use Rattle.node_shared.specs.Running.{EndsRun}
-use Rattle.node_shared.specs.Serving.{entry_count}
+use Rattle.node_shared.specs.inside.Steps.{entry_count}
 
 abbrev step_of : Entry → Step
 step_of e = e.step

@@ -11,7 +11,8 @@ use Rattle.node_shared.specs.declared.job.Worked.{Worked}
 use Rattle.node_shared.specs.Journal.{entry}
 use Rattle.node_shared.specs.Records.{RecordState}
 use Rattle.node_shared.specs.declared.entry.Entry.{Entry}
-use Rattle.node_shared.specs.Working.{job_step, DidAll, DidJob, AllWorked}
+use Rattle.node_shared.specs.Working.{job_step, DidAll, AllWorked}
+use Rattle.node_shared.specs.inside.Steps.{DidJob}
 
 abbrev step_of : Entry → Step
 step_of e = e.step

@@ -7,7 +7,8 @@ use Rattle.atomic_table.specs.Table.{Allows, Splits, step, keeps}
 use Rattle.atomic_table.proofs.Lists.{at_set, at_snoc, set_here, set_else, at_longer}
 use Rattle.node_shared.specs.declared.pids.rule.View.{View}
 use Rattle.node_shared.specs.declared.pids.rule.View.TheVariants.{Opening, Undrawn, Drawn}
-use Rattle.node_shared.specs.Numbers.{HasDrawn, IsNumbered, HoldsNumbers, DrawsNumber, numbers_left, all_numbers_left, one_fewer}
+use Rattle.node_shared.specs.Numbers.{HasDrawn, IsNumbered, HoldsNumbers, numbers_left, all_numbers_left}
+use Rattle.node_shared.specs.inside.Seats.{DrawsNumber, one_fewer}
 
 -- what is numbers_left after one view is another
 owed_set : (views : List View) (i : ℕ) (v w : View) → get_elem? views i ≡ some v → all_numbers_left (set views i w) + numbers_left v ≡ all_numbers_left views + numbers_left w

@@ -1,5 +1,5 @@
 -- The state of a caller after several calls under one hold of the lock.
-use Rattle.std.specs.Prelude.{ℕ, ◌≤◌, List, [], ◌∷◌, length}
+use Rattle.std.specs.Prelude.{ℕ, ◌≤◌, List, length, map, zip}
 use Rattle.node_core.specs.declared.limits.Limits.{Limits}
 use Rattle.node_core.specs.declared.step.Step.TheVariants.{Ask}
 use Rattle.node_core.specs.declared.step.Call.{Call}
@@ -10,9 +10,7 @@ use Rattle.node_shared.specs.Serving.{CallerState, Continues}
 
 -- the entries of these calls of a process with these replies; a call without a reply has no entry
 abbrev pub call_entries : ℕ → List Call → List Reply → List Entry
-call_entries p [] replies = []
-call_entries p (c ∷ cs) [] = []
-call_entries p (c ∷ cs) (r ∷ rs) = entry (Ask p c) r ∷ call_entries p cs rs
+call_entries p calls replies = map (λ made. entry (Ask p made.0) made.1) (zip calls replies)
 
 -- the caller made the first of these calls, one for each of these replies, with no step of others between them
 abbrev pub HasAsked : Limits → CallerState → List Call → List Reply → CallerState → Type 0

@@ -2,7 +2,6 @@ pub mod Numbers
 pub mod Journal
 pub mod Running
 pub mod Records
-pub mod History
 pub mod Serving
 pub mod Calling
 pub mod BookInvariant

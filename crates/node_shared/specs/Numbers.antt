@@ -1,28 +1,14 @@
--- The rule of the word from which process numbers are drawn, and what its two atomic steps do.
-use Rattle.std.specs.Prelude.{◌≡◌, ℕ, ◌+◌, ◌-◌, ◌<◌, ◌≤◌, List, [], ◌∷◌}
+-- The rule of the word from which process numbers are drawn.
+use Rattle.std.specs.Prelude.{◌≡◌, ℕ, ◌+◌, ◌<◌, ◌≤◌, List, [], ◌∷◌}
 use mathlib.Core.Option.{some}
 use lib.ListN.{get_elem?}
-use Rattle.atomic_table.specs.Table.{State, Me, Step}
+use Rattle.atomic_table.specs.Table.{State}
 use Rattle.node_shared.specs.declared.pids.rule.View.{View}
 use Rattle.node_shared.specs.declared.pids.rule.View.TheVariants.{Opening, Undrawn, Drawn}
-
--- the seat that the atomic word was made with, of which n seats can be split off
-abbrev pub opening_view : ℕ → View
-opening_view n = Opening n
-
--- a seat that has not drawn a number
-abbrev pub undrawn_view : View
-undrawn_view = Undrawn
 
 -- a seat that drew the number x
 abbrev pub drawn_view : ℕ → View
 drawn_view x = Drawn x
-
--- a seat after another seat was split off it
-abbrev pub one_fewer : View → View
-one_fewer (Opening n) = Opening (n - 1)
-one_fewer Undrawn = Undrawn
-one_fewer (Drawn x) = Drawn x
 
 -- the number of process numbers that a seat may still draw, itself or by the seats split off it
 abbrev pub numbers_left : View → ℕ
@@ -51,7 +37,3 @@ pub record IsNumbered (n word : ℕ) (views : List View) : Type 0 where
 -- the rule that always holds of the word and the seats
 abbrev pub HoldsNumbers : ℕ → State (Unit {0}) View → Type 0
 HoldsNumbers n s = (word : ℕ) × (s.words ≡ word ∷ []) × IsNumbered n word s.views
-
--- the seat has drawn the value that the word had, which is below 4096
-abbrev pub DrawsNumber : Step (Unit {0}) → Me (Unit {0}) View → ℕ → Me (Unit {0}) View → Type 0
-DrawsNumber st m r m' = (m' ≡ (Drawn r, m.1)) × (r < 4096)

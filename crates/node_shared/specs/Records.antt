@@ -28,13 +28,6 @@ Tends old new did =
     (IsSomeAnd (due old.state) (λ event. (r : Reply) × Enters old event r new))
     ((due old.state ≡ None) × (new ≡ old))
 
--- the pending growth step is run, and its entry is the last of the journal; or nothing changes
-abbrev pub TriesGrowth : BookState → BookState → Bool → Type 0
-TriesGrowth old new did =
-    MatchBool did
-    (IsSomeAnd (due old.state) (λ event. (r : Reply) × Enters old event r new))
-    (new ≡ old)
-
 -- a process, and the number of entries that are counted for it
 pub record ShareState : Type 0 where
   pub pid : ℕ
@@ -61,7 +54,3 @@ with_entry client s r = record client { entries = client.entries ++ entry s r �
 abbrev pub Begins : ℕ → List Entry → Type 0
 Begins p [] = ⊥
 Begins p (e ∷ es) = e.step ≡ Enrol p
-
--- the last entry has this reply
-abbrev pub IsLast : List Entry → Reply → Type 0
-IsLast entries r = (before : List Entry) × (s : Step) × (entries ≡ before ++ entry s r ∷ [])

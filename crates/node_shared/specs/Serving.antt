@@ -1,8 +1,7 @@
 -- The states of a served node and of a caller, and what holds of each reply.
-use Rattle.std.specs.Prelude.{◌≡◌, ℕ, ◌^◌, ◌-◌, Bool, List, [], ◌∷◌, ◌++◌, Option, None, length, min}
+use Rattle.std.specs.Prelude.{◌≡◌, ℕ, List, [], ◌∷◌, ◌++◌, Option}
 use mathlib.Core.List.{IsPrefix}
-use Rattle.std.specs.Bool.{MatchBool}
-use Rattle.std.specs.Option.{IsSomeAnd}
+use Rattle.std.specs.List.{AllZip}
 use Rattle.node_core.specs.declared.limits.Limits.{Limits}
 use Rattle.node_core.specs.declared.step.Step.{Step}
 use Rattle.node_core.specs.declared.step.Step.TheVariants.{Enrol}
@@ -13,9 +12,8 @@ use Rattle.ets_term.specs.declared.term.Term.TheVariants.{Pid}
 use Rattle.node_core.specs.State.{State}
 use Rattle.node_core.specs.Observable.{observable}
 use Rattle.node_core.specs.Reads.{Reads}
-use Rattle.node_core.specs.Pending.{due}
 use Rattle.node_shared.specs.declared.entry.Entry.{Entry}
-use Rattle.node_shared.specs.Journal.{entry, TakesStep, IsRun, entries_of}
+use Rattle.node_shared.specs.Journal.{entry, IsRun, entries_of}
 use Rattle.node_shared.specs.Records.{RecordState}
 use Rattle.node_shared.specs.Running.{IsEnrolRefusal}
 
@@ -24,28 +22,6 @@ pub record ServedState : Type 0 where
   pub state : State
   pub history : List Entry
 
--- the node runs the step with this reply, and its entry is the last of the history
-abbrev pub ServesStep : ServedState → Step → Reply → ServedState → Type 0
-ServesStep old s r new = TakesStep old.state s r new.state × (new.history ≡ old.history ++ entry s r ∷ [])
-
--- the pending growth step is run, and its entry is the last of the history; or none is pending, and nothing changes
-abbrev pub ServesGrowth : ServedState → ServedState → Bool → Type 0
-ServesGrowth old new did =
-    MatchBool did
-    (IsSomeAnd (due old.state) (λ event. (r : Reply) × ServesStep old event r new))
-    ((due old.state ≡ None) × (new ≡ old))
-
--- the pending growth step is run, and its entry is the last of the history; or nothing changes
-abbrev pub TriesServingGrowth : ServedState → ServedState → Bool → Type 0
-TriesServingGrowth old new did =
-    MatchBool did
-    (IsSomeAnd (due old.state) (λ event. (r : Reply) × ServesStep old event r new))
-    (new ≡ old)
-
--- the number of these entries, at most the greatest `u64`
-abbrev pub entry_count : List Entry → ℕ
-entry_count entries = min (length entries) (2 ^ 64 - 1)
-
 -- a run of a node with these limits has these entries, and this is the result of reading in the state after it
 abbrev pub AnswersRead : Limits → List Entry → ℕ → Call → Option Reply → Type 0
 AnswersRead limits entries p asked answer =
@@ -53,10 +29,7 @@ AnswersRead limits entries p asked answer =
 
 -- each answer is the result of reading by the call of the same index, in this state
 abbrev pub AreRead : State → ℕ → List Call → List (Option Reply) → Type 0
-AreRead s p [] [] = Unit {0}
-AreRead s p (asked ∷ more) (answer ∷ answers) = Reads s p asked answer × AreRead s p more answers
-AreRead s p [] (answer ∷ answers) = ⊥
-AreRead s p (asked ∷ more) [] = ⊥
+AreRead s p calls answers = AllZip (Reads s p) calls answers
 
 -- the same as AnswersRead, for several calls in one state
 abbrev pub AnswersReads : Limits → List Entry → ℕ → List Call → List (Option Reply) → Type 0

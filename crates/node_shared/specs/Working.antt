@@ -1,24 +1,20 @@
 -- The entries of a client's jobs in its record.
-use Rattle.std.specs.Prelude.{◌≡◌, ℕ, ◌≤◌, ◌-◌, List, [], ◌∷◌, ◌++◌, map, take, length}
+use Rattle.std.specs.Prelude.{◌≡◌, ℕ, ◌≤◌, ◌-◌, List, ◌++◌, map, take, length}
+use Rattle.std.specs.List.{AllZip}
 use Rattle.std.specs.declared.vec.Vec.{Vec}
 use Rattle.std.specs.declared.alloc.Global.{Global}
 use Rattle.node_core.specs.declared.step.Step.{Step}
 use Rattle.node_core.specs.declared.step.Step.TheVariants as step
-use Rattle.node_core.specs.declared.step.Reply.{Reply}
 use Rattle.node_shared.specs.declared.entry.Entry.{Entry}
 use Rattle.node_shared.specs.declared.job.Job.{Job}
 use Rattle.node_shared.specs.declared.job.Job.TheVariants.{Ask, End}
 use Rattle.node_shared.specs.declared.job.Worked.{Worked}
-use Rattle.node_shared.specs.Records.{RecordState, with_entry}
+use Rattle.node_shared.specs.Records.{RecordState}
 
 -- a job as a step of a process
 abbrev pub job_step : ℕ → Job → Step
 job_step p (Ask call) = step.Ask p call
 job_step p End = step.End p
-
--- the record has one entry more, that of the job
-abbrev pub DidJob : RecordState → Job → RecordState → Type 0
-DidJob old job new = (r : Reply) × (new ≡ with_entry old (job_step old.pid job) r)
 
 -- these entries are those of the jobs of a process, in order, without the last `left` jobs
 abbrev pub AreOfJobs : ℕ → List Job → ℕ → List Entry → Type 0
@@ -36,7 +32,4 @@ HasWorked old jobs worked = DidAll old jobs worked.left worked.client
 
 -- each client, in their order, ran its jobs
 abbrev pub AllWorked : {T : Type 0} → List (RecordState × Vec Job Global) → List (Worked T) → Type 0
-AllWorked [] [] = Unit {0}
-AllWorked (x ∷ xs) (w ∷ ws) = HasWorked x.0 x.1.items w × AllWorked xs ws
-AllWorked [] (w ∷ ws) = ⊥
-AllWorked (x ∷ xs) [] = ⊥
+AllWorked xs ws = AllZip (λ x w. HasWorked x.0 x.1.items w) xs ws

@@ -6,7 +6,8 @@ ghost use Rattle.node_core.specs.declared.step.Step.TheVariants.{End, Ask};
 ghost use Rattle.node_core.specs.Woven.{is_step_of};
 ghost use Rattle.node_shared.specs.Calling.{HasAsked};
 ghost use Rattle.node_shared.specs.Journal.{entries_of};
-ghost use Rattle.node_shared.specs.Serving.{Continues, ContinuesBy, ServesStep, entry_count};
+ghost use Rattle.node_shared.specs.Serving.{Continues, ContinuesBy};
+ghost use Rattle.node_shared.specs.inside.Steps.{ServesStep, entry_count};
 ghost use Rattle.node_shared.specs.inside.Lines.{head_of};
 
 mod looks;
@@ -38,7 +39,8 @@ impl<B: HistoryId> Model for Caller<B> {
     ghost use Rattle.std.specs.Prelude.{◌≡◌};
     ghost use mathlib.Core.List.{IsPrefix};
     ghost use Rattle.node_shared.specs.Journal.{entries_of};
-    ghost use Rattle.node_shared.specs.Serving.{CallerState, entry_count};
+    ghost use Rattle.node_shared.specs.Serving.{CallerState};
+    ghost use Rattle.node_shared.specs.inside.Steps.{entry_count};
     ghost use Rattle.node_shared.specs.inside.Codes.{caller_code};
 
     ghost Value = { CallerState };

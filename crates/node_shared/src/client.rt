@@ -4,7 +4,8 @@ ghost use Rattle.std.specs.Prelude.{◌≡◌, true, length, OnErr, IfOk};
 ghost use Rattle.node_core.specs.declared.step.Reply.{Reply};
 ghost use Rattle.node_core.specs.declared.step.Step.TheVariants.{End, Ask};
 ghost use Rattle.node_core.specs.Woven.{is_step_of};
-ghost use Rattle.node_shared.specs.Records.{Begins, IsLast, with_entry};
+ghost use Rattle.node_shared.specs.Records.{Begins, with_entry};
+ghost use Rattle.node_shared.specs.inside.Steps.{IsLast};
 ghost use Rattle.node_shared.specs.Running.{AllEndRuns};
 
 use crate::share::Share;

@@ -33,7 +33,7 @@ pub trait HistoryId {
 
 /// The type that a program passes for `B`. The proof of the call picks its meaning, so these values are placeholders.
 impl HistoryId for Brand {
-    ghost use Rattle.node_shared.specs.History.{no_book, no_limits};
+    ghost use Rattle.node_shared.specs.inside.History.{no_book, no_limits};
 
     ghost book = { no_book };
 

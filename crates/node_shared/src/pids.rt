@@ -1,7 +1,8 @@
 //! Process numbers, which threads draw from one atomic word without a lock. A seat is the right to draw one number, and
 //! no two seats draw the same number.
 ghost use Rattle.std.specs.Prelude.{◌≡◌, ◌↔◌, ℕ, ◌<◌, ◌≤◌, [], All, IfOk, IfErr, MatchResult, vec_len};
-ghost use Rattle.node_shared.specs.Numbers.{drawn_view, undrawn_view};
+ghost use Rattle.node_shared.specs.Numbers.{drawn_view};
+ghost use Rattle.node_shared.specs.inside.Seats.{undrawn_view};
 ghost use Rattle.node_shared.specs.declared.pids.PidsFault.TheVariants.{TooMany};
 
 mod rule;

@@ -12,7 +12,8 @@ ghost use Rattle.node_core.specs.declared.step.Step.TheVariants.{Enrol};
 ghost use Rattle.node_core.specs.Woven.{is_step_of};
 ghost use Rattle.node_shared.specs.Journal.{entries_of, IsRun};
 ghost use Rattle.node_shared.specs.Records.{enrolled_record, with_entry};
-ghost use Rattle.node_shared.specs.Serving.{AreRead, entry_count, RefusesCaller, ServesGrowth, ServesStep, TriesServingGrowth};
+ghost use Rattle.node_shared.specs.Serving.{AreRead, RefusesCaller};
+ghost use Rattle.node_shared.specs.inside.Steps.{entry_count, ServesGrowth, ServesStep, TriesServingGrowth};
 ghost use Rattle.node_shared.specs.Faults.{Refuses, RefusesWith};
 ghost use Rattle.node_shared.specs.inside.Lines.{head_of};
 
@@ -39,7 +40,8 @@ pub struct ServedNode<B: HistoryId, H: KeyHash + Copy + Drop> {
 impl<B: HistoryId, H: KeyHash + Copy + Drop> Model for ServedNode<B, H> {
     ghost use Rattle.std.specs.Prelude.{◌≡◌};
     ghost use Rattle.node_shared.specs.Journal.{IsRun};
-    ghost use Rattle.node_shared.specs.Serving.{ServedState, entry_count};
+    ghost use Rattle.node_shared.specs.Serving.{ServedState};
+    ghost use Rattle.node_shared.specs.inside.Steps.{entry_count};
     ghost use Rattle.node_shared.specs.inside.Codes.{served_code};
     ghost use Rattle.node_shared.specs.inside.Known.{AreKnown};
 
@@ -69,7 +71,7 @@ impl<B: HistoryId, H: KeyHash + Copy + Drop> ServedNode<B, H> {
     }
 
     /// Returns the number of entries of the history, at most the greatest `u64`. It takes no memory.
-    pub fn count(&self) -> u64
+    pub(crate) fn count(&self) -> u64
         ensures { result ≡ entry_count self.now.history }
     {
         self.count
@@ -116,10 +118,10 @@ impl<B: HistoryId, H: KeyHash + Copy + Drop> ServedNode<B, H> {
     }
 
     /// Returns a token of the history, which takes no memory.
-    pub(crate) fn seen(&self) -> SeenHistory<B>
+    pub(crate) fn token(&self) -> SeenHistory<B>
         ensures { result ≡ self.now.history }
     {
-        self.owner.seen()
+        self.owner.token()
     }
 
     /// Shows that the history has all that `seen` has, which becomes the whole history. The node does not change.

@@ -93,7 +93,7 @@ impl<B: HistoryId, H: KeyHash + Copy + Drop> Server<B, H> {
         ensures refused_run { IfErr result (RefusesWith (RefusesCaller B.limits pid)) }
     {
         let (writer, _reply) = served.join(&self.word, pid)?;
-        Ok(Caller::new(writer, served.seen(), served.count()))
+        Ok(Caller::new(writer, served.token(), served.count()))
     }
 
     /// Runs at most `turns` pending growth steps, and takes the lock anew for each. Such a step doubles the buckets of

@@ -2,7 +2,8 @@
 //! is left, because `thread::join` runs two closures.
 ghost use Rattle.std.specs.Prelude.{◌≡◌, IfOk, OnOk, OnErr};
 ghost use Rattle.std.specs.Thread.{IsSync};
-ghost use Rattle.node_shared.specs.Working.{HasWorked, AllWorked, DidJob};
+ghost use Rattle.node_shared.specs.Working.{HasWorked, AllWorked};
+ghost use Rattle.node_shared.specs.inside.Steps.{DidJob};
 
 use crate::client::Client;
 use crate::gate::Gate;

@@ -4,8 +4,8 @@ use Rattle.node_core.specs.declared.step.Reply.{Reply}
 use Rattle.node_core.specs.declared.step.Reply.TheVariants.{Value, Badarg, SystemLimit, NoProcess}
 use Rattle.ets_term.specs.declared.term.Term.{Term}
 use Rattle.node_reasons.specs.Words.{reason_text}
-use Rattle.script_reasons.specs.Words.{problem_text}
-use Rattle.node_external.specs.Words.{words_of}
+use Rattle.node_reasons.specs.SyntaxWords.{problem_text}
+use Rattle.node_text.specs.ExternalWords.{words_of}
 use Rattle.node_text.specs.declared.last_refusal.LastRefusal.{LastRefusal}
 use Rattle.node_text.specs.declared.last_refusal.LastRefusal.TheVariants.{Broken, Syntax, External, NoMemory}
 use Rattle.node_text.specs.declared.status.TheConstants as is

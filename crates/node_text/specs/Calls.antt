@@ -1,25 +1,24 @@
 -- What each call of a store does.
-use Rattle.std.specs.Prelude.{◌≡◌, ℕ, ℤ, ◌⊎◌, not, List, Option, Some, None, is_some, option_map}
+use Rattle.std.specs.Prelude.{◌≡◌, ℕ, ℤ, ◌⊎◌, List, Option, Some, None, option_map}
 use Rattle.ets_term.specs.declared.term.Term.{Term}
-use Rattle.node_core.specs.State.{State, empty}
+use Rattle.node_core.specs.State.{empty}
 use Rattle.node_core.specs.Machine.{step}
-use Rattle.node_core.specs.Values.{is_value}
 use Rattle.node_core.specs.declared.limits.Limits.{Limits}
 use Rattle.node_core.specs.declared.step.Step.{Step}
 use Rattle.node_core.specs.declared.step.Step.TheVariants.{Ask}
 use Rattle.node_core.specs.declared.step.Reply.TheVariants.{NoProcess}
 use Rattle.node_reasons.specs.Why.{why}
-use Rattle.script_reasons.specs.SyntaxProblems.{diagnose_in_call}
+use Rattle.node_reasons.specs.SyntaxProblems.{diagnose_in_call}
 use Rattle.term_text.specs.Printed.{text_of_term}
 use Rattle.external_term.specs.Encoding.{encode_with_version}
-use Rattle.node_external.specs.Calls as external
-use Rattle.node_external.specs.declared.parsed_call.ParsedCall.{ParsedCall as ExternalCall}
-use Rattle.node_external.specs.declared.parsed_call.ParsedCall.TheVariants as external_call
+use Rattle.node_text.specs.ExternalCalls as external
+use Rattle.node_text.specs.declared.external_call.ExternalCall.{ExternalCall}
+use Rattle.node_text.specs.declared.external_call.ExternalCall.TheVariants as external_call
 use Rattle.node_text.specs.StoreState.{StoreState, with_refusal}
 use Rattle.node_text.specs.Texts.{parse_call}
 use Rattle.node_text.specs.Answers.{WrittenReply, status_of, WritesReply, WritesReason, WritesNothing, WritesNumber}
-use Rattle.node_text.specs.declared.parsed_call.ParsedCall.{ParsedCall}
-use Rattle.node_text.specs.declared.parsed_call.ParsedCall.TheVariants.{Call, Faulty}
+use Rattle.node_text.specs.declared.text_call.TextCall.{TextCall}
+use Rattle.node_text.specs.declared.text_call.TextCall.TheVariants.{Call, Faulty}
 use Rattle.node_text.specs.declared.last_refusal.LastRefusal.{LastRefusal}
 use Rattle.node_text.specs.declared.last_refusal.LastRefusal.TheVariants.{Broken, Syntax, External, NoMemory}
 use Rattle.node_text.specs.declared.status.TheConstants as is
@@ -28,16 +27,10 @@ use Rattle.node_text.specs.declared.status.TheConstants as is
 abbrev pub new_store : Limits → StoreState
 new_store limits = record { node = empty limits; reply = NoProcess; refusal = None }
 
--- Why a step has the reply that is kept: no reason for a value; for a refusal, the rule that the step breaks, if the
--- specification would refuse the step with this reply once more. A refused step changes nothing.
-pub record Explains (event : Step) (new : StoreState) : Type 0 where
-  pub exactly : is_some new.refusal ≡ not (is_value new.reply)
-  pub named : (after : State) → step new.node event new.reply after
-      → new.refusal ≡ option_map Broken (why new.node event new.reply)
-
--- a step of the specification is run, and its reply and the reason of a refusal are kept
+-- a step of the specification is run; its reply is kept, and the reason if it is refused: the rule that it breaks
 abbrev pub RunsStep : StoreState → Step → StoreState → Type 0
-RunsStep old event new = step old.node event new.reply new.node × Explains event new
+RunsStep old event new =
+    step old.node event new.reply new.node × (new.refusal ≡ option_map Broken (why old.node event new.reply))
 
 -- a step is run, and the status of its reply is returned; or memory runs out, and only the reason of the refusal
 -- changes
@@ -61,7 +54,7 @@ FaultReturns refusal at t old new =
     ⊎ ((new ≡ with_refusal NoMemory old) × WritesNothing is.NO_MEMORY t)
 
 -- what a call by a text returns: the reply is a text
-abbrev pub CallReturns : List ℕ → ParsedCall → ℕ → WrittenReply → StoreState → StoreState → Type 0
+abbrev pub CallReturns : List ℕ → TextCall → ℕ → WrittenReply → StoreState → StoreState → Type 0
 CallReturns text (Call name args) pid = AskReturns text_of_term pid name args
 CallReturns text (Faulty at) pid = FaultReturns (Syntax (diagnose_in_call text at)) at
 

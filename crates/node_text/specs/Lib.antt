@@ -1,6 +1,8 @@
 pub mod Statuses
 pub mod StoreState
 pub mod Texts
+pub mod ExternalCalls
+pub mod ExternalWords
 pub mod Answers
 pub mod Calls
 pub mod RunsCall

@@ -5,16 +5,16 @@ use Rattle.node_core.specs.declared.step.Step.{Step}
 use Rattle.node_core.specs.declared.step.Step.TheVariants.{Ask}
 use Rattle.node_core.specs.declared.step.Reply.{Reply}
 use Rattle.node_core.specs.declared.step.Reply.TheVariants.{NoProcess}
-use Rattle.node_external.specs.Calls as external
-use Rattle.node_external.specs.declared.parsed_call.ParsedCall.{ParsedCall as ExternalCall}
-use Rattle.node_external.specs.declared.parsed_call.ParsedCall.TheVariants as external_call
-use Rattle.script_reasons.specs.SyntaxProblems.{diagnose_in_call}
+use Rattle.node_text.specs.ExternalCalls as external
+use Rattle.node_text.specs.declared.external_call.ExternalCall.{ExternalCall}
+use Rattle.node_text.specs.declared.external_call.ExternalCall.TheVariants as external_call
+use Rattle.node_reasons.specs.SyntaxProblems.{diagnose_in_call}
 use Rattle.node_text.specs.StoreState.{StoreState}
 use Rattle.node_text.specs.Texts.{parse_call}
 use Rattle.node_text.specs.Answers.{WrittenReply, status_of, WritesReply, WritesReason, WritesNothing}
 use Rattle.node_text.specs.Calls.{RunsStep}
-use Rattle.node_text.specs.declared.parsed_call.ParsedCall.{ParsedCall}
-use Rattle.node_text.specs.declared.parsed_call.ParsedCall.TheVariants.{Call, Faulty}
+use Rattle.node_text.specs.declared.text_call.TextCall.{TextCall}
+use Rattle.node_text.specs.declared.text_call.TextCall.TheVariants.{Call, Faulty}
 use Rattle.node_text.specs.declared.last_refusal.LastRefusal.{LastRefusal}
 use Rattle.node_text.specs.declared.last_refusal.LastRefusal.TheVariants.{Syntax, External, NoMemory}
 use Rattle.node_text.specs.declared.status.TheConstants as is
@@ -51,7 +51,7 @@ abbrev pub TakesNothing : RequestState → ℤ → ℕ → RequestState → Type
 TakesNothing old status len new = (status ≡ is.NO_MEMORY) × (len ≡ 0) × (new ≡ without_call NoMemory old)
 
 -- what a request takes from a text that was parsed
-abbrev pub Takes : List ℕ → ParsedCall → ℕ → RequestState → ℤ → ℕ → RequestState → Type 0
+abbrev pub Takes : List ℕ → TextCall → ℕ → RequestState → ℤ → ℕ → RequestState → Type 0
 Takes text (Call name args) pid = TakesCall pid name args
 Takes text (Faulty at) pid = TakesFault (Syntax (diagnose_in_call text at)) at
 

@@ -2,13 +2,13 @@
 use Rattle.std.specs.Prelude.{◌≡◌, ℕ, List, Result, Ok, Err}
 use Rattle.ets_term.specs.declared.term.Term.{Term}
 use Rattle.node_core.specs.declared.step.Step.TheVariants.{Ask}
-use Rattle.node_external.specs.declared.parsed_call.ParsedCall.{ParsedCall as ExternalCall}
-use Rattle.node_external.specs.declared.parsed_call.ParsedCall.TheVariants as external_call
-use Rattle.script_reasons.specs.SyntaxProblems.{diagnose_in_call}
+use Rattle.node_text.specs.declared.external_call.ExternalCall.{ExternalCall}
+use Rattle.node_text.specs.declared.external_call.ExternalCall.TheVariants as external_call
+use Rattle.node_reasons.specs.SyntaxProblems.{diagnose_in_call}
 use Rattle.node_text.specs.StoreState.{StoreState, with_refusal}
 use Rattle.node_text.specs.Calls.{RunsStep}
-use Rattle.node_text.specs.declared.parsed_call.ParsedCall.{ParsedCall}
-use Rattle.node_text.specs.declared.parsed_call.ParsedCall.TheVariants.{Call, Faulty}
+use Rattle.node_text.specs.declared.text_call.TextCall.{TextCall}
+use Rattle.node_text.specs.declared.text_call.TextCall.TheVariants.{Call, Faulty}
 use Rattle.node_text.specs.declared.last_refusal.LastRefusal.{LastRefusal}
 use Rattle.node_text.specs.declared.last_refusal.LastRefusal.TheVariants as refusal
 use Rattle.node_text.specs.declared.call_fault.CallFault.{CallFault}
@@ -27,7 +27,7 @@ RunsFault why wanted old (Err (Syntax at)) new = (at ≡ wanted) × (new ≡ wit
 RunsFault why wanted old (Err Memory) new = new ≡ with_refusal refusal.NoMemory old
 
 -- what a call by a text does
-abbrev pub RunsCall : List ℕ → ParsedCall → ℕ → StoreState → Result (Unit {0}) CallFault → StoreState → Type 0
+abbrev pub RunsCall : List ℕ → TextCall → ℕ → StoreState → Result (Unit {0}) CallFault → StoreState → Type 0
 RunsCall text (Call name args) pid = RunsAsk pid name args
 RunsCall text (Faulty at) pid = RunsFault (refusal.Syntax (diagnose_in_call text at)) at
 

@@ -1,18 +1,16 @@
 //! Why the last call of a store was refused.
-ghost use Rattle.std.specs.Prelude.{◌≡◌, not, is_some, option_map, IfOk, string_bytes};
+ghost use Rattle.std.specs.Prelude.{◌≡◌, option_map, IfOk, string_bytes};
 ghost use Rattle.node_core.specs.Machine.{step};
 ghost use Rattle.node_core.specs.Observable.{observable};
 ghost use Rattle.node_core.specs.State.{State};
-ghost use Rattle.node_core.specs.Values.{is_value};
 ghost use Rattle.node_reasons.specs.Why.{why};
 ghost use Rattle.node_text.specs.Answers.{refusal_text};
 ghost use Rattle.node_text.specs.declared.last_refusal.LastRefusal.TheVariants.{Broken};
 
+use crate::call_problem::CallProblem;
 use crate::store_hash::StoreHash;
 use node_core::{Node, Reply, Step};
-use node_external::CallProblem;
-use node_reasons::{Reason, why};
-use script_reasons::SyntaxProblem;
+use node_reasons::{Reason, SyntaxProblem, why};
 use std::alloc::{AllocError, Global};
 use std::fmt;
 
@@ -30,12 +28,11 @@ pub enum LastRefusal {
 }
 
 impl LastRefusal {
-    /// Returns why a step was refused with this reply, or `None` if the reply is a value. The node gave the reply, and
-    /// has not changed since. Allocates nothing.
+    /// Returns why a step was refused with this reply: the rule that it broke in the state before it. Returns `None` if
+    /// the reply is a value. The node gave the reply, and has not changed since. Allocates nothing.
     pub(crate) fn of(node: &Node<StoreHash>, event: &Step, reply: &Reply) -> Option<LastRefusal>
-        ensures exactly { is_some result ≡ not (is_value reply.now) }
-        ensures named { (new : State) → step (observable node.now) event.now reply.now new
-            → result ≡ option_map Broken (why (observable node.now) event.now reply.now) }
+        ensures { (old : State) → step old event.now reply.now (observable node.now)
+            → result ≡ option_map Broken (why old event.now reply.now) }
     {
         match why(node, event, reply) {
             Some(reason) => Some(LastRefusal::Broken(reason)),

@@ -1,7 +1,7 @@
 //! A node that is called by texts or by terms in the external format, with its last reply and its last refusal.
 ghost use Rattle.std.specs.Prelude.{◌≡◌, Err, OnOk, OnErr};
 ghost use Rattle.node_text.specs.Answers.{written_reply};
-ghost use Rattle.node_external.specs.Calls as external;
+ghost use Rattle.node_text.specs.ExternalCalls as external;
 ghost use Rattle.node_text.specs.Calls.{new_store, RunsStep, StepReturns, CallReturns, ExternalCallReturns};
 ghost use Rattle.node_text.specs.RunsCall.{RunsCall, RunsAsk, RunsExternalCall};
 ghost use Rattle.node_text.specs.Statuses.{AreTheStatuses};
@@ -14,14 +14,15 @@ mod replies;
 pub(crate) mod request;
 
 use crate::call_fault::CallFault;
+use crate::external_call::{ExternalCall, read_external_call};
 use crate::growth::growth_steps;
 use crate::last_refusal::LastRefusal;
-use crate::parsed_call::{ParsedCall, read_call};
 use crate::status::{NO_MEMORY, status_of};
 use crate::store_hash::StoreHash;
+use crate::text_call::{TextCall, read_text_call};
 use ets_term::{Atom, Items, Keyed, Term};
 use node_core::{Call, Limits, Node, Reply, Step};
-use script_reasons::diagnose_in_call;
+use node_reasons::diagnose_in_call;
 use std::alloc::{AllocError, Global};
 use std::marker::Model;
 use std::mem;
@@ -140,12 +141,12 @@ impl Store {
     pub fn run_external(&mut self, alloc: Global, pid: u32, bytes: &[u8]) -> Result<(), CallFault>
         ensures { RunsExternalCall (external.parse_call bytes.now) pid self.old result self.new }
     {
-        let Ok(call) = node_external::read_call(alloc, bytes) else {
+        let Ok(call) = read_external_call(alloc, bytes) else {
             return self.refuse_memory();
         };
         match call {
-            node_external::ParsedCall::Call(name, args) => self.ask(pid, name, args),
-            node_external::ParsedCall::Faulty(problem, at) => {
+            ExternalCall::Call(name, args) => self.ask(pid, name, args),
+            ExternalCall::Faulty(problem, at) => {
                 self.refusal = Some(LastRefusal::External(problem));
                 Err(CallFault::Syntax(at))
             }
@@ -157,12 +158,12 @@ impl Store {
     fn run_text(&mut self, alloc: Global, pid: u32, text: &[u8]) -> Result<(), CallFault>
         ensures { RunsCall text.now (texts.parse_call text.now) pid self.old result self.new }
     {
-        let Ok(call) = read_call(alloc, text) else {
+        let Ok(call) = read_text_call(alloc, text) else {
             return self.refuse_memory();
         };
         match call {
-            ParsedCall::Call(name, args) => self.ask(pid, name, args),
-            ParsedCall::Faulty(at) => {
+            TextCall::Call(name, args) => self.ask(pid, name, args),
+            TextCall::Faulty(at) => {
                 self.refusal = Some(LastRefusal::Syntax(diagnose_in_call(text, at)));
                 Err(CallFault::Syntax(at))
             }

@@ -1,11 +1,12 @@
 //! A stored object.
-ghost use Rattle.std.specs.Prelude.{◌≡◌, IfOk, OnOk, option_copied};
+ghost use Rattle.std.specs.Prelude.{◌≡◌, IfOk, IfSome, OnOk, [], ◌∷◌, option_copied};
+ghost use Rattle.ets_term.specs.declared.term.Term.TheVariants.{Int, Tuple};
 ghost use Rattle.ets_term.specs.Depth.{element_at, elements};
 ghost use Rattle.ets_term.specs.Order.{same};
 ghost use Rattle.packed_term.specs.Elements.{with_element};
 
 use crate::equal::are_equal;
-use crate::pack::pack_element;
+use crate::pack::small;
 use crate::packed::{Packed, element_of};
 use crate::reuse::unpack_all_into;
 use crate::set::set_at;
@@ -45,23 +46,20 @@ impl Model for Object {
 }
 
 impl Object {
-    /// Returns the packed form of a term, or an error if memory is refused.
+    /// Returns the packed form of a term, or an error if memory is refused. A pair of integers of 64 bits calls no other
+    /// function.
+    #[inline(always)]
     pub fn pack(alloc: Global, term: &Term) -> Result<Object, AllocError>
         ensures { IfOk result (λ o. o ≡ term.now) }
     {
-        if let Term::Tuple(items) = term {
-            let items = items.as_slice();
-            if items.len() == 2 {
-                let first = pack_element(alloc, &items[0])?;
-                let second = pack_element(alloc, &items[1])?;
-                return Ok(Object {
-                    parts: Parts::Pair([first, second]),
-                });
-            }
+        if let Some((m, n)) = small_pair(term) {
+            return Ok(Object {
+                parts: Parts::Pair([Packed::from(m), Packed::from(n)]),
+            });
         }
-        Ok(Object {
-            parts: Parts::Other(Packed::pack(alloc, term)?),
-        })
+        // Moves the result of the call by `?`. Without it, the call writes to the result of this function, and then the
+        // result above goes through memory too.
+        Ok(pack_any(alloc, term)?)
     }
 
     /// Returns the term, or an error if memory is refused.
@@ -155,4 +153,41 @@ impl Object {
             Parts::Other(term) => term.set_element(index, value),
         }
     }
+}
+
+/// Returns the elements of a pair of two integers of 64 bits, or `None` for another term.
+#[inline(always)]
+fn small_pair(term: &Term) -> Option<(i64, i64)>
+    ensures { IfSome result (λ p. term.now ≡ Tuple (Int p.0 ∷ Int p.1 ∷ [])) }
+{
+    let Term::Tuple(items) = term else {
+        return None;
+    };
+    let items = items.as_slice();
+    if items.len() != 2 {
+        return None;
+    }
+    let m = small(&items[0])?;
+    let n = small(&items[1])?;
+    Some((m, n))
+}
+
+/// Returns the packed form of any term, or an error if memory is refused. It is not inlined, so that `pack` is short.
+#[inline(never)]
+fn pack_any(alloc: Global, term: &Term) -> Result<Object, AllocError>
+    ensures { IfOk result (λ o. o ≡ term.now) }
+{
+    if let Term::Tuple(items) = term {
+        let items = items.as_slice();
+        if items.len() == 2 {
+            let first = Packed::pack(alloc, &items[0])?;
+            let second = Packed::pack(alloc, &items[1])?;
+            return Ok(Object {
+                parts: Parts::Pair([first, second]),
+            });
+        }
+    }
+    Ok(Object {
+        parts: Parts::Other(crate::pack::pack(alloc, term)?),
+    })
 }

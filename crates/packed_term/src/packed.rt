@@ -10,7 +10,7 @@ ghost use Rattle.packed_term.specs.Elements.{nth};
 use crate::copy::copy;
 use crate::equal::is_equal;
 use crate::form::Form;
-use crate::pack::{integer_form, pack};
+use crate::pack::{pack, pack_wide};
 use crate::reuse::unpack_into;
 use crate::unpack::unpack;
 use ets_term::{Integer, Position, Term};
@@ -54,10 +54,12 @@ impl Packed {
     pub fn pack(alloc: Global, term: &Term) -> Result<Packed, AllocError>
         ensures { IfOk result (λ p. p ≡ term.now) }
     {
-        if let Term::Int(n) = term {
-            return Packed::integer(alloc, *n);
+        if let Some(n) = crate::pack::small(term) {
+            return Ok(Packed::from(n));
         }
-        pack(alloc, term)
+        // Moves the result of the call by `?`. Without it, the call writes to the result of this function, and then the
+        // result above goes through memory too.
+        Ok(pack(alloc, term)?)
     }
 
     /// Returns the packed form of an integer, or an error if memory is refused. An integer of 64 bits takes no memory.
@@ -66,9 +68,11 @@ impl Packed {
         ensures made { IfOk result (λ p. p ≡ Int n) }
         ensures small { FitsSigned w64 n → IsOk result }
     {
-        Ok(Packed {
-            form: integer_form(alloc, n)?,
-        })
+        match i64::try_from(n) {
+            Ok(small) => Ok(Packed::from(small)),
+            // Moves the result by `?`, as `pack` does.
+            Err(_) => Ok(pack_wide(alloc, n)?),
+        }
     }
 
     /// Returns the term, or an error if memory is refused.
@@ -91,7 +95,11 @@ impl Packed {
     pub fn try_clone(&self, alloc: Global) -> Result<Packed, AllocError>
         ensures { IfOk result (λ p. p ≡ self.now) }
     {
-        copy(alloc, self)
+        if let Form::Small(n) = &self.form {
+            return Ok(Packed::from(*n));
+        }
+        // Moves the result by `?`, as `pack` does.
+        Ok(copy(alloc, self)?)
     }
 
     /// Returns whether this term equals a term (`=:=`). Takes no memory. For integers of 64 bits it calls no other

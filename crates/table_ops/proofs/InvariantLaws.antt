@@ -61,7 +61,7 @@ pub slot-of : (kind : Kind) (keypos : ℕ) (slots : List Slot) (key : Term) (c :
 slot-of kind keypos [] key c a h = cc
 slot-of kind keypos (s ∷ ss) key c a h = slot-of-at (same key s.0) kind keypos s ss key c refl a.0 (slot-of kind keypos ss key c a.1) h
 
-kept-none : (kind : Kind) → FitsKind kind []
+pub kept-none : (kind : Kind) → FitsKind kind []
 unfolding IsDistinct
 kept-none Set = omega arith
 kept-none Bag = tt

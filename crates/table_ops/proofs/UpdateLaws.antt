@@ -1,6 +1,6 @@
 -- The only object at a place, taken out, updated and put back.
-use Rattle.std.proofs.Common.{◌≡◌, ◌⊎◌, inl, inr, ℕ, ◌+◌, ◌≤◌, Bool, true, false, ◌&&◌, List, [], ◌∷◌, Option, None, Some, unwrap_or, Result, Ok, Err, refl, sym, ap, subst, ◌∙◌, length, true≢false, arith}
-use Rattle.std.specs.Prelude.{IfOk, OnOk, OnErr, IsErrOf, is_ok, nat_lt, ◌==◌}
+use Rattle.std.proofs.Common.{◌≡◌, ℕ, ◌≤◌, Bool, true, false, ◌&&◌, List, [], ◌∷◌, Option, None, Some, unwrap_or, Result, Ok, Err, refl, sym, ap, subst, ◌∙◌, length, true≢false, arith}
+use Rattle.std.specs.Prelude.{IfOk, OnOk, OnErr, IsErrOf, nat_lt, ◌==◌}
 use Rattle.ets_term.specs.declared.term.Term.{Term}
 use Rattle.ets_term.specs.Order.{same}
 use Rattle.bucket_table.specs.Slots.{Slot, objects_of, with_objects, has_objects, object_count}
@@ -12,21 +12,22 @@ use Rattle.counters.specs.declared.elements.ElementSpecs.{ElementSpecs}
 use Rattle.counters.specs.declared.fault.CounterFault.{CounterFault}
 use Rattle.counters.specs.declared.fault.CounterFault.TheVariants as fault
 use Rattle.counters.specs.declared.ops.Ops.{Ops}
-use Rattle.ets_term.specs.Depth.{is_too_deep}
 use Rattle.table_ops.specs.declared.kind.Kind.{Kind}
 use Rattle.table_ops.specs.declared.kind.Kind.TheVariants.{Set, Bag, DuplicateBag}
-use Rattle.table_ops.specs.Content.{Content, key_of, objects_under}
+use Rattle.table_ops.specs.Content.{Content, objects_under}
 use Rattle.table_ops.specs.Invariants.{AreSlots, IsSlot, IsObjectOfKey, FitsKind}
-use Rattle.table_ops.specs.Put.{add, SetsObjects, Puts}
+use Rattle.table_ops.specs.Put.{add, SetsObjects}
 use Rattle.table_ops.specs.declared.refusal.Refusal.{Refusal}
 use Rattle.table_ops.specs.declared.refusal.Refusal.TheVariants.{Badarg, SystemLimit, Memory}
 use Rattle.table_ops.specs.Refusals.{RefinesChange}
 use Rattle.table_ops.specs.Outcomes.{Change}
 use Rattle.table_ops.specs.Update.{refusal_of, is_set, ops_avoid_key, element_specs_avoid_key, default_is_object, InsertsDefault, UpdatesOrInsertsCounter, UpdatesCounter, with_true, UpdatesOrInsertsElement, UpdatesElement}
 use Rattle.table_ops.specs.inside.Counted.{IsCounted}
-use Rattle.table_ops.specs.inside.Updated.{UpdatesCounterAt, UpdatesElementAt, InsertsDefaultAt}
+use Rattle.table_ops.specs.declared.undo.Undo.{Undo}
+use Rattle.table_ops.specs.inside.Undo.{added_objects, PutsOne}
+use Rattle.table_ops.specs.inside.Updated.{UpdatesCounterAt, UpdatesElementAt}
 use Rattle.table_ops.proofs.CountLaws.{count-set, count-writes, written}
-use Rattle.table_ops.proofs.InvariantLaws.{slot-of, slots-set, slots-puts}
+use Rattle.table_ops.proofs.InvariantLaws.{slot-of, slots-set}
 use Rattle.table_ops.proofs.PutLaws.{add-none, own-in, set-in, under-some}
 use Rattle.table_ops.proofs.SlotLaws.{set_value-twice, set_value-same, lookup-set_value}
 use Rattle.table_ops.proofs.InsertLaws.{is-below, is-not-below, above, not-above, full_at, room_at}
@@ -135,45 +136,6 @@ module _ (kind : Kind) (keypos limit count : ℕ) (old new : List Slot) (key : T
   written-at specs (Err fault.SystemLimit) may c = subst (IsCounted kind keypos limit count) (sym c.2.1) i
   written-at specs (Err fault.Memory) may c = subst (IsCounted kind keypos limit count) (sym c) i
 
-first-put-at : (kind : Kind) (old new : List Slot) (key object : Term) (c : List Term) → objects_under old key ≡ c → c ≡ [] → SetsObjects old key (object ∷ []) new → Puts kind old key object new
-first-put-at kind old new key object c e none w = subst (λ (l : List Term). SetsObjects old key l new) (sym (ap (λ l. add kind l object) (e ∙ none) ∙ add-none kind object)) w
-
--- an object is inserted under a key that has none
-pub started-counted : (kind : Kind) (keypos limit count : ℕ) (old new : List Slot) (key object : Term) → IsCounted kind keypos limit count old → objects_under old key ≡ [] → nat_lt count limit ≡ true
-    → (key_of keypos object ≡ Some key) × (is_too_deep object ≡ false) → SetsObjects old key (object ∷ []) new → IsCounted kind keypos limit (count + 1) new
-started-counted kind keypos limit count old new key object i none below_limit its w =
-    let more = count-writes old new key (object ∷ []) w in
-    record {
-      counted = omega (arith, i.counted, more, ap length none);
-      within = let below = is-below count limit below_limit in omega (arith, below);
-      few = i.few;
-      slots_are = slots-puts kind keypos old new key object i.slots_are its.0 its.1 (first-put-at kind old new key object (objects_under old key) refl none w);
-    }
-
-abbrev stored-of : Term → Result (Term × Unit {0}) CounterFault → Term
-stored-of none (Ok stored) = stored.0
-stored-of none (Err f) = none
-
--- an update from a Default, if it is refused and if its object is inserted
-module _ {X : Type 0} (below_limit : Bool) (key : Term) (made : Result (Term × X) CounterFault) where
-  pub fault-starts : (f : CounterFault) (slots : List Slot) → (f ≡ fault.Badarg → made ≡ Err fault.Badarg) → (f ≡ fault.SystemLimit → made ≡ Err fault.SystemLimit) → InsertsDefaultAt below_limit key made slots (Err (refusal_of f)) slots
-  fault-starts fault.Badarg slots badarg limit = (badarg refl, refl)
-  fault-starts fault.SystemLimit slots badarg limit = (refl, inl (limit refl))
-  fault-starts fault.Memory slots badarg limit = refl
-
-  module _ (object : Term) (answer : X) (is : made ≡ Ok (object, answer)) (old new : List Slot) where
-    pub object-starts : InsertsDefaultAt below_limit key (Ok (object, tt {0})) old (Ok tt) new → InsertsDefaultAt below_limit key made old (Ok answer) new
-    object-starts s = let own : object ≡ s.0 = ap (stored-of object) s.1 in (s.0, is ∙ ap (λ (o : Term). Ok (o, answer)) own, s.2, s.3)
-
-    pub refusal-starts : (e : Refusal) → InsertsDefaultAt below_limit key (Ok (object, tt {0})) old (Err e) new → InsertsDefaultAt below_limit key made old (Err e) new
-    refusal-starts Badarg s = let never = s.0 in cc
-    refusal-starts SystemLimit s = (s.0, by (Ok (object, tt {0})) refl s.1)
-      where
-        by : (m : Result (Term × Unit {0}) CounterFault) → m ≡ Ok (object, tt {0}) → (m ≡ Err fault.SystemLimit) ⊎ ((is_ok m ≡ true) × (below_limit ≡ false)) → (made ≡ Err fault.SystemLimit) ⊎ ((is_ok made ≡ true) × (below_limit ≡ false))
-        by m e (inl f) = cc
-        by m e (inr q) = inr (ap is_ok is, q.1)
-    refusal-starts Memory s = s
-
 -- a result that refines a change refines each weaker one
 lifts : {X : Type 0} (own change : Change X Content) (old : Content) → ((r : Result X Refusal) (new : Content) → own r new → change r new) → (r : Result X Refusal) (new : Content) → RefinesChange own old r new → RefinesChange change old r new
 lifts own change old lift (Ok x) new h = lift (Ok x) new h
@@ -181,63 +143,66 @@ lifts own change old lift (Err Badarg) new h = lift (Err Badarg) new h
 lifts own change old lift (Err SystemLimit) new h = lift (Err SystemLimit) new h
 lifts own change old lift (Err Memory) new h = h
 
--- an object made from a Default is inserted under a key that has none
-module _ {X : Type 0} (key : Term) (old : Content) (count : ℕ) (none : objects_under old.slots key ≡ []) (counted : count ≡ object_count old.slots) where
-  made-by : (made m : Result (Term × X) CounterFault) (r : Result X Refusal) (new : Content) → made ≡ m → InsertsDefault key old m r new → InsertsDefault key old made r new
-  made-by made m r new e h = subst (λ (x : Result (Term × X) CounterFault). InsertsDefault key old x r new) (sym e) h
+below-one : (below_limit : Bool) (n : ℕ) → (below_limit ≡ false → n ≡ 0) → n ≡ 1 → below_limit ≡ true
+below-one true n zero_if one = refl
+below-one false n zero_if one = absurd (omega (arith, zero_if refl, one))
 
-  full : (made : Result (Term × X) CounterFault) → is_ok made ≡ true → nat_lt count old.limit ≡ false → InsertsDefault key old made (Err SystemLimit) old
-  full (Err f) e no_room = absurd (true≢false (sym e))
-  full (Ok made) e no_room =
-      let w = written old.slots key (made.0 ∷ []) in
-      let more = count-writes old.slots w.0 key (made.0 ∷ []) w.1 in
-      let over = is-not-below count old.limit no_room in
-      (w.0, w.1, full_at (nat_lt old.limit (object_count w.0)) _ _ (above old.limit (object_count w.0) (omega (arith, more, over, counted, ap length none))) (refl, refl))
+-- an update from a Default, if it is refused and if its object is inserted
+module _ {X : Type 0} (key : Term) (old : Content) (made : Result (Term × X) CounterFault) where
+  made-by : (m : Result (Term × X) CounterFault) (r : Result X Refusal) (new : Content) → made ≡ m → InsertsDefault key old m r new → InsertsDefault key old made r new
+  made-by m r new e h = subst (λ (x : Result (Term × X) CounterFault). InsertsDefault key old x r new) (sym e) h
 
-  stored-comes : (made : Result (Term × X) CounterFault) (r : Result X Refusal) (slots : List Slot) → InsertsDefaultAt (nat_lt count old.limit) key made old.slots r slots → RefinesChange (InsertsDefault key old made) old r (record old { slots = slots })
-  stored-comes made (Ok answer) slots s =
-      let more = count-writes old.slots slots key (s.0 ∷ []) s.3 in
-      let below = is-below count old.limit s.2 in
-      made-by made (Ok (s.0, answer)) (Ok answer) (record old { slots = slots }) s.1
-      (slots, s.3, room_at (nat_lt old.limit (object_count slots)) _ _ (not-above old.limit (object_count slots) (omega (arith, more, below, counted, ap length none))) (refl, refl))
-  stored-comes made (Err Badarg) slots s =
-      subst (λ (l : List Slot). InsertsDefault key old made (Err Badarg) (record old { slots = l })) (sym s.1) (made-by made (Err fault.Badarg) (Err Badarg) old s.0 (refl, refl))
-  stored-comes made (Err SystemLimit) slots s = subst (λ (l : List Slot). InsertsDefault key old made (Err SystemLimit) (record old { slots = l })) (sym s.0) (by s.1)
-    where
-      by : (made ≡ Err fault.SystemLimit) ⊎ ((is_ok made ≡ true) × (nat_lt count old.limit ≡ false)) → InsertsDefault key old made (Err SystemLimit) old
-      by (inl e) = made-by made (Err fault.SystemLimit) (Err SystemLimit) old e (refl, refl)
-      by (inr m) = full made m.0 m.1
-  stored-comes made (Err Memory) slots s = ap (λ (l : List Slot). let c : Content = record old { slots = l } in c) s
+  pub fault-starts : (f : CounterFault) → (f ≡ fault.Badarg → made ≡ Err fault.Badarg) → (f ≡ fault.SystemLimit → made ≡ Err fault.SystemLimit) → RefinesChange (InsertsDefault key old made) old (Err (refusal_of f)) old
+  fault-starts fault.Badarg badarg limit = made-by (Err fault.Badarg) (Err Badarg) old (badarg refl) (refl, refl)
+  fault-starts fault.SystemLimit badarg limit = made-by (Err fault.SystemLimit) (Err SystemLimit) old (limit refl) (refl, refl)
+  fault-starts fault.Memory badarg limit = refl
 
-module _ (key : Term) (ops : Ops) (d : Term) (old : Content) (count : ℕ) (none : objects_under old.slots key ≡ []) (counted : count ≡ object_count old.slots) where
+  module _ (object : Term) (answer : X) (is : made ≡ Ok (object, answer)) (none : objects_under old.slots key ≡ []) (count : ℕ) (counted : count ≡ object_count old.slots) (slots : List Slot) where
+    pub object-starts : (u : Undo) → PutsOne (nat_lt count old.limit) old.kind key object old.slots (Ok u) slots → InsertsDefault key old made (Ok answer) (record old { slots = slots })
+    object-starts u p =
+        let writes : SetsObjects old.slots key (object ∷ []) slots = subst (λ (l : List Term). SetsObjects old.slots key l slots) (ap (λ l. add old.kind l object) none ∙ add-none old.kind object) p.0 in
+        let more = count-writes old.slots slots key (object ∷ []) writes in
+        let below = is-below count old.limit (below-one (nat_lt count old.limit) (added_objects u) p.3 (omega (arith, more, p.2, ap length none))) in
+        made-by (Ok (object, answer)) (Ok answer) (record old { slots = slots }) is
+        (slots, writes, room_at (nat_lt old.limit (object_count slots)) _ _ (not-above old.limit (object_count slots) (omega (arith, more, below, counted, ap length none))) (refl, refl))
+
+    full : nat_lt count old.limit ≡ false → InsertsDefault key old made (Err SystemLimit) old
+    full no_room =
+        let w = written old.slots key (object ∷ []) in
+        let more = count-writes old.slots w.0 key (object ∷ []) w.1 in
+        let over = is-not-below count old.limit no_room in
+        made-by (Ok (object, answer)) (Err SystemLimit) old is
+        (w.0, w.1, full_at (nat_lt old.limit (object_count w.0)) _ _ (above old.limit (object_count w.0) (omega (arith, more, over, counted, ap length none))) (refl, refl))
+
+    pub refusal-starts : (e : Refusal) → PutsOne (nat_lt count old.limit) old.kind key object old.slots (Err e) slots → RefinesChange (InsertsDefault key old made) old (Err e) (record old { slots = slots })
+    refusal-starts Badarg p = absurd p
+    refusal-starts SystemLimit p = subst (λ (l : List Slot). InsertsDefault key old made (Err SystemLimit) (record old { slots = l })) (sym p.0) (full p.1)
+    refusal-starts Memory p = ap (λ (l : List Slot). let c : Content = record old { slots = l } in c) p
+
+-- the counters of a key that has no object, from a Default
+module _ (key : Term) (ops : Ops) (d : Term) (old : Content) (none : objects_under old.slots key ≡ [])
+    (given : Option Term) (is : given ≡ Some d) (may : (is_set old.kind && (ops_avoid_key old.keypos ops && default_is_object old.keypos key given)) ≡ true) where
   counts-none : (r : Result Term Refusal) (new : Content) (objects : List Term) → objects ≡ [] → InsertsDefault key old (start_counter ops (with_key old.keypos key d)) r new → UpdatesOrInsertsCounter key ops (Some d) old objects r new
   counts-none r new [] e h = h
   counts-none r new (x ∷ xs) e h = cc
 
-  module _ (given : Option Term) (is : given ≡ Some d) (may : (is_set old.kind && (ops_avoid_key old.keypos ops && default_is_object old.keypos key given)) ≡ true) where
-    counts-lifted : (r : Result Term Refusal) (new : Content) → InsertsDefault key old (start_counter ops (with_key old.keypos key d)) r new → UpdatesCounter key ops given old r new
-    counts-lifted r new h = full_at (is_set old.kind && (ops_avoid_key old.keypos ops && default_is_object old.keypos key given)) _ _ may
-        (subst (λ (o : Option Term). UpdatesOrInsertsCounter key ops o old (objects_under old.slots key) r new) (sym is) (counts-none r new (objects_under old.slots key) none h))
+  counts-lifted : (r : Result Term Refusal) (new : Content) → InsertsDefault key old (start_counter ops (with_key old.keypos key d)) r new → UpdatesCounter key ops given old r new
+  counts-lifted r new h = full_at (is_set old.kind && (ops_avoid_key old.keypos ops && default_is_object old.keypos key given)) _ _ may
+      (subst (λ (o : Option Term). UpdatesOrInsertsCounter key ops o old (objects_under old.slots key) r new) (sym is) (counts-none r new (objects_under old.slots key) none h))
 
-    -- the counters of a key that has no object, from a Default
-    pub started-comes : (r : Result Term Refusal) (slots : List Slot) → InsertsDefaultAt (nat_lt count old.limit) key (start_counter ops (with_key old.keypos key d)) old.slots r slots → RefinesChange (UpdatesCounter key ops given old) old r (record old { slots = slots })
-    started-comes r slots s =
-        lifts (InsertsDefault key old (start_counter ops (with_key old.keypos key d))) (UpdatesCounter key ops given old) old counts-lifted r (record old { slots = slots })
-        (stored-comes key old count none counted (start_counter ops (with_key old.keypos key d)) r slots s)
+  pub started-comes : (r : Result Term Refusal) (new : Content) → RefinesChange (InsertsDefault key old (start_counter ops (with_key old.keypos key d))) old r new → RefinesChange (UpdatesCounter key ops given old) old r new
+  started-comes = lifts (InsertsDefault key old (start_counter ops (with_key old.keypos key d))) (UpdatesCounter key ops given old) old counts-lifted
 
-module _ (key : Term) (specs : ElementSpecs) (d : Term) (old : Content) (count : ℕ) (none : objects_under old.slots key ≡ []) (counted : count ≡ object_count old.slots) where
+-- the elements of a key that has no object, from a Default
+module _ (key : Term) (specs : ElementSpecs) (d : Term) (old : Content) (none : objects_under old.slots key ≡ [])
+    (given : Option Term) (is : given ≡ Some d) (may : (is_set old.kind && (element_specs_avoid_key old.keypos specs && default_is_object old.keypos key given)) ≡ true) where
   writes-none : (r : Result Bool Refusal) (new : Content) (objects : List Term) → objects ≡ [] → InsertsDefault key old (with_true (start_elements specs (with_key old.keypos key d))) r new → UpdatesOrInsertsElement key specs (Some d) old objects r new
   writes-none r new [] e h = h
   writes-none r new (x ∷ xs) e h = cc
 
-  module _ (given : Option Term) (is : given ≡ Some d) (may : (is_set old.kind && (element_specs_avoid_key old.keypos specs && default_is_object old.keypos key given)) ≡ true) where
-    writes-lifted : (r : Result Bool Refusal) (new : Content) → InsertsDefault key old (with_true (start_elements specs (with_key old.keypos key d))) r new → UpdatesElement key specs given old r new
-    writes-lifted r new h = full_at (is_set old.kind && (element_specs_avoid_key old.keypos specs && default_is_object old.keypos key given)) _ _ may
-        (subst (λ (o : Option Term). UpdatesOrInsertsElement key specs o old (objects_under old.slots key) r new) (sym is) (writes-none r new (objects_under old.slots key) none h))
+  writes-lifted : (r : Result Bool Refusal) (new : Content) → InsertsDefault key old (with_true (start_elements specs (with_key old.keypos key d))) r new → UpdatesElement key specs given old r new
+  writes-lifted r new h = full_at (is_set old.kind && (element_specs_avoid_key old.keypos specs && default_is_object old.keypos key given)) _ _ may
+      (subst (λ (o : Option Term). UpdatesOrInsertsElement key specs o old (objects_under old.slots key) r new) (sym is) (writes-none r new (objects_under old.slots key) none h))
 
-    -- the elements of a key that has no object, from a Default
-    pub written-comes : (r : Result Bool Refusal) (slots : List Slot) → InsertsDefaultAt (nat_lt count old.limit) key (with_true (start_elements specs (with_key old.keypos key d))) old.slots r slots
-        → RefinesChange (UpdatesElement key specs given old) old r (record old { slots = slots })
-    written-comes r slots s =
-        lifts (InsertsDefault key old (with_true (start_elements specs (with_key old.keypos key d)))) (UpdatesElement key specs given old) old writes-lifted r (record old { slots = slots })
-        (stored-comes key old count none counted (with_true (start_elements specs (with_key old.keypos key d))) r slots s)
+  pub written-comes : (r : Result Bool Refusal) (new : Content) → RefinesChange (InsertsDefault key old (with_true (start_elements specs (with_key old.keypos key d)))) old r new → RefinesChange (UpdatesElement key specs given old) old r new
+  written-comes = lifts (InsertsDefault key old (with_true (start_elements specs (with_key old.keypos key d)))) (UpdatesElement key specs given old) old writes-lifted

@@ -17,9 +17,9 @@
 //!
 //! *Mechanism.* An update or the insertion of one object searches once and changes the slot that the search found. A
 //! list is inserted one object at a time. An undo log rolls it back, without memory, if an object is refused. A scan
-//! over all objects visits the places in ascending order. A deletion by a search first makes a plan: the places of the
-//! slots that lose objects, with copies of the objects that stay. It then changes these slots, from the last to the
-//! first.
+//! over all objects visits the places in ascending order. It unpacks each object before the test, unless the query
+//! rejects the packed object. A deletion by a search first makes a plan: the places of the slots that lose objects,
+//! with copies of the objects that stay. It then changes these slots, from the last to the first.
 //!
 //! *Limits.* A table has at most 4,294,967,295 objects, each of a depth of at most 128. A slot that loses its last
 //! object stays as a tombstone (a *held* slot) if the caller passes `hold` as true. An update that runs out of memory

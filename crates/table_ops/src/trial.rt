@@ -28,8 +28,9 @@ impl<'a, Q> Trial<'a, Q> {
 }
 
 impl<'a, P: Projection> Trial<'a, P> {
-    /// Returns the result of the query for an object, or `None` if it has no result, and counts the object. Unpacks the
-    /// object into `scratch`, and reuses its memory. Fails if an allocation fails.
+    /// Returns the result of the query for an object, or `None` if it has no result, and counts the object. If the query
+    /// does not reject the packed object, unpacks it into `scratch`, and reuses its memory. Fails if an allocation
+    /// fails.
     #[inline(always)]
     pub fn result_of(
         &self,
@@ -42,14 +43,17 @@ impl<'a, P: Projection> Trial<'a, P> {
         ensures ticks { looks.new ≡ tick looks.old }
     {
         looks.tick();
+        if self.query.rejects(object) {
+            return Ok(None);
+        }
         object.unpack_into(alloc, scratch)?;
         self.query.project(alloc, scratch)
     }
 }
 
 impl<'a, P: Predicate> Trial<'a, P> {
-    /// Returns whether the query chooses an object, and counts the object. Unpacks the object into `scratch`, and
-    /// reuses its memory. Fails if an allocation fails.
+    /// Returns whether the query chooses an object, and counts the object. If the query does not reject the packed
+    /// object, unpacks it into `scratch`, and reuses its memory. Fails if an allocation fails.
     #[inline(always)]
     pub fn chooses(
         &self,
@@ -62,6 +66,9 @@ impl<'a, P: Predicate> Trial<'a, P> {
         ensures ticks { looks.new ≡ tick looks.old }
     {
         looks.tick();
+        if self.query.rejects(object) {
+            return Ok(false);
+        }
         object.unpack_into(alloc, scratch)?;
         self.query.test(alloc, scratch)
     }

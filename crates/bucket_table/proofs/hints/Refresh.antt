@@ -12,7 +12,7 @@ use Rattle.bucket_table.proofs.hints.First.{first-here, first-on}
 use Rattle.bucket_table.proofs.hints.Search.{is_in-yes}
 use Rattle.bucket_table.proofs.hints.Change.{out-in}
 use Rattle.bucket_table.proofs.hints.Remove.{Behind, behind-node, next-none}
-use Rattle.bucket_table.proofs.hints.Rebuild.{none-from, part-rises}
+use Rattle.bucket_table.proofs.hints.Parts.{none-from, part-rises}
 
 some-key : (a b : ℕ) (o : Option ℕ) → o ≡ Some a → o ≡ Some b → a ≡ b
 some-key a b o e f = cc

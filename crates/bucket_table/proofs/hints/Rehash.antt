@@ -8,12 +8,12 @@ use Rattle.node_list.specs.Changes.{put_cell, without}
 use Rattle.node_list.specs.Cells.{Cell, Sorted, new_cell}
 use Rattle.node_list.specs.Places.{from, HasDistinctPlaces, IsPlaceOf, HasItem, split_key_at, first_split_key}
 use Rattle.node_list.proofs.CellLaws.{from-here, from-on}
-use Rattle.bucket_table.specs.inside.Intervals.{is_in, first_in, AreSound, IsSoundHint, SetsIfUnknown, SetsHint}
+use Rattle.bucket_table.specs.inside.Intervals.{is_in, first_in, AreSound, IsSoundHint, SetsIfUnknown, SetsHint, IsBeforeInterval}
 use Rattle.bucket_table.proofs.list.Content.{fresh-apart}
 use Rattle.bucket_table.proofs.hints.First.{first-here, first-on, First, first-node, first-without-other}
 use Rattle.bucket_table.proofs.hints.Change.{out-in, others-put}
 use Rattle.bucket_table.proofs.hints.Search.{is_in-yes, inside}
-use Rattle.bucket_table.proofs.hints.Rebuild.{none-from}
+use Rattle.bucket_table.proofs.hints.Parts.{none-from}
 
 some-is : (a b : ℕ) (o : Option ℕ) → o ≡ Some a → o ≡ Some b → a ≡ b
 some-is a b o e f = cc
@@ -116,6 +116,14 @@ module _ (width half f : ℕ) (some : 0 < half) (parts : (k : ℕ) → k / width
       let i = inside width f n.cell n.inside in
       let q : n.cell.split_key ≡ k = some-is n.cell.split_key k (split_key_at p cs) (ap first_split_key n.is) read in
       sym (parts k) ∙ (ap (λ (z : ℕ). z / width) (sym q) ∙ i.key)
+
+  -- The first item is before each higher half.
+  pub first-before : (p k g : ℕ) (cs : List Cell) → HasDistinctPlaces cs → (hint : Option (Option ℕ)) → IsSoundHint width f cs hint → hint ≡ Some (Some p) → split_key_at p cs ≡ Some k → k / half < g → IsBeforeInterval half g p cs
+  first-before p k g cs a hint h e read less =
+      let n = first-node width f p cs a (h (Some p) e) in
+      let q : n.cell.split_key ≡ k = some-is n.cell.split_key k (split_key_at p cs) (ap first_split_key n.is) read in
+      let P : ℕ → Type 0 = λ z. z / half < g in
+      record { cell = n.cell; later = n.later; is = n.is; front = subst P (sym q) less }
 
 pub upper-part : (q f : ℕ) → q / 2 ≡ f → q % 2 ≡ 1 → q ≡ 2 * f + 1
 upper-part q f e m = omega (arith, e, m)

@@ -10,7 +10,7 @@ use Rattle.bucket_table.specs.inside.Intervals.{first_in, IsItemIn, IsHintAfterR
 use Rattle.bucket_table.proofs.directory.Placed.{parity-from}
 use Rattle.bucket_table.proofs.hints.First.{first-here}
 use Rattle.bucket_table.proofs.hints.Search.{is_in-yes}
-use Rattle.bucket_table.proofs.hints.Rebuild.{none-from, part-rises}
+use Rattle.bucket_table.proofs.hints.Parts.{none-from, part-rises}
 
 pub empty-next : (hint : Option (Option ℕ)) (known : Option ℕ) → hint ≡ Some None → known ≡ None → (first : Option ℕ) → hint ≡ Some first → known ≡ first
 empty-next hint known e f first h = cc

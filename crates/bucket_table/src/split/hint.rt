@@ -55,18 +55,6 @@ impl Hint {
         }
     }
 
-    /// If this hint is empty, returns the hint of a place. Otherwise returns this hint.
-    pub fn or_place(self, place: usize) -> Hint
-        ensures empty { self ≡ Some None → (result ≡ None) ⊎ (result ≡ Some (Some place)) }
-        ensures other { (self ≡ Some None) ⊎ (result ≡ self) }
-    {
-        if self.word == u32::MAX - 1 {
-            Hint::at(place)
-        } else {
-            self
-        }
-    }
-
     /// Returns the hint as an option: `None` is unknown, and `Some(None)` is empty.
     pub fn get(self) -> Option<Option<usize>>
         ensures { result ≡ self }

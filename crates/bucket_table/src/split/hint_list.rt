@@ -1,7 +1,6 @@
 //! A list of hints, by interval. A hint is the place of the first item of an interval, *empty* or *unknown*.
 ghost use Rattle.std.specs.Prelude.{◌≡◌, ◌<◌, ◌^◌, [], Some, None, IfOk, OnOk, OnErr, length, get_or, replicate};
 ghost use Rattle.bucket_table.specs.inside.Intervals.{AreUnknown, ForgetsHints, HaveSameHints, SetsIfUnknown, SetsHint, SetsFirst, ReplacesFirst};
-ghost use Rattle.bucket_table.specs.inside.Rebuild.{SetsEmpty, SetsIfEmpty};
 
 use super::hint::Hint;
 use node_list::At;
@@ -97,6 +96,16 @@ impl HintList {
         }
     }
 
+    /// Returns whether the hints of `count` intervals from `first` on are all known.
+    pub fn are_known(&self, first: usize, count: usize) -> bool {
+        for interval in first..first.saturating_add(count) {
+            if self.get(interval).is_none() {
+                return false;
+            }
+        }
+        true
+    }
+
     /// Sets the hint of an interval. Past the end of the list it does nothing.
     pub fn set(&mut self, interval: usize, hint: Hint)
         ensures { SetsHint interval hint self.old self.new }
@@ -132,26 +141,6 @@ impl HintList {
             if first == at && interval < self.hints.len() {
                 self.hints[interval] = hint;
             }
-        }
-    }
-
-    /// Sets the hints of the intervals from `low` to `high - 1` to empty, as far as the list has them.
-    pub fn set_empty(&mut self, low: usize, high: usize)
-        ensures { SetsEmpty low high self.old self.new }
-    {
-        for interval in low..high {
-            if interval < self.hints.len() {
-                self.hints[interval] = Hint::empty();
-            }
-        }
-    }
-
-    /// Sets the hint of an interval to a place if the list has the hint and it is empty.
-    pub fn set_if_empty(&mut self, interval: usize, at: At)
-        ensures { SetsIfEmpty interval at self.old self.new }
-    {
-        if interval < self.hints.len() {
-            self.hints[interval] = self.hints[interval].or_place(at);
         }
     }
 }

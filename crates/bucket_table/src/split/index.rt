@@ -7,11 +7,11 @@ ghost use Rattle.bucket_table.specs.inside.Directory.{IsFirstUnready};
 ghost use Rattle.bucket_table.specs.inside.SplitIndex.{RowsInvariant};
 
 // The modules: ready `buckets`, the operations `find`, `insert`, `remove` and `sweep`, the `start` of a search, and the
-// `rebuild` of hints.
+// `rehash` of a bucket's hints.
 mod buckets;
 mod find;
 mod insert;
-mod rebuild;
+mod rehash;
 mod remove;
 mod start;
 mod sweep;

@@ -203,7 +203,7 @@ impl<H: KeyHash + Copy + Drop> Rows for SplitRows<H> {
         let start = self.index.dummy_start(bucket);
         let at = self.index.list.insert_dummy(start, rev32(bucket))?;
         self.index.directory.set(index, at);
-        self.index.rebuild_with_parent(bucket);
+        self.index.rehash_with_parent(bucket);
         self.first_unready = self.index.first_unready(self.first_unready);
         Ok(Readying::Ready)
     }

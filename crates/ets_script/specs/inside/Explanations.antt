@@ -7,9 +7,9 @@ use Rattle.node_core.specs.declared.step.Step.{Step}
 use Rattle.node_core.specs.declared.step.Step.TheVariants.{Enrol, End, Ask, Grow, Ready}
 use Rattle.node_core.specs.Values.{is_value}
 use Rattle.node_reasons.specs.Why.{why}
-use Rattle.script_reasons.specs.declared.diagnostic.Diagnostic.{Diagnostic}
-use Rattle.script_reasons.specs.declared.diagnostic.Diagnostic.TheVariants as diagnostic
-use Rattle.script_reasons.specs.SyntaxProblems.{diagnose_at}
+use Rattle.node_reasons.specs.declared.diagnostic.Diagnostic.{Diagnostic}
+use Rattle.node_reasons.specs.declared.diagnostic.Diagnostic.TheVariants as diagnostic
+use Rattle.node_reasons.specs.SyntaxProblems.{diagnose_at}
 use Rattle.ets_script.specs.Commands as spec
 use Rattle.ets_script.specs.Script.{ScriptState, pid_of, table_of}
 use Rattle.ets_script.specs.declared.answer.Answer.{Answer}

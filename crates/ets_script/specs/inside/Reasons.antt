@@ -1,7 +1,7 @@
 -- What private contracts say of the reasons that are written.
 use Rattle.std.specs.Prelude.{◌≡◌, ℕ, Bool, true, false, List, [], ◌++◌, Option, Some, None, codes, decimal}
-use Rattle.script_reasons.specs.Diagnostics.{diagnostic_text}
-use Rattle.script_reasons.specs.declared.diagnostic.Diagnostic.{Diagnostic}
+use Rattle.node_reasons.specs.Diagnostics.{diagnostic_text}
+use Rattle.node_reasons.specs.declared.diagnostic.Diagnostic.{Diagnostic}
 use Rattle.ets_packets.specs.declared.output.Output.{Output}
 use Rattle.ets_packets.specs.Output.{Breaks, Fails, Adds, Sends, buffered_bytes, writer_flow}
 use Rattle.ets_script.specs.declared.why_writer.WhyWriter.{WhyWriter}

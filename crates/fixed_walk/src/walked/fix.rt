@@ -8,6 +8,7 @@ use super::Walked;
 use crate::fault::FixFault;
 use bucket_table::Rows;
 
+#[tactic(auto, using(crate::proofs::TombstoneLaws::no_tombstones))]
 impl<R: Rows> Walked<R> {
     /// Returns whether some process fixes the table.
     pub fn is_fixed(&self) -> bool
@@ -18,7 +19,6 @@ impl<R: Rows> Walked<R> {
 
     /// Adds one fix of a process (stdlib manual, ets:safe_fixtable/2). Refuses with `SystemLimit` if the process
     /// already has 4,294,967,295. Its time does not grow with the number of fixes that the process has.
-    #[tactic(auto, using(crate::proofs::TombstoneLaws::no_tombstones))]
     pub fn fix(&mut self, pid: u32) -> Result<(), FixFault>
         ensures { IncrementsFix pid self.old result self.new }
     {
@@ -30,7 +30,6 @@ impl<R: Rows> Walked<R> {
     }
 
     /// Removes one fix of a process, if it has one. If no process fixes the table afterwards, removes all tombstones.
-    #[tactic(auto, using(crate::proofs::TombstoneLaws::no_tombstones))]
     pub fn release(&mut self, pid: u32)
         ensures { self.new ≡ after_release pid self.old }
     {
@@ -46,7 +45,6 @@ impl<R: Rows> Walked<R> {
 
     /// Removes all fixes of a process, as when it exits. If no process fixes the table afterwards, removes all
     /// tombstones.
-    #[tactic(auto, using(crate::proofs::TombstoneLaws::no_tombstones))]
     pub fn release_all(&mut self, pid: u32)
         ensures { self.new ≡ after_release_all pid self.old }
     {

@@ -11,34 +11,32 @@ use ets_term::{Items, Term};
 use match_spec::{Pattern, Spec};
 use std::alloc::AllocError;
 
-/// The calls with patterns and match specifications. Each does what the same method of `Table` does. If the table is
-/// fixed, a slot that loses its last object stays as a tombstone.
+/// The calls with patterns and match specifications. Each does what the same method of `Table` does; its results are in
+/// the order of the slots. If the table is fixed, a slot that loses its last object stays as a tombstone.
+#[tactic(auto, using(crate::proofs::TombstoneLaws::no_tombstones))]
 impl<R: Rows> Walked<R> {
-    /// Returns, for each object that matches, the list of the values of the variables, in order of the variables'
-    /// numbers. The lists are in the order of the slots (stdlib manual, ets:match/2).
+    /// Returns, for each object that matches, the list of the values of the variables (stdlib manual, ets:match/2).
     pub fn matches(&self, pattern: &Pattern) -> Result<Items<Term>, AllocError>
         ensures { ReturnsAllData result (answers_in (bound_in pattern.now) self.now.content) }
     {
         self.table.matches(pattern)
     }
 
-    /// Returns copies of the objects that match, in the order of the slots (stdlib manual, ets:match_object/2).
+    /// Returns copies of the objects that match (stdlib manual, ets:match_object/2).
     pub fn match_objects(&self, pattern: &Pattern) -> Result<Items<Term>, AllocError>
         ensures { Returns result (matching_in pattern.now self.now.content) }
     {
         self.table.match_objects(pattern)
     }
 
-    /// Returns the result of the match specification for each object that has one, in the order of the slots (stdlib
-    /// manual, ets:select/2).
+    /// Returns the result of the match specification for each object that has one (stdlib manual, ets:select/2).
     pub fn select(&self, spec: &Spec) -> Result<Items<Term>, AllocError>
         ensures { ReturnsAllData result (answers_in (spec_result spec.now) self.now.content) }
     {
         self.table.select(spec)
     }
 
-    /// Returns the number of objects for which the result is `true`, at most 4,294,967,295 (stdlib manual,
-    /// ets:select_count/2).
+    /// Returns the number of objects for which the result is `true` (stdlib manual, ets:select_count/2).
     pub fn select_count(&self, spec: &Spec) -> Result<usize, AllocError>
         ensures count { Returns result (chosen_in (is_chosen spec.now) self.now.content) }
         ensures few { IfOk result (λ count. count < 2 ^ 32) }
@@ -46,27 +44,23 @@ impl<R: Rows> Walked<R> {
         self.table.select_count(spec)
     }
 
-    /// Deletes the objects that match (stdlib manual, ets:match_delete/2). If memory runs out, it changes nothing.
-    #[tactic(auto, using(crate::proofs::TombstoneLaws::no_tombstones))]
+    /// Deletes the objects that match (stdlib manual, ets:match_delete/2).
     pub fn match_delete(&mut self, pattern: &Pattern) -> Result<(), AllocError>
         ensures ok { OnOk result (self.new ≡ after_delete (λ own. matches pattern.now) self.old) }
         ensures err { OnErr result (self.new ≡ self.old) }
     {
-        // In a fixed table, a slot that loses its last object stays as a tombstone.
         let hold = self.fixes.is_fixed();
         self.table.match_delete(pattern, hold)
     }
 
-    /// Deletes the objects for which the result is `true` and returns their number (stdlib manual,
-    /// ets:select_delete/2). If memory runs out, it changes nothing.
-    #[tactic(auto, using(crate::proofs::TombstoneLaws::no_tombstones))]
+    /// Deletes the objects for which the result is `true`, and returns their number (stdlib manual,
+    /// ets:select_delete/2).
     pub fn select_delete(&mut self, spec: &Spec) -> Result<usize, AllocError>
         ensures count { Returns result (chosen_in (is_chosen spec.now) self.old.content) }
         ensures few { IfOk result (λ count. count < 2 ^ 32) }
         ensures ok { OnOk result (self.new ≡ after_delete (λ own. is_chosen spec.now) self.old) }
         ensures err { OnErr result (self.new ≡ self.old) }
     {
-        // In a fixed table, a slot that loses its last object stays as a tombstone.
         let hold = self.fixes.is_fixed();
         self.table.select_delete(spec, hold)
     }

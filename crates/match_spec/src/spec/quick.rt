@@ -1,6 +1,6 @@
 //! A cheap necessary condition of a match specification with a single clause. It checks the length of the object, and
-//! compares one element with an integer.
-ghost use Rattle.std.specs.Prelude.{◌≡◌, [], ◌∷◌, false, map, IfSome};
+//! compares one element with an integer. The object is packed.
+ghost use Rattle.std.specs.Prelude.{◌≡◌, [], ◌∷◌, true, false, map, IfSome};
 ghost use Rattle.ets_term.specs.Data.{tuple, data_of, data_list};
 ghost use Rattle.match_spec.specs.inside.QuickTests.{rejects, rejects_element, IsComparison, IsNecessary, RejectsClause, RejectsAll};
 
@@ -10,6 +10,7 @@ use crate::expression::function::Function;
 use crate::pattern::part::Part;
 use crate::spec::clause::Clause;
 use ets_term::{Integer, Term};
+use packed_term::{Object, Packed};
 
 /// A necessary condition of a clause. The object is a tuple of `len` elements. Its element at `index`, counted from 0,
 /// satisfies the comparison with `value`, or is not an integer.
@@ -22,41 +23,39 @@ pub(crate) struct QuickTest {
 }
 
 impl QuickTest {
-    /// Checks whether the object fails the test. The clause then does not apply to it.
+    /// Checks whether a packed object fails the test, without unpacking it. The clause then does not apply to it. If
+    /// the result is `false`, a term that is not a tuple may still fail the test.
     #[inline(always)]
-    pub(crate) fn rejects(&self, object: &Term) -> bool
-        ensures { result ≡ rejects self.now (data_of object.now) }
+    pub(crate) fn rejects_packed(&self, object: &Object) -> bool
+        ensures { result ≡ true → rejects self.now (data_of object.now) ≡ true }
     {
-        match object {
-            Term::Tuple(items) => self.rejects_items(items.as_slice()),
-            _ => true,
-        }
+        self.rejects_parts(object.elements())
     }
 
-    /// Checks whether a tuple of these items fails the test.
+    /// Checks whether a tuple of these packed terms fails the test.
     #[inline(always)]
     #[tactic(auto, using(crate::proofs::QuickLaws::rejects_length, crate::proofs::QuickLaws::rejects_by_element, crate::proofs::QuickLaws::rejects_nothing))]
-    fn rejects_items(&self, items: &[Term]) -> bool
-        ensures { result ≡ rejects self.now (tuple (data_list (map data_of items.now))) }
+    fn rejects_parts(&self, parts: &[Packed]) -> bool
+        ensures { result ≡ rejects self.now (tuple (data_list (map data_of parts.now))) }
     {
-        if items.len() != self.len {
+        if parts.len() != self.len {
             return true;
         }
         // A tuple without this element cannot fail the comparison.
-        if self.index >= items.len() {
+        if self.index >= parts.len() {
             return false;
         }
-        self.rejects_element(&items[self.index])
+        self.rejects_part(&parts[self.index])
     }
 
-    /// Checks whether this element fails the test. Only an integer can fail.
+    /// Checks whether this packed element fails the test. Only an integer can fail.
     #[inline(always)]
-    fn rejects_element(&self, element: &Term) -> bool
-        ensures { result ≡ rejects_element self.now (data_of element.now) }
+    fn rejects_part(&self, part: &Packed) -> bool
+        ensures { result ≡ rejects_element self.now (data_of part.now) }
     {
-        match element {
-            Term::Int(n) => !integer_comparison_holds(self.comparison, *n, self.value),
-            _ => false,
+        match part.as_integer() {
+            Some(n) => !integer_comparison_holds(self.comparison, n, self.value),
+            None => false,
         }
     }
 }

@@ -1,5 +1,5 @@
 -- The replies to a call that reads a table, over the same slots in two orders, agree.
-use Rattle.std.proofs.Common.{◌≡◌, ◌⊎◌, ℕ, Bool, true, false, cond, List, [], ◌∷◌, Option, None, Some, option_map, option_and_then, map, refl, sym, ap, subst₂, inl, inr, arith}
+use Rattle.std.proofs.Common.{◌≡◌, ◌≢◌, ◌∙◌, ◌⊎◌, ℕ, Bool, true, false, cond, List, [], ◌∷◌, Option, None, Some, option_map, option_and_then, map, refl, sym, ap, subst₂, inl, inr, arith}
 use Rattle.std.specs.Prelude.{is_some, filter_map, Contains}
 use Rattle.std.specs.Option.{option_map_or}
 use Rattle.ets_term.specs.declared.term.Term.{Term}
@@ -13,26 +13,31 @@ use Rattle.table_ops.specs.Queries.{bound_in, matches, spec_result, is_chosen}
 use Rattle.table_ops.specs.Read.{all_objects, lookup_element, lookup_element_or}
 use Rattle.fixed_walk.specs.TableState.{TableState}
 use Rattle.fixed_walk.specs.Walk.{first_key, first_slot}
+use Rattle.fixed_walk.proofs.FromLaws.{key_in, first-key}
 use Rattle.node_core.specs.declared.call_name.CallName.{CallName}
 use Rattle.node_core.specs.declared.call_name.CallName.TheVariants as name
 use Rattle.node_core.specs.declared.step.Reply.{Reply}
 use Rattle.node_core.specs.declared.step.Reply.TheVariants.{Badarg}
 use Rattle.node_core.specs.Values.{is_value}
 use Rattle.node_core.specs.laws.Agreement.{AreSameLists}
+use Rattle.node_core.specs.laws.Reached.{HasNoEnd}
 use Rattle.node_core.specs.rules.Reading.{lookup_reply, member_reply, lookup_element_reply, lookup_element_or_reply, tab2list_reply}
 use Rattle.node_core.specs.rules.Replies.{truth_reply, list_reply, term_reply}
 use Rattle.node_core.specs.rules.Searching.{count_reply, match_reply, match_object_reply, select_reply, select_count_reply}
 use Rattle.node_core.specs.rules.Walking.{key_reply, slot_reply, key_and_objects, first_reply, next_reply, first_lookup_reply, next_lookup_reply}
-use Rattle.node_core.proofs.determined.Shuffles.{Shuffled, permuted, filter-shuffled, map-shuffled, found-shuffled}
+use Rattle.node_core.proofs.determined.Shuffles as shuffles
+use Rattle.node_core.proofs.determined.Shuffles.{Shuffled, swap, keep, join, permuted, filter-shuffled, map-shuffled, found-shuffled}
 use Rattle.node_core.proofs.determined.Slots.{SameSlots, behind-same, objects-shuffled, under-same}
 use Rattle.node_core.proofs.determined.Alike.{state_with}
 use Rattle.node_core.proofs.determined.UniqueRules.{chosen-same}
+use Rattle.node_core.proofs.walks.WalkCalls.{answer_reply, end-of}
 
 -- how two replies to a call with this name agree
 abbrev pub Shown : CallName → Reply → Reply → Type 0
 Shown n r q =
     (Contains (name.Tab2list ∷ name.Match ∷ name.MatchObject ∷ name.Select ∷ []) n × AreSameLists r q)
-    ⊎ (Contains (name.First ∷ name.Next ∷ name.FirstLookup ∷ name.NextLookup ∷ []) n × (is_value r ≡ true) × (is_value q ≡ true))
+    ⊎ (Contains (name.Next ∷ name.NextLookup ∷ []) n × (is_value r ≡ true) × (is_value q ≡ true))
+    ⊎ (Contains (name.First ∷ name.FirstLookup ∷ []) n × (is_value r ≡ true) × (is_value q ≡ true) × (r ≢ key_reply None) × (q ≢ key_reply None))
 
 abbrev pub AgreeByName : CallName → Reply → Reply → Type 0
 AgreeByName n r q = (r ≡ q) ⊎ Shown n r q
@@ -40,8 +45,33 @@ AgreeByName n r q = (r ≡ q) ⊎ Shown n r q
 lists : (n : CallName) → Contains (name.Tab2list ∷ name.Match ∷ name.MatchObject ∷ name.Select ∷ []) n → (xs ys : List Term) → Shuffled Term xs ys → AgreeByName n (list_reply xs) (list_reply ys)
 lists n has xs ys h = inr (inl (has, (xs, ys, refl, refl, permuted Term xs ys h)))
 
-keys : (n : CallName) → Contains (name.First ∷ name.Next ∷ name.FirstLookup ∷ name.NextLookup ∷ []) n → (r q : Reply) → is_value r ≡ true → is_value q ≡ true → AgreeByName n r q
-keys n has r q v w = inr (inr (has, v, w))
+keys : (n : CallName) → Contains (name.Next ∷ name.NextLookup ∷ []) n → (r q : Reply) → is_value r ≡ true → is_value q ≡ true → AgreeByName n r q
+keys n has r q v w = inr (inr (inl (has, v, w)))
+
+-- ---- the first key
+first-key-kept : (b : Bool) (s : Slot) (o u : Option Term) → is_some o ≡ is_some u → is_some (cond b (Some s.0) o) ≡ is_some (cond b (Some s.0) u)
+first-key-kept true s o u e = refl
+first-key-kept false s o u e = e
+
+first-key-swapped : (b c : Bool) (x y : Slot) (o : Option Term) → is_some (cond b (Some x.0) (cond c (Some y.0) o)) ≡ is_some (cond c (Some y.0) (cond b (Some x.0) o))
+first-key-swapped true true x y o = refl
+first-key-swapped true false x y o = refl
+first-key-swapped false true x y o = refl
+first-key-swapped false false x y o = refl
+
+-- whether some key has objects
+first-same : (xs ys : List Slot) → SameSlots xs ys → is_some (first_key xs) ≡ is_some (first_key ys)
+first-same _ _ (shuffles.same xs) = refl
+first-same _ _ (keep x xs ys h) = first-key-kept (has_objects x.1) x (first_key xs) (first_key ys) (first-same xs ys h)
+first-same _ _ (swap x y xs) = first-key-swapped (has_objects x.1) (has_objects y.1) x y (first_key xs)
+first-same _ _ (join xs ys zs h k) = first-same xs ys h ∙ first-same ys zs k
+
+-- no key is the end of a table in another order, either
+ends-same : (xs ys : List Slot) → SameSlots xs ys → HasNoEnd xs → HasNoEnd ys
+ends-same _ _ (shuffles.same xs) free = free
+ends-same _ _ (keep x xs ys h) free = (free.0, ends-same xs ys h free.1)
+ends-same _ _ (swap x y xs) free = (free.1.0, (free.0, free.1.1))
+ends-same _ _ (join xs ys zs h k) free = ends-same ys zs k (ends-same xs ys h free)
 
 module _ (f : TableState) (ss : List Slot) (h : SameSlots f.content.slots ss) (d : HasDistinctKeys f.content.slots) where
   abbrev other : TableState
@@ -92,14 +122,36 @@ module _ (f : TableState) (ss : List Slot) (h : SameSlots f.content.slots ss) (d
   key-value None = refl
   key-value (Some key) = refl
 
-  pub first-agrees : AgreeByName name.First (first_reply f) (first_reply other)
-  first-agrees = keys name.First (0, omega arith, refl) _ _ (key-value (first_key f.content.slots)) (key-value (first_key ss))
+  -- both are the end, or both are not
+  module _ (n : CallName) (has : Contains (name.First ∷ name.FirstLookup ∷ []) n) (objects : Bool) (value : (ss : List Slot) → is_value (answer_reply objects None ss) ≡ true)
+      (end : (ss : List Slot) → first_key ss ≡ None → answer_reply objects None ss ≡ key_reply None) (free : HasNoEnd f.content.slots) where
+    not-end : (xs : List Slot) (key : Term) → HasNoEnd xs → first_key xs ≡ Some key → answer_reply objects None xs ≢ key_reply None
+    not-end xs key none e r = let both : Some (Some key) ≡ Some None = ap (λ (o : Option Term). Some o) (sym e) ∙ end-of objects None xs none r in cc
 
-  pub first_lookup-agrees : AgreeByName name.FirstLookup (first_lookup_reply f) (first_lookup_reply other)
-  first_lookup-agrees =
-      keys name.FirstLookup (2, omega arith, refl) _ _ (key-value (option_map key_and_objects (first_slot f.content.slots))) (key-value (option_map key_and_objects (first_slot ss)))
+    both-first : (o u : Option Term) → first_key f.content.slots ≡ o → first_key ss ≡ u → is_some o ≡ is_some u → AgreeByName n (answer_reply objects None f.content.slots) (answer_reply objects None ss)
+    both-first None None e g same = inl (end f.content.slots e ∙ sym (end ss g))
+    both-first None (Some k) e g same = cc
+    both-first (Some k) None e g same = cc
+    both-first (Some j) (Some k) e g same =
+        inr (inr (inr (has, value f.content.slots, value ss, not-end f.content.slots j free e, not-end ss k (ends-same f.content.slots ss h free) g)))
 
-  next-at : (n : CallName) → Contains (name.First ∷ name.Next ∷ name.FirstLookup ∷ name.NextLookup ∷ []) n → (answer : List Slot → Reply) → ((xs : List Slot) → is_value (answer xs) ≡ true)
+    first-by : AgreeByName n (answer_reply objects None f.content.slots) (answer_reply objects None ss)
+    first-by = both-first (first_key f.content.slots) (first_key ss) refl refl (first-same f.content.slots ss h)
+
+  pub first-agrees : HasNoEnd f.content.slots → AgreeByName name.First (first_reply f) (first_reply other)
+  first-agrees = first-by name.First (0, omega arith, refl) false (λ ss. key-value (first_key ss)) (λ ss e. ap key_reply e)
+
+  no-first-slot : (ss : List Slot) → first_key ss ≡ None → slot_reply (first_slot ss) ≡ key_reply None
+  no-first-slot ss e = by (first_slot ss) (first-key ss ∙ e)
+    where
+      by : (o : Option Slot) → key_in o ≡ None → slot_reply o ≡ key_reply None
+      by None e = refl
+      by (Some s) e = absurd (cc)
+
+  pub first_lookup-agrees : HasNoEnd f.content.slots → AgreeByName name.FirstLookup (first_lookup_reply f) (first_lookup_reply other)
+  first_lookup-agrees = first-by name.FirstLookup (1, omega arith, refl) true (λ ss. key-value (option_map key_and_objects (first_slot ss))) no-first-slot
+
+  next-at : (n : CallName) → Contains (name.Next ∷ name.NextLookup ∷ []) n → (answer : List Slot → Reply) → ((xs : List Slot) → is_value (answer xs) ≡ true)
       → (o u : Option (List Slot)) → is_some o ≡ is_some u → AgreeByName n (option_map_or answer o Badarg) (option_map_or answer u Badarg)
   next-at n has answer v None None e = inl refl
   next-at n has answer v None (Some ys) e = cc
@@ -110,14 +162,14 @@ module _ (f : TableState) (ss : List Slot) (h : SameSlots f.content.slots ss) (d
   mapped find answer None = refl
   mapped find answer (Some xs) = refl
 
-  behind-agrees : {A : Type 0} (n : CallName) → Contains (name.First ∷ name.Next ∷ name.FirstLookup ∷ name.NextLookup ∷ []) n → (find : List Slot → A) (answer : A → Reply) → ((a : A) → is_value (answer a) ≡ true)
+  behind-agrees : {A : Type 0} (n : CallName) → Contains (name.Next ∷ name.NextLookup ∷ []) n → (find : List Slot → A) (answer : A → Reply) → ((a : A) → is_value (answer a) ≡ true)
       → (key : Term) → AgreeByName n (option_map_or answer (option_map find (slots_behind f.content.slots key)) Badarg) (option_map_or answer (option_map find (slots_behind ss key)) Badarg)
   behind-agrees n has find answer v key =
       subst₂ (AgreeByName n) (sym (mapped find answer (slots_behind f.content.slots key))) (sym (mapped find answer (slots_behind ss key)))
       (next-at n has (λ xs. answer (find xs)) (λ xs. v (find xs)) (slots_behind f.content.slots key) (slots_behind ss key) (behind-same key f.content.slots ss h))
 
   pub next-agrees : (key : Term) → AgreeByName name.Next (next_reply key f) (next_reply key other)
-  next-agrees key = behind-agrees name.Next (1, omega arith, refl) first_key key_reply key-value key
+  next-agrees key = behind-agrees name.Next (0, omega arith, refl) first_key key_reply key-value key
 
   pub next_lookup-agrees : (key : Term) → AgreeByName name.NextLookup (next_lookup_reply key f) (next_lookup_reply key other)
-  next_lookup-agrees key = behind-agrees name.NextLookup (3, omega arith, refl) first_slot slot_reply (λ s. key-value (option_map key_and_objects s)) key
+  next_lookup-agrees key = behind-agrees name.NextLookup (1, omega arith, refl) first_slot slot_reply (λ s. key-value (option_map key_and_objects s)) key

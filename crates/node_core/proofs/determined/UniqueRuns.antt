@@ -45,7 +45,7 @@ steps-agree : (old old' : State) → AlikeStates old old' → IsSound old → (s
 steps-agree old old' alike sound s =
     let us = old'.world.tables in
     subst (λ (x : State). Unique (Agree s) AlikeStates (step old s) (step x s)) (sym alike.rest) (λ r q new next h k.
-    let both = step-unique old us alike.tables sound.keys AgreeByName (λ n r q e. inl e) (λ p. agreeing old us alike.tables sound.keys p) s r q new next h k in
+    let both = step-unique old us alike.tables sound.keys AgreeByName (λ n r q e. inl e) (λ p. agreeing old us alike.tables sound.keys sound.ends p) s r q new next h k in
     (agreed old us alike.tables sound.keys s r q both.0, both.1))
 
 abbrev Pairs : Type 0

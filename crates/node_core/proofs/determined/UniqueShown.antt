@@ -1,10 +1,10 @@
 -- The calls that show the order of slots: over the same slots in another order their replies agree, and over the same state they are equal.
-use Rattle.std.proofs.Common.{◌≡◌, ℕ, List, refl, inl}
+use Rattle.std.proofs.Common.{◌≡◌, ℕ, List, Some, refl, inl}
 use Rattle.ets_term.specs.declared.term.Term.{Term}
 use Rattle.bucket_table.specs.Slots.{Slot}
 use Rattle.bucket_table.specs.Rows.{HasDistinctKeys}
 use Rattle.fixed_walk.specs.TableState.{TableState}
-use Rattle.ownership.specs.World.{Tables}
+use Rattle.ownership.specs.World.{Table, Tables, table_at}
 use Rattle.node_core.specs.declared.call_name.CallName.{CallName}
 use Rattle.node_core.specs.declared.call_name.CallName.TheVariants as name
 use Rattle.node_core.specs.declared.node.access.Access.TheVariants.{Read}
@@ -12,14 +12,16 @@ use Rattle.node_core.specs.declared.step.Reply.{Reply}
 use Rattle.node_core.specs.declared.step.Reply.TheVariants.{Badarg}
 use Rattle.node_core.specs.State.{State}
 use Rattle.node_core.specs.Access.{usable, reads}
+use Rattle.node_core.specs.laws.Reached.{HasNoEnd}
+use Rattle.node_core.specs.rules.Walking.{first_reply, first_lookup_reply}
 use Rattle.node_core.proofs.determined.Slots.{SameSlots}
 use Rattle.node_core.proofs.determined.Alike.{AlikeTables, AlikeStates, state_with, with_tables, tables-itself}
 use Rattle.node_core.proofs.determined.Unique.{Unique, Same, gives-unique, refuse_none-unique}
 use Rattle.node_core.proofs.determined.UniqueCalls.{ShowsOrder}
 use Rattle.node_core.proofs.determined.UniqueReads.{AgreeByName, tab2list-agrees, match-agrees, match_object-agrees, select-agrees, first-agrees, first_lookup-agrees, next-agrees, next_lookup-agrees}
-use Rattle.node_core.proofs.determined.UniqueStates.{HasDistinctSlots, reads-unique}
+use Rattle.node_core.proofs.determined.UniqueStates.{HasDistinctSlots, reads-unique, reads-unique-free}
 
-module _ (old : State) (us : Tables) (a : AlikeTables old.world.tables us) (distinct : HasDistinctSlots old) (p : ℕ) where
+module _ (old : State) (us : Tables) (a : AlikeTables old.world.tables us) (distinct : HasDistinctSlots old) (free : (t : ℕ) (table : Table) → table_at old.world.tables t ≡ Some table → HasNoEnd table.state.content.slots) (p : ℕ) where
   read : (n : CallName) (x : Term) (answer : TableState → Reply)
       → ((f : TableState) (ss : List Slot) → SameSlots f.content.slots ss → HasDistinctKeys f.content.slots → AgreeByName n (answer f) (answer (state_with f ss)))
       → Unique (AgreeByName n) AlikeStates (reads old p x answer) (reads (with_tables old us) p x answer)
@@ -28,8 +30,8 @@ module _ (old : State) (us : Tables) (a : AlikeTables old.world.tables us) (dist
   pub agreeing : ShowsOrder old us p AgreeByName
   agreeing = record {
     tab2list = λ x. read name.Tab2list x _ (λ f ss h d. tab2list-agrees f ss h d);
-    first = λ x. read name.First x _ (λ f ss h d. first-agrees f ss h d);
-    first_lookup = λ x. read name.FirstLookup x _ (λ f ss h d. first_lookup-agrees f ss h d);
+    first = λ x. reads-unique-free old us a distinct (AgreeByName name.First) (inl refl) free p x first_reply (λ f ss h d. first-agrees f ss h d);
+    first_lookup = λ x. reads-unique-free old us a distinct (AgreeByName name.FirstLookup) (inl refl) free p x first_lookup_reply (λ f ss h d. first_lookup-agrees f ss h d);
     next = λ x y. read name.Next x _ (λ f ss h d. next-agrees f ss h d y);
     next_lookup = λ x y. read name.NextLookup x _ (λ f ss h d. next_lookup-agrees f ss h d y);
     match = λ x y. read name.Match x _ (λ f ss h d. match-agrees f ss h d y);

@@ -11,6 +11,7 @@ use Rattle.fixed_walk.specs.TableState.{TableState}
 use Rattle.ownership.specs.declared.fault.WorldFault.{WorldFault}
 use Rattle.ownership.specs.declared.info.InfoItem.{InfoItem}
 use Rattle.ownership.specs.World.{Table, Tables, World, table_at, resolve}
+use Rattle.node_core.specs.laws.Reached.{HasNoEnd}
 use Rattle.ownership.specs.Info.{item_of}
 use Rattle.ownership.specs.Options.{options_of}
 use Rattle.ownership.specs.Tables.{without_table}
@@ -74,6 +75,15 @@ module _ (old : State) (us : Tables) (a : AlikeTables old.world.tables us) (dist
         let is = usable-there old.world.tables Read p x t there in
         gives-unique R AlikeStates (answer t.1.state) (answer u.1.state) old old'
         (by-slots (λ f g. R (answer f) (answer g)) each t.1.state u.1.state e.1.state (distinct t.0 t.1 is.at)) before)
+
+    -- the same where no key is the end of a table
+    pub reads-unique-free : ((t : ℕ) (table : Table) → table_at old.world.tables t ≡ Some table → HasNoEnd table.state.content.slots) → (p : ℕ) (x : Term) (answer : TableState → Reply)
+        → ((f : TableState) (ss : List Slot) → SameSlots f.content.slots ss → HasDistinctKeys f.content.slots → HasNoEnd f.content.slots → R (answer f) (answer (state_with f ss))) → UniqueBy R (reads old p x answer) (reads old' p x answer)
+    reads-unique-free free p x answer each =
+        named Read p x (λ found. gives (answer found.1.state) old) (λ found. gives (answer found.1.state) old') (λ t u there e.
+        let is = usable-there old.world.tables Read p x t there in
+        gives-unique R AlikeStates (answer t.1.state) (answer u.1.state) old old'
+        (by-slots (λ f g. HasNoEnd f.content.slots → R (answer f) (answer g)) each t.1.state u.1.state e.1.state (distinct t.0 t.1 is.at) (free t.0 t.1 is.at)) before)
 
   -- a change of a table
   written : (n m : ℕ) → m ≡ n → (f g : TableState) → Alike f g → AlikeStates (with_table old n f) (with_table old' m g)

@@ -203,7 +203,7 @@ no-slot-replied (Some (Some slot)) h =
     let is : key_and_objects slot ≡ Atom (codes "$end_of_table") = cc in
     absurd (true≢false (sym (ap is_end is ∙ end-is) ∙ tuple-is (slot.0 ∷ list_term slot.1 ∷ [])))
 
-end-of : (objects : Bool) (asked : Option Term) (slots : List Slot) → HasNoEnd slots → answer_reply objects asked slots ≡ key_reply None → walk_answer asked slots ≡ Some None
+pub end-of : (objects : Bool) (asked : Option Term) (slots : List Slot) → HasNoEnd slots → answer_reply objects asked slots ≡ key_reply None → walk_answer asked slots ≡ Some None
 end-of false asked slots free h = end-replied asked slots (walk_answer asked slots) refl free h
 end-of true asked slots free h = answer-key asked slots None (no-slot-replied (slot_answer asked slots) h)
 

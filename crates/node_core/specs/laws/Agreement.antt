@@ -1,5 +1,5 @@
 -- A step has one reply, and two runs of the same steps have replies that agree, up to the order of keys.
-use Rattle.std.specs.Prelude.{◌≡◌, ◌⊎◌, ℕ, true, List, [], ◌∷◌, Contains, IsPermutation, map, option_map}
+use Rattle.std.specs.Prelude.{◌≡◌, ◌≢◌, ◌⊎◌, ℕ, true, List, [], ◌∷◌, None, Contains, IsPermutation, map, option_map}
 use Rattle.std.specs.List.{AllZip}
 use Rattle.std.specs.Map.{keys_of}
 use Rattle.std.specs.Option.{IsSomeAnd}
@@ -17,6 +17,7 @@ use Rattle.node_core.specs.Values.{is_value}
 use Rattle.node_core.specs.Machine.{step, run}
 use Rattle.node_core.specs.Buckets.{run_on_buckets}
 use Rattle.node_core.specs.rules.Replies.{list_reply}
+use Rattle.node_core.specs.rules.Walking.{key_reply}
 use Rattle.node_core.specs.laws.Erasing.{without_growth}
 use Rattle.node_core.specs.laws.Kept.{slots_in}
 use Rattle.node_core.specs.laws.Reached.{IsSound}
@@ -26,12 +27,14 @@ abbrev pub AreSameLists : Reply → Reply → Type 0
 AreSameLists r q =
     (xs : List Term) × (ys : List Term) × (r ≡ list_reply xs) × (q ≡ list_reply ys) × IsPermutation xs ys
 
--- Two replies to the same step are the same. But the list of all objects or results may have another order, and the key
--- that a traversal gets may be another.
+-- Two replies to the same step are the same. But the list of all objects or results may have another order, the first key
+-- may be another, and the next key may be another or the end of the table.
 abbrev pub Agree : Step → Reply → Reply → Type 0
 Agree (Ask p asked) r q = (r ≡ q) ⊎ IsSomeAnd (call_name asked.name) (λ name.
     (Contains (Tab2list ∷ Match ∷ MatchObject ∷ Select ∷ []) name × AreSameLists r q)
-    ⊎ (Contains (First ∷ Next ∷ FirstLookup ∷ NextLookup ∷ []) name × (is_value r ≡ true) × (is_value q ≡ true)))
+    ⊎ (Contains (Next ∷ NextLookup ∷ []) name × (is_value r ≡ true) × (is_value q ≡ true))
+    ⊎ (Contains (First ∷ FirstLookup ∷ []) name × (is_value r ≡ true) × (is_value q ≡ true)
+    × (r ≢ key_reply None) × (q ≢ key_reply None)))
 Agree _ r q = r ≡ q
 
 -- a table without its slots, and a state without those of its tables

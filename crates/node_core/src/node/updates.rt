@@ -13,7 +13,7 @@ use super::access::Access;
 use super::replies::{write_truth, write_value};
 use crate::step::Reply;
 use bucket_table::Rows;
-use counters::{read_element_specs, read_increment, read_ops, read_pair};
+use counters::{Ops, read_element_specs, read_increment, read_ops, read_pair};
 use ets_term::{KeyHash, Term};
 use fixed_walk::Walked;
 use std::alloc::Global;
@@ -109,7 +109,7 @@ impl<H: KeyHash + Copy + Drop> Node<H> {
 }
 
 /// Applies the operations of a term to the counters of a key's object. A single increment, without a Default, is the
-/// most frequent update.
+/// most frequent update. It is read without memory.
 #[inline(always)]
 fn apply_operations<R: Rows>(
     alloc: Global,
@@ -122,7 +122,7 @@ fn apply_operations<R: Rows>(
 {
     if update.default.is_none() {
         if let Some(op) = read_increment(update.changes, table.keypos()) {
-            return table.update_one_counter(update.key, op);
+            return table.update_counter(update.key, &Ops::One(op), None);
         }
     }
     apply_any_operations(alloc, table, update)

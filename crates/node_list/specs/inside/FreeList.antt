@@ -1,6 +1,6 @@
 -- The items of a slab: nodes, and free places, each of which leads to the next.
-use Rattle.std.specs.Prelude.{◌≡◌, ℕ, ◌+◌, ◌*◌, ◌-◌, ◌^◌, ◌<◌, ◌≤◌, if◌then◌else◌, List, length, map, Option, Some, None, IsSome, is_some, count_by}
-use Rattle.slab.specs.Slab.{Slab, get, slab_len}
+use Rattle.std.specs.Prelude.{◌≡◌, ℕ, ◌+◌, ◌*◌, ◌-◌, ◌^◌, ◌<◌, ◌≤◌, if◌then◌else◌, Bool, true, List, length, map, Option, Some, None, IsSome, is_some, count_by}
+use Rattle.slab.specs.Slab.{Slab, get, slab_len, HasRoomFor}
 use Rattle.node_list.specs.declared.node.Item.{Item}
 use Rattle.node_list.specs.declared.node.ListNode.{ListNode}
 use Rattle.node_list.specs.declared.node.StoredItem.{StoredItem}
@@ -25,6 +25,19 @@ live_node (Some s) = if is_free s.header then None else Some (stored_node s)
 abbrev pub live_nodes : List (Option StoredItem) → List (Option ListNode)
 live_nodes slots = map live_node slots
 
+-- the items as a slab of nodes: an item fits each place of the slab, and the spare place
+abbrev pub items_view : Slab StoredItem → Bool → Slab ListNode
+items_view nodes spare = record {
+  slots = live_nodes nodes.slots;
+  vacant_key = nodes.vacant_key;
+  capacity = slab_len nodes + (if spare then 1 else 0);
+}
+
+-- the slab has capacity for one more place, and a link has bits for the place
+pub record HasSparePlace (nodes : Slab StoredItem) : Type 0 where
+  pub room : HasRoomFor nodes 1
+  pub fits : nodes.vacant_key < 2 ^ 30 - 1
+
 abbrev pub free_node : StoredItem → ListNode
 free_node s = record { split_key = 0; next = next_in s.header; item = None }
 
@@ -44,11 +57,12 @@ abbrev pub HasNoItemBetween : ℕ → ℕ → Slab StoredItem → Type 0
 HasNoItemBetween from to nodes = (k : ℕ) → from ≤ k → k < to → live_node (get nodes k) ≡ None
 
 -- The slab has no place from `end` on, and each place fits a link. Below `first_item_bound` there is no node. There are
--- `len` nodes.
-pub record ItemsInvariant (nodes : Slab StoredItem) (first_item_bound end : ℕ) (free_head : Option ℕ) (len : ℕ)
-    : Type 0 where
+-- `len` nodes. If a place is spare, the slab can take it.
+pub record ItemsInvariant (nodes : Slab StoredItem) (spare : Bool) (first_item_bound end : ℕ) (free_head : Option ℕ)
+    (len : ℕ) : Type 0 where
   pub within : (k : ℕ) → IsSome (get nodes k) → k < end
   pub few : end < 2 ^ 30
   pub below : (k : ℕ) → k < first_item_bound → live_node (get nodes k) ≡ None
   pub counted : count_by is_some (live_nodes nodes.slots) ≡ len
   pub free_list : IsFreeList nodes free_head len
+  pub ready : spare ≡ true → HasSparePlace nodes

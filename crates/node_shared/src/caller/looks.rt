@@ -22,7 +22,7 @@ impl<B: HistoryId> Caller<B> {
         if self.count > count || self.count == u64::MAX {
             return false;
         }
-        let all = served.seen();
+        let all = served.token();
         self.seen.begins(&all);
         self.writer.confirm(&all);
         self.seen = all;

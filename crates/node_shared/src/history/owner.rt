@@ -87,7 +87,7 @@ impl<B: HistoryId> Model for HistoryOwner<B> {
 
 impl<B: HistoryId> HistoryOwner<B> {
     /// Returns a token of the whole history.
-    pub(crate) fn seen(&self) -> SeenHistory<B>
+    pub(crate) fn token(&self) -> SeenHistory<B>
         ensures { result ≡ self.now }
     {
         SeenHistory {

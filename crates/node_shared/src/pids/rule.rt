@@ -19,7 +19,8 @@ pub enum View {
 pub struct Numbers;
 
 impl TableRule<(), View, u64> for Numbers {
-    ghost use Rattle.node_shared.specs.Numbers.{HoldsNumbers, opening_view};
+    ghost use Rattle.node_shared.specs.Numbers.{HoldsNumbers};
+    ghost use Rattle.node_shared.specs.inside.Seats.{opening_view};
 
     ghost holds = { HoldsNumbers };
 
@@ -31,7 +32,7 @@ impl TableRule<(), View, u64> for Numbers {
 pub struct SplitsOff;
 
 impl Split<View> for SplitsOff {
-    ghost use Rattle.node_shared.specs.Numbers.{one_fewer, undrawn_view};
+    ghost use Rattle.node_shared.specs.inside.Seats.{one_fewer, undrawn_view};
 
     ghost left = { one_fewer };
 
@@ -42,7 +43,7 @@ impl Split<View> for SplitsOff {
 pub struct Draws;
 
 impl Play<(), View> for Draws {
-    ghost use Rattle.node_shared.specs.Numbers.{DrawsNumber};
+    ghost use Rattle.node_shared.specs.inside.Seats.{DrawsNumber};
 
     ghost then = { DrawsNumber };
 }

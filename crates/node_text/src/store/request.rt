@@ -8,15 +8,16 @@ ghost use Rattle.node_text.specs.Calls.{RunsStep};
 ghost use Rattle.node_text.specs.Answers.{WritesReply, WritesReason, written_reply};
 ghost use Rattle.node_text.specs.Requests.{empty_request, TakesCall, TakesFault, TakesNothing, Reads, ReadsExternal, RunReturns, Runs};
 
+use crate::external_call::{ExternalCall, read_external_call};
 use crate::growth::growth_steps;
 use crate::last_refusal::LastRefusal;
-use crate::parsed_call::{ParsedCall, read_call};
 use crate::status::{CLOSED, NO_MEMORY, SYNTAX, VALUE, status_of};
 use crate::store::Store;
 use crate::store::replies::{write_bytes, write_refusal, write_text};
+use crate::text_call::{TextCall, read_text_call};
 use ets_term::{Atom, Items, Term};
 use node_core::{Call, Reply, Step};
-use script_reasons::diagnose_in_call;
+use node_reasons::diagnose_in_call;
 use std::alloc::{AllocError, Global};
 use std::marker::Model;
 
@@ -62,12 +63,12 @@ impl Request {
     pub fn read(&mut self, alloc: Global, pid: u32, text: &[u8], len: &mut usize) -> i32
         ensures { Reads text.now pid self.old result len.new self.new }
     {
-        let Ok(call) = read_call(alloc, text) else {
+        let Ok(call) = read_text_call(alloc, text) else {
             return self.take_nothing(len);
         };
         match call {
-            ParsedCall::Call(name, args) => self.take_call(pid, name, args, len),
-            ParsedCall::Faulty(at) => {
+            TextCall::Call(name, args) => self.take_call(pid, name, args, len),
+            TextCall::Faulty(at) => {
                 let refusal = LastRefusal::Syntax(diagnose_in_call(text, at));
                 self.take_fault(refusal, at, len)
             }
@@ -78,12 +79,12 @@ impl Request {
     pub fn read_external(&mut self, alloc: Global, pid: u32, bytes: &[u8], len: &mut usize) -> i32
         ensures { ReadsExternal bytes.now pid self.old result len.new self.new }
     {
-        let Ok(call) = node_external::read_call(alloc, bytes) else {
+        let Ok(call) = read_external_call(alloc, bytes) else {
             return self.take_nothing(len);
         };
         match call {
-            node_external::ParsedCall::Call(name, args) => self.take_call(pid, name, args, len),
-            node_external::ParsedCall::Faulty(problem, at) => {
+            ExternalCall::Call(name, args) => self.take_call(pid, name, args, len),
+            ExternalCall::Faulty(problem, at) => {
                 self.take_fault(LastRefusal::External(problem), at, len)
             }
         }

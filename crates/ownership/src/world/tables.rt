@@ -1,9 +1,10 @@
 //! The tables by identifier and by name: how they are created, found, borrowed for a change, and deleted. Identifiers
 //! count from 0 in order of creation.
-ghost use Rattle.std.specs.Prelude.{◌≡◌, ◌+◌, ◌<◌, ◌^◌, ◌&&◌, false, OnOk, OnErr, nat_le, length, is_some, option_copied, IfOk};
+ghost use Rattle.std.specs.Prelude.{◌≡◌, ℕ, ◌+◌, ◌<◌, ◌^◌, ◌&&◌, true, false, Some, OnOk, OnErr, nat_le, length, is_some, option_copied, IfOk};
 ghost use Rattle.std.specs.Option.{option_copied_mut};
 ghost use Rattle.std.specs.Borrow.{sem};
-ghost use Rattle.ownership.specs.World.{table_at, metadata_of, whereis, resolve};
+ghost use Rattle.table_ops.specs.Invariants.{IsContent};
+ghost use Rattle.ownership.specs.World.{Table, table_at, metadata_of, whereis, resolve};
 ghost use Rattle.ownership.specs.Lookups.{state_at};
 ghost use Rattle.ownership.specs.Messages.{name_or_identifier};
 ghost use Rattle.ownership.specs.Tables.{New, new_metadata, with_table, without_table};
@@ -48,6 +49,16 @@ impl<R: Rows> World<R> {
         ensures { result ≡ whereis self.now.tables name.now }
     {
         self.indices.find(name)
+    }
+
+    /// Gives a proof the invariants: what holds of the content of each table, and that the name of each named table finds
+    /// it, so that no two have the same name. It reads each table, and changes nothing.
+    pub fn reveal_invariant(&self)
+        ensures contents { (t : ℕ) (table : Table) → table_at self.now.tables t ≡ Some table → IsContent table.state.content }
+        ensures names { (t : ℕ) (table : Table) → table_at self.now.tables t ≡ Some table → table.metadata.named ≡ true
+            → whereis self.now.tables table.metadata.name ≡ Some t }
+    {
+        reveal_contents(self.tables.as_slice());
     }
 
     /// Returns the identifier of the table that a term names, by its identifier or, for a named table, by its name.
@@ -248,4 +259,15 @@ fn answer_and_metadata(
         protection,
     };
     Ok((answer, metadata))
+}
+
+/// Gives a proof what holds of the content of each table.
+fn reveal_contents<R: Rows>(tables: &[Option<OwnedTable<R>>])
+    ensures { (t : ℕ) (table : Table) → table_at tables.now t ≡ Some table → IsContent table.state.content }
+{
+    for found in tables {
+        if let Some(owned) = found {
+            owned.table().reveal_invariant();
+        }
+    }
 }

@@ -1,5 +1,5 @@
 -- What private calls of an update do to the slot of a key.
-use Rattle.std.specs.Prelude.{◌≡◌, ◌⊎◌, Bool, true, false, List, [], ◌∷◌, Option, Some, Result, Ok, Err, is_ok}
+use Rattle.std.specs.Prelude.{◌≡◌, List, [], ◌∷◌, Option, Some, Result, Ok, Err}
 use Rattle.ets_term.specs.declared.term.Term.{Term}
 use Rattle.bucket_table.specs.Slots.{Slot}
 use Rattle.bucket_table.specs.Entries.{objects_in, with_objects_in}
@@ -9,9 +9,6 @@ use Rattle.counters.specs.declared.elements.ElementSpecs.{ElementSpecs}
 use Rattle.counters.specs.declared.fault.CounterFault.{CounterFault}
 use Rattle.counters.specs.declared.fault.CounterFault.TheVariants as fault
 use Rattle.counters.specs.declared.ops.Ops.{Ops}
-use Rattle.table_ops.specs.declared.refusal.Refusal.{Refusal}
-use Rattle.table_ops.specs.declared.refusal.Refusal.TheVariants.{Badarg, SystemLimit, Memory}
-use Rattle.table_ops.specs.Put.{SetsObjects}
 
 -- the slot at a place, given its key, had one object, for which P holds
 abbrev pub HadOneObject : List Slot → Option Term → (Term → Type 0) → Type 0
@@ -41,14 +38,3 @@ UpdatesElementAt specs key old (Err fault.Badarg) new =
 UpdatesElementAt specs key old (Err fault.SystemLimit) new =
     HadOneObject old key (λ was. (apply_elements specs was ≡ Err fault.SystemLimit) × (new ≡ old))
 UpdatesElementAt specs key old (Err fault.Memory) new = new ≡ old
-
--- the object that was made is inserted under a key that has none, if the table is below its limit
-abbrev pub InsertsDefaultAt : {X : Type 0} → Bool → Term → Result (Term × X) CounterFault → List Slot
-    → Result X Refusal → List Slot → Type 0
-InsertsDefaultAt below_limit key made old (Ok answer) new =
-    (object : Term) × (made ≡ Ok (object, answer)) × (below_limit ≡ true)
-    × SetsObjects old key (object ∷ []) new
-InsertsDefaultAt below_limit key made old (Err Badarg) new = (made ≡ Err fault.Badarg) × (new ≡ old)
-InsertsDefaultAt below_limit key made old (Err SystemLimit) new =
-    (new ≡ old) × ((made ≡ Err fault.SystemLimit) ⊎ ((is_ok made ≡ true) × (below_limit ≡ false)))
-InsertsDefaultAt below_limit key made old (Err Memory) new = new ≡ old

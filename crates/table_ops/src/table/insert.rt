@@ -36,7 +36,9 @@ impl<R: Rows> Table<R> {
         if let Some(refusal) = self.refusal_of(object) {
             return Err(refusal);
         }
-        self.put_valid_object(object)
+        let count = self.inner.put_one(self.count, object)?;
+        self.count = count;
+        Ok(())
     }
 
     /// Returns the refusal if the term is not an object or is too deep, or `None` if it may be inserted.
@@ -54,19 +56,6 @@ impl<R: Rows> Table<R> {
             return Some(Refusal::SystemLimit);
         }
         None
-    }
-
-    /// Inserts a copy of an object that `refusal_of` does not refuse.
-    fn put_valid_object(&mut self, object: &Term) -> Result<(), Refusal>
-        requires object { is_object self.old.content.keypos object.now ≡ true }
-        requires shallow { is_too_deep object.now ≡ false }
-        ensures content { RefinesChange (Inserts (object.now ∷ []) self.old.content)
-            self.old.content result self.new.content }
-        ensures buckets { self.new.buckets ≡ self.old.buckets }
-    {
-        let count = self.inner.put_one(self.count, object)?;
-        self.count = count;
-        Ok(())
     }
 
     /// Does `insert` of a list of objects.
@@ -111,8 +100,7 @@ impl<R: Rows> Table<R> {
         if object.is_too_deep() {
             return Err(Refusal::SystemLimit);
         }
-        let below_limit = self.count < self.inner.limit as usize;
-        let undo = self.inner.put(below_limit, entry, key, object)?;
+        let undo = self.inner.put(self.count, entry, key, object)?;
         self.count += undo.added_objects();
         Ok(true)
     }

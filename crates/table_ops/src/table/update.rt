@@ -1,7 +1,6 @@
 //! The calls that update counters or elements of a set's object in place. A Default is the object for a missing key,
 //! and an entry is the result of the search for the key.
 ghost use Rattle.std.specs.Prelude.{◌≡◌, ◌&&◌, None, option_copied};
-ghost use Rattle.counters.specs.declared.ops.Ops.TheVariants.{One};
 ghost use Rattle.counters.specs.declared.elements.ElementSpecs.TheVariants as elements;
 ghost use Rattle.table_ops.specs.Refusals.{RefinesChange};
 ghost use Rattle.table_ops.specs.Update.{is_set, may_update, ops_avoid_key, element_specs_avoid_key, default_is_object, counter_is_valid, element_is_valid, UpdatesCounter, UpdatesElement};
@@ -9,7 +8,7 @@ ghost use Rattle.table_ops.specs.Update.{is_set, may_update, ops_avoid_key, elem
 use super::Table;
 use crate::refusal::Refusal;
 use bucket_table::Rows;
-use counters::{ElementSpecs, Op, Ops, start_counter, start_with_elements};
+use counters::{ElementSpecs, Ops, start_counter, start_with_elements};
 use ets_term::{Position, Term};
 
 impl<R: Rows> Table<R> {
@@ -24,7 +23,8 @@ impl<R: Rows> Table<R> {
     /// - a key without an object, if there is no Default.
     ///
     /// Refuses with `SystemLimit` a new value out of the range of integers, a new object that is too deep, and one
-    /// object more than the table may have.
+    /// object more than the table may have. A single operation on a key that has an object takes no memory.
+    #[inline(always)]
     pub fn update_counter(
         &mut self,
         key: &Term,
@@ -54,28 +54,9 @@ impl<R: Rows> Table<R> {
             key,
             ops,
         )?;
-        let below_limit = self.count < self.inner.limit as usize;
-        self.inner.insert_default(below_limit, entry, key, object)?;
-        self.count += 1;
+        let undo = self.inner.put(self.count, entry, key, &object)?;
+        self.count += undo.added_objects();
         Ok(answer)
-    }
-
-    /// Does one operation on a counter of a key's object and returns the new value, as `update_counter` does without a
-    /// Default. The call takes no memory.
-    #[inline(always)]
-    pub fn update_one_counter(&mut self, key: &Term, op: Op) -> Result<Term, Refusal>
-        ensures content { RefinesChange (UpdatesCounter key.now (One op) None self.old.content)
-            self.old.content result self.new.content }
-        ensures buckets { self.new.buckets ≡ self.old.buckets }
-    {
-        if !self.may_update_one(op.position) {
-            return Err(Refusal::Badarg);
-        }
-        let entry = self.inner.rows.entry(key);
-        let Some(place) = self.inner.place_with_objects(key, entry) else {
-            return Err(Refusal::Badarg);
-        };
-        Ok(self.inner.update_one_counter_at(place, op)?)
     }
 
     /// Sets elements of a key's object in place and returns `true` (stdlib manual, ets:update_element/3 and /4). If the
@@ -112,9 +93,8 @@ impl<R: Rows> Table<R> {
             return Ok(false);
         };
         let object = start_with_elements(self.inner.alloc, default, self.inner.keypos, key, specs)?;
-        let below_limit = self.count < self.inner.limit as usize;
-        self.inner.insert_default(below_limit, entry, key, object)?;
-        self.count += 1;
+        let undo = self.inner.put(self.count, entry, key, &object)?;
+        self.count += undo.added_objects();
         Ok(true)
     }
 
@@ -155,6 +135,7 @@ impl<R: Rows> Table<R> {
     }
 
     /// Returns whether `update_counter` allows these arguments: the table is a set, and `ops_are_valid` holds.
+    #[inline(always)]
     fn counter_is_valid(&self, key: &Term, ops: &Ops, default: Option<&Term>) -> bool
         ensures { result
             ≡ counter_is_valid self.now.content key.now ops.now (option_copied default.entry) }
@@ -164,6 +145,7 @@ impl<R: Rows> Table<R> {
 
     /// Returns whether no operation names keypos or position 0, and the Default is absent or becomes an object if `key`
     /// is set at keypos.
+    #[inline(always)]
     fn ops_are_valid(&self, key: &Term, ops: &Ops, default: Option<&Term>) -> bool
         ensures { result
             ≡ (ops_avoid_key self.now.content.keypos ops.now

@@ -1,6 +1,6 @@
 //! The insertion of one object by the kind of the table. Its result is an `Undo`, which says how to undo the insertion.
 //! An entry is the result of the search for the key: the place (index) of the key's slot, or the hash of a missing key.
-ghost use Rattle.std.specs.Prelude.{◌≡◌, ◌||◌, None, IsSome};
+ghost use Rattle.std.specs.Prelude.{◌≡◌, ◌||◌, None, IsSome, nat_lt};
 ghost use Rattle.bucket_table.specs.Slots.{objects_of, has_objects};
 ghost use Rattle.bucket_table.specs.Entries.{IsEntry};
 ghost use Rattle.table_ops.specs.declared.kind.Kind.TheVariants.{Set, Bag, DuplicateBag};
@@ -21,11 +21,11 @@ use node_list::Chain;
 use packed_term::Object;
 
 impl<R: Rows> TableRows<R> {
-    /// Inserts a copy of one object and returns how to undo it. `entry` is the result of the search for its key.
-    /// `below_limit` says whether the table may have one more object.
+    /// Inserts a copy of one object and returns how to undo it. `entry` is the result of the search for its key, and
+    /// `count` is the number of objects of the table.
     pub(crate) fn put(
         &mut self,
-        below_limit: bool,
+        count: usize,
         entry: SlotEntry,
         key: &Term,
         object: &Term,
@@ -33,10 +33,11 @@ impl<R: Rows> TableRows<R> {
         requires entry { IsEntry (R.slots self.old.rows) (R.hash_of self.old.rows)
             (R.key_at self.old.rows) key.now entry }
         requires kind { FitsKind self.old.kind (objects_under (R.slots self.old.rows) key.now) }
-        ensures slots { PutsOne below_limit self.old.kind key.now object.now
+        ensures slots { PutsOne (nat_lt count self.old.limit) self.old.kind key.now object.now
             (R.slots self.old.rows) result (R.slots self.new.rows) }
         ensures keeps { ChangesSlotsOnly R.readiness self.old self.new }
     {
+        let below_limit = count < self.limit as usize;
         match entry {
             SlotEntry::Vacant(hash) => self.put_new(below_limit, hash, key, object),
             SlotEntry::Occupied(place) => self.put_in_slot(below_limit, place, object),
@@ -44,6 +45,7 @@ impl<R: Rows> TableRows<R> {
     }
 
     /// Inserts a copy of one object in the slot at a place, by the kind of the table, and returns how to undo it.
+    /// `below_limit` says whether the table may have one more object.
     pub(crate) fn put_in_slot(
         &mut self,
         below_limit: bool,

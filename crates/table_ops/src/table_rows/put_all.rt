@@ -1,6 +1,6 @@
 //! The insertion of a list of objects, all or none, and of a single object. An undo log records how to undo each
 //! insertion, and a place is the index of a slot.
-ghost use Rattle.std.specs.Prelude.{◌≡◌, ◌≤◌, ◌∷◌, [], true, false, length};
+ghost use Rattle.std.specs.Prelude.{◌≡◌, ◌≤◌, ◌∷◌, [], true, false, length, nat_lt};
 ghost use Rattle.std.specs.List.{list_all, list_any};
 ghost use Rattle.ets_term.specs.Depth.{is_too_deep};
 ghost use Rattle.table_ops.specs.Content.{is_object, key_of};
@@ -78,7 +78,7 @@ impl<R: Rows> TableRows<R> {
         let mut count = before;
         let mut undo_log = Vec::with_capacity(self.alloc, objects.len())?;
         for object in objects {
-            match self.put_object(count < self.limit as usize, object) {
+            match self.put_object(count, object) {
                 Ok(undo) => {
                     count += undo.added_objects();
                     undo_log.push_reserved(undo);
@@ -92,11 +92,11 @@ impl<R: Rows> TableRows<R> {
         Ok(count)
     }
 
-    /// Inserts a copy of one object, and returns how to undo the insertion.
-    fn put_object(&mut self, below_limit: bool, object: &Term) -> Result<Undo, Refusal>
+    /// Inserts a copy of one object, and returns how to undo the insertion. `count` is the number of objects of the table.
+    fn put_object(&mut self, count: usize, object: &Term) -> Result<Undo, Refusal>
         requires object { is_object self.old.keypos object.now ≡ true }
         requires slots { AreSlots self.old.kind self.old.keypos (R.slots self.old.rows) }
-        ensures slots { PutsObject below_limit self.old.kind self.old.keypos object.now
+        ensures slots { PutsObject (nat_lt count self.old.limit) self.old.kind self.old.keypos object.now
             (R.slots self.old.rows) result (R.slots self.new.rows) }
         ensures keeps { ChangesSlotsOnly R.readiness self.old self.new }
     {
@@ -104,7 +104,7 @@ impl<R: Rows> TableRows<R> {
             unreachable!()
         };
         let entry = self.rows.entry(key);
-        self.put(below_limit, entry, key, object)
+        self.put(count, entry, key, object)
     }
 
     /// Undoes the insertions in an undo log, the last first. Element `i` of the log undoes the insertion of

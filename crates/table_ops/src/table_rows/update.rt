@@ -1,26 +1,22 @@
-//! Updates of a slot's only object in place, and the insertion of a Default, the object for a missing key. An entry is
-//! the place (index) of a key's slot, or the hash of a missing key.
-ghost use Rattle.std.specs.Prelude.{◌≡◌, ◌&&◌, [], ◌∷◌, true, Some, Ok, OnOk, OnErr, option_copied};
+//! Updates of a slot's only object in place, and the checks of an update's arguments. An entry is the place (index) of a
+//! key's slot, or the hash of a missing key.
+ghost use Rattle.std.specs.Prelude.{◌≡◌, option_copied};
 ghost use Rattle.std.specs.List.{list_all};
 ghost use Rattle.bucket_table.specs.Entries.{IsEntry, HasOneObject};
 ghost use Rattle.counters.specs.declared.ops.Ops.TheVariants.{One};
 ghost use Rattle.counters.specs.declared.elements.ElementSpecs.TheVariants as elements;
-ghost use Rattle.table_ops.specs.Put.{SetsObjects};
 ghost use Rattle.table_ops.specs.Update.{may_update, ops_avoid_key, element_specs_avoid_key, default_is_object};
 ghost use Rattle.table_ops.specs.inside.TableRows.{ChangesSlotsOnly, IsPlaceWithObjects};
-ghost use Rattle.table_ops.specs.inside.Updated.{UpdatesCounterAt, UpdatesElementAt, InsertsDefaultAt};
+ghost use Rattle.table_ops.specs.inside.Updated.{UpdatesCounterAt, UpdatesElementAt};
 
 use super::TableRows;
-use crate::refusal::Refusal;
 use bucket_table::{Place, Rows, SlotEntry};
 use counters::{
     CounterFault, ElementSpecs, Op, Ops, copy_for_element, counter_value, is_valid_default,
     update_counter, write_elements,
 };
 use ets_term::{Position, Term};
-use node_list::Chain;
 use packed_term::{Object, Packed};
-use std::alloc::AllocError;
 
 impl<R: Rows> TableRows<R> {
     /// Returns whether an update may name a position: it must be at least 1 and not keypos.
@@ -32,6 +28,7 @@ impl<R: Rows> TableRows<R> {
     }
 
     /// Returns whether each operation has a position that an update may name.
+    #[inline(always)]
     pub(crate) fn ops_avoid_key(&self, ops: &Ops) -> bool
         ensures { result ≡ ops_avoid_key self.now.keypos ops.now }
     {
@@ -62,6 +59,7 @@ impl<R: Rows> TableRows<R> {
     }
 
     /// Returns whether the Default is absent, or becomes an object if `key` is set at keypos.
+    #[inline(always)]
     pub(crate) fn default_is_object(&self, key: &Term, default: Option<&Term>) -> bool
         ensures { result ≡ default_is_object self.now.keypos key.now (option_copied default.entry) }
     {
@@ -89,6 +87,7 @@ impl<R: Rows> TableRows<R> {
 
     /// Updates counters of the only object of the slot at a place, and returns the new value or list of values. A
     /// single counter is set without moving the object.
+    #[inline(always)]
     pub(crate) fn update_counter_at(
         &mut self,
         place: Place,
@@ -107,11 +106,7 @@ impl<R: Rows> TableRows<R> {
 
     /// Updates one counter of the only object of the slot at a place, without moving the object. Returns the new value.
     #[inline(always)]
-    pub(crate) fn update_one_counter_at(
-        &mut self,
-        place: Place,
-        op: Op,
-    ) -> Result<Term, CounterFault>
+    fn update_one_counter_at(&mut self, place: Place, op: Op) -> Result<Term, CounterFault>
         requires { HasOneObject (R.slots self.old.rows) (R.key_at self.old.rows place) }
         ensures slots { UpdatesCounterAt (One op) (R.key_at self.old.rows place)
             (R.slots self.old.rows) result (R.slots self.new.rows) }
@@ -128,6 +123,7 @@ impl<R: Rows> TableRows<R> {
 
     /// Updates counters of the only object of the slot at a place, and returns the new value or list of values. The
     /// object is unpacked, changed, and packed again before it replaces the old one.
+    #[inline(never)]
     fn update_counters_at(&mut self, place: Place, ops: &Ops) -> Result<Term, CounterFault>
         requires { HasOneObject (R.slots self.old.rows) (R.key_at self.old.rows place) }
         ensures slots { UpdatesCounterAt ops.now (R.key_at self.old.rows place)
@@ -196,47 +192,5 @@ impl<R: Rows> TableRows<R> {
         let packed = Object::pack(self.alloc, &object)?;
         let _old = self.rows.replace_one_at(place, packed);
         Ok(())
-    }
-
-    /// Inserts `object`, made from a Default, under a key without objects; the caller has checked that. `entry` is the
-    /// result of the search for the key. Refuses with `SystemLimit` if `below_limit` is false: the table may not have
-    /// one more object.
-    pub(crate) fn insert_default(
-        &mut self,
-        below_limit: bool,
-        entry: SlotEntry,
-        key: &Term,
-        object: Term,
-    ) -> Result<(), Refusal>
-        requires { IsEntry (R.slots self.old.rows) (R.hash_of self.old.rows)
-            (R.key_at self.old.rows) key.now entry }
-        ensures slots { InsertsDefaultAt below_limit key.now (Ok (object, tt))
-            (R.slots self.old.rows) result (R.slots self.new.rows) }
-        ensures keeps { ChangesSlotsOnly R.readiness self.old self.new }
-    {
-        if !below_limit {
-            return Err(Refusal::SystemLimit);
-        }
-        self.insert_first(entry, key, object)?;
-        Ok(())
-    }
-
-    /// Inserts the first object of a key, in the key's tombstone or in a new slot.
-    fn insert_first(&mut self, entry: SlotEntry, key: &Term, object: Term) -> Result<(), AllocError>
-        requires { IsEntry (R.slots self.old.rows) (R.hash_of self.old.rows)
-            (R.key_at self.old.rows) key.now entry }
-        ensures ok { OnOk result
-            (SetsObjects (R.slots self.old.rows) key.now (object ∷ []) (R.slots self.new.rows)) }
-        ensures err { OnErr result (R.slots self.new.rows ≡ R.slots self.old.rows) }
-        ensures keeps { ChangesSlotsOnly R.readiness self.old self.new }
-    {
-        let objects = Chain::one(self.alloc, Object::pack(self.alloc, &object)?);
-        match entry {
-            SlotEntry::Vacant(hash) => self.rows.put_at(hash, key, objects),
-            SlotEntry::Occupied(place) => {
-                let _ = self.rows.replace_at(place, objects);
-                Ok(())
-            }
-        }
     }
 }

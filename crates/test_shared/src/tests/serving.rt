@@ -122,6 +122,7 @@ fn server_serves_one_caller<B: HistoryId, R: Wait>(
 fn new_server_serves_one_caller<B: HistoryId, R: Wait>(
     rt: &R,
     alloc: Global,
+    locking: Locking,
     history: NewHistory,
     limits: Limits,
 ) -> Option<bool>
@@ -129,15 +130,23 @@ fn new_server_serves_one_caller<B: HistoryId, R: Wait>(
     requires root { history.turn.nib.key ≡ B.root }
     requires limits { limits ≡ B.limits }
 {
-    let server = Server::<B, Fnv>::new(alloc, Locking::Single, history, limits, Fnv).ok()?;
+    let server = Server::<B, Fnv>::new(alloc, locking, history, limits, Fnv).ok()?;
     server_serves_one_caller(rt, alloc, &server)
 }
 
 #[test]
 fn a_server_runs_calls_and_pending_steps(rt: HostRuntime) -> Result<(), Fail> {
-    let history = NewHistory::new();
-    let is_right = new_server_serves_one_caller::<Brand, _>(&rt, rt.alloc(), history, limits(1));
-    assert!(rt; is_right.ok_or("no memory, or a refused call")?);
+    for locking in [Locking::Single, Locking::Sharded] {
+        let history = NewHistory::new();
+        let is_right = new_server_serves_one_caller::<Brand, _>(
+            &rt,
+            rt.alloc(),
+            locking,
+            history,
+            limits(1),
+        );
+        assert!(rt; is_right.ok_or("no memory, or a refused call")?);
+    }
     Ok(())
 }
 

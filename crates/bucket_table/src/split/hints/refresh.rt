@@ -10,30 +10,27 @@ use crate::split::hint::Hint;
 use node_list::{At, NodeList};
 
 impl Hints {
-    /// Scans from a node before the interval of a split key to the last node before the interval. Returns that node and
-    /// the hint of the interval.
-    fn scan_to_interval(&self, list: &NodeList, split_key: u64, start: At) -> (At, Hint)
+    /// Scans from a node before an interval to the last node before the interval. Returns that node and the hint of the
+    /// interval.
+    pub(super) fn scan_to_interval(&self, list: &NodeList, interval: usize, start: At) -> (At, Hint)
         requires parity { HaveParity list.now.cells }
         requires hints { HintsAreSound self.now list.now.cells }
-        requires front { IsBeforeInterval (2 ^ self.now.interval_bits) (split_key / 2 ^ self.now.interval_bits)
-            start list.now.cells }
-        ensures front { IsBeforeInterval (2 ^ self.now.interval_bits) (split_key / 2 ^ self.now.interval_bits)
-            result.0 list.now.cells }
-        ensures hint { IsSoundHint (2 ^ self.now.interval_bits) (split_key / 2 ^ self.now.interval_bits)
-            list.now.cells result.1 }
+        requires front { IsBeforeInterval (2 ^ self.now.interval_bits) interval start list.now.cells }
+        ensures front { IsBeforeInterval (2 ^ self.now.interval_bits) interval result.0 list.now.cells }
+        ensures hint { IsSoundHint (2 ^ self.now.interval_bits) interval list.now.cells result.1 }
     {
         list.reveal_invariant();
-        let interval_bits = self.interval_bits;
         let mut at = start;
         while let Some(next) = list.after(at) {
-            let next_split_key = list.split_key(next);
+            let split_key = list.split_key(next);
+            let next_interval = self.interval_of(split_key);
             // The next node is past the interval, which is thus empty.
-            if next_split_key >> interval_bits > split_key >> interval_bits {
+            if next_interval > interval {
                 return (at, Hint::empty());
             }
-            if next_split_key >> interval_bits == split_key >> interval_bits {
+            if next_interval == interval {
                 // The split key of an item is odd, and that of a dummy is even.
-                if next_split_key % 2 == 1 {
+                if split_key % 2 == 1 {
                     return (at, Hint::at(next));
                 }
                 return (at, Hint::unknown());
@@ -61,7 +58,7 @@ impl Hints {
         if self.interval_of(list.split_key(start)) >= interval {
             return start;
         }
-        let (at, hint) = self.scan_to_interval(list, split_key, start);
+        let (at, hint) = self.scan_to_interval(list, interval, start);
         self.current.set_if_unknown(interval, hint);
         at
     }

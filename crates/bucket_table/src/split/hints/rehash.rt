@@ -1,11 +1,12 @@
 //! After a doubling, each insertion splits a few of the previous hints, which are those of the old number of buckets.
-//! Each removal splits the previous hint of its item's interval. A hint caches the place of the first item of an
-//! interval. A previous interval is two current intervals, a *pair*.
+//! Each removal splits the previous hint of its item's interval, and a bucket that becomes ready those of its intervals.
+//! A hint caches the place of the first item of an interval. A previous interval is two current intervals, a *pair*.
 
 ghost use Rattle.std.specs.Prelude.{◌≡◌, ◌+◌, ◌*◌, ◌/◌, ◌^◌, ◌≤◌, None, get_or};
+ghost use Rattle.bucket_table.specs.inside.Directory.{HaveParity};
 ghost use Rattle.bucket_table.specs.inside.Intervals.{HintsAreSound, IsSoundHint};
 
-use super::Hints;
+use super::{Hints, INTERVALS_PER_BUCKET};
 use crate::split::hint::Hint;
 use node_list::NodeList;
 
@@ -15,8 +16,9 @@ const HINTS_REHASHED_AT_INSERTION: usize = 8;
 impl Hints {
     /// Returns the hints of the lower and the upper half of the previous interval `pair`. The halves are the current
     /// intervals `2 * pair` and `2 * pair + 1`. If the first item of the pair is in the upper half, the lower half is
-    /// empty. If it is in the lower half, the hint of the upper half is unknown.
+    /// empty. If it is in the lower half, a scan from there finds the first item of the upper half.
     fn split_hint(&self, list: &NodeList, pair: usize) -> (Hint, Hint)
+        requires parity { HaveParity list.now.cells }
         requires hints { HintsAreSound self.now list.now.cells }
         ensures lower { IsSoundHint (2 ^ self.now.interval_bits) (2 * pair) list.now.cells result.0 }
         ensures upper { IsSoundHint (2 ^ self.now.interval_bits) (2 * pair + 1) list.now.cells result.1 }
@@ -26,45 +28,66 @@ impl Hints {
             Some(None) => (Hint::empty(), Hint::empty()),
             Some(Some(first)) => {
                 list.reveal_invariant();
+                let interval = self.interval_of(list.split_key(first));
                 // The upper half has the odd number.
-                if self.interval_of(list.split_key(first)) % 2 == 1 {
-                    (Hint::empty(), Hint::at(first))
-                } else {
-                    (Hint::at(first), Hint::unknown())
+                if interval % 2 == 1 {
+                    return (Hint::empty(), Hint::at(first));
                 }
+                let (_before, upper) = self.scan_to_interval(list, interval + 1, first);
+                (Hint::at(first), upper)
             }
         }
     }
 
-    /// Rehashes one previous hint: sets the current hints of the two halves of its interval, if they are unknown. The
-    /// previous hint is unknown afterwards.
+    /// Rehashes one previous hint: sets the current hints of the two halves of its interval, if they are unknown. Reads
+    /// no node if both are known. The previous hint is unknown afterwards.
     fn rehash_pair(&mut self, list: &NodeList, pair: usize)
+        requires parity { HaveParity list.now.cells }
         requires hints { HintsAreSound self.old list.now.cells }
         ensures hints { HintsAreSound self.new list.now.cells }
         ensures interval_bits { self.new.interval_bits ≡ self.old.interval_bits }
         ensures previous { get_or self.new.previous pair None ≡ None }
     {
         if pair < self.previous.len() && self.previous.get(pair).is_some() {
-            let (lower, upper) = self.split_hint(list, pair);
-            self.current.set_if_unknown(2 * pair, lower);
-            self.current.set_if_unknown(2 * pair + 1, upper);
+            if !self.current.are_known(2 * pair, 2) {
+                let (lower, upper) = self.split_hint(list, pair);
+                self.current.set_if_unknown(2 * pair, lower);
+                self.current.set_if_unknown(2 * pair + 1, upper);
+            }
             self.previous.set(pair, Hint::unknown());
         }
     }
 
-    /// Rehashes as many previous hints from `first_pair` on as one insertion does.
-    fn rehash_pairs(&mut self, list: &NodeList, first_pair: usize)
+    /// Rehashes `count` previous hints from `first_pair` on.
+    fn rehash_pairs(&mut self, list: &NodeList, first_pair: usize, count: usize)
+        requires parity { HaveParity list.now.cells }
         requires hints { HintsAreSound self.old list.now.cells }
         ensures hints { HintsAreSound self.new list.now.cells }
         ensures interval_bits { self.new.interval_bits ≡ self.old.interval_bits }
     {
-        for pair in first_pair..first_pair.saturating_add(HINTS_REHASHED_AT_INSERTION) {
+        for pair in first_pair..first_pair.saturating_add(count) {
             self.rehash_pair(list, pair);
+        }
+    }
+
+    /// Adds unknown current hints if some are missing. Then rehashes the previous hints of the first four intervals of a
+    /// bucket, whose dummy has this split key, if the list has the current ones.
+    pub fn rehash_bucket(&mut self, list: &NodeList, split_key: u64)
+        requires parity { HaveParity list.now.cells }
+        requires hints { HintsAreSound self.old list.now.cells }
+        ensures hints { HintsAreSound self.new list.now.cells }
+        ensures interval_bits { self.new.interval_bits ≡ self.old.interval_bits }
+    {
+        self.extend_generation();
+        let interval = self.interval_of(split_key);
+        if interval <= self.current.len().saturating_sub(INTERVALS_PER_BUCKET) {
+            self.rehash_pairs(list, interval / 2, INTERVALS_PER_BUCKET / 2);
         }
     }
 
     /// Rehashes the previous hint of the interval of a split key.
     pub fn rehash_interval(&mut self, list: &NodeList, split_key: u64)
+        requires parity { HaveParity list.now.cells }
         requires hints { HintsAreSound self.old list.now.cells }
         ensures hints { HintsAreSound self.new list.now.cells }
         ensures interval_bits { self.new.interval_bits ≡ self.old.interval_bits }
@@ -77,6 +100,7 @@ impl Hints {
     /// hints were rehashed before this call, frees the memory of some of them instead of rehashing. If none is left,
     /// doubles the number of intervals if the list is crowded.
     fn rehash_step(&mut self, list: &NodeList)
+        requires parity { HaveParity list.now.cells }
         requires hints { HintsAreSound self.old list.now.cells }
         ensures hints { HintsAreSound self.new list.now.cells }
         ensures interval_bits { self.new.interval_bits ≤ self.old.interval_bits }
@@ -84,7 +108,7 @@ impl Hints {
         self.extend_generation();
         let rehash_index = self.rehash_index;
         if rehash_index < self.previous.len() {
-            self.rehash_pairs(list, rehash_index);
+            self.rehash_pairs(list, rehash_index, HINTS_REHASHED_AT_INSERTION);
             self.rehash_index = rehash_index.saturating_add(HINTS_REHASHED_AT_INSERTION);
         } else if self.previous.len() > 0 {
             self.previous.shrink();
@@ -98,6 +122,7 @@ impl Hints {
     /// list's nodes are no more than the current hints.
     #[inline(always)]
     pub fn catch_up(&mut self, list: &NodeList, split_key: u64)
+        requires parity { HaveParity list.now.cells }
         requires hints { HintsAreSound self.old list.now.cells }
         ensures hints { HintsAreSound self.new list.now.cells }
         ensures interval_bits { self.new.interval_bits ≤ self.old.interval_bits }
@@ -111,6 +136,7 @@ impl Hints {
     /// Does the next part of the work on hints, and rehashes the previous hint of the interval of a split key.
     #[inline(never)]
     fn rehash_now(&mut self, list: &NodeList, split_key: u64)
+        requires parity { HaveParity list.now.cells }
         requires hints { HintsAreSound self.old list.now.cells }
         ensures hints { HintsAreSound self.new list.now.cells }
         ensures interval_bits { self.new.interval_bits ≤ self.old.interval_bits }

@@ -2,7 +2,7 @@ use Rattle.std.proofs.Common.{◌≡◌, ◌∙◌, ℕ, List, Option, None, Som
 use Rattle.ets_term.specs.declared.term.Term.{Term}
 use Rattle.node_core.specs.declared.step.Call.{Call}
 use Rattle.node_core.specs.declared.step.Step.TheVariants.{Enrol, Ask, Grow, Ready}
-use Rattle.script_reasons.specs.declared.diagnostic.Diagnostic.TheVariants.{AlreadySpawned, CallByUnknownName}
+use Rattle.node_reasons.specs.declared.diagnostic.Diagnostic.TheVariants.{AlreadySpawned, CallByUnknownName}
 use Rattle.ets_script.specs.Script.{pid_of}
 use Rattle.ets_script.specs.declared.command.Command.{Command}
 use Rattle.ets_script.specs.inside.Explanations.{ExplainsCommand, ExplainsSpawn, ExplainsStep, ExplainsStepOf, next_enrolment}

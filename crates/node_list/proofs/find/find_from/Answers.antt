@@ -1,5 +1,4 @@
 use Rattle.std.proofs.Common.{◌≡◌, ℕ, ◌^◌, ◌<◌, Option, ◌∷◌, length, true, false, refl, sym, ◌∙◌, ap, subst, arith}
-use Rattle.std.proofs.lemmas.Bool.Decides.{nat_tests}
 use Rattle.slab.specs.Slab.{get, slab_len}
 use Rattle.node_list.specs.Cells.{Sorted}
 use Rattle.node_list.specs.Search.{place_of, visited_cells, is_it}

@@ -1,4 +1,4 @@
-use Rattle.std.proofs.Common.{◌≡◌, ◌≢◌, ◌+◌, ◌*◌, ℕ, None, Some, Option, IsSome, subst, refl, sym, ◌∙◌, ap}
+use Rattle.std.proofs.Common.{◌≡◌, ◌≢◌, ◌*◌, ℕ, None, Some, Option, IsSome, subst, refl, sym, ◌∙◌, ap}
 use Rattle.slab.specs.Slab.{Slab, get, slab_len, with_value, Updates}
 use Rattle.node_list.specs.Cells.{new_cell}
 use Rattle.node_list.specs.inside.Walks.{cells_from, node_of, last_not_above_in, NodeHasSplitKeyAtMost}

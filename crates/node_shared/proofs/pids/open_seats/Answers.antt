@@ -1,7 +1,8 @@
 use Rattle.std.proofs.Common.{◌<◌, ◌-◌, rules, sym, ap, subst, refl, arith}
 use Rattle.atomic_table.specs.Table.{Splits}
 use Rattle.node_shared.specs.declared.pids.rule.View.{View}
-use Rattle.node_shared.specs.Numbers.{HoldsNumbers, one_fewer, undrawn_view}
+use Rattle.node_shared.specs.Numbers.{HoldsNumbers}
+use Rattle.node_shared.specs.inside.Seats.{one_fewer, undrawn_view}
 use Rattle.node_shared.proofs.Numbering.{splits, begins}
 use Rattle.node_shared.proofs.pids.open_seats.Goals as goal
 

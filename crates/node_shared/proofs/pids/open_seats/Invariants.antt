@@ -1,6 +1,6 @@
 use Rattle.std.proofs.Common.{◌≡◌, ◌-◌, [], vec_len}
 use Rattle.std.specs.Prelude.{All}
-use Rattle.node_shared.specs.Numbers.{opening_view}
+use Rattle.node_shared.specs.inside.Seats.{opening_view}
 use Rattle.node_shared.proofs.pids.open_seats.Given as goal
 
 abbrev pub invariant-loop : goal.invariant-loop

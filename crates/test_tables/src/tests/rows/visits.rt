@@ -89,10 +89,13 @@ fn put_each<R: Rows>(rows: &mut R, alloc: Global) -> Result<(), AllocError> {
     Ok(())
 }
 
+/// The number of buckets after one doubling. Each has four intervals, and no two of the keys below 16 have one interval.
+const BUCKETS_DOUBLED_ONCE: u32 = 4;
+
 /// Makes each bucket but the first ready. Returns whether each becomes ready.
 fn each_becomes_ready<R: Rows>(rows: &mut R) -> Result<bool, AllocError> {
     let mut all_ready = true;
-    for bucket in 1..BUCKETS {
+    for bucket in 1..BUCKETS_DOUBLED_ONCE {
         all_ready = ready_gives(rows, bucket, Readying::Ready)? && all_ready;
     }
     Ok(all_ready)
@@ -102,23 +105,23 @@ fn each_becomes_ready<R: Rows>(rows: &mut R) -> Result<bool, AllocError> {
 /// missing key, whose interval is empty.
 fn each_search_visits_fewest_nodes(rows: &SplitRows<PidNumber>) -> bool {
     let mut all_exact = true;
-    for number in 0..SEARCHED_PROCESSES {
+    for number in 0..4 * BUCKETS_DOUBLED_ONCE {
         let fewest = u64::from(number < BUCKETS);
         all_exact = count_visited(rows, Term::Pid(number)) == fewest && all_exact;
     }
     all_exact
 }
 
-/// Puts eight keys, doubles two buckets to eight, and makes them ready. Returns whether each search then visits the
-/// fewest nodes, as it does if the readying of a bucket sets the hints of its intervals and of its parent's.
+/// Puts eight keys, doubles two buckets to four, and makes them ready. Returns whether each search then visits the
+/// fewest nodes, as it does if the readying of a bucket splits the hints of its intervals and of its parent's.
 fn hints_are_set(rows: &mut SplitRows<PidNumber>, alloc: Global) -> Result<bool, AllocError> {
     put_each(rows, alloc)?;
-    let grown = each_doubling_gives(rows, 2, Growth::Grown)?;
+    let grown = each_doubling_gives(rows, 1, Growth::Grown)?;
     let readied = each_becomes_ready(rows)?;
     Ok(grown && readied && each_search_visits_fewest_nodes(rows))
 }
 
-/// Returns whether the readying of buckets sets the hints of new split rows.
+/// Returns whether the readying of buckets splits the hints of new split rows.
 fn hints_of_new_rows_are_set(alloc: Global) -> Result<bool, AllocError> {
     let mut rows = SplitRows::new(alloc, PidNumber)?;
     let are_set = hints_are_set(&mut rows, alloc);
@@ -127,7 +130,7 @@ fn hints_of_new_rows_are_set(alloc: Global) -> Result<bool, AllocError> {
 }
 
 #[test]
-fn readying_sets_hints(rt: HostRuntime) {
+fn readying_splits_hints(rt: HostRuntime) {
     assert!(rt; hints_of_new_rows_are_set(rt.alloc()) == Ok(true));
 }
 

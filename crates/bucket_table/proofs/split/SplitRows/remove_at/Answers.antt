@@ -1,22 +1,20 @@
 use Rattle.bucket_table.specs.inside.Directory.{IsFirstUnready}
 use Rattle.bucket_table.specs.inside.TombstoneLog.{TombstonesAreAmong, LogInvariant}
 use Rattle.bucket_table.proofs.sweep.Log.{among-without}
-use Rattle.std.proofs.Common.{◌≡◌, ℕ, List, Option, Some, IsSome, length, map, is_some, sym, ◌∙◌, ap, subst, arith}
-use Rattle.ets_term.specs.declared.term.Term.{Term}
-use Rattle.bucket_table.specs.Walks.{ComesBefore}
+use Rattle.std.proofs.Common.{◌≡◌, ℕ, List, Option, Some, IsSome, length, sym, ◌∙◌, ap, subst, arith}
 use Rattle.ets_term.specs.Order.{same}
 use Rattle.node_list.specs.declared.node.Item.{Item}
 use Rattle.node_list.specs.Cells.{new_item}
 use Rattle.bucket_table.specs.Slots.{Slot, objects_of}
 use Rattle.bucket_table.specs.Rows.{without}
 use Rattle.bucket_table.specs.SplitRowsState.{SplitRowsState, key_of_place}
-use Rattle.bucket_table.specs.inside.Nodes.{slots_of, places_of}
+use Rattle.bucket_table.specs.inside.Nodes.{slots_of}
 use Rattle.bucket_table.proofs.list.Content.{found-item}
 use Rattle.bucket_table.proofs.list.Length.{length-removed}
 use Rattle.bucket_table.proofs.list.Places.{at-place, read-item}
 use Rattle.bucket_table.specs.inside.Order.{content_of}
 use Rattle.bucket_table.proofs.order.Read.{objects-same}
-use Rattle.bucket_table.proofs.order.Remove.{content-removed, places-before}
+use Rattle.bucket_table.proofs.order.Remove.{content-removed}
 use Rattle.bucket_table.proofs.split.SplitRows.remove_at.Goals as goal
 
 pub remove-slot-requires-clause-item : goal.remove-slot-requires-clause-item

@@ -12,7 +12,7 @@ use Rattle.std.specs.declared.alloc.Global.{Global}
 use Rattle.std.proofs.Crossing.{frees}
 use Rattle.std.proofs.alloc.Global.TheSendSync as global
 use Rattle.std_alloc.proofs.SendSync.{lies, quiet}
-use Rattle.ets_c.specs.Holds.{holds}
+use Rattle.ets_c.specs.inside.Holds.{holds}
 use Rattle.ets_c.specs.contracts.request_ptr.RequestPtr as RequestPtr
 use Rattle.node_text.proofs.Sent.{request_send}
 use Rattle.node_text.specs.contracts.store.request.Request.{the_row as request_row}

@@ -1,6 +1,5 @@
-use Rattle.std.proofs.Common.{◌≡◌, ℕ, Some, set, List, Option, IsSome, option_map, refl, false, sym, ◌∙◌, ap, subst}
+use Rattle.std.proofs.Common.{◌≡◌, ◌+◌, if◌then◌else◌, Some, set, List, Option, IsSome, option_map, refl, false, sym, ◌∙◌, ap, subst}
 use Rattle.slab.specs.Slab.{Slab, get, slab_len, with_value}
-use Rattle.ets_term.specs.declared.term.Term.{Term}
 use Rattle.node_list.specs.declared.node.ListNode.{ListNode}
 use Rattle.node_list.specs.declared.node.StoredItem.{StoredItem}
 use Rattle.node_list.specs.inside.PackedHeader.{is_free}
@@ -23,7 +22,7 @@ pub invariant_of-self-lent : goal.invariant_of-self-lent
 invariant_of-self-lent c = λ w.
     let P : Slab ListNode → Type 0 = λ v. IsSome (get v c.args.at) in
     let old = c.index_mut.result.now in
-    replace-invariant c.self.inside.nodes c.args.at (record old { item = record old.item { chain = w } }) c.self.inside.first_item_bound c.self.inside.end c.self.inside.free_head c.self.inside.len
+    replace-invariant c.self.inside.nodes c.args.at (record old { item = record old.item { chain = w } }) c.self.inside.spare c.self.inside.first_item_bound c.self.inside.end c.self.inside.free_head c.self.inside.len
     (subst P (sym c.self.view_is) c.requires) (some (goal.at.invariant_of-self-lent c).After-index_mut c.requires) c.self.invariant
 
 pub returns : goal.returns
@@ -38,9 +37,9 @@ returns c =
         refl,
         λ w.
             let new : StoredItem = record old { item = record old.item { chain = w } } in
-            ap (λ (zs : List (Option ListNode)). let z : Slab ListNode = record { slots = zs; vacant_key = n.vacant_key; capacity = slab_len (with_value n c.args.at new) } in z) (with_value-live n c.args.at new live)
-            ∙ (ap (λ k. let z : Slab ListNode = record { slots = set (live_nodes n.slots) c.args.at (Some (stored_node new)); vacant_key = n.vacant_key; capacity = k } in z) (len-written n c.args.at new (has-place n c.args.at there))
-            ∙ (ap (λ (o : Option ListNode). let z : Slab ListNode = record { slots = set (live_nodes n.slots) c.args.at (option_map (λ (m : ListNode). node_with m w) o); vacant_key = n.vacant_key; capacity = slab_len n } in z) (sym is)
+            ap (λ (zs : List (Option ListNode)). let z : Slab ListNode = record { slots = zs; vacant_key = n.vacant_key; capacity = slab_len (with_value n c.args.at new) + (if c.self.inside.spare then 1 else 0) } in z) (with_value-live n c.args.at new live)
+            ∙ (ap (λ k. let z : Slab ListNode = record { slots = set (live_nodes n.slots) c.args.at (Some (stored_node new)); vacant_key = n.vacant_key; capacity = k + (if c.self.inside.spare then 1 else 0) } in z) (len-written n c.args.at new (has-place n c.args.at there))
+            ∙ (ap (λ (o : Option ListNode). let z : Slab ListNode = record { slots = set (live_nodes n.slots) c.args.at (option_map (λ (m : ListNode). node_with m w) o); vacant_key = n.vacant_key; capacity = slab_len n + (if c.self.inside.spare then 1 else 0) } in z) (sym is)
             ∙ ap (λ (v : Slab ListNode). nodes_with c.args.at w v) c.self.view_is)),
       ),
       record {

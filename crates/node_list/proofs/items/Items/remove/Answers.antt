@@ -1,8 +1,8 @@
-use Rattle.std.proofs.Common.{◌≡◌, ℕ, ◌+◌, ◌-◌, None, Some, Option, IsSome, count_by, is_some, sym, ◌∙◌, ap, subst, arith}
+use Rattle.std.proofs.Common.{ℕ, ◌+◌, ◌-◌, None, Some, Option, IsSome, count_by, is_some, sym, ◌∙◌, ap, subst, arith}
 use Rattle.slab.specs.Slab.{Slab, get, slab_len, with_value, Updates}
 use Rattle.node_list.specs.declared.node.ListNode.{ListNode}
 use Rattle.node_list.specs.declared.node.StoredItem.{StoredItem}
-use Rattle.node_list.specs.inside.FreeList.{live_nodes, HasNoItemBetween, ItemsInvariant}
+use Rattle.node_list.specs.inside.FreeList.{live_nodes, items_view, HasNoItemBetween, ItemsInvariant}
 use Rattle.node_list.proofs.FreePlaceLaws.{updates-live}
 use Rattle.node_list.proofs.FreeListLaws.{free_head-fits}
 use Rattle.node_list.proofs.ItemLaws.{Freed, freed, remove-invariant}
@@ -23,11 +23,11 @@ invariant_of-self c =
     let P : Slab ListNode → Type 0 = λ v. IsSome (get v c.args.at) in
     let g = gave (goal.at.invariant_of-self c).After-replace_at-item in
     let B : Slab StoredItem → Type 0 = λ m. HasNoItemBetween c.self.inside.first_item_bound c.bound_after_remove-self-inside.result m in
-    let H : Slab StoredItem → Type 0 = λ m. ItemsInvariant m c.bound_after_remove-self-inside.result c.self.inside.end c.to-self-inside.result (c.self.inside.len - 1) in
-    let I : Option ℕ → Type 0 = λ o. ItemsInvariant (with_value c.self.inside.nodes c.args.at c.free-free.result) c.bound_after_remove-self-inside.result c.self.inside.end o (c.self.inside.len - 1) in
+    let H : Slab StoredItem → Type 0 = λ m. ItemsInvariant m c.self.inside.spare c.bound_after_remove-self-inside.result c.self.inside.end c.to-self-inside.result (c.self.inside.len - 1) in
+    let I : Option ℕ → Type 0 = λ o. ItemsInvariant (with_value c.self.inside.nodes c.args.at c.free-free.result) c.self.inside.spare c.bound_after_remove-self-inside.result c.self.inside.end o (c.self.inside.len - 1) in
     subst H (sym c.replace_at-item.ensures.now)
     (subst I (sym c.to-self-inside.ensures)
-    (remove-invariant c.self.inside.nodes c.args.at c.free-free.result c.self.inside.first_item_bound c.bound_after_remove-self-inside.result c.self.inside.end c.self.inside.free_head c.self.inside.len (c.self.inside.len - 1) (subst P (sym c.self.view_is) c.requires)
+    (remove-invariant c.self.inside.nodes c.args.at c.free-free.result c.self.inside.spare c.self.inside.first_item_bound c.bound_after_remove-self-inside.result c.self.inside.end c.self.inside.free_head c.self.inside.len (c.self.inside.len - 1) (subst P (sym c.self.view_is) c.requires)
     c.free-free.ensures.free c.free-free.ensures.next (omega (arith, g.len, c.self.invariant.counted)) (subst B c.replace_at-item.ensures.now c.bound_after_remove-self-inside.ensures) c.self.invariant))
 
 pub returns-clause-updates : goal.returns-clause-updates
@@ -35,7 +35,7 @@ returns-clause-updates c =
     let g = gave (goal.at.returns-clause-updates c).After-replace_at-item in
     let n = c.self.inside.nodes in
     let u = updates-live n (with_value n c.args.at c.free-free.result) c.args.at (Some c.free-free.result) g.updates in
-    let S : Slab StoredItem → Type 0 = λ m. Updates c.args.self.now (let z : Slab ListNode = record { slots = live_nodes m.slots; vacant_key = m.vacant_key; capacity = slab_len m } in z) c.args.at None in
+    let S : Slab StoredItem → Type 0 = λ m. Updates c.args.self.now (items_view m c.self.inside.spare) c.args.at None in
     subst S (sym c.replace_at-item.ensures.now) (record { changed = g.now; others = λ j other. u.1 j other ∙ ap (λ (v : Slab ListNode). get v j) c.self.view_is })
 
 pub returns-clause-len : goal.returns-clause-len

@@ -1,4 +1,4 @@
-use Rattle.std.proofs.Common.{◌≡◌, ◌%◌, Some, Option, IsSome, sym, ◌∙◌, ap, subst, arith}
+use Rattle.std.proofs.Common.{◌≡◌, Option, IsSome, sym, ◌∙◌, ap, subst, arith}
 use Rattle.slab.specs.Slab.{Slab, get}
 use Rattle.node_list.specs.declared.node.ListNode.{ListNode}
 use Rattle.node_list.specs.declared.packed.PackedHeader.{PackedHeader}

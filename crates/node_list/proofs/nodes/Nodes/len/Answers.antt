@@ -1,4 +1,4 @@
-use Rattle.std.proofs.Common.{sym, ap, arith}
+use Rattle.std.proofs.Common.{ap, arith}
 use Rattle.slab.specs.Slab.{Slab, slab_len}
 use Rattle.node_list.specs.declared.node.ListNode.{ListNode}
 use Rattle.node_list.proofs.NodeLaws.{len-woven}

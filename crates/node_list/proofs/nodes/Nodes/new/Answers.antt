@@ -1,5 +1,3 @@
-use Rattle.std.proofs.Common.{[], ap}
-use Rattle.node_list.specs.declared.packed.PackedHeader.{PackedHeader}
 use Rattle.node_list.proofs.WeaveLaws.{weave-empty}
 use Rattle.node_list.proofs.nodes.Nodes.new.Goals as goal
 

@@ -1,4 +1,4 @@
-use Rattle.std.proofs.Common.{◌+◌, ◌*◌, Some, None, Option, ℕ, subst, ◌∙◌, sym}
+use Rattle.std.proofs.Common.{◌+◌, ◌*◌, Some, None, subst}
 use Rattle.slab.specs.Slab.{Slab}
 use Rattle.node_list.specs.declared.node.ListNode.{ListNode}
 use Rattle.node_list.specs.inside.Slots.{IsNextItemIn}

@@ -1,4 +1,4 @@
-use Rattle.std.proofs.Common.{ℕ, ◌<◌, ◌^◌, ◌-◌, ◌%◌, ◌/◌, IsSome, Option, inl, inr, refl, sym, subst, arith}
+use Rattle.std.proofs.Common.{◌%◌, ◌/◌, IsSome, Option, inl, inr, sym, subst, arith}
 use Rattle.std.proofs.lemmas.Bool.{cases_eq}
 use Rattle.slab.specs.Slab.{Slab, get}
 use Rattle.node_list.specs.declared.node.ListNode.{ListNode}

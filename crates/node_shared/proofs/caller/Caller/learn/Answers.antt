@@ -1,7 +1,7 @@
 use Rattle.std.proofs.Common.{◌≡◌, ◌^◌, ◌-◌, List, sym, ap, ◌∙◌, subst, rules}
 use mathlib.Core.List.{IsPrefix}
 use Rattle.node_shared.specs.declared.entry.Entry.{Entry}
-use Rattle.node_shared.specs.Serving.{entry_count}
+use Rattle.node_shared.specs.inside.Steps.{entry_count}
 use Rattle.node_shared.proofs.Lines.{own-within}
 use Rattle.node_shared.proofs.Callers.{count-most}
 use Rattle.node_shared.proofs.caller.Caller.learn.Goals as goal

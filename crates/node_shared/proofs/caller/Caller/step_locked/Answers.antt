@@ -1,6 +1,7 @@
 use Rattle.std.proofs.Common.{◌≡◌, true, sym, ap, subst, ◌∙◌}
 use Rattle.node_core.specs.Woven.{is_step_of}
-use Rattle.node_shared.specs.Serving.{CallerState, entry_count}
+use Rattle.node_shared.specs.Serving.{CallerState}
+use Rattle.node_shared.specs.inside.Steps.{entry_count}
 use Rattle.node_shared.proofs.Callers.{own-last}
 use Rattle.node_shared.proofs.caller.Caller.step_locked.Goals as goal
 

@@ -3,7 +3,8 @@ use Rattle.std.specs.Prelude.{◌+◌, ◌%◌, ◌^◌}
 use mathlib.Core.Option.{none}
 use Rattle.atomic_table.specs.Table.{Me, Allows, step}
 use Rattle.node_shared.specs.declared.pids.rule.View.{View}
-use Rattle.node_shared.specs.Numbers.{HoldsNumbers, DrawsNumber}
+use Rattle.node_shared.specs.Numbers.{HoldsNumbers}
+use Rattle.node_shared.specs.inside.Seats.{DrawsNumber}
 use Rattle.node_shared.proofs.Numbering.{draws}
 use Rattle.node_shared.proofs.pids.Pids.draw.Goals as goal
 

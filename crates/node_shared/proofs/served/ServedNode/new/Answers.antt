@@ -2,7 +2,7 @@ use Rattle.std.proofs.Common.{◌≡◌, ◌∙◌, List, refl, sym, ap, subst}
 use Rattle.node_core.specs.State.{empty}
 use Rattle.node_shared.specs.declared.entry.Entry.{Entry}
 use Rattle.node_shared.specs.Journal.{IsRun}
-use Rattle.node_shared.specs.Serving.{entry_count}
+use Rattle.node_shared.specs.inside.Steps.{entry_count}
 use Rattle.node_shared.specs.inside.Known.{AreKnown}
 use Rattle.node_shared.proofs.served.ServedNode.new.Goals as goal
 

@@ -1,5 +1,4 @@
 use Rattle.std.proofs.Common.{◌≡◌, ◌+◌, Some, Result, Ok, Err, Bool, true, ◌&&◌, sym, ap, subst, ◌∙◌, option_copied}
-use Rattle.std.specs.Prelude.{nat_lt}
 use Rattle.std.proofs.lemmas.Result.{err_from_is_err_and}
 use Rattle.counters.specs.Defaults.{with_key, start_elements}
 use Rattle.table_ops.specs.Content.{Content}
@@ -7,10 +6,14 @@ use Rattle.table_ops.specs.ContentState.{ContentState}
 use Rattle.table_ops.specs.declared.refusal.Refusal.{Refusal}
 use Rattle.table_ops.specs.Refusals.{RefinesChange}
 use Rattle.table_ops.specs.Update.{refusal_of, is_set, element_specs_avoid_key, default_is_object, with_true, UpdatesElement}
+use Rattle.table_ops.specs.Invariants.{FitsKind}
+use Rattle.table_ops.specs.inside.Counted.{IsCounted}
 use Rattle.table_ops.specs.inside.TableRows.{content_of}
 use Rattle.table_ops.proofs.TableRowsLaws.{of-slots, holds-kept}
+use Rattle.table_ops.proofs.InvariantLaws.{kept-none}
 use Rattle.table_ops.proofs.InsertLaws.{both}
-use Rattle.table_ops.proofs.UpdateLaws.{fault-starts, object-starts, refusal-starts, one-there, written-at, started-counted, written-comes}
+use Rattle.table_ops.proofs.InsertNewLaws.{one-more}
+use Rattle.table_ops.proofs.UpdateLaws.{fault-starts, object-starts, refusal-starts, one-there, written-at, written-comes}
 use Rattle.table_ops.proofs.UpdateKeepsLaws.{written-started}
 use Rattle.table_ops.proofs.table.Table.update_element.Goals as goal
 
@@ -38,6 +41,9 @@ invariant_of-self-in-Some g c =
     (written-at c.self.inside.inner.kind c.self.inside.inner.keypos c.self.inside.inner.limit c.self.inside.count (g.R.Rows.slots c.self.inside.inner.rows) (g.R.Rows.slots c.update_element_at.new.self.rows) k
     (g.R.Rows.key_at c.self.inside.inner.rows c.in-Some.place) c.in-Some.ensures.0 b.0 c.self.invariant specs c.update_element_at.result named.0 c.update_element_at.ensures.slots)
 
+pub put-requires-clause-kind : goal.put-requires-clause-kind
+put-requires-clause-kind g c = subst (FitsKind c.self.inside.inner.kind) (sym c.in_default.ensures) (kept-none c.self.inside.inner.kind)
+
 pub returns-in_err-object-clause-content : goal.returns-in_err-object-clause-content
 returns-in_err-object-clause-content g c =
     let d = option_copied c.args.default in
@@ -51,15 +57,15 @@ returns-in_err-object-clause-content g c =
     let f = c.in_err-object.field-0.0 in
     let p = err_from_is_err_and c.from_residual-in_err-object.result c.from_residual-in_err-object.ensures.1 in
     let failed : c.from_residual-in_err-object.result ≡ Err (refusal_of f) = p.1 ∙ ap Err p.2 in
-    let s = fault-starts (nat_lt c.self.inside.count old.limit) k made f old.slots (λ e. ap with_true (c.in_err-object.ensures.badarg (ap Err e))) (λ e. ap with_true (c.in_err-object.ensures.limit (ap Err e))) in
     let done : RefinesChange (UpdatesElement k specs d old) old (Err (refusal_of f)) old =
-    written-comes k specs c.in-Some-default.default.now old c.self.inside.count c.in_default.ensures c.self.invariant.counted d given may (Err (refusal_of f)) old.slots s in
+    written-comes k specs c.in-Some-default.default.now old c.in_default.ensures d given may (Err (refusal_of f)) old
+    (fault-starts k old made f (λ e. ap with_true (c.in_err-object.ensures.badarg (ap Err e))) (λ e. ap with_true (c.in_err-object.ensures.limit (ap Err e)))) in
     let same : old ≡ c.args.self.now.content = ap (λ (t : ContentState). t.content) c.self.view_is in
     subst (λ (r : Result Bool Refusal). RefinesChange (UpdatesElement k specs d c.args.self.now.content) c.args.self.now.content r c.args.self.now.content) (sym failed)
     (subst (λ (o : Content). RefinesChange (UpdatesElement k specs d o) o (Err (refusal_of f)) o) same done)
 
-pub returns-in_err-insert_default-clause-content : goal.returns-in_err-insert_default-clause-content
-returns-in_err-insert_default-clause-content g c =
+pub returns-in_err-undo-clause-content : goal.returns-in_err-undo-clause-content
+returns-in_err-undo-clause-content g c =
     let d = option_copied c.args.default in
     let k = c.args.key.now in
     let specs = c.args.specs.now in
@@ -68,16 +74,18 @@ returns-in_err-insert_default-clause-content g c =
     let old : Content = content_of g.R.Rows.slots c.self.inside.inner in
     let given : d ≡ Some c.in-Some-default.default.now = ap option_copied c.in-Some-default.is in
     let made = with_true (start_elements specs (with_key c.self.inside.inner.keypos k c.in-Some-default.default.now)) in
-    let s = refusal-starts (nat_lt c.self.inside.count old.limit) k made c.in_ok-object.object true (ap with_true c.in_ok-object.ensures.done) old.slots (g.R.Rows.slots c.insert_default.new.self.rows) c.in_err-insert_default.field-0.0 c.in_err-insert_default.ensures.slots in
-    let p = err_from_is_err_and c.from_residual-in_err-insert_default.result c.from_residual-in_err-insert_default.ensures.1 in
-    let new : Content = content_of g.R.Rows.slots c.insert_default.new.self in
-    let failed : c.from_residual-in_err-insert_default.result ≡ Err c.in_err-insert_default.field-0.0 = p.1 ∙ ap Err p.2 in
-    let done : RefinesChange (UpdatesElement k specs d old) old (Err c.in_err-insert_default.field-0.0) new =
-    of-slots g.R.Rows.slots c.self.inside.inner c.insert_default.new.self c.in_err-insert_default.ensures.keeps.rest (λ (n : Content). RefinesChange (UpdatesElement k specs d old) old (Err c.in_err-insert_default.field-0.0) n)
-    (written-comes k specs c.in-Some-default.default.now old c.self.inside.count c.in_default.ensures c.self.invariant.counted d given may (Err c.in_err-insert_default.field-0.0) (g.R.Rows.slots c.insert_default.new.self.rows) s) in
+    let e = c.in_err-undo.field-0.0 in
+    let slots = g.R.Rows.slots c.put.new.self.rows in
+    let new : Content = content_of g.R.Rows.slots c.put.new.self in
+    let p = err_from_is_err_and c.from_residual-in_err-undo.result c.from_residual-in_err-undo.ensures.1 in
+    let failed : c.from_residual-in_err-undo.result ≡ Err e = p.1 ∙ ap Err p.2 in
+    let done : RefinesChange (UpdatesElement k specs d old) old (Err e) new =
+    of-slots g.R.Rows.slots c.self.inside.inner c.put.new.self c.in_err-undo.ensures.keeps.rest (λ (n : Content). RefinesChange (UpdatesElement k specs d old) old (Err e) n)
+    (written-comes k specs c.in-Some-default.default.now old c.in_default.ensures d given may (Err e) (record old { slots = slots })
+    (refusal-starts k old made c.in_ok-object.object true (ap with_true c.in_ok-object.ensures.done) c.in_default.ensures c.self.inside.count c.self.invariant.counted slots e c.in_err-undo.ensures.slots)) in
     let same : old ≡ c.args.self.now.content = ap (λ (t : ContentState). t.content) c.self.view_is in
     subst (λ (r : Result Bool Refusal). RefinesChange (UpdatesElement k specs d c.args.self.now.content) c.args.self.now.content r new) (sym failed)
-    (subst (λ (o : Content). RefinesChange (UpdatesElement k specs d o) o (Err c.in_err-insert_default.field-0.0) new) same done)
+    (subst (λ (o : Content). RefinesChange (UpdatesElement k specs d o) o (Err e) new) same done)
 
 pub invariant_of-self-2 : goal.invariant_of-self-2
 invariant_of-self-2 g c =
@@ -86,13 +94,15 @@ invariant_of-self-2 g c =
     let specs = c.args.specs.now in
     let may : (is_set c.self.inside.inner.kind && (element_specs_avoid_key c.self.inside.inner.keypos specs && default_is_object c.self.inside.inner.keypos k d)) ≡ true =
     ap (λ (t : ContentState). is_set t.content.kind && (element_specs_avoid_key t.content.keypos specs && default_is_object t.content.keypos k d)) c.self.view_is ∙ sym c.element_is_valid.ensures ∙ c.if-not-element_is_valid.false in
-    let b = both (is_set c.self.inside.inner.kind) (element_specs_avoid_key c.self.inside.inner.keypos specs && default_is_object c.self.inside.inner.keypos k d) may in
-    let named = both (element_specs_avoid_key c.self.inside.inner.keypos specs) (default_is_object c.self.inside.inner.keypos k d) b.1 in
-    let made = with_true (start_elements specs (with_key c.self.inside.inner.keypos k c.in-Some-default.default.now)) in
-    let s = object-starts (nat_lt c.self.inside.count c.self.inside.inner.limit) k made c.in_ok-object.object true (ap with_true c.in_ok-object.ensures.done) (g.R.Rows.slots c.self.inside.inner.rows) (g.R.Rows.slots c.insert_default.new.self.rows) c.in_ok-insert_default.ensures.slots in
-    holds-kept g.R.Rows.slots c.self.inside.inner c.insert_default.new.self c.in_ok-insert_default.ensures.keeps.rest (c.self.inside.count + 1)
-    (started-counted c.self.inside.inner.kind c.self.inside.inner.keypos c.self.inside.inner.limit c.self.inside.count (g.R.Rows.slots c.self.inside.inner.rows) (g.R.Rows.slots c.insert_default.new.self.rows) k s.0 c.self.invariant c.in_default.ensures s.2
-    (written-started c.self.inside.inner.keypos specs k c.in-Some-default.default.now s.0 true named.0 s.1) s.3)
+    let old : Content = content_of g.R.Rows.slots c.self.inside.inner in
+    let i = c.self.inside in
+    let new = g.R.Rows.slots c.put.new.self.rows in
+    let b = both (is_set i.inner.kind) (element_specs_avoid_key i.inner.keypos specs && default_is_object i.inner.keypos k d) may in
+    let named = both (element_specs_avoid_key i.inner.keypos specs) (default_is_object i.inner.keypos k d) b.1 in
+    let its = written-started i.inner.keypos specs k c.in-Some-default.default.now c.in_ok-object.object true named.0 (ap with_true c.in_ok-object.ensures.done) in
+    holds-kept g.R.Rows.slots i.inner c.put.new.self c.in_ok-undo.ensures.keeps.rest (i.count + c.added_objects.result)
+    (subst (λ n. IsCounted i.inner.kind i.inner.keypos i.inner.limit (i.count + n) new) (sym c.added_objects.ensures)
+    (one-more c.in_ok-object.object k old its.0 c.in_default.ensures its.1 i.count c.self.invariant c.in_ok-undo.undo new c.in_ok-undo.ensures.slots))
 
 pub returns-clause-content : goal.returns-clause-content
 returns-clause-content g c =
@@ -102,9 +112,10 @@ returns-clause-content g c =
     let may : (is_set c.self.inside.inner.kind && (element_specs_avoid_key c.self.inside.inner.keypos specs && default_is_object c.self.inside.inner.keypos k d)) ≡ true =
     ap (λ (t : ContentState). is_set t.content.kind && (element_specs_avoid_key t.content.keypos specs && default_is_object t.content.keypos k d)) c.self.view_is ∙ sym c.element_is_valid.ensures ∙ c.if-not-element_is_valid.false in
     let old : Content = content_of g.R.Rows.slots c.self.inside.inner in
-    let made = with_true (start_elements specs (with_key c.self.inside.inner.keypos k c.in-Some-default.default.now)) in
-    let s = object-starts (nat_lt c.self.inside.count c.self.inside.inner.limit) k made c.in_ok-object.object true (ap with_true c.in_ok-object.ensures.done) (g.R.Rows.slots c.self.inside.inner.rows) (g.R.Rows.slots c.insert_default.new.self.rows) c.in_ok-insert_default.ensures.slots in
     let given : d ≡ Some c.in-Some-default.default.now = ap option_copied c.in-Some-default.is in
+    let made = with_true (start_elements specs (with_key c.self.inside.inner.keypos k c.in-Some-default.default.now)) in
+    let slots = g.R.Rows.slots c.put.new.self.rows in
     rw (← c.self.view_is)
-    (of-slots g.R.Rows.slots c.self.inside.inner c.insert_default.new.self c.in_ok-insert_default.ensures.keeps.rest (λ (n : Content). UpdatesElement k specs d old (Ok true) n)
-    (written-comes k specs c.in-Some-default.default.now old c.self.inside.count c.in_default.ensures c.self.invariant.counted d given may (Ok true) (g.R.Rows.slots c.insert_default.new.self.rows) s))
+    (of-slots g.R.Rows.slots c.self.inside.inner c.put.new.self c.in_ok-undo.ensures.keeps.rest (λ (n : Content). UpdatesElement k specs d old (Ok true) n)
+    (written-comes k specs c.in-Some-default.default.now old c.in_default.ensures d given may (Ok true) (record old { slots = slots })
+    (object-starts k old made c.in_ok-object.object true (ap with_true c.in_ok-object.ensures.done) c.in_default.ensures c.self.inside.count c.self.invariant.counted slots c.in_ok-undo.undo c.in_ok-undo.ensures.slots)))

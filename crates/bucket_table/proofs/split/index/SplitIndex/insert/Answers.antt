@@ -10,12 +10,15 @@ use Rattle.bucket_table.proofs.hints.Start.{lesser-up-to}
 use Rattle.bucket_table.proofs.hints.Rehash.{previous-put}
 use Rattle.bucket_table.proofs.hints.Replace.{right, anew}
 use Rattle.bucket_table.proofs.directory.Placed.{placed-parity}
-use Rattle.bucket_table.proofs.hints.Rebuild.{item-small}
+use Rattle.bucket_table.proofs.hints.Parts.{item-small}
 use Rattle.bucket_table.proofs.hints.Invariant.{rows-put}
 use Rattle.bucket_table.proofs.split.index.SplitIndex.insert.Goals as goal
 
 pub catch_up-requires : goal.catch_up-requires
-catch_up-requires g c = record { hints = right g.H.KeyHash.hash c.args.self.now c.requires.rows }
+catch_up-requires g c = record {
+  parity = placed-parity (g.H.KeyHash.hash c.args.self.now.hasher) c.args.self.now.directory c.args.self.now.list.cells c.requires.rows.rows.split.placed;
+  hints = right g.H.KeyHash.hash c.args.self.now c.requires.rows;
+}
 
 pub search_start-before-requires-clause-rows : goal.search_start-before-requires-clause-rows
 search_start-before-requires-clause-rows g c = anew g.H.KeyHash.hash c.args.self.now c.requires.rows c.catch_up.new.self c.catch_up.ensures.interval_bits c.catch_up.ensures.hints

@@ -4,7 +4,7 @@ use Rattle.node_list.specs.Places.{cells_after}
 use Rattle.bucket_table.specs.inside.Nodes.{slots_of}
 use Rattle.bucket_table.specs.inside.Directory.{HaveSplitKeys}
 use Rattle.bucket_table.specs.inside.TombstoneLog.{TombstonesAreAmong}
-use Rattle.bucket_table.proofs.hints.Rebuild.{item-small}
+use Rattle.bucket_table.proofs.hints.Parts.{item-small}
 use Rattle.bucket_table.proofs.sweep.Order.{sweeps-on}
 use Rattle.bucket_table.proofs.sweep.PurgeHash.{next-there, beyond-next, nothing-behind, run-purged, run-gone, among-rest}
 use Rattle.bucket_table.proofs.split.index.SplitIndex.purge_hash.Goals as goal

@@ -2,7 +2,7 @@ use Rattle.std.proofs.Common.{ℕ, refl, subst, arith}
 use Rattle.bucket_table.specs.inside.Directory.{HasKeyBelow}
 use Rattle.bucket_table.proofs.hints.Start.{found-behind}
 use Rattle.bucket_table.proofs.list.Places.{seat-found, hash-key}
-use Rattle.bucket_table.proofs.hints.Rebuild.{item-small}
+use Rattle.bucket_table.proofs.hints.Parts.{item-small}
 use Rattle.bucket_table.proofs.sweep.Sweep.{item-seat}
 use Rattle.bucket_table.proofs.split.index.SplitIndex.start_before.Goals as goal
 

@@ -1,11 +1,11 @@
-use Rattle.std.proofs.Common.{◌≡◌, ℕ, List, [], ◌∷◌, length, map, refl, sym, ◌∙◌, ap, subst, arith}
+use Rattle.std.proofs.Common.{◌≡◌, ℕ, List, ◌∷◌, length, map, refl, sym, ◌∙◌, ap, subst, arith}
 use Rattle.std.specs.Vec.Iter.{into_iter_items}
 use Rattle.ets_term.specs.declared.term.Term.{Term}
 use Rattle.bucket_table.specs.Slots.{Slot}
 use Rattle.bucket_table.specs.SplitRowsState.{SplitRowsState}
 use Rattle.bucket_table.specs.Rows.{HasDistinctKeys, EnterAll, AreNew}
 use Rattle.bucket_table.proofs.slots.Enter.{new-still, distinct-rest}
-use Rattle.bucket_table.proofs.slots.Hashed.{hashed, rows_of, AreHashed, none-left, rows-hashed, are-hashed, first-hash, rest-hashed}
+use Rattle.bucket_table.proofs.slots.Hashed.{hashed, rows_of, AreHashed, none-left, rows-hashed, are-hashed, rest-hashed}
 use Rattle.bucket_table.proofs.split.rows.SplitRowsRows.put.Goals as goal
 
 pub loop-hash-init : goal.loop-hash-init

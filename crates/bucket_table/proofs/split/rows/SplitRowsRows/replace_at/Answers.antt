@@ -3,7 +3,7 @@ use Rattle.std.proofs.Math.Nat.{mod-eq_of_lt}
 use Rattle.bucket_table.specs.Slots.{Slot, has_objects}
 use Rattle.bucket_table.specs.inside.TombstoneLog.{IsAmong, TombstonesAreAmong}
 use Rattle.bucket_table.proofs.sweep.Log.{among-with, among-more, tombstone-counted}
-use Rattle.bucket_table.proofs.hints.Rebuild.{item-small}
+use Rattle.bucket_table.proofs.hints.Parts.{item-small}
 use Rattle.std.proofs.Common.{◌≡◌, ◌-◌, ℕ, List, arith, length, IsSome, Some, sym, ◌∙◌, ap, subst, ◌^◌, ◌+◌}
 use Rattle.bucket_table.specs.Entries.{objects_in, with_objects_in}
 use Rattle.bucket_table.specs.SplitRowsState.{SplitRowsState, key_of_place}

@@ -1,0 +1,5 @@
+pub mod Parts
+pub mod Room
+pub mod Keyed
+pub mod ForAll
+pub mod Laws

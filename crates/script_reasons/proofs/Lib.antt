@@ -1,3 +1,0 @@
-pub mod LexStateLaws
-pub mod Names
-pub mod Signs
