@@ -9,11 +9,15 @@ pub mod ForAllSteps
 pub mod ForAllTables
 pub mod ForAllWorlds
 pub mod Found
+pub mod Joined
 pub mod Kept
 pub mod Keys
 pub mod Lists
 pub mod Merged
+pub mod Moves
+pub mod Places
 pub mod Room
 pub mod Rules
+pub mod Runs
 pub mod Whole
 pub mod Written
