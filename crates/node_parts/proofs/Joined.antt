@@ -1,48 +1,43 @@
--- Reads of all objects: the replies of the parts make that of the whole.
-use Rattle.std.proofs.Common.{◌≡◌, ℕ, ◌+◌, pos, Bool, true, false, not, cond, List, [], ◌∷◌, ◌++◌, map, Option, None, Some, MatchBool, fold, filter, length, option_map, option_and_then, refl, sym, ap, subst, ◌∙◌, append_assoc, append-nil, length-append, rules, true≢false}
+-- Reads of all objects: the replies of the parts make that of the whole, and nothing changes.
+use Rattle.std.proofs.Common.{◌≡◌, ℕ, ◌+◌, pos, Bool, true, false, cond, List, [], ◌∷◌, ◌++◌, map, Option, None, Some, MatchBool, fold, filter, length, option_map, option_and_then, refl, sym, ap, subst, ◌∙◌, append_assoc, append-nil, length-append, rules, true≢false}
 use Rattle.std.specs.Prelude.{filter_map, flat_map}
-use Rattle.std.specs.List.{AllByRecursion, AllZip, list_any, reduce}
+use Rattle.std.specs.List.{AllByRecursion, AllZip, reduce}
 use Rattle.std.specs.Option.{option_map_or}
 use Rattle.std.proofs.lemmas.List.Concat.{flat_map-append}
 use Rattle.std.proofs.lemmas.List.Elements.{filter-append, filter_map-append}
 use Rattle.ets_term.specs.declared.term.Term.{Term, out-Term, the_lemmas}
 use Rattle.ets_term.specs.declared.term.Term.TheVariants.{Int}
 use Rattle.ets_term.specs.Data.{Data, data_of}
-use Rattle.ets_term.specs.Depth.{is_too_deep}
 use Rattle.ets_term.specs.Trees.{term_of}
 use Rattle.bucket_table.specs.Slots.{Slot, object_count}
 use Rattle.match_spec.specs.Specifications.{is_pattern, is_spec}
-use Rattle.table_ops.specs.Outcomes.{Outcome, gives, refuse, refuse_none}
+use Rattle.table_ops.specs.Outcomes.{Outcome, gives, refuse_none}
 use Rattle.table_ops.specs.Queries.{bound_in, is_chosen, matches, spec_result}
 use Rattle.table_ops.specs.Read.{all_objects}
 use Rattle.fixed_walk.specs.TableState.{TableState}
 use Rattle.ownership.specs.declared.info.InfoItem.{InfoItem}
 use Rattle.ownership.specs.declared.info.InfoItem.TheVariants as item
 use Rattle.ownership.specs.Info.{item_of}
-use Rattle.ownership.specs.World.{Table, lives, table_at, resolve}
+use Rattle.ownership.specs.World.{Table, table_at, resolve}
 use Rattle.node_core.specs.declared.call_name.CallName.{CallName}
 use Rattle.node_core.specs.declared.call_name.CallName.TheVariants as name
+use Rattle.node_core.specs.declared.node.access.Access.{Access}
 use Rattle.node_core.specs.declared.node.access.Access.TheVariants.{Read}
-use Rattle.node_core.specs.declared.step.Call.{Call}
 use Rattle.node_core.specs.declared.step.Reply.{Reply}
-use Rattle.node_core.specs.declared.step.Reply.TheVariants.{Badarg, SystemLimit, NoProcess}
-use Rattle.node_core.specs.declared.step.Step.TheVariants.{Ask}
+use Rattle.node_core.specs.declared.step.Reply.TheVariants.{Badarg}
 use Rattle.node_core.specs.State.{State}
-use Rattle.node_core.specs.Access.{usable, reads}
-use Rattle.node_core.specs.CallName.{call_name}
-use Rattle.node_core.specs.Calls.{call, call_by_text}
-use Rattle.node_core.specs.Machine.{step}
+use Rattle.node_core.specs.Access.{usable}
+use Rattle.node_core.specs.Calls.{call}
+use Rattle.node_core.specs.Reads.{reads_only}
 use Rattle.node_core.specs.laws.Kept.{slots_in}
 use Rattle.node_core.specs.rules.Owning.{value_or_undefined, names_form, info_at}
 use Rattle.node_core.specs.rules.Reading.{tab2list_reply}
 use Rattle.node_core.specs.rules.Replies.{list_reply}
 use Rattle.node_core.specs.rules.Searching.{results_reply, count_reply, match_reply, match_object_reply, select_reply, select_count_reply}
 use Rattle.node_parts.specs.ForAll.{is_size}
-use Rattle.node_parts.specs.Joined.{reads_all_objects, is_read_of_all, join}
-use Rattle.node_parts.specs.Laws.{ReadsOfAllPartsAreReads}
+use Rattle.node_parts.specs.Joined.{looks_at_all, join}
 use Rattle.node_parts.specs.Parts.{replicated_table, replicated, ArePartsOf}
 use Rattle.node_parts.proofs.Around.{count-parts}
-use Rattle.node_parts.proofs.ForAllTables.{processes-same}
 use Rattle.node_parts.proofs.Lists.{all-at}
 use Rattle.node_parts.proofs.Whole.{AreFound, FoundInBoth, usable-same, resolve-same, table-same, slots-at}
 
@@ -91,11 +86,15 @@ module _ (t : ℕ) (g : List Slot → Reply) (joins : (xs ys : List Slot) → g 
       sym is ∙ (ap (λ x. fold join x replies) h.0 ∙ fold-slots (slots_in t part) parts replies h.1)
 
 -- ---- outcomes
+-- a call looks at the table that a term names, and changes nothing
+abbrev pub Tells : Access → ℕ → Term → (TableState → Reply) → State → Outcome Reply State
+Tells access p x answer s = refuse_none s (usable access s.world.tables p x) Badarg (λ found. gives (answer found.1.state) s)
+
 module _ {part_of : ℕ → Term → ℕ} {parts : List State} {whole : State} (are : ArePartsOf part_of parts whole) where
-  abbrev IsSame : State → Type 0
+  abbrev pub IsSame : State → Type 0
   IsSame part = replicated part ≡ replicated whole
 
-  all-same : AllByRecursion IsSame parts
+  pub all-same : AllByRecursion IsSame parts
   all-same = all-at IsSame parts (λ k part e. (are.each k part e).same)
 
   zip-map : (R Q : State → Reply → Type 0) → ((part : State) → IsSame part → (r : Reply) → R part r → Q part r) → (ps : List State) (replies : List Reply)
@@ -112,10 +111,10 @@ module _ {part_of : ℕ → Term → ℕ} {parts : List State} {whole : State} (
   all-replies P (part ∷ ps) (q ∷ replies) h = (h.0, all-replies P ps replies h.1)
 
   -- the replies of the parts, put together, are a reply of the whole
-  record Joins (outcome : State → Outcome Reply State) : Type 0 where
-    does : (replies : List Reply) (reply : Reply) → AllZip (λ part r. outcome part r part) parts replies → reduce join replies ≡ Some reply → outcome whole reply whole
+  pub record Joins (outcome : State → Outcome Reply State) : Type 0 where
+    pub does : (replies : List Reply) (reply : Reply) → AllZip (λ part r. outcome part r part) parts replies → reduce join replies ≡ Some reply → outcome whole reply whole
 
-  alike-joins : (outcome : State → Outcome Reply State) (r : Reply) → join r r ≡ r → ((part : State) → IsSame part → (q : Reply) → outcome part q part → q ≡ r) → outcome whole r whole → Joins outcome
+  pub alike-joins : (outcome : State → Outcome Reply State) (r : Reply) → join r r ≡ r → ((part : State) → IsSame part → (q : Reply) → outcome part q part → q ≡ r) → outcome whole r whole → Joins outcome
   alike-joins outcome r same each done = record {
     does = λ replies reply h made.
         let all = all-replies (λ q. q ≡ r) parts replies (zip-map (λ part q. outcome part q part) (λ part q. q ≡ r) each parts replies all-same h) in
@@ -130,21 +129,6 @@ module _ {part_of : ℕ → Term → ℕ} {parts : List State} {whole : State} (
         let is = reduce-slots t g joins parts replies reply all made ∙ ap g (sym (are.slots t)) in
         subst (λ (q : Reply). outcome whole q whole) (sym is) done;
   }
-
-  refuse-joins : (test : State → Bool) (refusal : Reply) (outcome : State → Outcome Reply State) → join refusal refusal ≡ refusal → ((part : State) → IsSame part → test part ≡ test whole)
-      → Joins outcome → Joins (λ s. refuse s (test s) refusal (outcome s))
-  refuse-joins test refusal outcome same alike joins = by (test whole) refl
-    where
-      at : (b : Bool) → test whole ≡ b → (part : State) → IsSame part → (q : Reply) → refuse part (test part) refusal (outcome part) q part → refuse part b refusal (outcome part) q part
-      at b e part own q h = subst (λ (b : Bool). MatchBool b (gives refusal part q part) (outcome part q part)) (alike part own ∙ e) h
-
-      by : (b : Bool) → test whole ≡ b → Joins (λ s. refuse s (test s) refusal (outcome s))
-      by true e = alike-joins (λ s. refuse s (test s) refusal (outcome s)) refusal same (λ part own q h. (at true e part own q h).0) (rw e (refl, refl))
-      by false e = record {
-        does = λ replies reply h made.
-            let all = zip-map (λ part q. refuse part (test part) refusal (outcome part) q part) (λ part q. outcome part q part) (at false e) parts replies all-same h in
-            rw e (joins.does replies reply all made);
-      }
 
   refuse_none-joins : {Y : Type 0} (o : Option Y) (refusal : Reply) (outcome : Y → State → Outcome Reply State) → join refusal refusal ≡ refusal → ((y : Y) → o ≡ Some y → Joins (outcome y))
       → Joins (λ s. refuse_none s o refusal (λ y. outcome y s))
@@ -163,7 +147,7 @@ module _ {part_of : ℕ → Term → ℕ} {parts : List State} {whole : State} (
   state-is mine all same = λ i. record (same i).state { content = record (same i).state.content { limit = mine.state.content.limit; slots = mine.state.content.slots } }
 
   module _ (answer : TableState → Reply) (any_limit : (f : TableState) (n : ℕ) → answer (with_most f n) ≡ answer f)
-      (joins : (f : TableState) (xs ys : List Slot) → answer (with_slots f (xs ++ ys)) ≡ join (answer (with_slots f xs)) (answer (with_slots f ys))) (p : ℕ) (x : Term) where
+      (joins : (f : TableState) (xs ys : List Slot) → answer (with_slots f (xs ++ ys)) ≡ join (answer (with_slots f xs)) (answer (with_slots f ys))) (access : Access) (p : ℕ) (x : Term) where
     abbrev Answers : State → Option (ℕ × Table) → Reply → Type 0
     Answers s o q = refuse_none s o Badarg (λ found. gives (answer found.1.state) s) q s
 
@@ -183,21 +167,21 @@ module _ {part_of : ℕ → Term → ℕ} {parts : List State} {whole : State} (
         ∙ (any_limit (with_slots all.1.state mine.1.state.content.slots) mine.1.state.content.limit
         ∙ ap (λ (l : List Slot). answer (with_slots all.1.state l)) slots))
 
-    reads-join : Joins (λ s. reads s p x answer)
-    reads-join = by (usable Read whole.world.tables p x) refl
+    pub tells-join : Joins (Tells access p x answer)
+    tells-join = by (usable access whole.world.tables p x) refl
       where
-        found-at : (u : Option (ℕ × Table)) → usable Read whole.world.tables p x ≡ u → (part : State) → IsSame part → FoundInBoth part whole x (usable Read part.world.tables p x) u
-        found-at u e part own = subst (λ (v : Option (ℕ × Table)). FoundInBoth part whole x (usable Read part.world.tables p x) v) e (usable-same part whole own Read p x)
+        found-at : (u : Option (ℕ × Table)) → usable access whole.world.tables p x ≡ u → (part : State) → IsSame part → FoundInBoth part whole x (usable access part.world.tables p x) u
+        found-at u e part own = subst (λ (v : Option (ℕ × Table)). FoundInBoth part whole x (usable access part.world.tables p x) v) e (usable-same part whole own access p x)
 
-        by : (u : Option (ℕ × Table)) → usable Read whole.world.tables p x ≡ u → Joins (λ s. reads s p x answer)
+        by : (u : Option (ℕ × Table)) → usable access whole.world.tables p x ≡ u → Joins (Tells access p x answer)
         by None e =
-            alike-joins (λ s. reads s p x answer) Badarg refl
-            (λ part own q h. none-at part (usable Read part.world.tables p x) (found-at None e part own) q h) (rw e (refl, refl))
+            alike-joins (Tells access p x answer) Badarg refl
+            (λ part own q h. none-at part (usable access part.world.tables p x) (found-at None e part own) q h) (rw e (refl, refl))
         by (Some all) e =
             let own : AreFound whole whole x all all = subst (λ (v : Option (ℕ × Table)). FoundInBoth whole whole x v (Some all)) e (found-at (Some all) e whole refl) in
             let slots : slots_in all.0 whole ≡ all.1.state.content.slots = slots-at whole all.0 all.1 own.at in
-            slots-join (λ s. reads s p x answer) all.0 (λ l. answer (with_slots all.1.state l)) (joins all.1.state)
-            (λ part same q h. some-at all part same (usable Read part.world.tables p x) (found-at (Some all) e part same) q h)
+            slots-join (Tells access p x answer) all.0 (λ l. answer (with_slots all.1.state l)) (joins all.1.state)
+            (λ part same q h. some-at all part same (usable access part.world.tables p x) (found-at (Some all) e part same) q h)
             (rw e (ap (λ (l : List Slot). answer (with_slots all.1.state l)) slots, refl))
 
 -- ---- replies
@@ -274,35 +258,26 @@ module _ {part_of : ℕ → Term → ℕ} {parts : List State} {whole : State} (
   size-of None i e h = cc
   size-of (Some j) i e h = let is : j ≡ i = cc in subst (λ (k : InfoItem). is_size k ≡ true) is h
 
-  call-joins : (p : ℕ) (n : CallName) (args : List Term) → reads_all_objects n args ≡ true → Joins are (λ s. call s p n args)
-  call-joins p name.Tab2list (x ∷ []) e = reads-join are tab2list_reply (λ f n. refl) (λ f xs ys. lists-join (λ os. os) (λ os us. refl) xs ys) p x
-  call-joins p name.Match (x ∷ y ∷ []) e =
-      reads-join are (match_reply y) (λ f n. refl)
-      (λ f xs ys. if-join (is_pattern (data_of y)) (λ l. results_reply (filter_map (bound_in y) (all_objects l))) (lists-join (λ os. map term_of (filter_map (bound_in y) os)) (results-join (bound_in y))) xs ys) p x
-  call-joins p name.MatchObject (x ∷ y ∷ []) e =
-      reads-join are (match_object_reply y) (λ f n. refl)
-      (λ f xs ys. if-join (is_pattern (data_of y)) (λ l. list_reply (filter (matches y) (all_objects l))) (lists-join (filter (matches y)) (filter-append (matches y))) xs ys) p x
-  call-joins p name.Select (x ∷ y ∷ []) e =
-      reads-join are (select_reply y) (λ f n. refl)
-      (λ f xs ys. if-join (is_spec (data_of y)) (λ l. results_reply (filter_map (spec_result y) (all_objects l))) (lists-join (λ os. map term_of (filter_map (spec_result y) os)) (results-join (spec_result y))) xs ys) p x
-  call-joins p name.SelectCount (x ∷ y ∷ []) e =
-      reads-join are (select_count_reply y) (λ f n. refl)
-      (λ f xs ys. if-join (is_spec (data_of y)) (λ l. count_reply (length (filter (is_chosen y) (all_objects l)))) (counts-join (is_chosen y)) xs ys) p x
-  call-joins p name.Info (x ∷ y ∷ []) e =
+  pub chosen-join : (access : Access) (p : ℕ) (x y : Term) → Joins are (Tells access p x (select_count_reply y))
+  chosen-join access p x y =
+      tells-join are (select_count_reply y) (λ f n. refl)
+      (λ f xs ys. if-join (is_spec (data_of y)) (λ l. count_reply (length (filter (is_chosen y) (all_objects l)))) (counts-join (is_chosen y)) xs ys) access p x
+
+  pub call-joins : (p : ℕ) (n : CallName) (args : List Term) → looks_at_all n args ≡ true → reads_only n args ≡ true → Joins are (λ s. call s p n args)
+  call-joins p name.Tab2list (x ∷ []) e only = tells-join are tab2list_reply (λ f n. refl) (λ f xs ys. lists-join (λ os. os) (λ os us. refl) xs ys) Read p x
+  call-joins p name.Match (x ∷ y ∷ []) e only =
+      tells-join are (match_reply y) (λ f n. refl)
+      (λ f xs ys. if-join (is_pattern (data_of y)) (λ l. results_reply (filter_map (bound_in y) (all_objects l))) (lists-join (λ os. map term_of (filter_map (bound_in y) os)) (results-join (bound_in y))) xs ys) Read p x
+  call-joins p name.MatchObject (x ∷ y ∷ []) e only =
+      tells-join are (match_object_reply y) (λ f n. refl)
+      (λ f xs ys. if-join (is_pattern (data_of y)) (λ l. list_reply (filter (matches y) (all_objects l))) (lists-join (filter (matches y)) (filter-append (matches y))) xs ys) Read p x
+  call-joins p name.Select (x ∷ y ∷ []) e only =
+      tells-join are (select_reply y) (λ f n. refl)
+      (λ f xs ys. if-join (is_spec (data_of y)) (λ l. results_reply (filter_map (spec_result y) (all_objects l))) (lists-join (λ os. map term_of (filter_map (spec_result y) os)) (results-join (spec_result y))) xs ys) Read p x
+  call-joins p name.SelectCount (x ∷ y ∷ []) e only = chosen-join Read p x y
+  call-joins p name.Info (x ∷ y ∷ []) e only =
       refuse_none-joins are (item_of y) Badarg
       (λ i s reply new. MatchBool (names_form (out-Term x)) (gives (value_or_undefined (option_and_then (info_at i s.world) (resolve s.world.tables x))) s reply new) (gives Badarg s reply new))
       refl (λ i is. info-item x i (size-of (item_of y) i is e) (names_form (out-Term x)))
-  call-joins p _ _ e = absurd (true≢false (sym e))
-
-  named : (o : Option CallName) (args : List Term) (n : CallName) → o ≡ Some n → option_map_or (λ name. reads_all_objects name args) o false ≡ true → reads_all_objects n args ≡ true
-  named None args n e h = cc
-  named (Some m) args n e h = let is : m ≡ n = cc in subst (λ (c : CallName). reads_all_objects c args ≡ true) is h
-
-  step-joins : (p : ℕ) (asked : Call) → is_read_of_all asked ≡ true → Joins are (λ s. step s (Ask p asked))
-  step-joins p asked e =
-      refuse-joins are (λ s. not (lives s.world.processes p)) NoProcess (λ s. refuse s (list_any is_too_deep asked.args) SystemLimit (call_by_text s p asked.name asked.args)) refl (λ part same. ap (λ ps. not (lives ps p)) (processes-same part whole same)) (
-      refuse-joins are (λ s. list_any is_too_deep asked.args) SystemLimit (λ s. call_by_text s p asked.name asked.args) refl (λ part same. refl) (
-      refuse_none-joins are (call_name asked.name) Badarg (λ n s. call s p n asked.args) refl (λ n h. call-joins p n asked.args (named (call_name asked.name) asked.args n h e))))
-
-pub reads-join-reads : ReadsOfAllPartsAreReads
-reads-join-reads part_of parts whole p asked replies reply are e h made = (step-joins are p asked e).does replies reply h made
+  call-joins p name.SelectDelete (x ∷ y ∷ []) e only = absurd (true≢false (sym only))
+  call-joins p _ _ e only = absurd (true≢false (sym e))

@@ -1,6 +1,7 @@
 pub mod Around
 pub mod AroundContents
 pub mod Calls
+pub mod Counted
 pub mod Empties
 pub mod ForAll
 pub mod ForAllEnds

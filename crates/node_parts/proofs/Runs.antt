@@ -20,9 +20,9 @@ use Rattle.node_core.specs.Machine.{step, run}
 use Rattle.node_core.specs.Reads.{is_read}
 use Rattle.node_core.specs.laws.Kept.{slots_in}
 use Rattle.node_core.proofs.determined.Laws.{nothing-changed}
-use Rattle.node_parts.specs.Events.{Event, made, made_by_all, read_by_all, refused, moved, step_of, IsEventOf, is_of, Does, PartsGo, steps_of}
+use Rattle.node_parts.specs.Events.{Event, made, made_by_all, made_by_each, refused, moved, step_of, IsEventOf, is_of, Does, PartsGo, steps_of}
 use Rattle.node_parts.specs.ForAll.{is_for_all}
-use Rattle.node_parts.specs.Joined.{is_read_of_all, join}
+use Rattle.node_parts.specs.Joined.{is_on_all_objects, join}
 use Rattle.node_parts.specs.Keyed.{keyed, HasKeysOfPart, IsOnPart, HasRoomOfTable, HasAllRoomFor, HasNoRoomFor}
 use Rattle.node_parts.specs.Laws.{RunsOfPartsAreRuns, PartsGoOn, CallsTakeOnePartOn}
 use Rattle.node_parts.specs.Parts.{limit_in, HasAllRoom, ArePartsOf, ShareAllRoom}
@@ -30,7 +30,7 @@ use Rattle.node_parts.proofs.Around.{count-around, count-parts}
 use Rattle.node_parts.proofs.Calls.{Merges, step-follows, step-agrees}
 use Rattle.node_parts.proofs.ForAll.{all-follow}
 use Rattle.node_parts.proofs.ForAllSteps.{step-for-all}
-use Rattle.node_parts.proofs.Joined.{reads-join-reads}
+use Rattle.node_parts.proofs.Counted.{step-counted}
 use Rattle.node_parts.proofs.Lists.{sum-around}
 use Rattle.node_parts.proofs.Merged.{set-same}
 use Rattle.node_parts.proofs.Moves.{is-itself, moved-parts, moved-shares}
@@ -97,12 +97,30 @@ some-at [] k within = absurd (omega (arith, within))
 some-at (part ∷ parts) zero within = (part, refl)
 some-at (part ∷ parts) (suc k) within = some-at parts k (omega (arith, within))
 
-zip-of : (R : State → Reply → Type 0) (parts : List State) (replies : List Reply) → length replies ≡ length parts
-    → ((k : ℕ) (part : State) → slice_get parts k ≡ Some part → IsSomeAnd (slice_get replies k) (R part)) → AllZip R parts replies
-zip-of R [] [] e h = tt
-zip-of R [] (reply ∷ replies) e h = absurd (omega (arith, e))
-zip-of R (part ∷ parts) [] e h = absurd (h 0 part refl)
-zip-of R (part ∷ parts) (reply ∷ replies) e h = (h 0 part refl, zip-of R parts replies (omega (arith, e)) (λ k q at. h (suc k) q at))
+-- what each part makes, as one list
+record Zipped (R : State → Reply → State → Type 0) (parts : List State) (replies : List Reply) (news : List State) : Type 0 where
+  pairs : List (Reply × State)
+  keys : keys_of pairs ≡ replies
+  values : values_of pairs ≡ news
+  all : AllZip (λ part m. R part m.0 m.1) parts pairs
+
+zip-of : (R : State → Reply → State → Type 0) (parts : List State) (replies : List Reply) (news : List State) → length replies ≡ length parts → length news ≡ length parts
+    → ((k : ℕ) (part : State) → slice_get parts k ≡ Some part → (new : State) × (slice_get news k ≡ Some new) × IsSomeAnd (slice_get replies k) (λ own. R part own new)) → Zipped R parts replies news
+zip-of R [] [] [] e f h = record { pairs = []; keys = refl; values = refl; all = tt }
+zip-of R [] [] (new ∷ news) e f h = absurd (omega (arith, f))
+zip-of R [] (reply ∷ replies) news e f h = absurd (omega (arith, e))
+zip-of R (part ∷ parts) [] news e f h = absurd (omega (arith, e))
+zip-of R (part ∷ parts) (reply ∷ replies) [] e f h = absurd (omega (arith, f))
+zip-of R (part ∷ parts) (reply ∷ replies) (new ∷ news) e f h =
+    let own = h 0 part refl in
+    let is : new ≡ own.0 = let there = own.1 in cc in
+    let rest = zip-of R parts replies news (omega (arith, e)) (omega (arith, f)) (λ k q at. h (suc k) q at) in
+    record {
+      pairs = (reply, new) ∷ rest.pairs;
+      keys = ap (λ l. reply ∷ l) rest.keys;
+      values = ap (λ l. new ∷ l) rest.values;
+      all = (subst (λ (s : State). R part reply s) (sym is) own.2, rest.all);
+    }
 
 is-other : (i k : ℕ) → (k ≡ i → ⊥) → (i == k) ≡ false
 is-other i k apart = by (i == k) refl
@@ -145,25 +163,18 @@ module _ (part_of : ℕ → Term → ℕ) where
         let done = all-follow (λ v. step v s) whole (step-for-all whole s for_all) part_of parts news reply are none steps in
         record { next = done.0; does = done.1; are = done.2; share = done.3 share }
 
-    module _ (p : ℕ) (asked : Call) (replies : List Reply) (reply : Reply) (news : List State) (h : ByOne (read_by_all p asked replies reply) parts news) where
-      read-unchanged : news ≡ parts
-      read-unchanged =
-          each_same parts news
-          (each-does is_of (Does part_of) (read_by_all p asked replies reply) (λ k. refl) (λ old new. new ≡ old) (λ k old new d. d.1) 0 parts news h)
-
-      replies-at : (k : ℕ) (old : State) → slice_get parts k ≡ Some old → IsSomeAnd (slice_get replies k) (λ own. step old (Ask p asked) own old)
-      replies-at k old there =
-          (at-place is_of (Does part_of) (GoesByOne is_of (Does part_of) (read_by_all p asked replies reply)) k k 0 parts news old (omega arith) there h).2.0
-
-      read-next : length replies ≡ length parts → is_read_of_all asked ≡ true → reduce join replies ≡ Some reply → Next part_of whole (read_by_all p asked replies reply) news
-      read-next count only joined =
-          let all = zip-of (λ part own. step part (Ask p asked) own part) parts replies count replies-at in
-          record {
-            next = whole;
-            does = reads-join-reads part_of parts whole p asked replies reply are only all joined;
-            are = subst (λ (l : List State). ArePartsOf part_of l whole) (sym read-unchanged) are;
-            share = subst (λ (l : List State). ShareAllRoom l whole) (sym read-unchanged) share;
-          }
+    each-next : (p : ℕ) (asked : Call) (replies : List Reply) (reply : Reply) (news : List State) → length replies ≡ length parts → is_on_all_objects asked ≡ true → reduce join replies ≡ Some reply
+        → ByOne (made_by_each p asked replies reply) parts news → Next part_of whole (made_by_each p asked replies reply) news
+    each-next p asked replies reply news count on_all joined h =
+        let its = zip-of (λ part own new. step part (Ask p asked) own new) parts replies news count (same-length is_of (Does part_of) (GoesByOne is_of (Does part_of) (made_by_each p asked replies reply)) 0 parts news h) (λ k part there.
+        at-place is_of (Does part_of) (GoesByOne is_of (Does part_of) (made_by_each p asked replies reply)) k k 0 parts news part (omega arith) there h) in
+        let done = (step-counted are p asked on_all).does its.pairs reply its.all (ap (reduce join) its.keys ∙ joined) in
+        record {
+          next = done.0;
+          does = done.1;
+          are = subst (λ (l : List State). ArePartsOf part_of l done.0) its.values done.2;
+          share = subst (λ (l : List State). ShareAllRoom l done.0) its.values (done.3 share);
+        }
 
     module _ (k p : ℕ) (asked : Call) (news : List State) (h : ByOne (refused k p asked) parts news) where
       abbrev Refuses : Bool → ℕ → State → State → Type 0
@@ -219,7 +230,7 @@ module _ (part_of : ℕ → Term → ℕ) where
         let one = one-does is_of (Does part_of) (made k p asked reply) k k 0 parts news (omega arith) within (itself k) (λ j apart. is-other k j apart) h in
         subst (λ (l : List State). Next part_of whole (made k p asked reply) l) (sym one.written) (made-next k p asked reply one.old one.new one.there one.does)
     next-of (made_by_all s reply) news within h = all-next s reply news within.0 within.1 h
-    next-of (read_by_all p asked replies reply) news within h = read-next p asked replies reply news h within.0 within.1 within.2
+    next-of (made_by_each p asked replies reply) news within h = each-next p asked replies reply news within.0 within.1 within.2 h
     next-of (refused k p asked) news within h = refused-next k p asked news h within
     next-of (moved t from to n) news within h = record {
       next = whole;

@@ -14,19 +14,19 @@ use Rattle.node_core.specs.Machine.{step}
 use Rattle.node_core.specs.Reads.{is_read}
 use Rattle.node_core.specs.laws.Kept.{slots_in}
 use Rattle.node_parts.specs.ForAll.{is_for_all}
-use Rattle.node_parts.specs.Joined.{is_read_of_all, join}
+use Rattle.node_parts.specs.Joined.{is_on_all_objects, join}
 use Rattle.node_parts.specs.Keyed.{IsOnPart, HasNoRoomFor}
 use Rattle.node_parts.specs.Parts.{limit_in}
 use Rattle.node_parts.specs.Room.{with_limit}
 
 -- An event: part k makes a call of process p, with this reply; or each part makes a step, with this reply; or each part
--- replies to a read of all objects, and the replies make this one; or part k refuses a call by a limit, and no other part
--- has room for it; or room for n objects of a table moves from one part to another. Growth of the tables of one part is no
+-- makes a call on all objects, and the replies make this one; or part k refuses a call by a limit, and no other part has
+-- room for it; or room for n objects of a table moves from one part to another. Growth of the tables of one part is no
 -- event, since it changes nothing that a call observes.
 pub data Event : Type 0 where
   made : (k p : ℕ) → Call → Reply → Event
   made_by_all : Step → Reply → Event
-  read_by_all : ℕ → Call → List Reply → Reply → Event
+  made_by_each : ℕ → Call → List Reply → Reply → Event
   refused : (k p : ℕ) → Call → Event
   moved : (t from to n : ℕ) → Event
 
@@ -34,7 +34,7 @@ pub data Event : Type 0 where
 abbrev pub step_of : Event → Option (Step × Reply)
 step_of (made k p asked reply) = Some (Ask p asked, reply)
 step_of (made_by_all s reply) = Some (s, reply)
-step_of (read_by_all p asked replies reply) = Some (Ask p asked, reply)
+step_of (made_by_each p asked replies reply) = Some (Ask p asked, reply)
 step_of (refused k p asked) = Some (Ask p asked, SystemLimit)
 step_of (moved t from to n) = None
 
@@ -42,8 +42,8 @@ step_of (moved t from to n) = None
 abbrev pub IsEventOf : ℕ → Event → Type 0
 IsEventOf m (made k p asked reply) = k < m
 IsEventOf m (made_by_all s reply) = (0 < m) × (is_for_all s ≡ true)
-IsEventOf m (read_by_all p asked replies reply) =
-    (length replies ≡ m) × (is_read_of_all asked ≡ true) × (reduce join replies ≡ Some reply)
+IsEventOf m (made_by_each p asked replies reply) =
+    (length replies ≡ m) × (is_on_all_objects asked ≡ true) × (reduce join replies ≡ Some reply)
 IsEventOf m (refused k p asked) = k < m
 IsEventOf m (moved t from to n) = (from < m) × (to < m) × (from ≢ to)
 
@@ -59,8 +59,8 @@ Does part_of k old (made j p asked reply) new =
     step old (Ask p asked) reply new × IsOnPart part_of k old asked
     × ((reply ≢ SystemLimit) ⊎ (is_read asked ≡ true))
 Does part_of k old (made_by_all s reply) new = step old s reply new
-Does part_of k old (read_by_all p asked replies reply) new =
-    IsSomeAnd (slice_get replies k) (λ own. step old (Ask p asked) own old) × (new ≡ old)
+Does part_of k old (made_by_each p asked replies reply) new =
+    IsSomeAnd (slice_get replies k) (λ own. step old (Ask p asked) own new)
 Does part_of k old (refused j p asked) new =
     MatchBool (j == k)
     (step old (Ask p asked) SystemLimit new × IsOnPart part_of k old asked)

@@ -1,4 +1,4 @@
--- Reads of all objects of a table: how the replies of the parts make that of the whole.
+-- Calls on all objects of a table: how the replies of the parts make that of the whole.
 use Rattle.std.specs.Prelude.{◌+◌, pos, Bool, true, false, List, [], ◌∷◌, ◌++◌}
 use Rattle.std.specs.Option.{option_map_or}
 use Rattle.ets_term.specs.declared.term.Term.{Term, out-Term}
@@ -14,19 +14,20 @@ use Rattle.node_core.specs.rules.Replies.{list_reply}
 use Rattle.node_core.specs.rules.Searching.{count_reply}
 use Rattle.node_parts.specs.ForAll.{is_size}
 
--- whether a call reads all objects of a table
-abbrev pub reads_all_objects : CallName → List Term → Bool
-reads_all_objects name.Tab2list (x ∷ []) = true
-reads_all_objects name.Match (x ∷ y ∷ []) = true
-reads_all_objects name.MatchObject (x ∷ y ∷ []) = true
-reads_all_objects name.Select (x ∷ y ∷ []) = true
-reads_all_objects name.SelectCount (x ∷ y ∷ []) = true
-reads_all_objects name.Info (x ∷ y ∷ []) = option_map_or is_size (item_of y) false
-reads_all_objects _ _ = false
+-- whether a call looks at all objects of a table, and replies with a list of results or a number of objects
+abbrev pub looks_at_all : CallName → List Term → Bool
+looks_at_all name.Tab2list (x ∷ []) = true
+looks_at_all name.Match (x ∷ y ∷ []) = true
+looks_at_all name.MatchObject (x ∷ y ∷ []) = true
+looks_at_all name.Select (x ∷ y ∷ []) = true
+looks_at_all name.SelectCount (x ∷ y ∷ []) = true
+looks_at_all name.SelectDelete (x ∷ y ∷ []) = true
+looks_at_all name.Info (x ∷ y ∷ []) = option_map_or is_size (item_of y) false
+looks_at_all _ _ = false
 
 -- the same for a call by the text of its name
-abbrev pub is_read_of_all : Call → Bool
-is_read_of_all asked = option_map_or (λ name. reads_all_objects name asked.args) (call_name asked.name) false
+abbrev pub is_on_all_objects : Call → Bool
+is_on_all_objects asked = option_map_or (λ name. looks_at_all name asked.args) (call_name asked.name) false
 
 -- two replies as one, by the forms of their terms: lists one after another, counts added; else the first
 abbrev pub join_form : Reply → Term-F Term → Term-F Term → Reply

@@ -18,7 +18,7 @@ use Rattle.node_parts.specs.ForAll.{is_for_all}
 use Rattle.node_parts.specs.Parts.{ArePartsOf, ShareAllRoom, empty_part, limit_in}
 use Rattle.node_parts.specs.Room.{with_limits}
 use Rattle.node_parts.specs.Keyed.{IsOnPart, HasAllRoomFor}
-use Rattle.node_parts.specs.Joined.{is_read_of_all, join}
+use Rattle.node_parts.specs.Joined.{is_on_all_objects, join}
 use Rattle.node_parts.specs.Events.{Event, made, IsEventOf, Does, PartsGo, steps_of}
 
 -- A call on keys of part k alone is made on that part. Then the part refuses it by a limit, nothing changes, and the part
@@ -42,15 +42,15 @@ ReadsOnPartsAreReads =
     → is_read asked ≡ true → step part (Ask p asked) reply new
     → (new ≡ part) × step whole (Ask p asked) reply whole
 
--- A read of all objects is made on each part, with these replies. They make, one after another, a reply that the whole may
--- give, and nothing changes.
-abbrev pub ReadsOfAllPartsAreReads : Type 0
-ReadsOfAllPartsAreReads =
-    (part_of : ℕ → Term → ℕ) (parts : List State) (whole : State) (p : ℕ) (asked : Call) (replies : List Reply)
+-- Each part makes a call on all objects of a table. Then the replies, put together in the order of the parts, are a reply
+-- that the whole may give, and the parts are then those of the whole after it.
+abbrev pub CallsOnAllObjectsAreCalls : Type 0
+CallsOnAllObjectsAreCalls =
+    (part_of : ℕ → Term → ℕ) (parts : List State) (whole : State) (p : ℕ) (asked : Call) (made : List (Reply × State))
     (reply : Reply)
-    → ArePartsOf part_of parts whole → is_read_of_all asked ≡ true
-    → AllZip (λ part reply. step part (Ask p asked) reply part) parts replies → reduce join replies ≡ Some reply
-    → step whole (Ask p asked) reply whole
+    → ArePartsOf part_of parts whole → is_on_all_objects asked ≡ true
+    → AllZip (λ part made. step part (Ask p asked) made.0 made.1) parts made → reduce join (keys_of made) ≡ Some reply
+    → (next : State) × step whole (Ask p asked) reply next × ArePartsOf part_of (values_of made) next
 
 -- a step that each part makes, with this reply in each, is a step of the whole, and the parts are those of the whole after
 -- it

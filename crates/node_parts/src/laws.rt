@@ -1,6 +1,6 @@
 //! Laws of a state in parts. Each is the contract of a function that does nothing.
 
-ghost use Rattle.node_parts.specs.Laws.{CallsOnPartsAreCalls, CallsTakeOnePartOn, EmptyStatesAreParts, MovedRoomKeepsParts, PartsGoOn, PartsReplyAlike, ReadsOfAllPartsAreReads, ReadsOnPartsAreReads, RunsOfPartsAreRuns, StepsOnAllPartsAreSteps};
+ghost use Rattle.node_parts.specs.Laws.{CallsOnAllObjectsAreCalls, CallsOnPartsAreCalls, CallsTakeOnePartOn, EmptyStatesAreParts, MovedRoomKeepsParts, PartsGoOn, PartsReplyAlike, ReadsOnPartsAreReads, RunsOfPartsAreRuns, StepsOnAllPartsAreSteps};
 
 /// Empty states are the parts of the empty state, if their limits of objects add up to at most its limit.
 pub fn empty_states_are_parts()
@@ -19,10 +19,11 @@ pub fn reads_on_parts_are_reads()
     ensures { ReadsOnPartsAreReads }
 {}
 
-/// A read of all objects of a table is made on each part. The replies, put together in the order of the parts, are one that
-/// the whole may give: lists one after another, and counts added.
-pub fn reads_of_all_parts_are_reads()
-    ensures { ReadsOfAllPartsAreReads }
+/// A call that looks at all objects of a table is made on each part. The replies, put together in the order of the parts,
+/// are one that the whole may give: lists one after another, and numbers of objects added. Such calls are reads, and
+/// `select_delete`.
+pub fn calls_on_all_objects_are_calls()
+    ensures { CallsOnAllObjectsAreCalls }
 {}
 
 /// A step that each part makes is a step of the whole, with the same reply, and all parts give the same reply. Such steps
