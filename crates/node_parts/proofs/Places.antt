@@ -56,6 +56,20 @@ module _ {S E : Type 0} (is_of : ℕ → E → Bool) (Does : ℕ → S → E →
       (new, refl, subst (λ (n : ℕ). R (n, old) new) place (subst (λ (y : S). R (k, y) new) is h.0))
   at-place R (suc i) j k (x ∷ olds) (new ∷ news) old e at h = at-place R i j (k + 1) olds news old (omega (arith, e)) at h.1
 
+  -- what holds at each place
+  pub at-each-place : (R : ℕ × S → S → Type 0) (k : ℕ) (olds news : List S) → length news ≡ length olds
+      → ((i : ℕ) (old new : S) → slice_get olds i ≡ Some old → slice_get news i ≡ Some new → R (k + i, old) new) → AllZip R (enumerate_from k olds) news
+  at-each-place R k [] [] e h = tt
+  at-each-place R k [] (new ∷ news) e h = absurd (omega (arith, e))
+  at-each-place R k (old ∷ olds) [] e h = absurd (omega (arith, e))
+  at-each-place R k (old ∷ olds) (new ∷ news) e h =
+      let place : k + 0 ≡ k = omega arith in (
+        subst (λ (n : ℕ). R (n, old) new) place (h 0 old new refl refl),
+        at-each-place R (k + 1) olds news (omega (arith, e)) (λ i o n there now.
+            let further : k + suc i ≡ k + 1 + i = omega arith in
+            subst (λ (m : ℕ). R (m, o) n) further (h (suc i) o n there now)),
+      )
+
   -- ---- an event of all places
   pub each-does : (e : E) → ((k : ℕ) → is_of k e ≡ true) → (R : S → S → Type 0) → ((k : ℕ) (old new : S) → Does k old e new → R old new)
       → (k : ℕ) (olds news : List S) → AllZip (GoesByOne e) (enumerate_from k olds) news → AllZip R olds news

@@ -1,9 +1,10 @@
 -- Runs of parts are runs of the whole: by one event, and by all.
-use Rattle.std.proofs.Common.{◌≡◌, ◌≢◌, ◌⊎◌, inl, inr, ℕ, zero, suc, ◌+◌, ◌<◌, ◌==◌, Bool, true, false, List, [], ◌∷◌, length, MatchBool, MatchOption, Option, None, Some, IsSomeAnd, refl, sym, ap, subst, ◌∙◌, arith}
+use Rattle.std.proofs.Common.{◌≡◌, ◌≢◌, ◌⊎◌, inl, inr, ℕ, zero, suc, ◌+◌, ◌<◌, ◌==◌, Bool, true, false, List, [], ◌∷◌, length, map, MatchBool, MatchOption, Option, None, Some, IsSomeAnd, refl, sym, ap, subst, ◌∙◌, arith}
 use Rattle.std.specs.Prelude.{slice_get, slice_set}
 use Rattle.std.specs.List.{AllByRecursion, AllZip, cons_option, each_same, enumerate_from, flat_map, reduce, sum_by}
 use Rattle.std.specs.Map.{keys_of, values_of}
 use Rattle.std.proofs.lemmas.Bool.Decides.{nat_tests}
+use Rattle.std.proofs.lemmas.List.{length-map}
 use Rattle.std.proofs.lemmas.List.Sums.{sum_by-cons}
 use Rattle.ets_term.specs.declared.term.Term.{Term}
 use Rattle.bucket_table.specs.Slots.{object_count}
@@ -14,7 +15,7 @@ use Rattle.node_core.specs.declared.step.Reply.{Reply}
 use Rattle.node_core.specs.declared.step.Reply.TheVariants.{SystemLimit}
 use Rattle.node_core.specs.declared.step.Step.{Step}
 use Rattle.node_core.specs.declared.step.Step.TheVariants.{Ask}
-use Rattle.node_core.specs.State.{State}
+use Rattle.node_core.specs.State.{State, empty}
 use Rattle.node_core.specs.CallName.{call_name}
 use Rattle.node_core.specs.Machine.{step, run}
 use Rattle.node_core.specs.Reads.{is_read}
@@ -24,17 +25,18 @@ use Rattle.node_parts.specs.Events.{Event, made, made_by_all, made_by_each, refu
 use Rattle.node_parts.specs.ForAll.{is_for_all}
 use Rattle.node_parts.specs.Joined.{is_on_all_objects, join}
 use Rattle.node_parts.specs.Keyed.{keyed, HasKeysOfPart, IsOnPart, HasRoomOfTable, HasAllRoomFor, HasNoRoomFor}
-use Rattle.node_parts.specs.Laws.{RunsOfPartsAreRuns, PartsGoOn, CallsTakeOnePartOn}
-use Rattle.node_parts.specs.Parts.{limit_in, HasAllRoom, ArePartsOf, ShareAllRoom}
+use Rattle.node_parts.specs.Laws.{RunsOfPartsAreRuns, RunsOfEmptyPartsAreRuns, PartsGoOn, CallsTakeOnePartOn, EventsTakePartsOn}
+use Rattle.node_parts.specs.Parts.{limit_in, HasAllRoom, ArePartsOf, ShareAllRoom, empty_part}
 use Rattle.node_parts.proofs.Around.{count-around, count-parts}
 use Rattle.node_parts.proofs.Calls.{Merges, step-follows, step-agrees}
+use Rattle.node_parts.proofs.Empties.{empties-are-parts, empties-share}
 use Rattle.node_parts.proofs.ForAll.{all-follow}
 use Rattle.node_parts.proofs.ForAllSteps.{step-for-all}
 use Rattle.node_parts.proofs.Counted.{step-counted}
 use Rattle.node_parts.proofs.Lists.{sum-around}
 use Rattle.node_parts.proofs.Merged.{set-same}
 use Rattle.node_parts.proofs.Moves.{is-itself, moved-parts, moved-shares}
-use Rattle.node_parts.proofs.Places.{GoesByOne, between, no-events, same-length, at-place, each-does, one-does, by-first, then-more, by-this-event, one-changes}
+use Rattle.node_parts.proofs.Places.{GoesByOne, between, no-events, same-length, at-place, at-each-place, each-does, one-does, by-first, then-more, by-this-event, one-changes}
 use Rattle.node_parts.proofs.Whole.{IsAt, resolve-same, opened, own, front, back, whole-slots}
 
 -- ---- one event
@@ -260,6 +262,14 @@ module _ (part_of : ℕ → Term → ℕ) where
 pub runs-are-runs : RunsOfPartsAreRuns
 runs-are-runs part_of parts news whole events are share among h = follow part_of events parts news whole are share among h
 
+pub empty-runs-are-runs : RunsOfEmptyPartsAreRuns
+empty-runs-are-runs part_of limits rooms news events all among h =
+    let count : length (map (empty_part limits) rooms) ≡ length rooms = length-map rooms (empty_part limits) in
+    let done = follow part_of events (map (empty_part limits) rooms) news (empty limits)
+    (empties-are-parts part_of limits rooms (omega (arith, all))) (empties-share limits rooms all)
+    (subst (λ (m : ℕ). AllByRecursion (IsEventOf m) events) (sym count) among) h in
+    (done.0, done.1, done.2)
+
 pub parts-go-on : PartsGoOn
 parts-go-on part_of parts news events more =
     (by-first is_of (Does part_of) events more 0 parts news, λ h. then-more is_of (Does part_of) events more 0 parts h.0 news h.1 h.2)
@@ -268,3 +278,10 @@ pub call-takes-on : CallsTakeOnePartOn
 call-takes-on part_of parts k part new p asked reply there h =
     by-this-event is_of (Does part_of) (made k p asked reply) 0 parts (slice_set parts k new)
     (one-changes is_of (Does part_of) (made k p asked reply) k k 0 parts part new (omega arith) there (itself k) (λ j of. grind (arith, nat_tests, of)) h)
+
+pub event-takes-on : EventsTakePartsOn
+event-takes-on part_of parts news event count h =
+    by-this-event is_of (Does part_of) event 0 parts news
+    (at-each-place is_of (Does part_of) (GoesByOne is_of (Does part_of) event) 0 parts news count (λ k part new there now.
+    let place : k ≡ 0 + k = omega arith in
+    subst (λ (j : ℕ). GoesByOne is_of (Does part_of) event (j, part) new) place (h k part new there now)))

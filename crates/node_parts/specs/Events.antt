@@ -53,7 +53,8 @@ is_of k (made j p asked reply) = j == k
 is_of k (moved t from to n) = from == k || to == k
 is_of k _ = true
 
--- what an event of part k does to it
+-- What an event of part k does to it. If another part refuses a call by a limit, part k has no room for it. If room moves,
+-- part k either gives it, as far as its objects leave it, or takes it.
 abbrev pub Does : (ℕ → Term → ℕ) → ℕ → State → Event → State → Type 0
 Does part_of k old (made j p asked reply) new =
     step old (Ask p asked) reply new × IsOnPart part_of k old asked

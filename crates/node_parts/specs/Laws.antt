@@ -1,5 +1,6 @@
 -- What holds of the parts of a state: which steps on one part, or on each, are steps of the whole.
 use Rattle.std.specs.Prelude.{◌≡◌, ◌≢◌, ◌⊎◌, ◌↔◌, ℕ, ◌≤◌, true, List, [], ◌∷◌, ◌++◌, Some, length, map, slice_get, slice_set}
+use Rattle.std.specs.Bool.{MatchBool}
 use Rattle.std.specs.List.{AllByRecursion, AllZip, reduce, sum}
 use Rattle.std.specs.Map.{keys_of, values_of}
 use Rattle.ets_term.specs.declared.term.Term.{Term}
@@ -19,7 +20,7 @@ use Rattle.node_parts.specs.Parts.{ArePartsOf, ShareAllRoom, empty_part, limit_i
 use Rattle.node_parts.specs.Room.{with_limits}
 use Rattle.node_parts.specs.Keyed.{IsOnPart, HasAllRoomFor}
 use Rattle.node_parts.specs.Joined.{is_on_all_objects, join}
-use Rattle.node_parts.specs.Events.{Event, made, IsEventOf, Does, PartsGo, steps_of}
+use Rattle.node_parts.specs.Events.{Event, made, IsEventOf, is_of, Does, PartsGo, steps_of}
 
 -- A call on keys of part k alone is made on that part. Then the part refuses it by a limit, nothing changes, and the part
 -- lacks room that the table has elsewhere. Or the whole may give the same reply, and the parts, with part k as it is now,
@@ -94,6 +95,15 @@ RunsOfPartsAreRuns =
     → (next : State) × run whole (keys_of (steps_of events)) (values_of (steps_of events)) next
     × ArePartsOf part_of news next × ShareAllRoom news next
 
+-- the same from empty parts, which share the limit of objects: then the run is one of the empty whole
+abbrev pub RunsOfEmptyPartsAreRuns : Type 0
+RunsOfEmptyPartsAreRuns =
+    (part_of : ℕ → Term → ℕ) (limits : Limits) (rooms : List ℕ) (news : List State) (events : List Event)
+    → sum rooms ≡ limits.objects → AllByRecursion (IsEventOf (length rooms)) events
+    → PartsGo part_of (map (empty_part limits) rooms) events news
+    → (next : State) × run (empty limits) (keys_of (steps_of events)) (values_of (steps_of events)) next
+    × ArePartsOf part_of news next
+
 -- parts go by events and then by more just if they go by all of them
 abbrev pub PartsGoOn : Type 0
 PartsGoOn =
@@ -107,3 +117,11 @@ CallsTakeOnePartOn =
     (part_of : ℕ → Term → ℕ) (parts : List State) (k : ℕ) (part new : State) (p : ℕ) (asked : Call) (reply : Reply)
     → slice_get parts k ≡ Some part → Does part_of k part (made k p asked reply) new
     → PartsGo part_of parts (made k p asked reply ∷ []) (slice_set parts k new)
+
+-- an event takes on the parts whose event it is, and the others stay as they are
+abbrev pub EventsTakePartsOn : Type 0
+EventsTakePartsOn =
+    (part_of : ℕ → Term → ℕ) (parts news : List State) (event : Event) → length news ≡ length parts
+    → ((k : ℕ) (part new : State) → slice_get parts k ≡ Some part → slice_get news k ≡ Some new
+    → MatchBool (is_of k event) (Does part_of k part event new) (new ≡ part))
+    → PartsGo part_of parts (event ∷ []) news

@@ -1,6 +1,6 @@
 //! Laws of a state in parts. Each is the contract of a function that does nothing.
 
-ghost use Rattle.node_parts.specs.Laws.{CallsOnAllObjectsAreCalls, CallsOnPartsAreCalls, CallsTakeOnePartOn, EmptyStatesAreParts, MovedRoomKeepsParts, PartsGoOn, PartsReplyAlike, ReadsOnPartsAreReads, RunsOfPartsAreRuns, StepsOnAllPartsAreSteps};
+ghost use Rattle.node_parts.specs.Laws.{CallsOnAllObjectsAreCalls, CallsOnPartsAreCalls, CallsTakeOnePartOn, EmptyStatesAreParts, EventsTakePartsOn, MovedRoomKeepsParts, PartsGoOn, PartsReplyAlike, ReadsOnPartsAreReads, RunsOfEmptyPartsAreRuns, RunsOfPartsAreRuns, StepsOnAllPartsAreSteps};
 
 /// Empty states are the parts of the empty state, if their limits of objects add up to at most its limit.
 pub fn empty_states_are_parts()
@@ -40,15 +40,19 @@ pub fn moved_room_keeps_parts()
     ensures { MovedRoomKeepsParts }
 {}
 
-/// If each part goes by its own events, then the steps of all events are a run of the whole, with their replies. A part's
-/// own events are its calls and those that other parts take part in, so this needs to know nothing else of them.
+/// If each part goes by its own events, then the steps of all events are a run of the whole, with their replies. So if each
+/// part is empty at first, they are a run from the empty state. A part's own events are its calls, and those that other
+/// parts take part in: this needs to know nothing else of the other parts.
 pub fn runs_of_parts_are_runs()
-    ensures { RunsOfPartsAreRuns }
+    ensures runs { RunsOfPartsAreRuns }
+    ensures empties { RunsOfEmptyPartsAreRuns }
 {}
 
 /// Parts that go by events go by the first of them and then by the others. A call on one part takes that part on, and the
-/// others stay as they are, so the holder of one part adds an event without knowing the others.
+/// others stay as they are, so the holder of one part adds an event without knowing the others. Any event takes on the parts
+/// whose event it is.
 pub fn parts_go_on()
     ensures all { PartsGoOn }
     ensures one { CallsTakeOnePartOn }
+    ensures some { EventsTakePartsOn }
 {}
