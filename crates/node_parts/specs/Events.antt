@@ -19,15 +19,17 @@ use Rattle.node_parts.specs.Keyed.{IsOnPart, HasNoRoomFor}
 use Rattle.node_parts.specs.Parts.{limit_in}
 use Rattle.node_parts.specs.Room.{with_limit}
 
--- An event: part k makes a call of process p, with this reply; or each part makes a step, with this reply; or each part
--- makes a call on all objects, and the replies make this one; or part k refuses a call by a limit, and no other part has
--- room for it; or room for n objects of a table moves from one part to another. Growth of the tables of one part is no
--- event, since it changes nothing that a call observes.
+-- What happens in a store in parts. Growth of the tables of one part is no event: no call observes it.
 pub data Event : Type 0 where
+  -- part k makes a call of process p, with this reply
   made : (k p : ℕ) → Call → Reply → Event
+  -- each part makes a step, with this reply
   made_by_all : Step → Reply → Event
+  -- each part makes a call of a process on all objects of a table, and the replies of the parts make this reply
   made_by_each : ℕ → Call → List Reply → Reply → Event
+  -- part k refuses a call of process p by a limit, and no other part has room in the table
   refused : (k p : ℕ) → Call → Event
+  -- room for n objects of table t moves from one part to another
   moved : (t from to n : ℕ) → Event
 
 -- the step of an event, with its reply; None if room moves
