@@ -30,40 +30,47 @@ use Rattle.node_core.specs.rules.Reading.{lookup_reply, member_reply, lookup_ele
 use Rattle.node_core.proofs.determined.Laws.{nothing-changed}
 use Rattle.node_parts.specs.Keyed.{keys_among, keyed, HasKeysOfPart, IsOnPart, HasRoomOfTable, HasAllRoomFor}
 use Rattle.node_parts.specs.Laws.{CallsOnPartsAreCalls, ReadsOnPartsAreReads}
-use Rattle.node_parts.specs.Parts.{HasAllRoom, HasContents, ArePartsOf}
+use Rattle.node_parts.specs.Parts.{HasAllRoom, HasContents, ArePartsOf, ShareAllRoom}
 use Rattle.node_parts.proofs.AroundContents.{IsMine, AreMine, HasRoom}
 use Rattle.node_parts.proofs.AroundContents as content
 use Rattle.node_parts.proofs.Kept.{KeepsContent, insert-keeps, insert_new-keeps, take-keeps, delete-keeps_content, delete_object-keeps, update_counter-keeps, update_element-keeps}
 use Rattle.node_parts.proofs.Lists.{same-or-not}
-use Rattle.node_parts.proofs.Merged.{set-same, merged}
+use Rattle.node_parts.proofs.Merged.{set-same, merged, shares-merged}
 use Rattle.node_parts.proofs.Rules.{around_state, StaysTable, MirrorsRule, insert-mirrors, insert_new-mirrors, take-mirrors, delete-mirrors, delete_object-mirrors, update_counter-mirrors, update_element-mirrors, lookup-same, member-same, element-same, element_or-same}
 use Rattle.node_parts.proofs.Whole.{FoundInBoth, usable-same, IsAt, own, rest_of, key-mine, others-kept, has-room, all-room, whole-table, limit-at}
 use Rattle.node_parts.proofs.Written.{state-own, state-other}
 
 module _ {part_of : ℕ → Term → ℕ} {parts : List State} {whole : State} {k : ℕ} {part : State} (are : ArePartsOf part_of parts whole) (at : IsAt parts k part) where
+  -- the whole has this outcome, and the parts are those of the whole after it, and share all room as before
+  abbrev pub Merges : Outcome Reply State → Reply → State → Type 0
+  Merges outcome reply new =
+      (next : State) × outcome reply next × ArePartsOf part_of (slice_set parts k new) next
+      × (ShareAllRoom parts whole → ShareAllRoom (slice_set parts k new) next)
+
   -- If the part has this outcome, the whole has that one, and the parts are those of the whole after it. But the part may
   -- refuse by a limit where R does not hold.
-  record Follows (R : Type 0) (one other : Outcome Reply State) : Type 0 where
-    does :
+  pub record Follows (R : Type 0) (one other : Outcome Reply State) : Type 0 where
+    pub does :
         (reply : Reply) (new : State) → one reply new
-        → ((reply ≡ SystemLimit) × (R → ⊥)) ⊎ ((next : State) × other reply next × ArePartsOf part_of (slice_set parts k new) next)
+        → ((reply ≡ SystemLimit) × (R → ⊥)) ⊎ Merges other reply new
 
   -- the part has this outcome only if the whole has that one, and nothing changes
-  record Agrees (one other : Outcome Reply State) : Type 0 where
-    does : (reply : Reply) (new : State) → one reply new → (new ≡ part) × other reply whole
+  pub record Agrees (one other : Outcome Reply State) : Type 0 where
+    pub does : (reply : Reply) (new : State) → one reply new → (new ≡ part) × other reply whole
 
   agrees-follows : (R : Type 0) {one other : Outcome Reply State} → Agrees one other → Follows R one other
   agrees-follows R agrees = record {
     does = λ reply new h.
         let both = agrees.does reply new h in
-        inr (whole, both.1, subst (λ (l : List State). ArePartsOf part_of l whole) (sym (ap (slice_set parts k) both.0 ∙ set-same parts k part at.there)) are);
+        let same : parts ≡ slice_set parts k new = sym (ap (slice_set parts k) both.0 ∙ set-same parts k part at.there) in
+        inr (whole, both.1, subst (λ (l : List State). ArePartsOf part_of l whole) same are, λ share. subst (λ (l : List State). ShareAllRoom l whole) same share);
   }
 
   follows-where : (R S : Type 0) → (S → R) → {one other : Outcome Reply State} → Follows R one other → Follows S one other
   follows-where R S weaker {one = one} {other = other} follows = record { does = λ reply new h. by reply new (follows.does reply new h) }
     where
-      by : (reply : Reply) (new : State) → ((reply ≡ SystemLimit) × (R → ⊥)) ⊎ ((next : State) × other reply next × ArePartsOf part_of (slice_set parts k new) next)
-          → ((reply ≡ SystemLimit) × (S → ⊥)) ⊎ ((next : State) × other reply next × ArePartsOf part_of (slice_set parts k new) next)
+      by : (reply : Reply) (new : State) → ((reply ≡ SystemLimit) × (R → ⊥)) ⊎ Merges other reply new
+          → ((reply ≡ SystemLimit) × (S → ⊥)) ⊎ Merges other reply new
       by reply new (inl limit) = inl (limit.0, λ s. limit.1 (weaker s))
       by reply new (inr done) = inr done
 
@@ -127,16 +134,17 @@ module _ {part_of : ℕ → Term → ℕ} {parts : List State} {whole : State} {
           (kept t (record mine { state = f }) (state-own part.world.tables t mine f mine_at)).within)
 
       written-at : ((reply ≡ SystemLimit) × (content.HasAllRoom (rest_of are at t) mine.state.content → ⊥)) ⊎ rule (there t mine.state) reply (there t f)
-          → ((reply ≡ SystemLimit) × (HasAllRoom t whole part → ⊥)) ⊎ ((next : State) × Writes whole rule (t, all) reply next × ArePartsOf part_of (slice_set parts k new) next)
+          → ((reply ≡ SystemLimit) × (HasAllRoom t whole part → ⊥)) ⊎ Merges (Writes whole rule (t, all)) reply new
       written-at (inl limit) = inl (limit.0, λ room. limit.1 (all-room are at t mine mine_at room))
       written-at (inr done) = inr (
         with_table whole t (there t f),
         (there t f, subst (λ (own : Table). rule own.state reply (there t f)) (sym all_is) done, refl),
         subst (λ (s : State). ArePartsOf part_of (slice_set parts k s) (with_table whole t (there t f))) (sym is)
             (merged are at t mine all mine_at all_at f stays kept),
+        λ share. subst (λ (s : State). ShareAllRoom (slice_set parts k s) (with_table whole t (there t f))) (sym is) (shares-merged are at t mine all mine_at all_at f stays share),
       )
 
-      written : ((reply ≡ SystemLimit) × (HasAllRoom t whole part → ⊥)) ⊎ ((next : State) × Writes whole rule (t, all) reply next × ArePartsOf part_of (slice_set parts k new) next)
+      written : ((reply ≡ SystemLimit) × (HasAllRoom t whole part → ⊥)) ⊎ Merges (Writes whole rule (t, all)) reply new
       written = written-at ((holds.mirrors.at reply f does).1 room)
 
   -- the part has all the room that is left in the table that a term names
@@ -260,14 +268,14 @@ module _ {part_of : ℕ → Term → ℕ} {parts : List State} {whole : State} {
     named-read None n e h = cc
     named-read (Some m) n e h = let is : m ≡ n = cc in subst (λ (c : CallName). reads_only c asked.args ≡ true) is h
 
-    step-follows : IsOnPart part_of k part asked → Follows (HasAllRoomFor whole part asked) (step part (Ask p asked)) (step whole (Ask p asked))
+    pub step-follows : IsOnPart part_of k part asked → Follows (HasAllRoomFor whole part asked) (step part (Ask p asked)) (step whole (Ask p asked))
     step-follows keys =
         subst (λ (ended : Bool). Follows (HasAllRoomFor whole part asked) (step part (Ask p asked)) (Asks whole ended)) (sym lived)
         (asks-follow (HasAllRoomFor whole part asked) (not (lives part.world.processes p)) (list_any is_too_deep asked.args) (call_name asked.name) (λ n e.
         follows-where (IsSomeAnd (keyed n asked.args) (HasRoomOfTable whole part)) (HasAllRoomFor whole part asked) (named (HasRoomOfTable whole part) (call_name asked.name) n e)
         (call-follows p n asked.args (named (HasKeysOfPart part_of k part) (call_name asked.name) n e keys))))
 
-    step-agrees : IsOnPart part_of k part asked → is_read asked ≡ true → Agrees (step part (Ask p asked)) (step whole (Ask p asked))
+    pub step-agrees : IsOnPart part_of k part asked → is_read asked ≡ true → Agrees (step part (Ask p asked)) (step whole (Ask p asked))
     step-agrees keys only =
         subst (λ (ended : Bool). Agrees (step part (Ask p asked)) (Asks whole ended)) (sym lived)
         (asks-agree (not (lives part.world.processes p)) (list_any is_too_deep asked.args) (call_name asked.name) (λ n e.
@@ -277,10 +285,10 @@ pub calls-are-calls : CallsOnPartsAreCalls
 calls-are-calls part_of parts whole k part new p asked reply are there keys did =
     by ((step-follows are (record { there = there }) p asked keys).does reply new did)
   where
-    by : ((reply ≡ SystemLimit) × (HasAllRoomFor whole part asked → ⊥)) ⊎ ((next : State) × step whole (Ask p asked) reply next × ArePartsOf part_of (slice_set parts k new) next)
+    by : ((reply ≡ SystemLimit) × (HasAllRoomFor whole part asked → ⊥)) ⊎ Merges are (record { there = there }) (step whole (Ask p asked)) reply new
         → ((reply ≡ SystemLimit) × (new ≡ part) × (HasAllRoomFor whole part asked → ⊥)) ⊎ ((next : State) × step whole (Ask p asked) reply next × ArePartsOf part_of (slice_set parts k new) next)
     by (inl limit) = inl (limit.0, nothing-changed part new (Ask p asked) reply did (ap is_value limit.0), limit.1)
-    by (inr merged) = inr merged
+    by (inr merged) = inr (merged.0, merged.1, merged.2)
 
 pub reads-are-reads : ReadsOnPartsAreReads
 reads-are-reads part_of parts whole k part new p asked reply are there keys only did =

@@ -1,14 +1,14 @@
 -- Empty states are the parts of an empty state.
 use Rattle.std.proofs.Common.{◌≡◌, ℕ, zero, suc, List, [], ◌∷◌, Some, refl, subst, map, arith}
 use Rattle.std.specs.Prelude.{slice_get}
-use Rattle.std.specs.List.{flat_map, sum_by}
+use Rattle.std.specs.List.{flat_map, sum, sum_by}
 use Rattle.std.proofs.lemmas.List.Sums.{sum_by-cons}
 use Rattle.ets_term.specs.declared.term.Term.{Term}
 use Rattle.node_core.specs.declared.limits.Limits.{Limits}
 use Rattle.node_core.specs.State.{State, empty}
 use Rattle.node_core.specs.laws.Kept.{slots_in}
 use Rattle.node_parts.specs.Laws.{EmptyStatesAreParts}
-use Rattle.node_parts.specs.Parts.{limit_in, limit_of_new, IsPart, empty_part}
+use Rattle.node_parts.specs.Parts.{limit_in, limit_of_new, IsPart, ShareAllRoom, empty_part}
 
 module _ (part_of : ℕ → Term → ℕ) (limits : Limits) where
   one : (n k : ℕ) → IsPart part_of (empty limits) k (empty_part limits n)
@@ -37,4 +37,10 @@ empties-are-parts part_of limits rooms few = record {
   slots = λ t. no-slots part_of limits rooms t;
   limits = λ t. omega (arith, no-limits part_of limits rooms t);
   new_limits = omega (arith, new-limits part_of limits rooms, few);
+}
+
+pub empties-share : (limits : Limits) (rooms : List ℕ) → sum rooms ≡ limits.objects → ShareAllRoom (map (empty_part limits) rooms) (empty limits)
+empties-share limits rooms all = record {
+  tables = λ t. no-limits (λ u key. 0) limits rooms t;
+  new_tables = omega (arith, new-limits (λ u key. 0) limits rooms, all);
 }

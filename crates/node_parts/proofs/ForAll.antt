@@ -16,7 +16,7 @@ use Rattle.node_core.specs.declared.step.Reply.TheVariants.{Badarg, SystemLimit,
 use Rattle.node_core.specs.State.{State}
 use Rattle.node_core.specs.Access.{WorldResultToReply, changes_world}
 use Rattle.node_core.specs.laws.Kept.{slots_in}
-use Rattle.node_parts.specs.Parts.{replicated, limit_in, limit_of_new, HasContents, ArePartsOf}
+use Rattle.node_parts.specs.Parts.{replicated, limit_in, limit_of_new, HasContents, ArePartsOf, ShareAllRoom}
 
 -- ---- what a step does to the slots and the limit of a table
 pub data LimitFate : Type 0 where
@@ -292,6 +292,21 @@ module _ (fate : ℕ → Fate) (next : State) where
         by made w s = let most = are.new_limits in omega (arith, w, s, most)
         by gone w s = omega (arith, w, s, sum-none parts)
 
+    pub all-shared : ShareAllRoom parts whole → ShareAllRoom news next
+    all-shared share = record { tables = λ t. shared-at t (fate t).limit refl; new_tables = sum-moved limit_of_new limit_of_new (λ part new m. m.new_limit) parts news all ∙ (share.new_tables ∙ sym own.new_limit) }
+      where
+        shared-at : (t : ℕ) (l : LimitFate) → (fate t).limit ≡ l → sum_by (limit_in t) news ≡ limit_in t next
+        shared-at t l e =
+            let whole_limit : limit_in t next ≡ limit_after l (limit_in t whole) (limit_of_new whole) = own.limits t ∙ ap (λ l. limit_after l (limit_in t whole) (limit_of_new whole)) e in
+            let sum = sum-moved (limit_in t) (λ s. limit_after l (limit_in t s) (limit_of_new s)) (λ part new m. m.limits t ∙ ap (λ l. limit_after l (limit_in t part) (limit_of_new part)) e) parts news all in
+            by l whole_limit sum
+          where
+            by : (l : LimitFate) → limit_in t next ≡ limit_after l (limit_in t whole) (limit_of_new whole) → sum_by (limit_in t) news ≡ sum_by (λ s. limit_after l (limit_in t s) (limit_of_new s)) parts
+                → sum_by (limit_in t) news ≡ limit_in t next
+            by stays w s = s ∙ (share.tables t ∙ sym w)
+            by made w s = s ∙ (share.new_tables ∙ sym w)
+            by gone w s = s ∙ (sum-none parts ∙ sym w)
+
     pub all-moved : ArePartsOf part_of news next
     all-moved = record {
       each = λ k new e.
@@ -327,12 +342,13 @@ module _ (outcome : State → Outcome Reply State) (whole : State) (w : ForAll o
   does (part ∷ parts) (new ∷ news) reply some same h = let own = w.each part (same 0 part refl) reply new h.0 in (own.0, own.1)
 
   pub all-follow : (part_of : ℕ → Term → ℕ) (parts news : List State) (reply : Reply) → ArePartsOf part_of parts whole → parts ≢ [] → AllZip (λ part new. outcome part reply new) parts news
-      → (next : State) × outcome whole reply next × ArePartsOf part_of news next
+      → (next : State) × outcome whole reply next × ArePartsOf part_of news next × (ShareAllRoom parts whole → ShareAllRoom news next)
   all-follow part_of parts news reply are some h =
       let same = λ (k : ℕ) (part : State) (e : slice_get parts k ≡ Some part). (are.each k part e).same in
       let done = does parts news reply some same h in
       let own = (w.each whole refl w.reply w.next done.1).2 in
-      (w.next, subst (λ (r : Reply). outcome whole r w.next) (sym done.0) done.1, all-moved w.fate w.next part_of parts news whole are (moved parts news reply same h) own)
+      let each = moved parts news reply same h in
+      (w.next, subst (λ (r : Reply). outcome whole r w.next) (sym done.0) done.1, all-moved w.fate w.next part_of parts news whole are each own, all-shared w.fate w.next part_of parts news whole are each own)
 
   -- two parts give the same reply
   pub replies-same : (part other : State) (r q : Reply) (new next : State) → replicated part ≡ replicated whole → replicated other ≡ replicated whole → outcome part r new → outcome other q next → r ≡ q

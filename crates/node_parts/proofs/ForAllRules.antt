@@ -31,11 +31,11 @@ use Rattle.node_core.specs.declared.node.access.Access.TheVariants.{Read, Write}
 use Rattle.node_core.specs.declared.step.Reply.{Reply}
 use Rattle.node_core.specs.declared.step.Reply.TheVariants.{Badarg, SystemLimit}
 use Rattle.node_core.specs.State.{State}
-use Rattle.node_core.specs.Access.{CallRule, ChangeResultToReply, usable, with_table, changes}
+use Rattle.node_core.specs.Access.{CallRule, ChangeResultToReply, usable, with_table, replies, changes}
 use Rattle.node_core.specs.laws.Kept.{slots_in}
 use Rattle.node_core.specs.rules.Removal.{DeleteAllObjects}
 use Rattle.node_core.specs.rules.Replies.{true_reply}
-use Rattle.node_core.specs.rules.Searching.{MatchDelete}
+use Rattle.node_core.specs.rules.Searching.{Deletes, MatchDelete}
 use Rattle.node_core.specs.rules.Tables.{DeleteTable}
 use Rattle.node_core.specs.rules.Walking.{FixResultToReply, Fixes, Releases, SafeFixtable}
 use Rattle.node_parts.specs.Parts.{replicated_table, replicated, limit_in, limit_of_new, HasContents}
@@ -217,32 +217,31 @@ some-slots (s ∷ ss) = ap (λ l. s ∷ l) (some-slots ss)
 same-moves : (all mine : TableState) → replicated_state mine ≡ replicated_state all → RuleMoves all_stay all mine mine
 same-moves all mine same = record { same = same; slots = some-slots mine.content.slots; limit = refl; content = λ c. c }
 
-pub match_delete-rule : (pattern : Term) (all : TableState) → RuleForAll (MatchDelete pattern) all
-match_delete-rule pattern all = by (is_pattern (data_of pattern)) refl
-  where
-    by : (b : Bool) → is_pattern (data_of pattern) ≡ b → RuleForAll (MatchDelete pattern) all
-    by true e = record {
-      reply = true_reply;
-      next = after_delete (λ _. matches pattern) all;
-      thins = left (is_fixed all.fixes) (λ _. matches pattern);
-      each = λ mine same r f h.
-          let done : gives {R = Result (Unit {0}) Refusal} (Ok tt) (after_delete (λ _. matches pattern) mine) h.0 f = rw e at h.1 in (
-            subst (λ (y : Result (Unit {0}) Refusal). ChangeResultToReply (λ _. true_reply) y r) done.0 h.2,
-            (Ok tt, rw e (refl, refl), refl),
-            subst (λ (g : TableState). RuleMoves (left (is_fixed all.fixes) (λ _. matches pattern)) (after_delete (λ _. matches pattern) all) mine g) (sym done.1) (deleted-moves (λ _. matches pattern) all mine same),
-          );
-    }
-    by false e = record {
-      reply = Badarg;
-      next = all;
-      thins = all_stay;
-      each = λ mine same r f h.
-          let done : gives {R = Result (Unit {0}) Refusal} (Err refusal.Badarg) mine h.0 f = rw e at h.1 in (
-            subst (λ (y : Result (Unit {0}) Refusal). ChangeResultToReply (λ _. true_reply) y r) done.0 h.2,
-            (Err refusal.Badarg, rw e (refl, refl), refl),
-            subst (λ (g : TableState). RuleMoves all_stay all mine g) (sym done.1) (same-moves all mine same),
-          );
-    }
+-- a deletion that replies true, if its argument is well-formed
+abbrev pub DeletesQuietly : Bool → Which → CallRule
+DeletesQuietly good which = replies {X = Unit {0}} (λ _. true_reply) (Deletes good tt which)
+
+pub deletes-rule : (good : Bool) (which : Which) (all : TableState) → RuleForAll (DeletesQuietly good which) all
+deletes-rule true which all = record {
+  reply = true_reply;
+  next = after_delete which all;
+  thins = left (is_fixed all.fixes) which;
+  each = λ mine same r f h. (
+    subst (λ (y : Result (Unit {0}) Refusal). ChangeResultToReply (λ _. true_reply) y r) h.1.0 h.2,
+    (Ok tt, (refl, refl), refl),
+    subst (λ (g : TableState). RuleMoves (left (is_fixed all.fixes) which) (after_delete which all) mine g) (sym h.1.1) (deleted-moves which all mine same),
+  );
+}
+deletes-rule false which all = record {
+  reply = Badarg;
+  next = all;
+  thins = all_stay;
+  each = λ mine same r f h. (
+    subst (λ (y : Result (Unit {0}) Refusal). ChangeResultToReply (λ _. true_reply) y r) h.1.0 h.2,
+    (Err refusal.Badarg, (refl, refl), refl),
+    subst (λ (g : TableState). RuleMoves all_stay all mine g) (sym h.1.1) (same-moves all mine same),
+  );
+}
 
 -- ---- fixes
 -- two tables that have the same in each part
@@ -439,20 +438,20 @@ module _ (whole : State) (p : ℕ) (x : Term) where
   numbers-same part (Some mine) None found = absurd found
   numbers-same part (Some mine) (Some all) found = ap Some (sym found.number)
 
-  abbrev Deletes : State → Option ℕ → Outcome Reply State
-  Deletes s o = refuse_none s o Badarg (λ t. gives true_reply (without s t))
+  abbrev DeletesTable : State → Option ℕ → Outcome Reply State
+  DeletesTable s o = refuse_none s o Badarg (λ t. gives true_reply (without s t))
 
-  to-number : (s : State) (o : Option (ℕ × Table)) (r : Reply) (new : State) → refuse_none s o Badarg (λ found. gives true_reply (without s found.0)) r new → Deletes s (option_map (λ (found : ℕ × Table). found.0) o) r new
+  to-number : (s : State) (o : Option (ℕ × Table)) (r : Reply) (new : State) → refuse_none s o Badarg (λ found. gives true_reply (without s found.0)) r new → DeletesTable s (option_map (λ (found : ℕ × Table). found.0) o) r new
   to-number s None r new h = h
   to-number s (Some found) r new h = h
 
-  from-number : (s : State) (o : Option (ℕ × Table)) (r : Reply) (new : State) → Deletes s (option_map (λ (found : ℕ × Table). found.0) o) r new → refuse_none s o Badarg (λ found. gives true_reply (without s found.0)) r new
+  from-number : (s : State) (o : Option (ℕ × Table)) (r : Reply) (new : State) → DeletesTable s (option_map (λ (found : ℕ × Table). found.0) o) r new → refuse_none s o Badarg (λ found. gives true_reply (without s found.0)) r new
   from-number s None r new h = h
   from-number s (Some found) r new h = h
 
   pub delete_table-all : ForAll (λ s. DeleteTable s p x) whole
   delete_table-all =
-      through whole (λ s. DeleteTable s p x) (λ s. Deletes s (option_map (λ (found : ℕ × Table). found.0) (usable Write s.world.tables p x)))
+      through whole (λ s. DeleteTable s p x) (λ s. DeletesTable s (option_map (λ (found : ℕ × Table). found.0) (usable Write s.world.tables p x)))
       (λ s. to-number s (usable Write s.world.tables p x)) (λ s. from-number s (usable Write s.world.tables p x))
       (refuse_none-all whole (λ s. option_map (λ (found : ℕ × Table). found.0) (usable Write s.world.tables p x)) Badarg (λ t s. gives true_reply (without s t))
       (λ part same. numbers-same part (usable Write part.world.tables p x) (usable Write whole.world.tables p x) (usable-same part whole same Write p x)) (λ t e.
@@ -470,4 +469,4 @@ module _ (whole : State) (p : ℕ) (x : Term) where
   delete_all-all = changes-all whole Write p x DeleteAllObjects (λ t all. delete_all-rule all.state)
 
   pub match_delete-all : (pattern : Term) → ForAll (λ s. changes s p Write x (MatchDelete pattern)) whole
-  match_delete-all pattern = changes-all whole Write p x (MatchDelete pattern) (λ t all. match_delete-rule pattern all.state)
+  match_delete-all pattern = changes-all whole Write p x (MatchDelete pattern) (λ t all. deletes-rule (is_pattern (data_of pattern)) (λ _. matches pattern) all.state)

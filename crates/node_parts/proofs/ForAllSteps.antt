@@ -41,7 +41,7 @@ module _ (whole : State) where
   named None args n e h = cc
   named (Some m) args n e h = let is : m ≡ n = cc in subst (λ (c : CallName). is_call_for_all c args ≡ true) is h
 
-  step-for-all : (s : Step) → is_for_all s ≡ true → ForAll (λ v. step v s) whole
+  pub step-for-all : (s : Step) → is_for_all s ≡ true → ForAll (λ v. step v s) whole
   step-for-all (Enrol p) e = enrol-all whole p
   step-for-all (End p) e = end-all p whole
   step-for-all (Ask p asked) e =
@@ -54,7 +54,8 @@ module _ (whole : State) where
 
 pub steps-are-steps : StepsOnAllPartsAreSteps
 steps-are-steps part_of parts news whole s reply are some e h =
-    all-follow (λ v. step v s) whole (step-for-all whole s e) part_of parts news reply are some h
+    let done = all-follow (λ v. step v s) whole (step-for-all whole s e) part_of parts news reply are some h in
+    (done.0, done.1, done.2)
 
 pub parts-reply-alike : PartsReplyAlike
 parts-reply-alike part_of parts whole s k j part other r q new next are at there e h i =

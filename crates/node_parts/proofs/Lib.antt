@@ -1,6 +1,7 @@
 pub mod Around
 pub mod AroundContents
 pub mod Calls
+pub mod Counted
 pub mod Empties
 pub mod ForAll
 pub mod ForAllEnds
@@ -9,11 +10,15 @@ pub mod ForAllSteps
 pub mod ForAllTables
 pub mod ForAllWorlds
 pub mod Found
+pub mod Joined
 pub mod Kept
 pub mod Keys
 pub mod Lists
 pub mod Merged
+pub mod Moves
+pub mod Places
 pub mod Room
 pub mod Rules
+pub mod Runs
 pub mod Whole
 pub mod Written

@@ -14,7 +14,7 @@ pub record Split {A : Type 0} (xs : List A) (k : ℕ) (x : A) : Type 1 where
   pub written : (y : A) → slice_set xs k y ≡ before ++ y ∷ after
   pub others : (P : A → Type 0) → ((j : ℕ) (y : A) → (j ≡ k → ⊥) → slice_get xs j ≡ Some y → P y) → AllByRecursion P before × AllByRecursion P after
 
-all-at : {A : Type 0} (P : A → Type 0) (xs : List A) → ((j : ℕ) (y : A) → slice_get xs j ≡ Some y → P y) → AllByRecursion P xs
+pub all-at : {A : Type 0} (P : A → Type 0) (xs : List A) → ((j : ℕ) (y : A) → slice_get xs j ≡ Some y → P y) → AllByRecursion P xs
 all-at P [] h = tt
 all-at P (x ∷ xs) h = (h 0 x refl, all-at P xs (λ j y e. h (suc j) y e))
 

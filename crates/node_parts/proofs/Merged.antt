@@ -11,7 +11,7 @@ use Rattle.ownership.proofs.MetadataLaws.{fixed-there}
 use Rattle.node_core.specs.State.{State}
 use Rattle.node_core.specs.Access.{with_table}
 use Rattle.node_core.specs.laws.Kept.{slots_in}
-use Rattle.node_parts.specs.Parts.{replicated_table, replicated_tables, replicated, limit_in, limit_of_new, HasContents, IsPart, ArePartsOf}
+use Rattle.node_parts.specs.Parts.{replicated_table, replicated_tables, replicated, limit_in, limit_of_new, HasContents, IsPart, ArePartsOf, ShareAllRoom}
 use Rattle.node_parts.proofs.Around.{around}
 use Rattle.node_parts.proofs.Found.{written-replicated}
 use Rattle.node_parts.proofs.Lists.{Split, get-set, same-or-not, sum-around, flat-around}
@@ -161,4 +161,10 @@ module _ {part_of : ℕ → Term → ℕ} {parts : List State} {whole : State} {
         let sum = sum-same limit_of_new refl in
         let limits = are.new_limits in
         omega (arith, sum, limits);
+  }
+
+  pub shares-merged : ShareAllRoom parts whole → ShareAllRoom (slice_set parts k (with_table part t f)) (with_table whole t (around_state (rest_of are at t) f))
+  shares-merged share = record {
+    tables = λ u. sum-same (limit_in u) (part-limit u) ∙ (share.tables u ∙ sym (whole-limit u));
+    new_tables = sum-same limit_of_new refl ∙ share.new_tables;
   }

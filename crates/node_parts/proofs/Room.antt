@@ -1,6 +1,6 @@
 -- Room of a table is moved between parts.
-use Rattle.std.proofs.Common.{◌≡◌, ◌⊎◌, inl, inr, ℕ, zero, suc, ◌+◌, ◌≤◌, List, [], ◌∷◌, ◌++◌, Option, None, Some, option_map, refl, sym, ap, subst, ◌∙◌, arith}
-use Rattle.std.specs.Prelude.{slice_get, slice_set}
+use Rattle.std.proofs.Common.{◌≡◌, ◌⊎◌, inl, inr, ℕ, zero, suc, ◌≤◌, List, [], ◌∷◌, ◌++◌, Option, None, Some, option_map, refl, sym, ap, subst, ◌∙◌, arith}
+use Rattle.std.specs.Prelude.{slice_get}
 use Rattle.std.specs.List.{AllByRecursion, AllZip, flat_map, sum_by}
 use Rattle.std.specs.Option.{option_map_or}
 use Rattle.std.proofs.lemmas.List.Sums.{sum_by-cons}
@@ -11,7 +11,7 @@ use Rattle.ownership.specs.World.{Table, Tables, table_at, with_changed}
 use Rattle.node_core.specs.State.{State}
 use Rattle.node_core.specs.laws.Kept.{slots_in}
 use Rattle.node_parts.specs.Laws.{MovedRoomKeepsParts}
-use Rattle.node_parts.specs.Parts.{replicated_table, replicated_tables, replicated, limit_in, limit_of_new, HasContents, IsPart, ArePartsOf}
+use Rattle.node_parts.specs.Parts.{replicated_table, replicated_tables, replicated, limit_in, limit_of_new, HasContents, IsPart}
 use Rattle.node_parts.specs.Room.{table_with_limit, with_limit, with_limits}
 use Rattle.node_parts.proofs.Lists.{same-or-not}
 use Rattle.node_parts.proofs.Written.{set-other}
@@ -35,7 +35,7 @@ module _ (t n : ℕ) where
   limit-one None = omega arith
   limit-one (Some table) = omega arith
 
-  own-at : (ts : Tables) (t : ℕ) → table_at (with_changed (table_with_limit n) ts t) t ≡ option_map (table_with_limit n) (table_at ts t)
+  pub own-at : (ts : Tables) (t : ℕ) → table_at (with_changed (table_with_limit n) ts t) t ≡ option_map (table_with_limit n) (table_at ts t)
   own-at [] t = refl
   own-at (x ∷ ts) zero = refl
   own-at (x ∷ ts) (suc t) = own-at ts t
@@ -56,7 +56,7 @@ module _ (t n : ℕ) where
     limit-own : limit_in t (with_limit t n s) ≤ n
     limit-own = subst (λ (o : Option Table). option_map_or (λ (own : Table). own.state.content.limit) o 0 ≤ n) (sym (own-at s.world.tables t)) (limit-one (table_at s.world.tables t))
 
-    limit-other : (u : ℕ) → (u ≡ t → ⊥) → limit_in u (with_limit t n s) ≡ limit_in u s
+    pub limit-other : (u : ℕ) → (u ≡ t → ⊥) → limit_in u (with_limit t n s) ≡ limit_in u s
     limit-other u apart = ap (λ o. option_map_or (λ (own : Table). own.state.content.limit) o 0) (other-at u apart)
 
     content-at : HasContents s → object_count (slots_in t s) ≤ n → (o : Option Table) → table_at s.world.tables t ≡ o → (table : Table) → option_map (table_with_limit n) o ≡ Some table → IsContent table.state.content
@@ -74,7 +74,7 @@ module _ (t n : ℕ) where
     contents-by contents fits u table at (inr apart) = contents u table (sym (other-at u apart) ∙ at)
 
 -- each part with its new room
-abbrev Fits : ℕ → ℕ → State → Type 0
+abbrev pub Fits : ℕ → ℕ → State → Type 0
 Fits t room part = object_count (slots_in t part) ≤ room
 
 module _ (t : ℕ) where
@@ -93,7 +93,7 @@ module _ (t : ℕ) where
       let own = limit-own t n part in
       omega (arith, sum_by-cons (limit_in t) (with_limit t n part) (with_limits t rooms parts), sum_by-cons (λ (m : ℕ). m) n rooms, rest, own)
 
-  sum-same : (count : State → ℕ) → ((n : ℕ) (s : State) → count (with_limit t n s) ≡ count s) → (rooms : List ℕ) (parts : List State) → AllZip (Fits t) rooms parts → sum_by count (with_limits t rooms parts) ≡ sum_by count parts
+  pub sum-same : (count : State → ℕ) → ((n : ℕ) (s : State) → count (with_limit t n s) ≡ count s) → (rooms : List ℕ) (parts : List State) → AllZip (Fits t) rooms parts → sum_by count (with_limits t rooms parts) ≡ sum_by count parts
   sum-same count e [] [] h = refl
   sum-same count e [] (part ∷ parts) h = absurd h
   sum-same count e (n ∷ rooms) [] h = absurd h

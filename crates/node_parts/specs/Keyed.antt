@@ -3,6 +3,7 @@ use Rattle.std.specs.Prelude.{◌≡◌, ℕ, List, [], ◌∷◌, Option, Some,
 use Rattle.std.specs.List.{AllByRecursion}
 use Rattle.std.specs.Option.{IsSomeAnd}
 use Rattle.ets_term.specs.declared.term.Term.{Term}
+use Rattle.bucket_table.specs.Slots.{object_count}
 use Rattle.table_ops.specs.Content.{key_of}
 use Rattle.ownership.specs.World.{Table, table_at, resolve}
 use Rattle.node_core.specs.declared.call_name.CallName.{CallName}
@@ -10,8 +11,9 @@ use Rattle.node_core.specs.declared.call_name.CallName.TheVariants as name
 use Rattle.node_core.specs.declared.step.Call.{Call}
 use Rattle.node_core.specs.State.{State}
 use Rattle.node_core.specs.CallName.{call_name}
+use Rattle.node_core.specs.laws.Kept.{slots_in}
 use Rattle.node_core.specs.rules.Insertion.{objects_in}
-use Rattle.node_parts.specs.Parts.{HasAllRoom}
+use Rattle.node_parts.specs.Parts.{limit_in, HasAllRoom}
 
 -- the keys of the terms that are objects
 abbrev pub keys_among : ℕ → List Term → List Term
@@ -56,3 +58,8 @@ HasRoomOfTable whole part called = (t : ℕ) → resolve part.world.tables calle
 -- the part has all the room that is left in the table of a call
 abbrev pub HasAllRoomFor : State → State → Call → Type 0
 HasAllRoomFor whole part asked = OfCall asked (HasRoomOfTable whole part)
+
+-- the part has no room left in the table of a call
+abbrev pub HasNoRoomFor : State → Call → Type 0
+HasNoRoomFor part asked = OfCall asked (λ called.
+    (t : ℕ) → resolve part.world.tables called.0 ≡ Some t → object_count (slots_in t part) ≡ limit_in t part)

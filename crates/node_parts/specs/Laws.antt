@@ -1,6 +1,8 @@
 -- What holds of the parts of a state: which steps on one part, or on each, are steps of the whole.
-use Rattle.std.specs.Prelude.{◌≡◌, ◌≢◌, ◌⊎◌, ℕ, ◌≤◌, true, List, [], Some, map, slice_get, slice_set}
-use Rattle.std.specs.List.{AllZip, sum}
+use Rattle.std.specs.Prelude.{◌≡◌, ◌≢◌, ◌⊎◌, ◌↔◌, ℕ, ◌≤◌, true, List, [], ◌∷◌, ◌++◌, Some, length, map, slice_get, slice_set}
+use Rattle.std.specs.Bool.{MatchBool}
+use Rattle.std.specs.List.{AllByRecursion, AllZip, reduce, sum}
+use Rattle.std.specs.Map.{keys_of, values_of}
 use Rattle.ets_term.specs.declared.term.Term.{Term}
 use Rattle.bucket_table.specs.Slots.{object_count}
 use Rattle.node_core.specs.declared.step.Call.{Call}
@@ -10,13 +12,15 @@ use Rattle.node_core.specs.declared.step.Reply.{Reply}
 use Rattle.node_core.specs.declared.step.Reply.TheVariants.{SystemLimit}
 use Rattle.node_core.specs.declared.limits.Limits.{Limits}
 use Rattle.node_core.specs.State.{State, empty}
-use Rattle.node_core.specs.Machine.{step}
+use Rattle.node_core.specs.Machine.{step, run}
 use Rattle.node_core.specs.laws.Kept.{slots_in}
 use Rattle.node_core.specs.Reads.{is_read}
 use Rattle.node_parts.specs.ForAll.{is_for_all}
-use Rattle.node_parts.specs.Parts.{ArePartsOf, empty_part, limit_in}
+use Rattle.node_parts.specs.Parts.{ArePartsOf, ShareAllRoom, empty_part, limit_in}
 use Rattle.node_parts.specs.Room.{with_limits}
 use Rattle.node_parts.specs.Keyed.{IsOnPart, HasAllRoomFor}
+use Rattle.node_parts.specs.Joined.{is_on_all_objects, join}
+use Rattle.node_parts.specs.Events.{Event, made, IsEventOf, is_of, Does, PartsGo, steps_of}
 
 -- A call on keys of part k alone is made on that part. Then the part refuses it by a limit, nothing changes, and the part
 -- lacks room that the table has elsewhere. Or the whole may give the same reply, and the parts, with part k as it is now,
@@ -38,6 +42,16 @@ ReadsOnPartsAreReads =
     → ArePartsOf part_of parts whole → slice_get parts k ≡ Some part → IsOnPart part_of k part asked
     → is_read asked ≡ true → step part (Ask p asked) reply new
     → (new ≡ part) × step whole (Ask p asked) reply whole
+
+-- Each part makes a call on all objects of a table. Then the replies, put together in the order of the parts, are a reply
+-- that the whole may give, and the parts are then those of the whole after it.
+abbrev pub CallsOnAllObjectsAreCalls : Type 0
+CallsOnAllObjectsAreCalls =
+    (part_of : ℕ → Term → ℕ) (parts : List State) (whole : State) (p : ℕ) (asked : Call) (made : List (Reply × State))
+    (reply : Reply)
+    → ArePartsOf part_of parts whole → is_on_all_objects asked ≡ true
+    → AllZip (λ part made. step part (Ask p asked) made.0 made.1) parts made → reduce join (keys_of made) ≡ Some reply
+    → (next : State) × step whole (Ask p asked) reply next × ArePartsOf part_of (values_of made) next
 
 -- a step that each part makes, with this reply in each, is a step of the whole, and the parts are those of the whole after
 -- it
@@ -70,3 +84,44 @@ MovedRoomKeepsParts =
     → ArePartsOf part_of parts whole → AllZip (λ room part. object_count (slots_in t part) ≤ room) rooms parts
     → sum rooms ≤ limit_in t whole
     → ArePartsOf part_of (with_limits t rooms parts) whole
+
+-- Let parts that share all room go by events, each by its own. Then the steps of the events, in their order and with
+-- their replies, are a run of the whole, and the parts are then those of the whole after it.
+abbrev pub RunsOfPartsAreRuns : Type 0
+RunsOfPartsAreRuns =
+    (part_of : ℕ → Term → ℕ) (parts news : List State) (whole : State) (events : List Event)
+    → ArePartsOf part_of parts whole → ShareAllRoom parts whole → AllByRecursion (IsEventOf (length parts)) events
+    → PartsGo part_of parts events news
+    → (next : State) × run whole (keys_of (steps_of events)) (values_of (steps_of events)) next
+    × ArePartsOf part_of news next × ShareAllRoom news next
+
+-- the same from empty parts, which share the limit of objects: then the run is one of the empty whole
+abbrev pub RunsOfEmptyPartsAreRuns : Type 0
+RunsOfEmptyPartsAreRuns =
+    (part_of : ℕ → Term → ℕ) (limits : Limits) (rooms : List ℕ) (news : List State) (events : List Event)
+    → sum rooms ≡ limits.objects → AllByRecursion (IsEventOf (length rooms)) events
+    → PartsGo part_of (map (empty_part limits) rooms) events news
+    → (next : State) × run (empty limits) (keys_of (steps_of events)) (values_of (steps_of events)) next
+    × ArePartsOf part_of news next
+
+-- parts go by events and then by more just if they go by all of them
+abbrev pub PartsGoOn : Type 0
+PartsGoOn =
+    (part_of : ℕ → Term → ℕ) (parts news : List State) (events more : List Event)
+    → PartsGo part_of parts (events ++ more) news
+    ↔ ((mids : List State) × PartsGo part_of parts events mids × PartsGo part_of mids more news)
+
+-- a call on part k takes that part on, and the others stay as they are
+abbrev pub CallsTakeOnePartOn : Type 0
+CallsTakeOnePartOn =
+    (part_of : ℕ → Term → ℕ) (parts : List State) (k : ℕ) (part new : State) (p : ℕ) (asked : Call) (reply : Reply)
+    → slice_get parts k ≡ Some part → Does part_of k part (made k p asked reply) new
+    → PartsGo part_of parts (made k p asked reply ∷ []) (slice_set parts k new)
+
+-- an event takes on the parts whose event it is, and the others stay as they are
+abbrev pub EventsTakePartsOn : Type 0
+EventsTakePartsOn =
+    (part_of : ℕ → Term → ℕ) (parts news : List State) (event : Event) → length news ≡ length parts
+    → ((k : ℕ) (part new : State) → slice_get parts k ≡ Some part → slice_get news k ≡ Some new
+    → MatchBool (is_of k event) (Does part_of k part event new) (new ≡ part))
+    → PartsGo part_of parts (event ∷ []) news

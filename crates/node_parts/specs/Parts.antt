@@ -58,6 +58,11 @@ pub record ArePartsOf (part_of : ℕ → Term → ℕ) (parts : List State) (who
   pub limits : (t : ℕ) → sum_by (limit_in t) parts ≤ limit_in t whole
   pub new_limits : sum_by limit_of_new parts ≤ limit_of_new whole
 
+-- no room is lost: the limits of objects of the parts add up to that of the whole, for each table and for a new one
+pub record ShareAllRoom (parts : List State) (whole : State) : Type 0 where
+  pub tables : (t : ℕ) → sum_by (limit_in t) parts ≡ limit_in t whole
+  pub new_tables : sum_by limit_of_new parts ≡ limit_of_new whole
+
 -- an empty part, in which a new table may have this many objects
 abbrev pub empty_part : Limits → ℕ → State
 empty_part limits room = empty (record limits { objects = room })
