@@ -5,7 +5,7 @@ use Rattle.std.proofs.lemmas.Bool.Decides.{nat_tests}
 use Rattle.ets_term.specs.declared.term.Term.{Term}
 use Rattle.ets_term.specs.declared.term.Term.TheVariants.{Tuple}
 use Rattle.ets_term.specs.Depth.{depth, max_depth}
-use Rattle.counters.specs.Elements.{has_all_positions, with_values, write_values}
+use Rattle.counters.specs.Elements.{has_all_positions, make_too_deep, with_values, write_values}
 use Rattle.counters.specs.Updates.{new_object}
 use Rattle.counters.specs.inside.Tuples.{write_to_elements}
 use Rattle.counters.specs.inside.Values.{too_deep_as_element}
@@ -55,11 +55,10 @@ one-written s es some few flat =
     let d : nat_le max_depth (depth s.value) ≡ false = grind (arith, nat_tests, flat) in
     list-written (s ∷ []) es (one-has s es some few) (one-test s ∙ d)
 
-values-by : (b d : Bool) (ss : List ElementSpec) (es : List Term) (r : Term × Bool) → too_deep_as_element ss ≡ d → new_object b (written d ss es) ≡ Ok r → (too_deep_as_element ss ≡ false) × ((Tuple (with_values ss es), true) ≡ r)
-values-by false d ss es r e h = cc
-values-by true true ss es r e h = cc
-values-by true false ss es r e h = let is : (Tuple (with_values ss es), true) ≡ r = cc in (e, is)
-
 -- what is so of written values, for proofs that go through them one after another
-pub values-at : (ss : List ElementSpec) (es : List Term) (r : Term × Bool) → write_to_elements ss es ≡ Ok r → (too_deep_as_element ss ≡ false) × ((Tuple (with_values ss es), true) ≡ r)
-values-at ss es r h = values-by (has_all_positions ss es) (too_deep_as_element ss) ss es r refl (sym (values-each ss es) ∙ h)
+pub values-at : (ss : List ElementSpec) (es : List Term) (r : List Term × Bool) → has_all_positions ss es ≡ true → write_values ss es ≡ Some r → (too_deep_as_element ss ≡ false) × ((with_values ss es, true) ≡ r)
+values-at ss es r h e = by (make_too_deep ss es) refl e
+  where
+    by : (d : Bool) → make_too_deep ss es ≡ d → (if d then None else Some (with_values ss es, true)) ≡ Some r → (too_deep_as_element ss ≡ false) × ((with_values ss es, true) ≡ r)
+    by true m e = cc
+    by false m e = let is : (with_values ss es, true) ≡ r = cc in (sym (deep-leaves ss es h) ∙ m, is)
