@@ -6,10 +6,11 @@ use Rattle.std.proofs.lemmas.Bool.Decides.{nat_tests}
 use Rattle.ets_term.specs.declared.term.Term.{Term, the_lemmas}
 use Rattle.ets_term.specs.declared.term.Term.TheVariants.{Tuple, Int}
 use Rattle.ets_term.specs.Depth.{depth, largest, max_depth, is_too_deep}
-use Rattle.counters.specs.Elements.{has_all_positions, with_values_from, with_values, make_too_deep}
-use Rattle.counters.specs.inside.Values.{too_deep_as_element, write_each}
+use Rattle.counters.specs.Elements.{has_all_positions, with_values, make_too_deep}
+use Rattle.counters.specs.inside.Values.{too_deep_as_element}
 use Rattle.counters.specs.declared.elements.ElementSpec.{ElementSpec}
 use Rattle.counters.specs.laws.Depths.{MakesTooDeep}
+use Rattle.counters.proofs.PositionLaws.{all_within, positions-within}
 
 -- whether a value is as deep as a whole object may be
 abbrev is_deep : Term → Bool
@@ -54,7 +55,7 @@ past i s ss (e ∷ es) h =
     let other : (s.position == suc i) ≡ false = grind (arith, nat_tests, h) in
     rw (other, past (suc i) s ss es (omega (arith, h))) refl
 
--- one value is write_each
+-- one value is written
 put : (i k : ℕ) (s : ElementSpec) (ss : List ElementSpec) (es : List Term) → s.position ≡ suc (i + k) → k < length es
     → stays_deep i ss (slice_set es k s.value) ≡ ((is_deep s.value && not (names ss s.position)) || stays_deep i (s ∷ ss) es)
 put i k s ss [] at h = absurd (omega (arith, h))
@@ -86,13 +87,13 @@ length-slice_set [] k v = refl
 length-slice_set (e ∷ es) zero v = refl
 length-slice_set (e ∷ es) (suc k) v = ap suc (length-slice_set es k v)
 
-write_each-deep : (ss : List ElementSpec) (es : List Term) → has_all_positions (length es) ss ≡ true → list_any is_deep (write_each ss es) ≡ (too_deep_as_element ss || stays_deep 0 ss es)
-write_each-deep [] es h = stays_deep-no_values 0 es
-write_each-deep (s ∷ ss) es h =
-    let parts = has-first (nat_lt 0 s.position) (nat_le s.position (length es)) (has_all_positions (length es) ss) h in
+with_values-deep : (ss : List ElementSpec) (es : List Term) → all_within (length es) ss ≡ true → list_any is_deep (with_values ss es) ≡ (too_deep_as_element ss || stays_deep 0 ss es)
+with_values-deep [] es h = stays_deep-no_values 0 es
+with_values-deep (s ∷ ss) es h =
+    let parts = has-first (nat_lt 0 s.position) (nat_le s.position (length es)) (all_within (length es) ss) h in
     let some : 0 < s.position = grind (arith, nat_tests, parts.0) in
     let few : s.position ≤ length es = grind (arith, nat_tests, parts.1.0) in
-    write_each-deep ss (slice_set es (s.position - 1) s.value) (ap (λ n. has_all_positions n ss) (length-slice_set es (s.position - 1) s.value) ∙ parts.1.1)
+    with_values-deep ss (slice_set es (s.position - 1) s.value) (ap (λ n. all_within n ss) (length-slice_set es (s.position - 1) s.value) ∙ parts.1.1)
     ∙ ap (λ b. too_deep_as_element ss || b) (put 0 (s.position - 1) s ss es (omega (arith, some)) (omega (arith, some, few)))
     ∙ or-moved (too_deep_as_element ss) (is_deep s.value && not (names ss s.position)) (stays_deep 0 (s ∷ ss) es)
 
@@ -113,41 +114,10 @@ or-none : (a : Bool) → (a || false) ≡ a
 or-none true = refl
 or-none false = refl
 
-write_each-too_deep : (specs : List ElementSpec) (elements : List Term) → is_too_deep (Tuple elements) ≡ false → has_all_positions (length elements) specs ≡ true → too_deep_as_element specs ≡ is_too_deep (Tuple (write_each specs elements))
-write_each-too_deep ss es shallow h =
+with_values-too_deep : (specs : List ElementSpec) (elements : List Term) → is_too_deep (Tuple elements) ≡ false → all_within (length elements) specs ≡ true → too_deep_as_element specs ≡ is_too_deep (Tuple (with_values specs elements))
+with_values-too_deep ss es shallow h =
     let none : stays_deep 0 ss es ≡ false = stays_deep-shallow 0 ss es (sym (deep-Tuple es) ∙ shallow) in
-    sym (deep-Tuple (write_each ss es) ∙ write_each-deep ss es h ∙ ap (λ b. too_deep_as_element ss || b) none ∙ or-none (too_deep_as_element ss))
-
--- ---- each value in its turn, and the last value for each position
-
--- a value for a position before these elements is for none of them
-value-before : (i : ℕ) (s : ElementSpec) (ss : List ElementSpec) (es : List Term) → s.position < i → with_values_from i (s ∷ ss) es ≡ with_values_from i ss es
-value-before i s ss [] h = refl
-value-before i s ss (e ∷ es) h =
-    let other : (s.position == i) ≡ false = grind (arith, nat_tests, h) in
-    rw (other, value-before (i + 1) s ss es (omega (arith, h))) refl
-
-value-set : (i k : ℕ) (s : ElementSpec) (ss : List ElementSpec) (es : List Term) → s.position ≡ i + k → k < length es → with_values_from i (s ∷ ss) es ≡ with_values_from i ss (slice_set es k s.value)
-value-set i k s ss [] at h = absurd (omega (arith, h))
-value-set i zero s ss (e ∷ es) at h =
-    let same : (s.position == i) ≡ true = grind (arith, nat_tests, at) in
-    rw (same, value-before (i + 1) s ss es (omega (arith, at))) refl
-value-set i (suc k) s ss (e ∷ es) at h =
-    let other : (s.position == i) ≡ false = grind (arith, nat_tests, at) in
-    rw (other, value-set (i + 1) k s ss es (omega (arith, at)) (omega (arith, h))) refl
-
-no-values : (i : ℕ) (es : List Term) → with_values_from i [] es ≡ es
-no-values i [] = refl
-no-values i (e ∷ es) = ap (λ ts. e ∷ ts) (no-values (i + 1) es)
-
-pub each-with_values : (ss : List ElementSpec) (es : List Term) → has_all_positions (length es) ss ≡ true → write_each ss es ≡ with_values ss es
-each-with_values [] es h = sym (no-values 1 es)
-each-with_values (s ∷ ss) es h =
-    let parts = has-first (nat_lt 0 s.position) (nat_le s.position (length es)) (has_all_positions (length es) ss) h in
-    let some : 0 < s.position = grind (arith, nat_tests, parts.0) in
-    let few : s.position ≤ length es = grind (arith, nat_tests, parts.1.0) in
-    each-with_values ss (slice_set es (s.position - 1) s.value) (ap (λ n. has_all_positions n ss) (length-slice_set es (s.position - 1) s.value) ∙ parts.1.1)
-    ∙ sym (value-set 1 (s.position - 1) s ss es (omega (arith, some)) (omega (arith, some, few)))
+    sym (deep-Tuple (with_values ss es) ∙ with_values-deep ss es h ∙ ap (λ b. too_deep_as_element ss || b) none ∙ or-none (too_deep_as_element ss))
 
 -- ---- elements of depth 1
 abbrev leaves : List Term → List Term
@@ -164,11 +134,10 @@ leaves-flat : (es : List Term) → list_any is_deep (leaves es) ≡ false
 leaves-flat [] = refl
 leaves-flat (e ∷ es) = rw (leaf-flat, leaves-flat es) refl
 
-pub deep-leaves : (ss : List ElementSpec) (es : List Term) → has_all_positions (length es) ss ≡ true → too_deep_as_element ss ≡ make_too_deep ss es
+pub deep-leaves : (ss : List ElementSpec) (es : List Term) → has_all_positions ss es ≡ true → make_too_deep ss es ≡ too_deep_as_element ss
 deep-leaves ss es h =
-    let here : has_all_positions (length (leaves es)) ss ≡ true = ap (λ n. has_all_positions n ss) (leaves-length es) ∙ h in
-    write_each-too_deep ss (leaves es) (deep-Tuple (leaves es) ∙ leaves-flat es) here ∙ ap (λ ts. is_too_deep (Tuple ts)) (each-with_values ss (leaves es) here)
+    let here : all_within (length (leaves es)) ss ≡ true = ap (λ n. all_within n ss) (leaves-length es) ∙ sym (positions-within ss es) ∙ h in
+    sym (with_values-too_deep ss (leaves es) (deep-Tuple (leaves es) ∙ leaves-flat es) here)
 
 pub make_too_deep-object : (specs : List ElementSpec) (elements : List Term) → MakesTooDeep specs elements
-make_too_deep-object ss es shallow h =
-    sym (deep-leaves ss es h) ∙ write_each-too_deep ss es shallow h ∙ ap (λ ts. is_too_deep (Tuple ts)) (each-with_values ss es h)
+make_too_deep-object ss es shallow h = deep-leaves ss es h ∙ with_values-too_deep ss es shallow (sym (positions-within ss es) ∙ h)

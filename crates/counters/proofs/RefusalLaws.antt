@@ -1,17 +1,15 @@
--- An update whose operations find integers is not refused with badarg.
-use Rattle.std.proofs.Common.{◌≡◌, ◌∙◌, rules, refl, List, Option, Some, None, Bool, true, if◌then◌else◌, sym, Result, Err}
+-- An update that fits is not refused with badarg.
+use Rattle.std.proofs.Common.{◌≡◌, ◌∙◌, rules, List, Option, Some, None, true, sym, ap, Err}
 use Rattle.ets_term.specs.declared.term.Term.{Term}
-use Rattle.counters.specs.declared.fault.CounterFault.{CounterFault}
 use Rattle.counters.specs.declared.fault.CounterFault.TheVariants.{Badarg}
 use Rattle.counters.specs.declared.ops.Ops.{Ops}
-use Rattle.counters.specs.Counters.{are_counters, apply, or_limit, apply_to_elements}
+use Rattle.counters.specs.Counters.{apply, op_list}
+use Rattle.counters.specs.Updates.{new_object}
+use Rattle.counters.specs.inside.Tuples.{are_counters, apply_to_elements}
 
-or_limit-not_badarg : (counted : Option (List Term × Term)) → or_limit counted ≡ Err Badarg → ⊥
-or_limit-not_badarg None e = search rules
-or_limit-not_badarg (Some r) e = search rules
+fits-not_badarg : {A : Type 0} (new : Option (List Term × A)) → new_object true new ≡ Err Badarg → ⊥
+fits-not_badarg None e = search rules
+fits-not_badarg (Some r) e = search rules
 
-chosen : (b : Bool) (r s : Result (Term × Term) CounterFault) → b ≡ true → (if b then r else s) ≡ r
-chosen b r s e = rw e refl
-
-pub apply_to_elements-not_badarg : (ops : Ops) (elements : List Term) → are_counters ops elements ≡ true → apply_to_elements ops elements ≡ Err Badarg → ⊥
-apply_to_elements-not_badarg ops elements t e = or_limit-not_badarg (apply ops elements) (sym (chosen _ (or_limit (apply ops elements)) (Err Badarg) t) ∙ e)
+pub apply_to_elements-not_badarg : (ops : Ops) (elements : List Term) → are_counters (op_list ops) elements ≡ true → apply_to_elements ops elements ≡ Err Badarg → ⊥
+apply_to_elements-not_badarg ops elements t e = fits-not_badarg (apply ops elements) (sym (ap (λ b. new_object b (apply ops elements)) t) ∙ e)

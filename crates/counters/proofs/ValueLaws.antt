@@ -1,39 +1,41 @@
 -- When values may be written, and what they make.
-use Rattle.std.proofs.Common.{◌≡◌, ◌∙◌, ◌-◌, ◌<◌, ◌≤◌, ◌&&◌, not, ◌||◌, Bool, true, false, if◌then◌else◌, List, [], ◌∷◌, length, slice_set, refl, sym, Result, Ok, Err, arith}
+use Rattle.std.proofs.Common.{◌≡◌, ◌∙◌, ◌-◌, ◌<◌, ◌≤◌, ◌&&◌, not, ◌||◌, Bool, true, false, if◌then◌else◌, List, [], ◌∷◌, Option, Some, None, length, slice_set, refl, sym, Ok, Err, arith}
 use Rattle.std.specs.Prelude.{nat_lt, nat_le}
 use Rattle.std.proofs.lemmas.Bool.Decides.{nat_tests}
 use Rattle.ets_term.specs.declared.term.Term.{Term}
+use Rattle.ets_term.specs.declared.term.Term.TheVariants.{Tuple}
 use Rattle.ets_term.specs.Depth.{depth, max_depth}
 use Rattle.counters.specs.Elements.{has_all_positions, make_too_deep, with_values, write_values}
-use Rattle.counters.specs.inside.Values.{too_deep_as_element, write_each}
+use Rattle.counters.specs.Updates.{new_object}
+use Rattle.counters.specs.inside.Tuples.{write_to_elements}
+use Rattle.counters.specs.inside.Values.{too_deep_as_element}
 use Rattle.counters.specs.declared.elements.ElementSpec.{ElementSpec}
-use Rattle.counters.specs.declared.fault.CounterFault.{CounterFault}
-use Rattle.counters.specs.declared.fault.CounterFault.TheVariants.{Badarg, SystemLimit}
-use Rattle.counters.proofs.DepthLaws.{each-with_values, deep-leaves}
+use Rattle.counters.specs.declared.fault.CounterFault.TheVariants.{SystemLimit}
+use Rattle.counters.proofs.DepthLaws.{deep-leaves}
+use Rattle.counters.proofs.PositionLaws.{positions-within}
 
--- how the code comes to its answer
-abbrev pub WritesEach : List ElementSpec → List Term → Result (List Term) CounterFault
-WritesEach ss es = if not (has_all_positions (length es) ss) then Err Badarg else if too_deep_as_element ss then Err SystemLimit else Ok (write_each ss es)
+-- what the code computes from the depth of single values
+abbrev written : Bool → List ElementSpec → List Term → Option (List Term × Bool)
+written deep ss es = if deep then None else Some (with_values ss es, true)
 
-by-test : (b : Bool) (ss : List ElementSpec) (es : List Term) → has_all_positions (length es) ss ≡ b
-    → (if not b then Err Badarg else if make_too_deep ss es then Err SystemLimit else Ok (with_values ss es)) ≡ (if not b then Err Badarg else if too_deep_as_element ss then Err SystemLimit else Ok (write_each ss es))
+by-test : (b : Bool) (ss : List ElementSpec) (es : List Term) → has_all_positions ss es ≡ b → new_object b (write_values ss es) ≡ new_object b (written (too_deep_as_element ss) ss es)
 by-test false ss es h = refl
-by-test true ss es h = rw (deep-leaves ss es h, each-with_values ss es h) refl
+by-test true ss es h = rw (deep-leaves ss es h) refl
 
-pub values-each : (ss : List ElementSpec) (es : List Term) → write_values ss es ≡ WritesEach ss es
-values-each ss es = by-test (has_all_positions (length es) ss) ss es refl
+values-each : (ss : List ElementSpec) (es : List Term) → write_to_elements ss es ≡ new_object (has_all_positions ss es) (written (too_deep_as_element ss) ss es)
+values-each ss es = by-test (has_all_positions ss es) ss es refl
 
-pub list-deep : (ss : List ElementSpec) (es : List Term) → has_all_positions (length es) ss ≡ true → too_deep_as_element ss ≡ true → write_values ss es ≡ Err SystemLimit
+pub list-deep : (ss : List ElementSpec) (es : List Term) → has_all_positions ss es ≡ true → too_deep_as_element ss ≡ true → write_to_elements ss es ≡ Err SystemLimit
 list-deep ss es h d = values-each ss es ∙ rw (h, d) refl
 
-pub list-written : (ss : List ElementSpec) (es : List Term) → has_all_positions (length es) ss ≡ true → too_deep_as_element ss ≡ false → write_values ss es ≡ Ok (write_each ss es)
+pub list-written : (ss : List ElementSpec) (es : List Term) → has_all_positions ss es ≡ true → too_deep_as_element ss ≡ false → write_to_elements ss es ≡ Ok (Tuple (with_values ss es), true)
 list-written ss es h d = values-each ss es ∙ rw (h, d) refl
 
-one-has : (s : ElementSpec) (es : List Term) → 0 < s.position → s.position ≤ length es → has_all_positions (length es) (s ∷ []) ≡ true
+one-has : (s : ElementSpec) (es : List Term) → 0 < s.position → s.position ≤ length es → has_all_positions (s ∷ []) es ≡ true
 one-has s es some few =
     let a : nat_lt 0 s.position ≡ true = grind (arith, nat_tests, some) in
     let b : nat_le s.position (length es) ≡ true = grind (arith, nat_tests, few) in
-    rw (a, b) refl
+    positions-within (s ∷ []) es ∙ rw (a, b) refl
 
 -- the test of one value is the test of a list of it
 one-test : (s : ElementSpec) → too_deep_as_element (s ∷ []) ≡ nat_le max_depth (depth s.value)
@@ -43,22 +45,20 @@ one-test s = by (nat_le max_depth (depth s.value))
     by true = refl
     by false = refl
 
-pub one-deep : (s : ElementSpec) (es : List Term) → 0 < s.position → s.position ≤ length es → max_depth ≤ depth s.value → write_values (s ∷ []) es ≡ Err SystemLimit
+pub one-deep : (s : ElementSpec) (es : List Term) → 0 < s.position → s.position ≤ length es → max_depth ≤ depth s.value → write_to_elements (s ∷ []) es ≡ Err SystemLimit
 one-deep s es some few deep =
     let d : nat_le max_depth (depth s.value) ≡ true = grind (arith, nat_tests, deep) in
     list-deep (s ∷ []) es (one-has s es some few) (one-test s ∙ d)
 
-pub one-written : (s : ElementSpec) (es : List Term) → 0 < s.position → s.position ≤ length es → depth s.value < max_depth → write_values (s ∷ []) es ≡ Ok (slice_set es (s.position - 1) s.value)
+pub one-written : (s : ElementSpec) (es : List Term) → 0 < s.position → s.position ≤ length es → depth s.value < max_depth → write_to_elements (s ∷ []) es ≡ Ok (Tuple (slice_set es (s.position - 1) s.value), true)
 one-written s es some few flat =
     let d : nat_le max_depth (depth s.value) ≡ false = grind (arith, nat_tests, flat) in
     list-written (s ∷ []) es (one-has s es some few) (one-test s ∙ d)
 
-values-by : (b d : Bool) (ss : List ElementSpec) (es fs : List Term) → too_deep_as_element ss ≡ d → (if not b then Err Badarg else if d then Err SystemLimit else Ok (write_each ss es)) ≡ Ok fs
-    → (too_deep_as_element ss ≡ false) × (write_each ss es ≡ fs)
-values-by false d ss es fs e h = cc
-values-by true true ss es fs e h = cc
-values-by true false ss es fs e h = let is : write_each ss es ≡ fs = cc in (e, is)
-
 -- what is so of written values, for proofs that go through them one after another
-pub values-at : (ss : List ElementSpec) (es fs : List Term) → write_values ss es ≡ Ok fs → (too_deep_as_element ss ≡ false) × (write_each ss es ≡ fs)
-values-at ss es fs h = values-by (has_all_positions (length es) ss) (too_deep_as_element ss) ss es fs refl (sym (values-each ss es) ∙ h)
+pub values-at : (ss : List ElementSpec) (es : List Term) (r : List Term × Bool) → has_all_positions ss es ≡ true → write_values ss es ≡ Some r → (too_deep_as_element ss ≡ false) × ((with_values ss es, true) ≡ r)
+values-at ss es r h e = by (make_too_deep ss es) refl e
+  where
+    by : (d : Bool) → make_too_deep ss es ≡ d → (if d then None else Some (with_values ss es, true)) ≡ Some r → (too_deep_as_element ss ≡ false) × ((with_values ss es, true) ≡ r)
+    by true m e = cc
+    by false m e = let is : (with_values ss es, true) ≡ r = cc in (sym (deep-leaves ss es h) ∙ m, is)

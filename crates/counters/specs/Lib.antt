@@ -2,9 +2,8 @@ pub mod Counters
 pub mod Defaults
 pub mod Elements
 pub mod Ops
-pub mod Outcomes
 pub mod Positions
 pub mod Sums
-pub mod Forms
+pub mod Updates
 pub mod inside
 pub mod laws

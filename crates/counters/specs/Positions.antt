@@ -1,14 +1,15 @@
--- Positions in a tuple that an update may name.
-use Rattle.std.specs.Prelude.{ℕ, ◌==◌, ◌||◌, if◌then◌else◌, ℤ, pos, negsuc, Option, Some, None}
-use Rattle.std.specs.Option.{option_and_then}
-use Rattle.ets_term.specs.declared.term.Term.{Term}
-use Rattle.ets_term.specs.Views.{as_int}
+-- Positions in a tuple, counted from 1.
+use Rattle.std.specs.Prelude.{ℕ, ◌-◌, ◌==◌, ◌&&◌, not, nat_lt, Bool, if◌then◌else◌, ℤ, pos, negsuc, List, Option, Some, None, slice_get}
 
--- an integer as a position; None if it is less than 1 or is keypos
+-- the element at a position; None if there is no such element
+abbrev pub at_position : {X : Type 0} → ℕ → List X → Option X
+at_position position elements = if position == 0 then None else slice_get elements (position - 1)
+
+-- whether an update may name a position: it is at least 1 and not keypos
+abbrev pub may_update : ℕ → ℕ → Bool
+may_update keypos position = nat_lt 0 position && not (position == keypos)
+
+-- an integer as a position; None if an update may not name it
 abbrev pub position_at : ℕ → ℤ → Option ℕ
-position_at keypos (pos n) = if n == 0 || n == keypos then None else Some n
+position_at keypos (pos n) = if may_update keypos n then Some n else None
 position_at keypos (negsuc n) = None
-
--- the position that a term names; None if an update may not name it
-abbrev pub updatable_position : ℕ → Term → Option ℕ
-updatable_position keypos term = option_and_then (position_at keypos) (as_int term)

@@ -1,2 +1,4 @@
 pub mod Lists
+pub mod Reads
+pub mod Tuples
 pub mod Values

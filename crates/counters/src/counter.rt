@@ -1,10 +1,11 @@
 //! Counters of one object, read or changed in place.
-ghost use Rattle.std.specs.Prelude.{◌≡◌, ◌<◌, ◌-◌, ◌^◌, length, slice_set, Some, None, Ok, Err, IfOk, OnErr, IsErrOf, slice_get, OnOk, OnSome, IfSome, IfErr, true};
-ghost use Rattle.counters.specs.Counters.{integer_at, apply_one, apply_to_elements, apply_ops};
+ghost use Rattle.std.specs.Prelude.{◌≡◌, ◌↔◌, ◌<◌, ◌-◌, ◌^◌, length, slice_set, Some, None, Ok, Err, IfOk, OnErr, IsErrOf, slice_get, OnOk, OnSome, IfSome, IfErr, true};
+ghost use Rattle.counters.specs.Counters.{integer_at, apply_ops};
+ghost use Rattle.counters.specs.inside.Tuples.{apply_to_elements};
 ghost use Rattle.counters.specs.declared.ops.Ops.TheVariants.{One};
-ghost use Rattle.counters.specs.Forms.{is_one};
-ghost use Rattle.counters.specs.Outcomes.{AnswersAs, FailsOnlyAs, FailsJustAs};
+ghost use Rattle.counters.specs.declared.ops.Op.{Op};
 ghost use Rattle.ets_term.specs.declared.term.Term.TheVariants.{Int, Tuple};
+ghost use Rattle.counters.specs.declared.fault.CounterFault.TheVariants.{Badarg, SystemLimit, Memory};
 
 use crate::fault::CounterFault;
 use crate::list::apply_many;
@@ -36,7 +37,7 @@ fn next_value(elements: &[Term], op: Op) -> Result<Integer, CounterFault>
     ensures err { IfErr result (λ fault. apply_to_elements (One op) elements.now ≡ Err fault) }
     ensures some { OnOk result (0 < op.position) }
     ensures within { OnOk result (op.position - 1 < length elements.now) }
-    ensures room { ¬ IsErrOf result CounterFault.Memory }
+    ensures room { ¬ IsErrOf result Memory }
 {
     let Some(value) = integer_at(elements, op.position) else {
         return Err(CounterFault::Badarg);
@@ -49,10 +50,10 @@ fn next_value(elements: &[Term], op: Op) -> Result<Integer, CounterFault>
 
 /// Does one operation on the elements of an object in place, and returns the new value. It takes no memory.
 fn apply_one(elements: &mut Items<Term>, op: Op) -> Result<Term, CounterFault>
-    ensures done { AnswersAs result (apply_to_elements (One op) elements.old) (Tuple elements.new) }
+    ensures done { IfOk result (λ answer. apply_to_elements (One op) elements.old ≡ Ok (Tuple elements.new, answer)) }
     ensures err { IfErr result (λ fault. apply_to_elements (One op) elements.old ≡ Err fault) }
     ensures kept { OnErr result (elements.new ≡ elements.old) }
-    ensures room { ¬ IsErrOf result CounterFault.Memory }
+    ensures room { ¬ IsErrOf result Memory }
 {
     let next = next_value(elements.as_slice(), op)?;
     let _old = elements.replace((op.position - 1) as usize, Term::Int(next));
@@ -64,12 +65,12 @@ fn apply_one(elements: &mut Items<Term>, op: Op) -> Result<Term, CounterFault>
 /// is not a tuple or has no integer at one of the positions. Otherwise returns `SystemLimit` if a new value is out of
 /// range. A single operation takes no memory and writes only its element.
 pub fn update_counter(alloc: Global, object: &mut Term, ops: &Ops) -> Result<Term, CounterFault>
-    ensures done { AnswersAs result (apply_ops ops.now object.old) object.new }
-    ensures badarg { FailsJustAs result CounterFault.Badarg (apply_ops ops.now object.old) }
+    ensures done { IfOk result (λ answer. apply_ops ops.now object.old ≡ Ok (object.new, answer)) }
+    ensures badarg { IsErrOf result Badarg ↔ (apply_ops ops.now object.old ≡ Err Badarg) }
     // A list of operations may run out of memory before a value out of range is found.
-    ensures limit { FailsOnlyAs result CounterFault.SystemLimit (apply_ops ops.now object.old) }
+    ensures limit { IsErrOf result SystemLimit → apply_ops ops.now object.old ≡ Err SystemLimit }
     ensures kept { OnErr result (object.new ≡ object.old) }
-    ensures room { is_one ops.now ≡ true → ¬ IsErrOf result CounterFault.Memory }
+    ensures room { (op : Op) → ops.now ≡ One op → ¬ IsErrOf result Memory }
 {
     let Term::Tuple(elements) = object else {
         return Err(CounterFault::Badarg);
@@ -83,8 +84,8 @@ pub fn update_counter(alloc: Global, object: &mut Term, ops: &Ops) -> Result<Ter
 /// Returns a copy of an object with its counters updated, and the answer, both as `update_counter` computes them.
 pub fn apply_ops(alloc: Global, object: &Term, ops: &Ops) -> Result<(Term, Term), CounterFault>
     ensures done { IfOk result (λ r. apply_ops ops.now object.now ≡ Ok r) }
-    ensures badarg { FailsOnlyAs result CounterFault.Badarg (apply_ops ops.now object.now) }
-    ensures limit { FailsOnlyAs result CounterFault.SystemLimit (apply_ops ops.now object.now) }
+    ensures badarg { IsErrOf result Badarg → apply_ops ops.now object.now ≡ Err Badarg }
+    ensures limit { IsErrOf result SystemLimit → apply_ops ops.now object.now ≡ Err SystemLimit }
 {
     let mut updated = object.try_clone(alloc)?;
     let answer = update_counter(alloc, &mut updated, ops)?;

@@ -1,15 +1,18 @@
 //! Objects for a missing key, which are made from the Default: the last argument of update_counter/4 and
 //! update_element/4.
-ghost use Rattle.std.specs.Prelude.{◌≡◌, ◌↔◌, ◌&&◌, nat_lt, nat_le, is_some, Some, None, Ok, Err, IfOk, IsErrOf};
-ghost use Rattle.counters.specs.Defaults.{with_key, start_counter, start_elements};
-ghost use Rattle.counters.specs.Outcomes.{FailsOnlyAs};
+ghost use Rattle.std.specs.Prelude.{◌≡◌, ◌↔◌, true, is_some, Some, None, Ok, Err, IfOk, IsErrOf};
+ghost use Rattle.counters.specs.Defaults.{with_key, start};
+ghost use Rattle.counters.specs.Counters.{apply_ops};
+ghost use Rattle.counters.specs.Elements.{apply_elements};
+ghost use Rattle.counters.specs.declared.fault.CounterFault.TheVariants.{Badarg, SystemLimit};
 
 use crate::counter::update_counter;
 use crate::elements::ElementSpecs;
 use crate::fault::CounterFault;
 use crate::ops::Ops;
+use crate::position::has_position;
 use crate::write::write_elements;
-use ets_term::Term;
+use ets_term::{Position, Term};
 use std::alloc::Global;
 
 /// Returns whether the Default becomes an object if the key is set at keypos, counted from 1. It does if it is a tuple
@@ -18,17 +21,10 @@ pub fn is_valid_default(default: &Term, keypos: u32, key: &Term) -> bool
     ensures { result ≡ is_some (with_key keypos key.now default.now) }
 {
     match default {
-        Term::Tuple(elements) => has_position(elements.len(), keypos)
+        Term::Tuple(elements) => has_position(elements.as_slice(), keypos as Position)
             && !key.is_atom("$end_of_table"),
         _ => false,
     }
-}
-
-/// Returns whether a tuple of `count` elements has an element at keypos, counted from 1.
-fn has_position(count: usize, keypos: u32) -> bool
-    ensures { result ≡ (nat_lt 0 keypos && nat_le keypos count) }
-{
-    0 < keypos && keypos as usize <= count
 }
 
 /// Returns a copy of the Default with the key set at keypos. Returns `Badarg` if `is_valid_default` is false.
@@ -39,8 +35,8 @@ pub fn with_key(
     key: &Term,
 ) -> Result<Term, CounterFault>
     ensures made { IfOk result (λ object. with_key keypos key.now default.now ≡ Some object) }
-    ensures badarg { IsErrOf result CounterFault.Badarg ↔ (with_key keypos key.now default.now ≡ None) }
-    ensures limit { ¬ IsErrOf result CounterFault.SystemLimit }
+    ensures badarg { IsErrOf result Badarg ↔ (with_key keypos key.now default.now ≡ None) }
+    ensures limit { ¬ IsErrOf result SystemLimit }
 {
     if !is_valid_default(default, keypos, key) {
         return Err(CounterFault::Badarg);
@@ -68,11 +64,11 @@ pub fn start_counter(
     key: &Term,
     ops: &Ops,
 ) -> Result<(Term, Term), CounterFault>
-    ensures done { IfOk result (λ r. start_counter ops.now (with_key keypos key.now default.now) ≡ Ok r) }
-    ensures badarg { FailsOnlyAs result CounterFault.Badarg
-        (start_counter ops.now (with_key keypos key.now default.now)) }
-    ensures limit { FailsOnlyAs result CounterFault.SystemLimit
-        (start_counter ops.now (with_key keypos key.now default.now)) }
+    ensures done { IfOk result (λ r. start (apply_ops ops.now) (with_key keypos key.now default.now) ≡ Ok r) }
+    ensures badarg { IsErrOf result Badarg
+        → start (apply_ops ops.now) (with_key keypos key.now default.now) ≡ Err Badarg }
+    ensures limit { IsErrOf result SystemLimit
+        → start (apply_ops ops.now) (with_key keypos key.now default.now) ≡ Err SystemLimit }
 {
     let mut object = with_key(alloc, default, keypos, key)?;
     let answer = update_counter(alloc, &mut object, ops)?;
@@ -92,11 +88,12 @@ pub fn start_with_elements(
     key: &Term,
     specs: &ElementSpecs,
 ) -> Result<Term, CounterFault>
-    ensures done { IfOk result (λ object. start_elements specs.now (with_key keypos key.now default.now) ≡ Ok object) }
-    ensures badarg { FailsOnlyAs result CounterFault.Badarg
-        (start_elements specs.now (with_key keypos key.now default.now)) }
-    ensures limit { FailsOnlyAs result CounterFault.SystemLimit
-        (start_elements specs.now (with_key keypos key.now default.now)) }
+    ensures done { IfOk result (λ object.
+        start (apply_elements specs.now) (with_key keypos key.now default.now) ≡ Ok (object, true)) }
+    ensures badarg { IsErrOf result Badarg
+        → start (apply_elements specs.now) (with_key keypos key.now default.now) ≡ Err Badarg }
+    ensures limit { IsErrOf result SystemLimit
+        → start (apply_elements specs.now) (with_key keypos key.now default.now) ≡ Err SystemLimit }
 {
     let mut object = with_key(alloc, default, keypos, key)?;
     write_elements(alloc, &mut object, specs)?;

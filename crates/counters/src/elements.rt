@@ -1,9 +1,11 @@
 //! The values that `update_element` writes to elements of an object, and how they are read from a term.
-ghost use Rattle.std.specs.Prelude.{◌≡◌, ◌↔◌, false, Some, None, IfOk, IfSome, IsErrOf};
+ghost use Rattle.std.specs.Prelude.{◌≡◌, ◌↔◌, Some, None, IfOk, IfSome, IsErrOf, IsNone};
 ghost use Rattle.counters.specs.declared.elements.ElementSpecs.TheVariants.{One};
-ghost use Rattle.counters.specs.Elements.{element_spec_of_parts, all_element_specs, element_specs_of};
-ghost use Rattle.counters.specs.Forms.{is_list};
+ghost use Rattle.counters.specs.Elements.{element_spec_of_parts, element_specs_of};
+ghost use Rattle.counters.specs.inside.Reads.{all_element_specs};
+ghost use Rattle.ets_term.specs.Views.{as_list};
 ghost use Rattle.ets_term.specs.Depth.{elements};
+ghost use Rattle.counters.specs.declared.fault.CounterFault.TheVariants.{Badarg, SystemLimit};
 
 use crate::fault::CounterFault;
 use crate::position::updatable_position;
@@ -36,10 +38,10 @@ pub fn read_element_specs(
     keypos: u32,
 ) -> Result<ElementSpecs, CounterFault>
     ensures read { IfOk result (λ specs. element_specs_of keypos term.now ≡ Some specs) }
-    ensures badarg { IsErrOf result CounterFault.Badarg → element_specs_of keypos term.now ≡ None }
+    ensures badarg { IsErrOf result Badarg → element_specs_of keypos term.now ≡ None }
     // A list may run out of memory before its first faulty pair is read.
-    ensures one { is_list term.now ≡ false → element_specs_of keypos term.now ≡ None → IsErrOf result CounterFault.Badarg }
-    ensures limit { ¬ IsErrOf result CounterFault.SystemLimit }
+    ensures one { IsNone (as_list term.now) → element_specs_of keypos term.now ≡ None → IsErrOf result Badarg }
+    ensures limit { ¬ IsErrOf result SystemLimit }
 {
     match term {
         Term::Tuple(parts) => Ok(ElementSpecs::One(element_spec_of_parts(
@@ -90,8 +92,8 @@ fn element_spec_of_parts(
     parts: &[Term],
 ) -> Result<ElementSpec, CounterFault>
     ensures read { IfOk result (λ spec. element_spec_of_parts keypos parts.now ≡ Some spec) }
-    ensures badarg { IsErrOf result CounterFault.Badarg ↔ (element_spec_of_parts keypos parts.now ≡ None) }
-    ensures limit { ¬ IsErrOf result CounterFault.SystemLimit }
+    ensures badarg { IsErrOf result Badarg ↔ (element_spec_of_parts keypos parts.now ≡ None) }
+    ensures limit { ¬ IsErrOf result SystemLimit }
 {
     let [position, value] = parts else {
         return Err(CounterFault::Badarg);
@@ -113,8 +115,8 @@ fn all_element_specs(
     terms: &[Term],
 ) -> Result<Items<ElementSpec>, CounterFault>
     ensures read { IfOk result (λ specs. all_element_specs keypos terms.now ≡ Some specs) }
-    ensures badarg { IsErrOf result CounterFault.Badarg → all_element_specs keypos terms.now ≡ None }
-    ensures limit { ¬ IsErrOf result CounterFault.SystemLimit }
+    ensures badarg { IsErrOf result Badarg → all_element_specs keypos terms.now ≡ None }
+    ensures limit { ¬ IsErrOf result SystemLimit }
 {
     let mut specs = Items::from_vec(Vec::with_capacity(alloc, terms.len())?);
     for term in terms {

@@ -1,11 +1,11 @@
 //! A list of counter operations: done in place one after another, and undone if one of them is refused.
-ghost use Rattle.std.specs.Prelude.{◌≡◌, Some, None, Ok, Err, IfOk, OnOk, OnErr, IsErrOf, is_some};
-ghost use Rattle.std.specs.List.{list_all};
-ghost use Rattle.counters.specs.Counters.{integer_at, apply_one, apply_all, apply_to_elements};
-ghost use Rattle.counters.specs.Outcomes.{AnswersAs, FailsOnlyAs, FailsJustAs};
+ghost use Rattle.std.specs.Prelude.{◌≡◌, ◌↔◌, Some, None, Ok, Err, IfOk, OnOk, OnErr, IsErrOf};
+ghost use Rattle.counters.specs.Counters.{apply_one, apply_all};
 ghost use Rattle.counters.specs.declared.ops.Ops.TheVariants.{Many};
 ghost use Rattle.ets_term.specs.declared.term.Term.TheVariants.{Tuple};
 ghost use Rattle.counters.specs.inside.Lists.{restore, AppliesNext};
+ghost use Rattle.counters.specs.inside.Tuples.{are_counters, apply_to_elements};
+ghost use Rattle.counters.specs.declared.fault.CounterFault.TheVariants.{Badarg, SystemLimit};
 
 use crate::counter::integer_at;
 use crate::fault::CounterFault;
@@ -29,9 +29,10 @@ pub fn apply_many(
     elements: &mut Items<Term>,
     ops: &[Op],
 ) -> Result<Term, CounterFault>
-    ensures done { AnswersAs result (apply_to_elements (Many ops.now) elements.old) (Tuple elements.new) }
-    ensures badarg { FailsJustAs result CounterFault.Badarg (apply_to_elements (Many ops.now) elements.old) }
-    ensures limit { FailsOnlyAs result CounterFault.SystemLimit (apply_to_elements (Many ops.now) elements.old) }
+    ensures done { IfOk result (λ answer.
+        apply_to_elements (Many ops.now) elements.old ≡ Ok (Tuple elements.new, answer)) }
+    ensures badarg { IsErrOf result Badarg ↔ (apply_to_elements (Many ops.now) elements.old ≡ Err Badarg) }
+    ensures limit { IsErrOf result SystemLimit → apply_to_elements (Many ops.now) elements.old ≡ Err SystemLimit }
     ensures kept { OnErr result (elements.new ≡ elements.old) }
 {
     if !are_counters(elements.as_slice(), ops) {
@@ -42,7 +43,7 @@ pub fn apply_many(
 
 /// Returns whether there is an integer at the position of each operation.
 fn are_counters(elements: &[Term], ops: &[Op]) -> bool
-    ensures { result ≡ list_all (λ op. is_some (integer_at op.position elements.now)) ops.now }
+    ensures { result ≡ are_counters ops.now elements.now }
 {
     ops.iter()
         .all(|op| integer_at(elements, op.position).is_some())
@@ -55,8 +56,8 @@ fn apply_list(
     ops: &[Op],
 ) -> Result<Items<Term>, CounterFault>
     ensures done { IfOk result (λ answers. apply_all ops.now elements.old ≡ Some (elements.new, answers)) }
-    ensures badarg { ¬ IsErrOf result CounterFault.Badarg }
-    ensures limit { IsErrOf result CounterFault.SystemLimit → apply_all ops.now elements.old ≡ None }
+    ensures badarg { ¬ IsErrOf result Badarg }
+    ensures limit { IsErrOf result SystemLimit → apply_all ops.now elements.old ≡ None }
     ensures kept { OnErr result (elements.new ≡ elements.old) }
 {
     let mut overwritten = Items::from_vec(Vec::with_capacity(alloc, ops.len())?);
@@ -79,8 +80,8 @@ fn apply_next(
     answers: &mut Items<Term>,
 ) -> Result<(), CounterFault>
     ensures done { OnOk result (AppliesNext op elements.old elements.new answers.old answers.new) }
-    ensures badarg { ¬ IsErrOf result CounterFault.Badarg }
-    ensures limit { IsErrOf result CounterFault.SystemLimit → apply_one op elements.old ≡ None }
+    ensures badarg { ¬ IsErrOf result Badarg }
+    ensures limit { IsErrOf result SystemLimit → apply_one op elements.old ≡ None }
     ensures back { restore overwritten.new elements.new ≡ restore overwritten.old elements.old }
 {
     // `apply_many` checked that each position has an integer, so this refusal does not occur.

@@ -1,11 +1,14 @@
 //! The operations of `update_counter`, and how they are read from a term.
-ghost use Rattle.std.specs.Prelude.{◌≡◌, ◌+◌, false, Some, None, IfOk, IfSome, IsErrOf};
+ghost use Rattle.std.specs.Prelude.{◌≡◌, ◌+◌, Some, None, IfOk, IfSome, IsErrOf, IsNone};
 ghost use Rattle.counters.specs.declared.ops.Ops.TheVariants.{One};
-ghost use Rattle.counters.specs.Ops.{threshold_of, op_from, op_of_parts, op_of, all_ops, ops_of};
-ghost use Rattle.counters.specs.Forms.{is_list};
+ghost use Rattle.counters.specs.Ops.{op_from, op_of_parts, ops_of};
+ghost use Rattle.counters.specs.inside.Reads.{all_ops};
+ghost use Rattle.ets_term.specs.Depth.{elements};
+ghost use Rattle.ets_term.specs.Views.{as_list};
+ghost use Rattle.counters.specs.declared.fault.CounterFault.TheVariants.{Badarg, SystemLimit, Memory};
 
 use crate::fault::CounterFault;
-use crate::position::{integer_of, updatable_position};
+use crate::position::{integer_of, position_at};
 use ets_term::{Integer, Items, Position, Term};
 use std::alloc::Global;
 
@@ -38,30 +41,19 @@ pub enum Ops {
     Many(Items<Op>),
 }
 
-/// Reads a threshold and the value that replaces a sum. Returns `None` if one is not an integer.
-fn threshold_of(threshold: &Term, set_value: &Term) -> Option<Threshold>
-    ensures { result ≡ threshold_of threshold.now set_value.now }
-{
-    Some(Threshold {
-        value: integer_of(threshold)?,
-        set_value: integer_of(set_value)?,
-    })
-}
-
-/// Reads a position and an increment, and returns their operation. Returns `None` if the position is not allowed or the
-/// increment is not an integer.
+/// Returns the operation with this position, increment and threshold, or `None` if the position is not allowed.
 #[inline(always)]
 fn op_from(
     keypos: u32,
-    position: &Term,
-    increment: &Term,
+    position: Integer,
+    increment: Integer,
     threshold: Option<Threshold>,
 ) -> Option<Op>
-    ensures { result ≡ op_from keypos position.now increment.now threshold }
+    ensures { result ≡ op_from keypos position increment threshold }
 {
     Some(Op {
-        position: updatable_position(keypos, position)?,
-        increment: integer_of(increment)?,
+        position: position_at(keypos, position)?,
+        increment,
         threshold,
     })
 }
@@ -71,9 +63,16 @@ fn op_of_parts(keypos: u32, parts: &[Term]) -> Option<Op>
     ensures { result ≡ op_of_parts keypos parts.now }
 {
     match parts {
-        [position, increment] => op_from(keypos, position, increment, None),
+        [position, increment] => {
+            op_from(keypos, integer_of(position)?, integer_of(increment)?, None)
+        }
         [position, increment, threshold, set_value] => {
-            let threshold = threshold_of(threshold, set_value)?;
+            let position = integer_of(position)?;
+            let increment = integer_of(increment)?;
+            let threshold = Threshold {
+                value: integer_of(threshold)?,
+                set_value: integer_of(set_value)?,
+            };
             op_from(keypos, position, increment, Some(threshold))
         }
         _ => None,
@@ -82,7 +81,7 @@ fn op_of_parts(keypos: u32, parts: &[Term]) -> Option<Op>
 
 /// Reads an operation from a tuple. Returns `None` for any other term.
 fn op_of(keypos: u32, term: &Term) -> Option<Op>
-    ensures { result ≡ op_of keypos term.now }
+    ensures { result ≡ op_of_parts keypos (elements term.now) }
 {
     match term {
         Term::Tuple(parts) => op_of_parts(keypos, parts.as_slice()),
@@ -93,8 +92,8 @@ fn op_of(keypos: u32, term: &Term) -> Option<Op>
 /// Reads a list of operations. Returns `Badarg` at the first term that is not an operation.
 fn all_ops(alloc: Global, keypos: u32, terms: &[Term]) -> Result<Items<Op>, CounterFault>
     ensures read { IfOk result (λ ops. all_ops keypos terms.now ≡ Some ops) }
-    ensures badarg { IsErrOf result CounterFault.Badarg → all_ops keypos terms.now ≡ None }
-    ensures limit { ¬ IsErrOf result CounterFault.SystemLimit }
+    ensures badarg { IsErrOf result Badarg → all_ops keypos terms.now ≡ None }
+    ensures limit { ¬ IsErrOf result SystemLimit }
 {
     let mut ops = Items::from_vec(Vec::with_capacity(alloc, terms.len())?);
     for term in terms {
@@ -111,9 +110,9 @@ fn all_ops(alloc: Global, keypos: u32, terms: &[Term]) -> Result<Items<Op>, Coun
 /// `Badarg` if a part of a tuple is not an integer, or a position is less than 1 or is keypos.
 pub fn read_ops(alloc: Global, term: &Term, keypos: u32) -> Result<Ops, CounterFault>
     ensures read { IfOk result (λ ops. ops_of keypos term.now ≡ Some ops) }
-    ensures badarg { IsErrOf result CounterFault.Badarg → ops_of keypos term.now ≡ None }
-    ensures limit { ¬ IsErrOf result CounterFault.SystemLimit }
-    ensures room { is_list term.now ≡ false → ¬ IsErrOf result CounterFault.Memory }
+    ensures badarg { IsErrOf result Badarg → ops_of keypos term.now ≡ None }
+    ensures limit { ¬ IsErrOf result SystemLimit }
+    ensures room { IsNone (as_list term.now) → ¬ IsErrOf result Memory }
 {
     match term {
         Term::Int(n) => Ok(Ops::One(increment_by(keypos, *n))),
@@ -146,7 +145,9 @@ fn increment_of_parts(keypos: u32, parts: &[Term]) -> Option<Op>
     ensures { IfSome result (λ op. op_of_parts keypos parts.now ≡ Some op) }
 {
     match parts {
-        [position, increment] => op_from(keypos, position, increment, None),
+        [position, increment] => {
+            op_from(keypos, integer_of(position)?, integer_of(increment)?, None)
+        }
         _ => None,
     }
 }

@@ -1,11 +1,13 @@
 //! The single update of a stored object: its new element, which the caller then sets.
-ghost use Rattle.std.specs.Prelude.{◌≡◌, ◌<◌, ◌-◌, ◌^◌, ◌∷◌, [], length, slice_set, Ok, Err, IfOk, OnOk, OnSome, IfErr, IsErrOf};
-ghost use Rattle.counters.specs.Counters.{integer_at, apply_to_elements, apply_ops};
-ghost use Rattle.counters.specs.Elements.{write_values, apply_elements};
-ghost use Rattle.counters.specs.Outcomes.{FailsJustAs, with_value_at};
-ghost use Rattle.counters.specs.declared.elements.ElementSpecs.TheVariants as elements;
+ghost use Rattle.std.specs.Prelude.{◌≡◌, ◌↔◌, ◌<◌, ◌-◌, ◌^◌, ◌∷◌, [], length, slice_set, true, Ok, Err, IfOk, OnOk, OnSome, IfErr, IsErrOf};
+ghost use Rattle.counters.specs.Counters.{integer_at, apply_ops};
+ghost use Rattle.counters.specs.Elements.{apply_elements};
+ghost use Rattle.counters.specs.inside.Tuples.{apply_to_elements, write_to_elements};
+ghost use Rattle.counters.specs.declared.elements.ElementSpecs.TheVariants as values;
 ghost use Rattle.counters.specs.declared.ops.Ops.TheVariants.{One};
 ghost use Rattle.ets_term.specs.declared.term.Term.TheVariants.{Int, Tuple};
+ghost use Rattle.ets_term.specs.Depth.{elements};
+ghost use Rattle.counters.specs.declared.fault.CounterFault.TheVariants.{Badarg, SystemLimit, Memory};
 
 use crate::fault::CounterFault;
 use crate::ops::Op;
@@ -18,8 +20,8 @@ use std::alloc::Global;
 /// refuses. If it returns a value, the object has an element at the position, so the element's index fits a `usize`.
 #[inline(always)]
 pub fn counter_value(object: &Object, op: Op) -> Result<Integer, CounterFault>
-    ensures done { IfOk result (λ n.
-        apply_ops (One op) object.now ≡ Ok (with_value_at op.position (Int n) object.now, Int n)) }
+    ensures done { IfOk result (λ n. apply_ops (One op) object.now
+        ≡ Ok (Tuple (slice_set (elements object.now) (op.position - 1) (Int n)), Int n)) }
     ensures err { IfErr result (λ fault. apply_ops (One op) object.now ≡ Err fault) }
     ensures index { OnOk result (op.position - 1 < 2 ^ 64) }
 {
@@ -34,7 +36,7 @@ fn next_value(elements: &[Packed], op: Op) -> Result<Integer, CounterFault>
         ≡ Ok (Tuple (slice_set elements.now (op.position - 1) (Int n)), Int n)) }
     ensures err { IfErr result (λ fault. apply_to_elements (One op) elements.now ≡ Err fault) }
     ensures within { OnOk result (op.position - 1 < length elements.now) }
-    ensures room { ¬ IsErrOf result CounterFault.Memory }
+    ensures room { ¬ IsErrOf result Memory }
 {
     let Some(value) = integer_at(elements, op.position) else {
         return Err(CounterFault::Badarg);
@@ -68,12 +70,12 @@ pub fn copy_for_element(
     value: &Term,
 ) -> Result<Packed, CounterFault>
     ensures done { IfOk result (λ copy.
-        apply_elements (elements.One (record { position = position; value = value.now })) object.now
-        ≡ Ok (with_value_at position copy object.now)) }
-    ensures badarg { FailsJustAs result CounterFault.Badarg
-        (apply_elements (elements.One (record { position = position; value = value.now })) object.now) }
-    ensures limit { FailsJustAs result CounterFault.SystemLimit
-        (apply_elements (elements.One (record { position = position; value = value.now })) object.now) }
+        apply_elements (values.One (record { position = position; value = value.now })) object.now
+        ≡ Ok (Tuple (slice_set (elements object.now) (position - 1) copy), true)) }
+    ensures badarg { IsErrOf result Badarg
+        ↔ (apply_elements (values.One (record { position = position; value = value.now })) object.now ≡ Err Badarg) }
+    ensures limit { IsErrOf result SystemLimit
+        ↔ (apply_elements (values.One (record { position = position; value = value.now })) object.now ≡ Err SystemLimit) }
     ensures index { OnOk result (position - 1 < 2 ^ 64) }
 {
     check_one(object.elements(), position, value)?;
@@ -85,10 +87,10 @@ pub fn copy_for_element(
 #[inline(always)]
 fn check_one(elements: &[Packed], position: Position, value: &Term) -> Result<(), CounterFault>
     ensures ok { OnOk result
-        (write_values (record { position = position; value = value.now } ∷ []) elements.now
-        ≡ Ok (slice_set elements.now (position - 1) value.now)) }
+        (write_to_elements (record { position = position; value = value.now } ∷ []) elements.now
+        ≡ Ok (Tuple (slice_set elements.now (position - 1) value.now), true)) }
     ensures err { IfErr result (λ fault.
-        write_values (record { position = position; value = value.now } ∷ []) elements.now ≡ Err fault) }
+        write_to_elements (record { position = position; value = value.now } ∷ []) elements.now ≡ Err fault) }
     ensures index { OnOk result (position - 1 < 2 ^ 64) }
 {
     if position == 0 || position > elements.len() as Position {

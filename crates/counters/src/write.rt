@@ -1,13 +1,15 @@
 //! Writes values to elements of one object, in place or in a copy.
-ghost use Rattle.std.specs.Prelude.{◌≡◌, ◌-◌, ◌<◌, ◌^◌, ◌==◌, ◌∷◌, [], slice_set, Ok, Err, IfOk, OnOk, OnErr, IfErr};
+ghost use Rattle.std.specs.Prelude.{◌≡◌, ◌↔◌, ◌-◌, ◌==◌, true, slice_set, Ok, Err, IfOk, OnOk, OnErr, IfErr, IsErrOf};
 ghost use Rattle.std.specs.List.{list_any};
-ghost use Rattle.counters.specs.Elements.{has_all_positions, write_values, apply_elements};
-ghost use Rattle.counters.specs.inside.Values.{too_deep_as_element, write_each};
-ghost use Rattle.counters.specs.declared.elements.ElementSpecs.TheVariants.{One};
-ghost use Rattle.counters.specs.Outcomes.{FailsOnlyAs, FailsJustAs, with_value_at};
+ghost use Rattle.counters.specs.Elements.{has_all_positions, with_values, apply_elements};
+ghost use Rattle.counters.specs.inside.Values.{too_deep_as_element};
+ghost use Rattle.counters.specs.inside.Tuples.{write_to_elements};
+ghost use Rattle.ets_term.specs.declared.term.Term.TheVariants.{Tuple};
+ghost use Rattle.counters.specs.declared.fault.CounterFault.TheVariants.{Badarg, SystemLimit};
 
 use crate::elements::{ElementSpec, ElementSpecs};
 use crate::fault::CounterFault;
+use crate::position::has_position;
 use ets_term::{Items, MAX_DEPTH, Position, Term};
 use std::alloc::{AllocError, Global};
 use std::slice;
@@ -18,9 +20,9 @@ pub fn apply_elements(
     object: &Term,
     specs: &ElementSpecs,
 ) -> Result<Term, CounterFault>
-    ensures done { IfOk result (λ object'. apply_elements specs.now object.now ≡ Ok object') }
-    ensures badarg { FailsOnlyAs result CounterFault.Badarg (apply_elements specs.now object.now) }
-    ensures limit { FailsOnlyAs result CounterFault.SystemLimit (apply_elements specs.now object.now) }
+    ensures done { IfOk result (λ new. apply_elements specs.now object.now ≡ Ok (new, true)) }
+    ensures badarg { IsErrOf result Badarg → apply_elements specs.now object.now ≡ Err Badarg }
+    ensures limit { IsErrOf result SystemLimit → apply_elements specs.now object.now ≡ Err SystemLimit }
 {
     let mut updated = object.try_clone(alloc)?;
     write_elements(alloc, &mut updated, specs)?;
@@ -36,9 +38,9 @@ pub fn write_elements(
     object: &mut Term,
     specs: &ElementSpecs,
 ) -> Result<(), CounterFault>
-    ensures done { OnOk result (apply_elements specs.now object.old ≡ Ok object.new) }
-    ensures badarg { FailsJustAs result CounterFault.Badarg (apply_elements specs.now object.old) }
-    ensures limit { FailsJustAs result CounterFault.SystemLimit (apply_elements specs.now object.old) }
+    ensures done { OnOk result (apply_elements specs.now object.old ≡ Ok (object.new, true)) }
+    ensures badarg { IsErrOf result Badarg ↔ (apply_elements specs.now object.old ≡ Err Badarg) }
+    ensures limit { IsErrOf result SystemLimit ↔ (apply_elements specs.now object.old ≡ Err SystemLimit) }
     ensures kept { OnErr result (object.new ≡ object.old) }
 {
     let Term::Tuple(elements) = object else {
@@ -58,9 +60,9 @@ fn write_copies(
     elements: &mut Items<Term>,
     specs: &[ElementSpec],
 ) -> Result<(), CounterFault>
-    ensures done { OnOk result (write_values specs.now elements.old ≡ Ok elements.new) }
-    ensures badarg { FailsJustAs result CounterFault.Badarg (write_values specs.now elements.old) }
-    ensures limit { FailsJustAs result CounterFault.SystemLimit (write_values specs.now elements.old) }
+    ensures done { OnOk result (write_to_elements specs.now elements.old ≡ Ok (Tuple elements.new, true)) }
+    ensures badarg { IsErrOf result Badarg ↔ (write_to_elements specs.now elements.old ≡ Err Badarg) }
+    ensures limit { IsErrOf result SystemLimit ↔ (write_to_elements specs.now elements.old ≡ Err SystemLimit) }
     ensures kept { OnErr result (elements.new ≡ elements.old) }
 {
     check_list(elements.as_slice(), specs)?;
@@ -86,10 +88,11 @@ fn copy_specs(alloc: Global, specs: &[ElementSpec]) -> Result<Vec<ElementSpec>, 
 /// Checks whether a list of values may be written. Returns `Badarg` if the tuple lacks a position. Otherwise returns
 /// `SystemLimit` if `too_deep_as_element` is true.
 fn check_list(elements: &[Term], specs: &[ElementSpec]) -> Result<(), CounterFault>
-    ensures ok { OnOk result (write_values specs.now elements.now ≡ Ok (write_each specs.now elements.now)) }
-    ensures err { IfErr result (λ fault. write_values specs.now elements.now ≡ Err fault) }
+    ensures ok { OnOk result (write_to_elements specs.now elements.now
+        ≡ Ok (Tuple (with_values specs.now elements.now), true)) }
+    ensures err { IfErr result (λ fault. write_to_elements specs.now elements.now ≡ Err fault) }
 {
-    if !has_all_positions(elements.len(), specs) {
+    if !has_all_positions(elements, specs) {
         return Err(CounterFault::Badarg);
     }
     if too_deep_as_element(specs) {
@@ -98,11 +101,13 @@ fn check_list(elements: &[Term], specs: &[ElementSpec]) -> Result<(), CounterFau
     Ok(())
 }
 
-/// Returns whether a tuple of `count` elements has each position.
-fn has_all_positions(count: usize, specs: &[ElementSpec]) -> bool
-    ensures { result ≡ has_all_positions count specs.now }
+/// Returns whether a tuple with these elements has each position.
+fn has_all_positions(elements: &[Term], specs: &[ElementSpec]) -> bool
+    ensures { result ≡ has_all_positions specs.now elements.now }
 {
-    specs.iter().all(|spec| 0 < spec.position && spec.position <= count as Position)
+    specs
+        .iter()
+        .all(|spec| has_position(elements, spec.position))
 }
 
 /// Returns whether some value has `MAX_DEPTH` levels or more, and no later value of the list replaces it.
@@ -127,7 +132,7 @@ fn has_value_for(specs: &[ElementSpec], position: Position) -> bool
 
 /// Writes values in their order, so that the last value for a position stays.
 fn write_all(elements: &mut Items<Term>, mut specs: Vec<ElementSpec>)
-    ensures { elements.new ≡ write_each specs.items elements.old }
+    ensures { elements.new ≡ with_values specs.items elements.old }
 {
     // `pop` takes the last value, so the list is reversed first.
     specs.as_mut_slice().reverse();

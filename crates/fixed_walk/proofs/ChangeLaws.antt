@@ -1,6 +1,6 @@
 -- A relation of slots that is reflexive, transitive and kept by new objects of a key: insertions and updates keep it.
-use Rattle.std.proofs.Common.{◌≡◌, ℕ, Bool, true, false, cond, List, [], ◌∷◌, ◌++◌, Option, None, Some, option_and_then, refl, sym, subst, codes, length}
-use Rattle.std.specs.Prelude.{◌&&◌, ◌-◌, if◌then◌else◌, slice_set, not, nat_lt, nat_le, MatchOption, Ok, Err, Result}
+use Rattle.std.proofs.Common.{◌≡◌, ℕ, Bool, true, false, cond, List, [], ◌∷◌, ◌++◌, Option, None, Some, option_and_then, refl, sym, subst, codes}
+use Rattle.std.specs.Prelude.{◌&&◌, ◌-◌, if◌then◌else◌, slice_set, is_some, not, nat_lt, MatchOption, Ok, Err, Result}
 use Rattle.std.specs.Bool.{MatchBool}
 use Rattle.std.specs.List.{list_any, list_all}
 use Rattle.ets_term.specs.declared.term.Term.{Term}
@@ -11,8 +11,9 @@ use Rattle.ets_term.specs.Depth.{element_at, is_too_deep}
 use Rattle.ets_term.specs.Order.{same}
 use Rattle.bucket_table.specs.Slots.{Slot, Enters, objects_of, with_objects, has_objects, object_count}
 use Rattle.counters.specs.Counters.{apply_ops}
-use Rattle.counters.specs.Defaults.{with_key, start_counter, start_elements}
+use Rattle.counters.specs.Defaults.{start, with_key}
 use Rattle.counters.specs.Elements.{apply_elements}
+use Rattle.counters.specs.Positions.{at_position}
 use Rattle.counters.specs.declared.elements.ElementSpecs.{ElementSpecs}
 use Rattle.counters.specs.declared.fault.CounterFault.{CounterFault}
 use Rattle.counters.specs.declared.ops.Ops.{Ops}
@@ -23,7 +24,7 @@ use Rattle.table_ops.specs.declared.refusal.Refusal.TheVariants.{Badarg, SystemL
 use Rattle.table_ops.specs.Content.{Content, is_object, objects_under}
 use Rattle.table_ops.specs.Put.{add, SetsObjects, PutsAll, InsertsWithinLimit, Inserts, InsertsNew, is_taken}
 use Rattle.table_ops.specs.Refusals.{RefinesChange}
-use Rattle.table_ops.specs.Update.{is_set, ops_avoid_key, element_specs_avoid_key, default_is_object, with_object, UpdatesObject, InsertsDefault, UpdatesOrInsertsCounter, UpdatesCounter, with_true, UpdatesOrInsertsElement, UpdatesElement}
+use Rattle.table_ops.specs.Update.{is_set, ops_avoid_key, element_specs_avoid_key, default_is_object, with_object, UpdatesObject, InsertsDefault, UpdatesOrInsertsCounter, UpdatesCounter, UpdatesOrInsertsElement, UpdatesElement}
 use Rattle.table_ops.specs.Outcomes.{gives}
 
 abbrev pub is_end : Term → Bool
@@ -68,17 +69,13 @@ with_key-at : (test : Bool) (term object : Term) → cond test (Some term) None 
 with_key-at true term object e = refl
 with_key-at false term object e = cc
 
-tuple-key : (keypos : ℕ) (key object : Term) (o : Option (List Term)) → option_and_then (λ ts. if nat_lt 0 keypos && nat_le keypos (length ts) && not (is_atom (codes "$end_of_table") key) then Some (Tuple (slice_set ts (keypos - 1) key)) else None) o ≡ Some object → is_end key ≡ false
+tuple-key : (keypos : ℕ) (key object : Term) (o : Option (List Term)) → option_and_then (λ ts. if is_some (at_position keypos ts) && not (is_atom (codes "$end_of_table") key) then Some (Tuple (slice_set ts (keypos - 1) key)) else None) o ≡ Some object → is_end key ≡ false
 tuple-key keypos key object None e = cc
-tuple-key keypos key object (Some ts) e = second (nat_lt 0 keypos && nat_le keypos (length ts)) (is_end key) (with_key-at (nat_lt 0 keypos && nat_le keypos (length ts) && not (is_end key)) _ object e)
+tuple-key keypos key object (Some ts) e = second (is_some (at_position keypos ts)) (is_end key) (with_key-at (is_some (at_position keypos ts) && not (is_end key)) _ object e)
 
-counted-key : (keypos : ℕ) (key d : Term) (ops : Ops) (o : Option Term) (made : Term × Term) → with_key keypos key d ≡ o → start_counter ops o ≡ Ok made → is_end key ≡ false
-counted-key keypos key d ops None made k e = cc
-counted-key keypos key d ops (Some object) made k e = tuple-key keypos key object (as_tuple d) k
-
-written-key : (keypos : ℕ) (key d : Term) (specs : ElementSpecs) (o : Option Term) (made : Term × Bool) → with_key keypos key d ≡ o → with_true (start_elements specs o) ≡ Ok made → is_end key ≡ false
-written-key keypos key d specs None made k e = cc
-written-key keypos key d specs (Some object) made k e = tuple-key keypos key object (as_tuple d) k
+started-key : {X : Type 0} (keypos : ℕ) (key d : Term) (update : Term → Result (Term × X) CounterFault) (o : Option Term) (made : Term × X) → with_key keypos key d ≡ o → start update o ≡ Ok made → is_end key ≡ false
+started-key keypos key d update None made k e = cc
+started-key keypos key d update (Some object) made k e = tuple-key keypos key object (as_tuple d) k
 
 module _ (Q : List Slot → List Slot → Type 0) (keeping : Keeping Q) where
   pub unchanged : (old new : Content) → new ≡ old → Q old.slots new.slots
@@ -130,22 +127,22 @@ module _ (Q : List Slot → List Slot → Type 0) (keeping : Keeping Q) where
   fills : (key object : Term) (old new : Content) → new ≡ with_object key object old → Q old.slots new.slots
   fills key object old new e = subst (λ (t : Content). Q old.slots t.slots) (sym e) (keeping.filled old.slots key (object ∷ []) refl)
 
-  counts_at : (key : Term) (old new : Content) (c : Result (Term × Term) CounterFault) (r : Result Term Refusal) → UpdatesObject key old c r new → Q old.slots new.slots
-  counts_at key old new (Ok counted) r c = fills key counted.0 old new c.1
-  counts_at key old new (Err fault) r c = unchanged old new c.1
+  updates_at : {X : Type 0} (key : Term) (old new : Content) (c : Result (Term × X) CounterFault) (r : Result X Refusal) → UpdatesObject key old c r new → Q old.slots new.slots
+  updates_at key old new (Ok updated) r c = fills key updated.0 old new c.1
+  updates_at key old new (Err fault) r c = unchanged old new c.1
 
   starts_at : {X : Type 0} (key : Term) (old new : Content) (c : Result (Term × X) CounterFault) (r : Result X Refusal) → ((made : Term × X) → c ≡ Ok made → is_end key ≡ false) → InsertsDefault key old c r new → Q old.slots new.slots
   starts_at key old new (Ok made) r own c = limit_at made.1 old new (nat_lt old.limit (object_count c.0)) c.0 r c.2 (writes-keep old.slots c.0 key (made.0 ∷ []) (own made refl) refl c.1)
   starts_at key old new (Err fault) r own c = unchanged old new c.1
 
   default_at : (key : Term) (ops : Ops) (default : Option Term) (old new : Content) (r : Result Term Refusal)
-      → MatchOption default (gives (Err Badarg) old r new) (λ d. InsertsDefault key old (start_counter ops (with_key old.keypos key d)) r new) → Q old.slots new.slots
+      → MatchOption default (gives (Err Badarg) old r new) (λ d. InsertsDefault key old (start (apply_ops ops) (with_key old.keypos key d)) r new) → Q old.slots new.slots
   default_at key ops None old new r c = unchanged old new c.1
-  default_at key ops (Some d) old new r c = starts_at key old new (start_counter ops (with_key old.keypos key d)) r (λ made e. counted-key old.keypos key d ops (with_key old.keypos key d) made refl e) c
+  default_at key ops (Some d) old new r c = starts_at key old new (start (apply_ops ops) (with_key old.keypos key d)) r (λ made e. started-key old.keypos key d (apply_ops ops) (with_key old.keypos key d) made refl e) c
 
   under_at : (key : Term) (ops : Ops) (default : Option Term) (old new : Content) (objects : List Term) (r : Result Term Refusal) → UpdatesOrInsertsCounter key ops default old objects r new → Q old.slots new.slots
   under_at key ops default old new [] r c = default_at key ops default old new r c
-  under_at key ops default old new (o ∷ os) r c = counts_at key old new (apply_ops ops o) r c
+  under_at key ops default old new (o ∷ os) r c = updates_at key old new (apply_ops ops o) r c
 
   counter_at : (b : Bool) (key : Term) (ops : Ops) (default : Option Term) (old new : Content) (r : Result Term Refusal)
       → MatchBool b (UpdatesOrInsertsCounter key ops default old (objects_under old.slots key) r new) (gives (Err Badarg) old r new) → Q old.slots new.slots
@@ -155,18 +152,14 @@ module _ (Q : List Slot → List Slot → Type 0) (keeping : Keeping Q) where
   pub counter-keeps : (key : Term) (ops : Ops) (default : Option Term) (old new : Content) (r : Result Term Refusal) → UpdatesCounter key ops default old r new → Q old.slots new.slots
   counter-keeps key ops default old new r c = counter_at (is_set old.kind && (ops_avoid_key old.keypos ops && default_is_object old.keypos key default)) key ops default old new r c
 
-  elements_at : (key : Term) (old new : Content) (c : Result Term CounterFault) (r : Result Bool Refusal) → UpdatesObject key old (with_true c) r new → Q old.slots new.slots
-  elements_at key old new (Ok object) r c = fills key object old new c.1
-  elements_at key old new (Err fault) r c = unchanged old new c.1
-
   written_at : (key : Term) (specs : ElementSpecs) (default : Option Term) (old new : Content) (r : Result Bool Refusal)
-      → MatchOption default (gives (Ok false) old r new) (λ d. InsertsDefault key old (with_true (start_elements specs (with_key old.keypos key d))) r new) → Q old.slots new.slots
+      → MatchOption default (gives (Ok false) old r new) (λ d. InsertsDefault key old (start (apply_elements specs) (with_key old.keypos key d)) r new) → Q old.slots new.slots
   written_at key specs None old new r c = unchanged old new c.1
-  written_at key specs (Some d) old new r c = starts_at key old new (with_true (start_elements specs (with_key old.keypos key d))) r (λ made e. written-key old.keypos key d specs (with_key old.keypos key d) made refl e) c
+  written_at key specs (Some d) old new r c = starts_at key old new (start (apply_elements specs) (with_key old.keypos key d)) r (λ made e. started-key old.keypos key d (apply_elements specs) (with_key old.keypos key d) made refl e) c
 
   write_at : (key : Term) (specs : ElementSpecs) (default : Option Term) (old new : Content) (objects : List Term) (r : Result Bool Refusal) → UpdatesOrInsertsElement key specs default old objects r new → Q old.slots new.slots
   write_at key specs default old new [] r c = written_at key specs default old new r c
-  write_at key specs default old new (o ∷ os) r c = elements_at key old new (apply_elements specs o) r c
+  write_at key specs default old new (o ∷ os) r c = updates_at key old new (apply_elements specs o) r c
 
   specs_at : (b : Bool) (key : Term) (specs : ElementSpecs) (default : Option Term) (old new : Content) (r : Result Bool Refusal)
       → MatchBool b (UpdatesOrInsertsElement key specs default old (objects_under old.slots key) r new) (gives (Err Badarg) old r new) → Q old.slots new.slots

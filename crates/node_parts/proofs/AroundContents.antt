@@ -8,7 +8,7 @@ use Rattle.ets_term.specs.declared.term.Term.{Term}
 use Rattle.ets_term.specs.Depth.{is_too_deep}
 use Rattle.bucket_table.specs.Slots.{Slot, object_count}
 use Rattle.counters.specs.Counters.{apply_ops}
-use Rattle.counters.specs.Defaults.{with_key, start_counter, start_elements}
+use Rattle.counters.specs.Defaults.{start, with_key}
 use Rattle.counters.specs.Elements.{apply_elements}
 use Rattle.counters.specs.declared.elements.ElementSpecs.{ElementSpecs}
 use Rattle.counters.specs.declared.fault.CounterFault.{CounterFault}
@@ -20,7 +20,7 @@ use Rattle.table_ops.specs.Drop.{Which, DeletesObject, equal_to, has_key, withou
 use Rattle.table_ops.specs.Invariants.{AreSlots}
 use Rattle.table_ops.specs.Outcomes.{Change, gives, refuse, refuse_none}
 use Rattle.table_ops.specs.Put.{SetsObjects, PutsAll, InsertsWithinLimit, Inserts, InsertsNew, is_taken}
-use Rattle.table_ops.specs.Update.{counter_is_valid, element_is_valid, refusal_of, with_object, UpdatesObject, InsertsDefault, UpdatesOrInsertsCounter, UpdatesCounter, with_true, UpdatesOrInsertsElement, UpdatesElement}
+use Rattle.table_ops.specs.Update.{counter_is_valid, element_is_valid, refusal_of, with_object, UpdatesObject, InsertsDefault, UpdatesOrInsertsCounter, UpdatesCounter, UpdatesOrInsertsElement, UpdatesElement}
 use Rattle.table_ops.proofs.DropLaws.{KeepsOthers, keeps-others-key, keeps-others-object}
 use Rattle.node_parts.proofs.Around.{around, IsApart, count-around, under-around, present-around, set-around, sets-around, dropped-around, AreApart, all-around}
 use Rattle.node_parts.proofs.Lists.{same-or-not}
@@ -183,7 +183,7 @@ module _ (rest : Rest) where
 
   module _ (key : Term) (mine : IsMine key) (default : Option Term) (old : Content) where
     counter-at : (ops : Ops) (objects : List Term) → Mirrors old (UpdatesOrInsertsCounter key ops default old objects) (UpdatesOrInsertsCounter key ops default (around_content old) objects)
-    counter-at ops [] = refuse_none-mirrors old default (Err Badarg) (λ d e. default-mirrors key mine old (start_counter ops (with_key old.keypos key d)))
+    counter-at ops [] = refuse_none-mirrors old default (Err Badarg) (λ d e. default-mirrors key mine old (start (apply_ops ops) (with_key old.keypos key d)))
     counter-at ops (object ∷ objects) = updates-mirrors key mine old (apply_ops ops object)
 
     pub counter-mirrors : (ops : Ops) → Mirrors old (UpdatesCounter key ops default old) (UpdatesCounter key ops default (around_content old))
@@ -194,8 +194,8 @@ module _ (rest : Rest) where
         (same-mirrors old (Err Badarg))
 
     element-at : (specs : ElementSpecs) (objects : List Term) → Mirrors old (UpdatesOrInsertsElement key specs default old objects) (UpdatesOrInsertsElement key specs default (around_content old) objects)
-    element-at specs [] = refuse_none-mirrors old default (Ok false) (λ d e. default-mirrors key mine old (with_true (start_elements specs (with_key old.keypos key d))))
-    element-at specs (object ∷ objects) = updates-mirrors key mine old (with_true (apply_elements specs object))
+    element-at specs [] = refuse_none-mirrors old default (Ok false) (λ d e. default-mirrors key mine old (start (apply_elements specs) (with_key old.keypos key d)))
+    element-at specs (object ∷ objects) = updates-mirrors key mine old (apply_elements specs object)
 
     pub element-mirrors : (specs : ElementSpecs) → Mirrors old (UpdatesElement key specs default old) (UpdatesElement key specs default (around_content old))
     element-mirrors specs =

@@ -12,7 +12,7 @@ use Rattle.bucket_table.specs.Slots.{Slot, Enters, objects_of, with_objects, has
 use Rattle.bucket_table.specs.Rows.{HasDistinctKeys}
 use Rattle.bucket_table.proofs.slots.Distinct.{distinct-added}
 use Rattle.counters.specs.Counters.{apply_ops}
-use Rattle.counters.specs.Defaults.{with_key, start_counter, start_elements}
+use Rattle.counters.specs.Defaults.{start, with_key}
 use Rattle.counters.specs.Elements.{apply_elements}
 use Rattle.counters.specs.Elements as elements
 use Rattle.counters.specs.Ops.{ops_of}
@@ -28,7 +28,7 @@ use Rattle.table_ops.specs.Drop.{Which, objects_left, after_drop, equal_to, has_
 use Rattle.table_ops.specs.Invariants.{FitsKind, IsSlot, AreSlots, IsContent}
 use Rattle.table_ops.specs.Outcomes.{Change, gives, refuse, refuse_none}
 use Rattle.table_ops.specs.Put.{add, SetsObjects, PutsAll, InsertsWithinLimit, Inserts, InsertsNew, is_taken}
-use Rattle.table_ops.specs.Update.{is_set, ops_avoid_key, element_specs_avoid_key, default_is_object, counter_is_valid, element_is_valid, refusal_of, with_object, UpdatesObject, InsertsDefault, UpdatesOrInsertsCounter, UpdatesCounter, with_true, UpdatesOrInsertsElement, UpdatesElement}
+use Rattle.table_ops.specs.Update.{is_set, ops_avoid_key, element_specs_avoid_key, default_is_object, counter_is_valid, element_is_valid, refusal_of, with_object, UpdatesObject, InsertsDefault, UpdatesOrInsertsCounter, UpdatesCounter, UpdatesOrInsertsElement, UpdatesElement}
 use Rattle.table_ops.proofs.CountLaws.{count-writes}
 use Rattle.table_ops.proofs.DropLaws.{slots-dropped}
 use Rattle.table_ops.proofs.InsertLaws.{both}
@@ -158,16 +158,12 @@ module _ (old : Content) (is : IsContent old) where
         ))
     default-keeps (Err fault) k = same-keeps (Err (refusal_of fault))
 
-  true-of : (r : Result Term CounterFault) (made : Term × Bool) → with_true r ≡ Ok made → r ≡ Ok made.0
-  true-of (Err f) made e = cc
-  true-of (Ok object) made e = let is : (object, true) ≡ made = cc in ap (λ (p : Term × Bool). let r : Result Term CounterFault = Ok p.0 in r) is
-
   module _ (key : Term) (default : Option Term) where
     counter-at : (ops : Ops) → is_set old.kind ≡ true → ops_avoid_key old.keypos ops ≡ true → (objects : List Term) → objects_under old.slots key ≡ objects
         → Keeps old (UpdatesOrInsertsCounter key ops default old objects)
     counter-at ops set avoid [] e =
-        refuse_none-keeps default (Err Badarg) (λ d. InsertsDefault key old (start_counter ops (with_key old.keypos key d))) (λ d f.
-        default-keeps key set (start_counter ops (with_key old.keypos key d)) (λ made g. started old.keypos ops key d made.0 made.1 avoid g))
+        refuse_none-keeps default (Err Badarg) (λ d. InsertsDefault key old (start (apply_ops ops) (with_key old.keypos key d))) (λ d f.
+        default-keeps key set (start (apply_ops ops) (with_key old.keypos key d)) (λ made g. started old.keypos ops key d made.0 made.1 avoid g))
     counter-at ops set avoid (was ∷ more) e =
         updates-keep key set was more (apply_ops ops was) e (λ updated g. counted-keeps old.keypos ops was updated.0 updated.1 avoid g)
 
@@ -182,11 +178,11 @@ module _ (old : Content) (is : IsContent old) where
     element-at : (specs : ElementSpecs) → is_set old.kind ≡ true → element_specs_avoid_key old.keypos specs ≡ true → (objects : List Term) → objects_under old.slots key ≡ objects
         → Keeps old (UpdatesOrInsertsElement key specs default old objects)
     element-at specs set avoid [] e =
-        refuse_none-keeps default (Ok false) (λ d. InsertsDefault key old (with_true (start_elements specs (with_key old.keypos key d)))) (λ d f.
-        default-keeps key set (with_true (start_elements specs (with_key old.keypos key d))) (λ made g. written-started old.keypos specs key d made.0 made.1 avoid g))
+        refuse_none-keeps default (Ok false) (λ d. InsertsDefault key old (start (apply_elements specs) (with_key old.keypos key d))) (λ d f.
+        default-keeps key set (start (apply_elements specs) (with_key old.keypos key d)) (λ made g. written-started old.keypos specs key d made.0 made.1 avoid g))
     element-at specs set avoid (was ∷ more) e =
-        updates-keep key set was more (with_true (apply_elements specs was)) e (λ updated g.
-        written-keeps old.keypos specs was updated.0 avoid (true-of (apply_elements specs was) updated g))
+        updates-keep key set was more (apply_elements specs was) e (λ updated g.
+        written-keeps old.keypos specs was updated.0 updated.1 avoid g)
 
     element-keeps : (specs : ElementSpecs) → Keeps old (UpdatesElement key specs default old)
     element-keeps specs =

@@ -1,7 +1,7 @@
 -- The reasons of updates explain their replies.
 use Rattle.std.proofs.Common.{◌≡◌, ℕ, ℤ, pos, negsuc, inl, inr, Bool, true, false, List, [], ◌∷◌, Option, None, Some, option_map, option_and_then, Result, Ok, Err, refl, subst, ap, ◌∙◌, arith}
 use Rattle.std.proofs.lemmas.Bool.Decides.{nat_tests}
-use Rattle.std.specs.Prelude.{◌+◌, ◌==◌, ◌&&◌, ◌||◌, if◌then◌else◌, MatchOption, nat_lt}
+use Rattle.std.specs.Prelude.{◌+◌, ◌==◌, ◌&&◌, if◌then◌else◌, MatchOption, nat_lt}
 use Rattle.std.specs.Bool.{MatchBool}
 use Rattle.std.specs.List.{list_all}
 use Rattle.std.specs.Option.{option_map_or}
@@ -19,15 +19,16 @@ use Rattle.counters.specs.declared.ops.Op.{Op}
 use Rattle.counters.specs.declared.ops.Ops.{Ops}
 use Rattle.counters.specs.declared.ops.Ops.TheVariants as updates
 use Rattle.counters.specs.Counters.{apply_ops}
-use Rattle.counters.specs.Defaults.{with_key, start_counter, start_elements}
-use Rattle.counters.specs.Elements.{element_spec_of_parts, all_element_specs, element_specs_form, element_specs_of, apply_elements}
-use Rattle.counters.specs.Ops.{threshold_of, op_from, op_of_parts, op_of, all_ops, ops_form, ops_of}
-use Rattle.counters.specs.Positions.{position_at, updatable_position}
+use Rattle.counters.specs.Defaults.{start, with_key}
+use Rattle.counters.specs.Elements.{element_spec_of_parts, element_specs_of, apply_elements}
+use Rattle.counters.specs.Ops.{op_of_integers, op_of_parts, ops_form, ops_of}
+use Rattle.counters.specs.Positions.{may_update, position_at}
+use Rattle.counters.specs.Updates.{read_all, updates_form}
 use Rattle.ets_term.specs.Views.{as_int}
 use Rattle.table_ops.specs.declared.refusal.Refusal.{Refusal}
 use Rattle.table_ops.specs.declared.refusal.Refusal.TheVariants as refusal
 use Rattle.table_ops.specs.Content.{Content, objects_under}
-use Rattle.table_ops.specs.Update.{is_set, may_update, ops_avoid_key, element_specs_avoid_key, default_is_object, UpdatesObject, InsertsDefault, UpdatesOrInsertsCounter, with_true, UpdatesOrInsertsElement, UpdatesCounter, UpdatesElement}
+use Rattle.table_ops.specs.Update.{is_set, ops_avoid_key, element_specs_avoid_key, default_is_object, UpdatesObject, InsertsDefault, UpdatesOrInsertsCounter, UpdatesOrInsertsElement, UpdatesCounter, UpdatesElement}
 use Rattle.table_ops.specs.Outcomes.{gives}
 use Rattle.fixed_walk.specs.TableState.{TableState, on_content}
 use Rattle.node_core.specs.declared.step.Reply.{Reply}
@@ -47,53 +48,65 @@ use Rattle.node_reasons.proofs.Explained.{ReasonExplains, value-of, badarg-of, l
 module _ (keypos : ℕ) where
   open-at : (z : ℤ) (p : ℕ) → position_at keypos z ≡ Some p → may_update keypos p ≡ true
   open-at (negsuc n) p e = absurd (cc)
-  open-at (pos n) p e = by (n == 0) (n == keypos) refl refl e
+  open-at (pos n) p e = by (may_update keypos n) refl e
     where
-      by : (a b : Bool) → (n == 0) ≡ a → (n == keypos) ≡ b → (if a || b then None else Some n) ≡ Some p → may_update keypos p ≡ true
-      by true b ea eb e = absurd (cc)
-      by false true ea eb e = absurd (cc)
-      by false false ea eb e =
-          let same : n ≡ p = cc in
-          let above : nat_lt 0 n ≡ true = grind (arith, nat_tests) in
-          subst (λ q. may_update keypos q ≡ true) same (rw above (rw eb refl))
+      by : (b : Bool) → may_update keypos n ≡ b → (if b then Some n else None) ≡ Some p → may_update keypos p ≡ true
+      by false m e = absurd (cc)
+      by true m e = let same : n ≡ p = cc in subst (λ q. may_update keypos q ≡ true) same m
 
-  open-position : (o : Option ℤ) (p : ℕ) → option_and_then (position_at keypos) o ≡ Some p → may_update keypos p ≡ true
-  open-position None p e = absurd (cc)
-  open-position (Some z) p e = open-at z p e
-
-  open-from : (position : Term) (i : Option ℤ) (threshold : Option Threshold) (op : Op) (p : Option ℕ) → updatable_position keypos position ≡ p
-      → option_and_then (λ p. option_map (λ i. record { position = p; increment = i; threshold = threshold }) i) p ≡ Some op → may_update keypos op.position ≡ true
-  open-from position i threshold op None at e = absurd (cc)
-  open-from position None threshold op (Some p) at e = absurd (cc)
-  open-from position (Some i) threshold op (Some p) at e =
+  open-from : (position increment : ℤ) (threshold : Option Threshold) (op : Op) (p : Option ℕ) → position_at keypos position ≡ p
+      → option_map (λ p. record { position = p; increment = increment; threshold = threshold }) p ≡ Some op → may_update keypos op.position ≡ true
+  open-from position increment threshold op None at e = absurd (cc)
+  open-from position increment threshold op (Some p) at e =
       let found : Some p ≡ Some op.position = ap (option_map (λ (o : Op). o.position)) e in
-      open-position (as_int position) op.position (at ∙ found)
+      open-at position op.position (at ∙ found)
+
+  open-integers : (integers : List ℤ) (op : Op) → op_of_integers keypos integers ≡ Some op → may_update keypos op.position ≡ true
+  open-integers [] op e = absurd (cc)
+  open-integers (a ∷ []) op e = absurd (cc)
+  open-integers (a ∷ b ∷ []) op e = open-from a b None op (position_at keypos a) refl e
+  open-integers (a ∷ b ∷ c ∷ []) op e = absurd (cc)
+  open-integers (a ∷ b ∷ c ∷ d ∷ []) op e = open-from a b (Some (record { value = c; set_value = d })) op (position_at keypos a) refl e
+  open-integers (a ∷ b ∷ c ∷ d ∷ x ∷ more) op e = absurd (cc)
 
   open-op : (parts : List Term) (op : Op) → op_of_parts keypos parts ≡ Some op → may_update keypos op.position ≡ true
-  open-op [] op e = absurd (cc)
-  open-op (a ∷ []) op e = absurd (cc)
-  open-op (a ∷ b ∷ []) op e = open-from a (as_int b) None op (updatable_position keypos a) refl e
-  open-op (a ∷ b ∷ c ∷ []) op e = absurd (cc)
-  open-op (a ∷ b ∷ c ∷ d ∷ []) op e = by (threshold_of c d) e
+  open-op parts op e = by (read_all as_int parts) e
     where
-      by : (o : Option Threshold) → option_and_then (λ x. op_from keypos a b (Some x)) o ≡ Some op → may_update keypos op.position ≡ true
+      by : (o : Option (List ℤ)) → option_and_then (op_of_integers keypos) o ≡ Some op → may_update keypos op.position ≡ true
       by None e = absurd (cc)
-      by (Some x) e = open-from a (as_int b) (Some x) op (updatable_position keypos a) refl e
-  open-op (a ∷ b ∷ c ∷ d ∷ x ∷ more) op e = absurd (cc)
+      by (Some integers) e = open-integers integers op e
 
-  open-all : (terms : List Term) (ops : List Op) → all_ops keypos terms ≡ Some ops → list_all (λ (op : Op). may_update keypos op.position) ops ≡ true
-  open-all [] ops e = let same : [] ≡ ops = cc in subst (λ os. list_all (λ (op : Op). may_update keypos op.position) os ≡ true) same refl
-  open-all (term ∷ terms) ops e = by (op_of keypos term) (all_ops keypos terms) refl refl e (λ others er. open-all terms others er)
+  open-spec : (parts : List Term) (spec : ElementSpec) → element_spec_of_parts keypos parts ≡ Some spec → may_update keypos spec.position ≡ true
+  open-spec [] spec e = absurd (cc)
+  open-spec (a ∷ []) spec e = absurd (cc)
+  open-spec (a ∷ b ∷ []) spec e = by (as_int a) e
     where
-      by : (o : Option Op) (rest : Option (List Op)) → op_of keypos term ≡ o → all_ops keypos terms ≡ rest → option_and_then (λ op. option_map (λ ops. op ∷ ops) rest) o ≡ Some ops
-          → ((others : List Op) → all_ops keypos terms ≡ Some others → list_all (λ (op : Op). may_update keypos op.position) others ≡ true) → list_all (λ (op : Op). may_update keypos op.position) ops ≡ true
-      by None rest eo er e all = absurd (cc)
-      by (Some op) None eo er e all = absurd (cc)
-      by (Some op) (Some others) eo er e all =
-          let same : op ∷ others ≡ ops = cc in
-          let first : may_update keypos op.position ≡ true = open-op (elements term) op eo in
-          let behind : list_all (λ (op : Op). may_update keypos op.position) others ≡ true = all others er in
-          subst (λ os. list_all (λ (op : Op). may_update keypos op.position) os ≡ true) same (rw first behind)
+      at : (z : ℤ) (o : Option ℕ) → position_at keypos z ≡ o → option_map (λ p. record { position = p; value = b }) o ≡ Some spec → may_update keypos spec.position ≡ true
+      at z None eo e = absurd (cc)
+      at z (Some p) eo e =
+          let found : Some p ≡ Some spec.position = ap (option_map (λ (s : ElementSpec). s.position)) e in
+          open-at z spec.position (eo ∙ found)
+
+      by : (o : Option ℤ) → option_map (λ p. record { position = p; value = b }) (option_and_then (position_at keypos) o) ≡ Some spec → may_update keypos spec.position ≡ true
+      by None e = absurd (cc)
+      by (Some z) e = at z (position_at keypos z) refl e
+  open-spec (a ∷ b ∷ c ∷ more) spec e = absurd (cc)
+
+  -- a list of updates, each with an open position
+  module _ {U : Type 0} (read : List Term → Option U) (position : U → ℕ) (each : (parts : List Term) (u : U) → read parts ≡ Some u → may_update keypos (position u) ≡ true) where
+    open-all : (terms : List Term) (us : List U) → read_all (λ term. read (elements term)) terms ≡ Some us → list_all (λ u. may_update keypos (position u)) us ≡ true
+    open-all [] us e = let same : [] ≡ us = cc in subst (λ vs. list_all (λ u. may_update keypos (position u)) vs ≡ true) same refl
+    open-all (term ∷ terms) us e = by (read (elements term)) (read_all (λ t. read (elements t)) terms) refl refl e (λ others er. open-all terms others er)
+      where
+        by : (o : Option U) (rest : Option (List U)) → read (elements term) ≡ o → read_all (λ t. read (elements t)) terms ≡ rest → option_and_then (λ y. option_map (λ ys. y ∷ ys) rest) o ≡ Some us
+            → ((others : List U) → read_all (λ t. read (elements t)) terms ≡ Some others → list_all (λ u. may_update keypos (position u)) others ≡ true) → list_all (λ u. may_update keypos (position u)) us ≡ true
+        by None rest eo er e all = absurd (cc)
+        by (Some y) None eo er e all = absurd (cc)
+        by (Some y) (Some others) eo er e all =
+            let same : y ∷ others ≡ us = cc in
+            let first : may_update keypos (position y) ≡ true = each (elements term) y eo in
+            let behind : list_all (λ u. may_update keypos (position u)) others ≡ true = all others er in
+            subst (λ vs. list_all (λ u. may_update keypos (position u)) vs ≡ true) same (rw first behind)
 
   open-ops : (form : Term-F Term) (ops : Ops) → ops_form keypos form ≡ Some ops → ops_avoid_key keypos ops ≡ true
   open-ops (Term-F.Int n) ops e =
@@ -105,41 +118,18 @@ module _ (keypos : ℕ) where
     where
       by : (o : Option Op) → op_of_parts keypos parts ≡ o → option_map updates.One o ≡ Some ops → ops_avoid_key keypos ops ≡ true
       by None eo e = absurd (cc)
-      by (Some op) eo e = let same : updates.One op ≡ ops = cc in subst (λ os. ops_avoid_key keypos os ≡ true) same (open-op parts op eo)
-  open-ops (Term-F.List terms) ops e = by (all_ops keypos terms) refl e
+      by (Some op) eo e =
+          let same : updates.One op ≡ ops = cc in
+          let first : may_update keypos op.position ≡ true = open-op parts op eo in
+          subst (λ os. ops_avoid_key keypos os ≡ true) same (rw first refl)
+  open-ops (Term-F.List terms) ops e = by (read_all (λ term. op_of_parts keypos (elements term)) terms) refl e
     where
-      by : (o : Option (List Op)) → all_ops keypos terms ≡ o → option_map updates.Many o ≡ Some ops → ops_avoid_key keypos ops ≡ true
+      by : (o : Option (List Op)) → read_all (λ term. op_of_parts keypos (elements term)) terms ≡ o → option_map updates.Many o ≡ Some ops → ops_avoid_key keypos ops ≡ true
       by None eo e = absurd (cc)
-      by (Some list) eo e = let same : updates.Many list ≡ ops = cc in subst (λ os. ops_avoid_key keypos os ≡ true) same (open-all terms list eo)
+      by (Some list) eo e = let same : updates.Many list ≡ ops = cc in subst (λ os. ops_avoid_key keypos os ≡ true) same (open-all (op_of_parts keypos) (λ (op : Op). op.position) open-op terms list eo)
   open-ops _ ops e = absurd (cc)
 
-  open-spec : (parts : List Term) (spec : ElementSpec) → element_spec_of_parts keypos parts ≡ Some spec → may_update keypos spec.position ≡ true
-  open-spec [] spec e = absurd (cc)
-  open-spec (a ∷ []) spec e = absurd (cc)
-  open-spec (a ∷ b ∷ []) spec e = by (updatable_position keypos a) refl e
-    where
-      by : (o : Option ℕ) → updatable_position keypos a ≡ o → option_map (λ p. record { position = p; value = b }) o ≡ Some spec → may_update keypos spec.position ≡ true
-      by None eo e = absurd (cc)
-      by (Some p) eo e =
-          let found : Some p ≡ Some spec.position = ap (option_map (λ (s : ElementSpec). s.position)) e in
-          open-position (as_int a) spec.position (eo ∙ found)
-  open-spec (a ∷ b ∷ c ∷ more) spec e = absurd (cc)
-
-  open-every : (terms : List Term) (specs : List ElementSpec) → all_element_specs keypos terms ≡ Some specs → list_all (λ (spec : ElementSpec). may_update keypos spec.position) specs ≡ true
-  open-every [] specs e = let same : [] ≡ specs = cc in subst (λ ss. list_all (λ (spec : ElementSpec). may_update keypos spec.position) ss ≡ true) same refl
-  open-every (term ∷ terms) specs e = by (element_spec_of_parts keypos (elements term)) (all_element_specs keypos terms) refl refl e (λ others er. open-every terms others er)
-    where
-      by : (o : Option ElementSpec) (rest : Option (List ElementSpec)) → element_spec_of_parts keypos (elements term) ≡ o → all_element_specs keypos terms ≡ rest → option_and_then (λ first. option_map (λ rest. first ∷ rest) rest) o ≡ Some specs
-          → ((others : List ElementSpec) → all_element_specs keypos terms ≡ Some others → list_all (λ (spec : ElementSpec). may_update keypos spec.position) others ≡ true) → list_all (λ (spec : ElementSpec). may_update keypos spec.position) specs ≡ true
-      by None rest eo er e all = absurd (cc)
-      by (Some spec) None eo er e all = absurd (cc)
-      by (Some spec) (Some others) eo er e all =
-          let same : spec ∷ others ≡ specs = cc in
-          let first : may_update keypos spec.position ≡ true = open-spec (elements term) spec eo in
-          let behind : list_all (λ (spec : ElementSpec). may_update keypos spec.position) others ≡ true = all others er in
-          subst (λ ss. list_all (λ (spec : ElementSpec). may_update keypos spec.position) ss ≡ true) same (rw first behind)
-
-  open-specs : (form : Term-F Term) (specs : ElementSpecs) → element_specs_form keypos form ≡ Some specs → element_specs_avoid_key keypos specs ≡ true
+  open-specs : (form : Term-F Term) (specs : ElementSpecs) → updates_form values.One values.Many (element_spec_of_parts keypos) form ≡ Some specs → element_specs_avoid_key keypos specs ≡ true
   open-specs (Term-F.Tuple parts) specs e = by (element_spec_of_parts keypos parts) refl e
     where
       by : (o : Option ElementSpec) → element_spec_of_parts keypos parts ≡ o → option_map values.One o ≡ Some specs → element_specs_avoid_key keypos specs ≡ true
@@ -148,11 +138,11 @@ module _ (keypos : ℕ) where
           let same : values.One spec ≡ specs = cc in
           let first : may_update keypos spec.position ≡ true = open-spec parts spec eo in
           subst (λ ss. element_specs_avoid_key keypos ss ≡ true) same (rw first refl)
-  open-specs (Term-F.List terms) specs e = by (all_element_specs keypos terms) refl e
+  open-specs (Term-F.List terms) specs e = by (read_all (λ term. element_spec_of_parts keypos (elements term)) terms) refl e
     where
-      by : (o : Option (List ElementSpec)) → all_element_specs keypos terms ≡ o → option_map values.Many o ≡ Some specs → element_specs_avoid_key keypos specs ≡ true
+      by : (o : Option (List ElementSpec)) → read_all (λ term. element_spec_of_parts keypos (elements term)) terms ≡ o → option_map values.Many o ≡ Some specs → element_specs_avoid_key keypos specs ≡ true
       by None eo e = absurd (cc)
-      by (Some list) eo e = let same : values.Many list ≡ specs = cc in subst (λ ss. element_specs_avoid_key keypos ss ≡ true) same (open-every terms list eo)
+      by (Some list) eo e = let same : values.Many list ≡ specs = cc in subst (λ ss. element_specs_avoid_key keypos ss ≡ true) same (open-all (element_spec_of_parts keypos) (λ (spec : ElementSpec). spec.position) open-spec terms list eo)
   open-specs _ specs e = absurd (cc)
 
 -- ---- a set, with a Default that is an object
@@ -190,10 +180,10 @@ module _ (key given : Term) (default : Option Term) (f g : TableState) (reply : 
   counted ops (Err fault.SystemLimit) h = inr (limit-of Value r reply h.0 is)
   counted ops (Err fault.Memory) h = absurd (memory-of Value r reply h.0 is)
 
-  started : (ops : Ops) (o : Option Term) → MatchOption o (gives (Err refusal.Badarg) f.content r g.content) (λ d. InsertsDefault key f.content (start_counter ops (with_key f.content.keypos key d)) r g.content)
-      → ReasonExplains (option_map_or (λ d. if_badarg rule.NotACounter (start_counter ops (with_key f.content.keypos key d))) o (Some (argument 2 rule.NoKey))) reply
+  started : (ops : Ops) (o : Option Term) → MatchOption o (gives (Err refusal.Badarg) f.content r g.content) (λ d. InsertsDefault key f.content (start (apply_ops ops) (with_key f.content.keypos key d)) r g.content)
+      → ReasonExplains (option_map_or (λ d. if_badarg rule.NotACounter (start (apply_ops ops) (with_key f.content.keypos key d))) o (Some (argument 2 rule.NoKey))) reply
   started ops None h = (badarg-of Value r reply h.0 is, refl)
-  started ops (Some d) h = starts-explained Value r reply is f.content g.content key rule.NotACounter refl (λ x. refl) (start_counter ops (with_key f.content.keypos key d)) h
+  started ops (Some d) h = starts-explained Value r reply is f.content g.content key rule.NotACounter refl (λ x. refl) (start (apply_ops ops) (with_key f.content.keypos key d)) h
 
   under : (ops : Ops) (objects : List Term) → UpdatesOrInsertsCounter key ops default f.content objects r g.content → ReasonExplains (why_counter_of_key key ops default f.content objects) reply
   under ops [] h = started ops default h
@@ -212,23 +202,16 @@ counter-explained key given default f g reply h = counts-explained key given def
 
 -- ---- elements
 module _ (key given : Term) (default : Option Term) (f g : TableState) (reply : Reply) (r : Result Bool Refusal) (is : ChangeResultToReply truth_reply r reply) where
-  wrote : (result : Result Term CounterFault) → UpdatesObject key f.content (with_true result) r g.content → ReasonExplains (if_badarg rule.NoElement result) reply
-  wrote (Ok done) h = inl (value-of truth_reply r true reply refl h.0 is)
+  wrote : (result : Result (Term × Bool) CounterFault) → UpdatesObject key f.content result r g.content → ReasonExplains (if_badarg rule.NoElement result) reply
+  wrote (Ok done) h = inl (value-of truth_reply r done.1 reply (truth-value done.1) h.0 is)
   wrote (Err fault.Badarg) h = (badarg-of truth_reply r reply h.0 is, refl)
   wrote (Err fault.SystemLimit) h = inr (limit-of truth_reply r reply h.0 is)
   wrote (Err fault.Memory) h = absurd (memory-of truth_reply r reply h.0 is)
 
-  same-badarg : (made : Result Term CounterFault) → if_badarg rule.NoElement (with_true made) ≡ if_badarg rule.NoElement made
-  same-badarg (Ok object) = refl
-  same-badarg (Err fault.Badarg) = refl
-  same-badarg (Err fault.SystemLimit) = refl
-  same-badarg (Err fault.Memory) = refl
-
-  began : (specs : ElementSpecs) (o : Option Term) → MatchOption o (gives (Ok false) f.content r g.content) (λ d. InsertsDefault key f.content (with_true (start_elements specs (with_key f.content.keypos key d))) r g.content)
-      → ReasonExplains (option_map_or (λ d. if_badarg rule.NoElement (start_elements specs (with_key f.content.keypos key d))) o None) reply
+  began : (specs : ElementSpecs) (o : Option Term) → MatchOption o (gives (Ok false) f.content r g.content) (λ d. InsertsDefault key f.content (start (apply_elements specs) (with_key f.content.keypos key d)) r g.content)
+      → ReasonExplains (option_map_or (λ d. if_badarg rule.NoElement (start (apply_elements specs) (with_key f.content.keypos key d))) o None) reply
   began specs None h = inl (value-of truth_reply r false reply refl h.0 is)
-  began specs (Some d) h = subst (λ (v : Option Reason). ReasonExplains v reply) (same-badarg (start_elements specs (with_key f.content.keypos key d)))
-      (starts-explained truth_reply r reply is f.content g.content key rule.NoElement refl truth-value (with_true (start_elements specs (with_key f.content.keypos key d))) h)
+  began specs (Some d) h = starts-explained truth_reply r reply is f.content g.content key rule.NoElement refl truth-value (start (apply_elements specs) (with_key f.content.keypos key d)) h
 
   over : (specs : ElementSpecs) (objects : List Term) → UpdatesOrInsertsElement key specs default f.content objects r g.content → ReasonExplains (why_elements_of_key key specs default f.content objects) reply
   over specs [] h = began specs default h

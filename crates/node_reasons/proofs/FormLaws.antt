@@ -1,5 +1,5 @@
 -- Forms of options and of updates, without what is read of them.
-use Rattle.std.proofs.Common.{◌≡◌, ℕ, pos, negsuc, Bool, true, false, List, [], ◌∷◌, Option, None, Some, option_map, option_and_then, refl, ap, ◌∙◌, codes}
+use Rattle.std.proofs.Common.{◌≡◌, ℕ, ℤ, pos, negsuc, Bool, true, false, List, [], ◌∷◌, Option, None, Some, option_map, option_and_then, refl, ◌∙◌, codes}
 use Rattle.std.specs.Prelude.{◌&&◌, ◌||◌, if◌then◌else◌, is_some, nat_le}
 use Rattle.std.specs.Option.{option_map_or}
 use Rattle.std.specs.Str.{bytes_eq}
@@ -8,12 +8,15 @@ use Rattle.ets_term.specs.declared.term.Term.{Term, out-Term}
 use Rattle.ets_term.specs.declared.term.Term.TheOpen.{Term-F}
 use Rattle.ets_term.specs.Atoms.{is_atom}
 use Rattle.ets_term.specs.Depth.{elements}
-use Rattle.counters.specs.Positions.{updatable_position}
+use Rattle.counters.specs.Positions.{position_at}
+use Rattle.counters.specs.Updates.{read_all}
+use Rattle.counters.specs.inside.Reads.{all_element_specs, all_ops}
+use Rattle.counters.specs.declared.ops.Op.{Op}
 use Rattle.ets_term.specs.Views.{as_int, natural_form, pid_form, list_form}
 use Rattle.counters.specs.declared.ops.Ops.TheVariants as updates
 use Rattle.counters.specs.declared.elements.ElementSpecs.TheVariants as values
-use Rattle.counters.specs.Ops.{threshold_of, op_from, op_of_parts, op_of, all_ops}
-use Rattle.counters.specs.Elements.{element_spec_of_parts, all_element_specs}
+use Rattle.counters.specs.Ops.{op_of_integers, op_of_parts}
+use Rattle.counters.specs.Elements.{element_spec_of_parts}
 use Rattle.ownership.specs.declared.metadata.Heir.{Heir}
 use Rattle.ownership.specs.declared.options.NewOptions.{NewOptions}
 use Rattle.ownership.specs.Options.{default_options, keypos_option, word_option, parse_heir, is_tuning, pair_option, option_form, options_from, options_of}
@@ -92,62 +95,66 @@ all-some None rest b e = refl
 all-some (Some x) None b e = e
 all-some (Some x) (Some xs) b e = e
 
+read-some : {X Y : Type 0} (read : X → Option Y) (xs : List X) → is_some (read_all read xs) ≡ list_all (λ x. is_some (read x)) xs
+read-some read [] = refl
+read-some read (x ∷ xs) = all-some (read x) (read_all read xs) (list_all (λ y. is_some (read y)) xs) (read-some read xs)
+
+pub map-some : {X Y : Type 0} (f : X → Y) (o : Option X) → is_some (option_map f o) ≡ is_some o
+map-some f None = refl
+map-some f (Some x) = refl
+
+and-true : (b : Bool) → b ≡ (b && true)
+and-true true = refl
+and-true false = refl
+
+and-false : (b : Bool) → false ≡ (b && false)
+and-false true = refl
+and-false false = refl
+
 module _ (keypos : ℕ) where
-  pub ops-some : (terms : List Term) → is_some (all_ops keypos terms) ≡ list_all (λ term. is_some (op_of_parts keypos (elements term))) terms
-  ops-some [] = refl
-  ops-some (term ∷ terms) = all-some (op_of keypos term) (all_ops keypos terms) (list_all (λ term. is_some (op_of_parts keypos (elements term))) terms) (ops-some terms)
+  -- whether an integer is a position that an update may name
+  abbrev names_position : Option ℤ → Bool
+  names_position n = is_some (option_and_then (position_at keypos) n)
 
-  pub specs-some : (terms : List Term) → is_some (all_element_specs keypos terms) ≡ list_all (λ term. is_some (element_spec_of_parts keypos (elements term))) terms
-  specs-some [] = refl
-  specs-some (term ∷ terms) = all-some (element_spec_of_parts keypos (elements term)) (all_element_specs keypos terms) (list_all (λ term. is_some (element_spec_of_parts keypos (elements term))) terms) (specs-some terms)
+  -- the operation that two or four integers describe, if they are there
+  abbrev op_of_two : Option ℤ → Option ℤ → Option Op
+  op_of_two p i = option_and_then (op_of_integers keypos) (option_and_then (λ y. option_map (λ ys. y ∷ ys) (option_and_then (λ y. option_map (λ ys. y ∷ ys) (Some [])) i)) p)
 
-  pub map-some : {X Y : Type 0} (f : X → Y) (o : Option X) → is_some (option_map f o) ≡ is_some o
-  map-some f None = refl
-  map-some f (Some x) = refl
+  abbrev op_of_four : Option ℤ → Option ℤ → Option ℤ → Option ℤ → Option Op
+  op_of_four p i t v =
+      option_and_then (op_of_integers keypos) (option_and_then (λ y. option_map (λ ys. y ∷ ys) (option_and_then (λ y. option_map (λ ys. y ∷ ys) (
+      option_and_then (λ y. option_map (λ ys. y ∷ ys) (option_and_then (λ y. option_map (λ ys. y ∷ ys) (Some [])) v)) t)) i)) p)
 
-  both-some : {X Y Z : Type 0} (f : X → Y → Z) (a : Option X) (b : Option Y) → is_some (option_and_then (λ x. option_map (f x) b) a) ≡ (is_some a && is_some b)
-  both-some f None b = refl
-  both-some f (Some x) b = map-some (f x) b
+  two-some : (p i : Option ℤ) → is_some (op_of_two p i) ≡ (names_position p && is_some i)
+  two-some None i = refl
+  two-some (Some p) None = and-false (is_some (position_at keypos p))
+  two-some (Some p) (Some i) = map-some _ (position_at keypos p) ∙ and-true (is_some (position_at keypos p))
 
-  pub op-from-some : (position increment : Term) (bound : Option _) → is_some (op_from keypos position increment bound) ≡ (is_some (updatable_position keypos position) && is_some (as_int increment))
-  op-from-some position increment bound = both-some _ (updatable_position keypos position) (as_int increment)
+  four-some : (p i t v : Option ℤ) → is_some (op_of_four p i t v) ≡ (names_position p && (is_some i && (is_some t && is_some v)))
+  four-some None i t v = refl
+  four-some (Some p) None t v = and-false (is_some (position_at keypos p))
+  four-some (Some p) (Some i) None v = and-false (is_some (position_at keypos p))
+  four-some (Some p) (Some i) (Some t) None = and-false (is_some (position_at keypos p))
+  four-some (Some p) (Some i) (Some t) (Some v) = map-some _ (position_at keypos p) ∙ and-true (is_some (position_at keypos p))
 
-  bounded : {X Y : Type 0} (o : Option X) (f : X → Option Y) (b : Bool) → ((x : X) → is_some (f x) ≡ b) → is_some (option_and_then f o) ≡ (is_some o && b)
-  bounded None f b e = refl
-  bounded (Some x) f b e = e x
-
-  swapped : (p i t s : Bool) → ((t && s) && (p && i)) ≡ (p && (i && (t && s)))
-  swapped true true true true = refl
-  swapped true true true false = refl
-  swapped true true false s = refl
-  swapped true false true true = refl
-  swapped true false true false = refl
-  swapped true false false s = refl
-  swapped false i true true = refl
-  swapped false i true false = refl
-  swapped false i false s = refl
+  pub op-two-some : (position increment : Term) → is_some (op_of_parts keypos (position ∷ increment ∷ [])) ≡ (is_some (option_and_then (position_at keypos) (as_int position)) && is_some (as_int increment))
+  op-two-some position increment = two-some (as_int position) (as_int increment)
 
   pub op-four-some : (position increment threshold value : Term)
-      → is_some (op_of_parts keypos (position ∷ increment ∷ threshold ∷ value ∷ [])) ≡ (is_some (updatable_position keypos position) && (is_some (as_int increment) && (is_some (as_int threshold) && is_some (as_int value))))
-  op-four-some position increment threshold value =
-      bounded (threshold_of threshold value) (λ b. op_from keypos position increment (Some b)) (is_some (updatable_position keypos position) && is_some (as_int increment)) (λ b. op-from-some position increment (Some b))
-      ∙ ap (λ c. c && (is_some (updatable_position keypos position) && is_some (as_int increment))) (both-some _ (as_int threshold) (as_int value))
-      ∙ swapped (is_some (updatable_position keypos position)) (is_some (as_int increment)) (is_some (as_int threshold)) (is_some (as_int value))
+      → is_some (op_of_parts keypos (position ∷ increment ∷ threshold ∷ value ∷ [])) ≡ (is_some (option_and_then (position_at keypos) (as_int position)) && (is_some (as_int increment) && (is_some (as_int threshold) && is_some (as_int value))))
+  op-four-some position increment threshold value = four-some (as_int position) (as_int increment) (as_int threshold) (as_int value)
 
   pub one-op : (parts : List Term) → is_some (option_map updates.One (op_of_parts keypos parts)) ≡ is_some (op_of_parts keypos parts)
   one-op parts = map-some updates.One (op_of_parts keypos parts)
 
   pub many-ops : (terms : List Term) → is_some (option_map updates.Many (all_ops keypos terms)) ≡ list_all (λ term. is_some (op_of_parts keypos (elements term))) terms
-  many-ops terms = map-some updates.Many (all_ops keypos terms) ∙ ops-some terms
+  many-ops terms = map-some updates.Many (all_ops keypos terms) ∙ read-some (λ term. op_of_parts keypos (elements term)) terms
 
   pub one-spec : (parts : List Term) → is_some (option_map values.One (element_spec_of_parts keypos parts)) ≡ is_some (element_spec_of_parts keypos parts)
   one-spec parts = map-some values.One (element_spec_of_parts keypos parts)
 
   pub many-specs : (terms : List Term) → is_some (option_map values.Many (all_element_specs keypos terms)) ≡ list_all (λ term. is_some (element_spec_of_parts keypos (elements term))) terms
-  many-specs terms = map-some values.Many (all_element_specs keypos terms) ∙ specs-some terms
-
-  pub op-two-some : (position increment : Term) → is_some (op_of_parts keypos (position ∷ increment ∷ [])) ≡ (is_some (updatable_position keypos position) && is_some (as_int increment))
-  op-two-some position increment = op-from-some position increment None
+  many-specs terms = map-some values.Many (all_element_specs keypos terms) ∙ read-some (λ term. element_spec_of_parts keypos (elements term)) terms
 
 pub ruleset update_forms = (one-op, many-ops, one-spec, many-specs, op-two-some, op-four-some)
 

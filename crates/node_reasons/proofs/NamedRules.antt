@@ -10,7 +10,7 @@ use Rattle.counters.specs.declared.fault.CounterFault.TheVariants as fault
 use Rattle.counters.specs.declared.elements.ElementSpecs.{ElementSpecs}
 use Rattle.counters.specs.declared.ops.Ops.{Ops}
 use Rattle.counters.specs.Counters.{apply_ops}
-use Rattle.counters.specs.Defaults.{with_key, start_counter, start_elements}
+use Rattle.counters.specs.Defaults.{start, with_key}
 use Rattle.counters.specs.Elements.{element_specs_of, apply_elements}
 use Rattle.counters.specs.Ops.{ops_of}
 use Rattle.table_ops.specs.declared.kind.Kind.{Kind}
@@ -187,7 +187,7 @@ counting-or-named key given default content =
     (λ ops. set-named key (Some default) content _ _ (under ops (objects_under content.slots key)))
   where
     under : (ops : Ops) (objects : List Term) → NamesReason (why_counter_of_key key ops (Some default) content objects) (key_reason_or false (argument 3 rule.NotACounter) objects)
-    under ops [] = badarg-named rule.NotACounter (start_counter ops (with_key content.keypos key default))
+    under ops [] = badarg-named rule.NotACounter (start (apply_ops ops) (with_key content.keypos key default))
     under ops (object ∷ objects) = badarg-named rule.NotACounter (apply_ops ops object)
 
 pub writing-named : (key given : Term) (default : Option Term) (content : Content) → NamesReason (why_update_element key given default content) (refusal_reason_of_update_element key given default content)
@@ -195,9 +195,9 @@ writing-named key given default content =
     formed (element_specs_of content.keypos given) (λ specs. on_set key default content (why_elements_of_key key specs default content (objects_under content.slots key))) _
     (λ specs. set-named key default content _ _ (under specs (objects_under content.slots key)))
   where
-    started : (specs : ElementSpecs) (o : Option Term) → NamesReason (option_map_or (λ d. if_badarg rule.NoElement (start_elements specs (with_key content.keypos key d))) o None) (argument 3 rule.NoElement)
+    started : (specs : ElementSpecs) (o : Option Term) → NamesReason (option_map_or (λ d. if_badarg rule.NoElement (start (apply_elements specs) (with_key content.keypos key d))) o None) (argument 3 rule.NoElement)
     started specs None = tt {0}
-    started specs (Some d) = badarg-named rule.NoElement (start_elements specs (with_key content.keypos key d))
+    started specs (Some d) = badarg-named rule.NoElement (start (apply_elements specs) (with_key content.keypos key d))
 
     under : (specs : ElementSpecs) (objects : List Term) → NamesReason (why_elements_of_key key specs default content objects) (argument 3 rule.NoElement)
     under specs [] = started specs default

@@ -7,7 +7,7 @@ use Rattle.counters.specs.declared.fault.CounterFault.TheVariants as fault
 use Rattle.counters.specs.declared.elements.ElementSpecs.{ElementSpecs}
 use Rattle.counters.specs.declared.ops.Ops.{Ops}
 use Rattle.counters.specs.Counters.{apply_ops}
-use Rattle.counters.specs.Defaults.{with_key, start_counter, start_elements}
+use Rattle.counters.specs.Defaults.{start, with_key}
 use Rattle.counters.specs.Elements.{element_specs_of, apply_elements}
 use Rattle.counters.specs.Ops.{ops_of}
 use Rattle.table_ops.specs.Content.{Content, objects_under}
@@ -34,7 +34,7 @@ on_set key default content rest =
 -- the key has an object, or there is a default; and that object or default has an integer at each position
 abbrev pub why_counter_of_key : Term → Ops → Option Term → Content → List Term → Option Reason
 why_counter_of_key key ops default content [] =
-    option_map_or (λ d. if_badarg rule.NotACounter (start_counter ops (with_key content.keypos key d))) default
+    option_map_or (λ d. if_badarg rule.NotACounter (start (apply_ops ops) (with_key content.keypos key d))) default
     (Some (argument 2 rule.NoKey))
 why_counter_of_key key ops default content (object ∷ objects) =
     if_badarg rule.NotACounter (apply_ops ops object)
@@ -51,7 +51,7 @@ why_update_counter key updates default content =
 -- the object, or the default, has each position
 abbrev pub why_elements_of_key : Term → ElementSpecs → Option Term → Content → List Term → Option Reason
 why_elements_of_key key specs default content [] =
-    option_map_or (λ d. if_badarg rule.NoElement (start_elements specs (with_key content.keypos key d))) default None
+    option_map_or (λ d. if_badarg rule.NoElement (start (apply_elements specs) (with_key content.keypos key d))) default None
 why_elements_of_key key specs default content (object ∷ objects) =
     if_badarg rule.NoElement (apply_elements specs object)
 

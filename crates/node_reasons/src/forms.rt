@@ -1,9 +1,9 @@
 //! Whether an argument of `update_counter` or `update_element` has the form of an update that leaves the key as it is.
 //! These checks copy nothing.
-ghost use Rattle.std.specs.Prelude.{◌≡◌, is_some};
+ghost use Rattle.std.specs.Prelude.{◌≡◌, is_some, option_and_then};
 ghost use Rattle.std.specs.List.{list_all};
 ghost use Rattle.ets_term.specs.Depth.{elements};
-ghost use Rattle.counters.specs.Positions.{updatable_position};
+ghost use Rattle.counters.specs.Positions.{position_at};
 ghost use Rattle.ets_term.specs.Views.{as_int};
 ghost use Rattle.counters.specs.Ops.{op_of_parts, ops_of};
 ghost use Rattle.counters.specs.Elements.{element_spec_of_parts, element_specs_of};
@@ -90,7 +90,7 @@ fn is_element_spec(keypos: u32, parts: &[Term]) -> bool
 
 /// Checks whether a term is a position that an update may name: an integer of at least 1, and not the key's position.
 fn is_position(keypos: u32, term: &Term) -> bool
-    ensures { result ≡ is_some (updatable_position keypos term.now) }
+    ensures { result ≡ is_some (option_and_then (position_at keypos) (as_int term.now)) }
 {
     match term {
         Term::Int(n) => *n >= 1 && *n as Position != keypos as Position,

@@ -6,7 +6,7 @@ use Rattle.ets_term.specs.Order.{same}
 use Rattle.bucket_table.specs.Slots.{Slot, objects_of, with_objects, has_objects, object_count}
 use Rattle.bucket_table.specs.Entries.{HasOneObject, objects_in, with_objects_in}
 use Rattle.counters.specs.Counters.{apply_ops}
-use Rattle.counters.specs.Defaults.{with_key, start_counter, start_elements}
+use Rattle.counters.specs.Defaults.{start, with_key}
 use Rattle.counters.specs.Elements.{apply_elements}
 use Rattle.counters.specs.declared.elements.ElementSpecs.{ElementSpecs}
 use Rattle.counters.specs.declared.fault.CounterFault.{CounterFault}
@@ -21,7 +21,7 @@ use Rattle.table_ops.specs.declared.refusal.Refusal.{Refusal}
 use Rattle.table_ops.specs.declared.refusal.Refusal.TheVariants.{Badarg, SystemLimit, Memory}
 use Rattle.table_ops.specs.Refusals.{RefinesChange}
 use Rattle.table_ops.specs.Outcomes.{Change}
-use Rattle.table_ops.specs.Update.{refusal_of, is_set, ops_avoid_key, element_specs_avoid_key, default_is_object, InsertsDefault, UpdatesOrInsertsCounter, UpdatesCounter, with_true, UpdatesOrInsertsElement, UpdatesElement}
+use Rattle.table_ops.specs.Update.{refusal_of, is_set, ops_avoid_key, element_specs_avoid_key, default_is_object, InsertsDefault, UpdatesOrInsertsCounter, UpdatesCounter, UpdatesOrInsertsElement, UpdatesElement}
 use Rattle.table_ops.specs.inside.Counted.{IsCounted}
 use Rattle.table_ops.specs.declared.undo.Undo.{Undo}
 use Rattle.table_ops.specs.inside.Undo.{added_objects, PutsOne}
@@ -68,7 +68,7 @@ module _ (ops : Ops) (at : Option Term) (old new : List Slot) (was object : Term
   counts-at (Err fault.Memory) done badarg limit kept = now ∙ ap (λ t. with_objects_in old at (t ∷ [])) kept ∙ same-in old at (was ∷ []) own
 
 module _ (specs : ElementSpecs) (at : Option Term) (old new : List Slot) (was object : Term) (own : objects_in old at ≡ Some (was ∷ [])) (now : new ≡ with_objects_in old at (object ∷ [])) where
-  pub writes-at : (r : Result (Unit {0}) CounterFault) → OnOk r (apply_elements specs was ≡ Ok object) → (IsErrOf r fault.Badarg → apply_elements specs was ≡ Err fault.Badarg)
+  pub writes-at : (r : Result (Unit {0}) CounterFault) → OnOk r (apply_elements specs was ≡ Ok (object, true)) → (IsErrOf r fault.Badarg → apply_elements specs was ≡ Err fault.Badarg)
       → (IsErrOf r fault.SystemLimit → apply_elements specs was ≡ Err fault.SystemLimit) → OnErr r (object ≡ was) → UpdatesElementAt specs at old r new
   writes-at (Ok tt) done badarg limit kept = (was, own, (object, done, now))
   writes-at (Err fault.Badarg) done badarg limit kept = (was, own, (badarg refl, now ∙ ap (λ t. with_objects_in old at (t ∷ [])) kept ∙ same-in old at (was ∷ []) own))
@@ -131,7 +131,7 @@ module _ (kind : Kind) (keypos limit count : ℕ) (old new : List Slot) (key : T
   counted-at ops (Err fault.Memory) may c = subst (IsCounted kind keypos limit count) (sym c) i
 
   pub written-at : (specs : ElementSpecs) (r : Result (Unit {0}) CounterFault) → element_specs_avoid_key keypos specs ≡ true → UpdatesElementAt specs at old r new → IsCounted kind keypos limit count new
-  written-at specs (Ok tt) may c = one-counted c.0 c.2.0 c.1 (written-keeps keypos specs c.0 c.2.0 may c.2.1) c.2.2
+  written-at specs (Ok tt) may c = one-counted c.0 c.2.0 c.1 (written-keeps keypos specs c.0 c.2.0 true may c.2.1) c.2.2
   written-at specs (Err fault.Badarg) may c = subst (IsCounted kind keypos limit count) (sym c.2.1) i
   written-at specs (Err fault.SystemLimit) may c = subst (IsCounted kind keypos limit count) (sym c.2.1) i
   written-at specs (Err fault.Memory) may c = subst (IsCounted kind keypos limit count) (sym c) i
@@ -182,27 +182,27 @@ module _ {X : Type 0} (key : Term) (old : Content) (made : Result (Term × X) Co
 -- the counters of a key that has no object, from a Default
 module _ (key : Term) (ops : Ops) (d : Term) (old : Content) (none : objects_under old.slots key ≡ [])
     (given : Option Term) (is : given ≡ Some d) (may : (is_set old.kind && (ops_avoid_key old.keypos ops && default_is_object old.keypos key given)) ≡ true) where
-  counts-none : (r : Result Term Refusal) (new : Content) (objects : List Term) → objects ≡ [] → InsertsDefault key old (start_counter ops (with_key old.keypos key d)) r new → UpdatesOrInsertsCounter key ops (Some d) old objects r new
+  counts-none : (r : Result Term Refusal) (new : Content) (objects : List Term) → objects ≡ [] → InsertsDefault key old (start (apply_ops ops) (with_key old.keypos key d)) r new → UpdatesOrInsertsCounter key ops (Some d) old objects r new
   counts-none r new [] e h = h
   counts-none r new (x ∷ xs) e h = cc
 
-  counts-lifted : (r : Result Term Refusal) (new : Content) → InsertsDefault key old (start_counter ops (with_key old.keypos key d)) r new → UpdatesCounter key ops given old r new
+  counts-lifted : (r : Result Term Refusal) (new : Content) → InsertsDefault key old (start (apply_ops ops) (with_key old.keypos key d)) r new → UpdatesCounter key ops given old r new
   counts-lifted r new h = full_at (is_set old.kind && (ops_avoid_key old.keypos ops && default_is_object old.keypos key given)) _ _ may
       (subst (λ (o : Option Term). UpdatesOrInsertsCounter key ops o old (objects_under old.slots key) r new) (sym is) (counts-none r new (objects_under old.slots key) none h))
 
-  pub started-comes : (r : Result Term Refusal) (new : Content) → RefinesChange (InsertsDefault key old (start_counter ops (with_key old.keypos key d))) old r new → RefinesChange (UpdatesCounter key ops given old) old r new
-  started-comes = lifts (InsertsDefault key old (start_counter ops (with_key old.keypos key d))) (UpdatesCounter key ops given old) old counts-lifted
+  pub started-comes : (r : Result Term Refusal) (new : Content) → RefinesChange (InsertsDefault key old (start (apply_ops ops) (with_key old.keypos key d))) old r new → RefinesChange (UpdatesCounter key ops given old) old r new
+  started-comes = lifts (InsertsDefault key old (start (apply_ops ops) (with_key old.keypos key d))) (UpdatesCounter key ops given old) old counts-lifted
 
 -- the elements of a key that has no object, from a Default
 module _ (key : Term) (specs : ElementSpecs) (d : Term) (old : Content) (none : objects_under old.slots key ≡ [])
     (given : Option Term) (is : given ≡ Some d) (may : (is_set old.kind && (element_specs_avoid_key old.keypos specs && default_is_object old.keypos key given)) ≡ true) where
-  writes-none : (r : Result Bool Refusal) (new : Content) (objects : List Term) → objects ≡ [] → InsertsDefault key old (with_true (start_elements specs (with_key old.keypos key d))) r new → UpdatesOrInsertsElement key specs (Some d) old objects r new
+  writes-none : (r : Result Bool Refusal) (new : Content) (objects : List Term) → objects ≡ [] → InsertsDefault key old (start (apply_elements specs) (with_key old.keypos key d)) r new → UpdatesOrInsertsElement key specs (Some d) old objects r new
   writes-none r new [] e h = h
   writes-none r new (x ∷ xs) e h = cc
 
-  writes-lifted : (r : Result Bool Refusal) (new : Content) → InsertsDefault key old (with_true (start_elements specs (with_key old.keypos key d))) r new → UpdatesElement key specs given old r new
+  writes-lifted : (r : Result Bool Refusal) (new : Content) → InsertsDefault key old (start (apply_elements specs) (with_key old.keypos key d)) r new → UpdatesElement key specs given old r new
   writes-lifted r new h = full_at (is_set old.kind && (element_specs_avoid_key old.keypos specs && default_is_object old.keypos key given)) _ _ may
       (subst (λ (o : Option Term). UpdatesOrInsertsElement key specs o old (objects_under old.slots key) r new) (sym is) (writes-none r new (objects_under old.slots key) none h))
 
-  pub written-comes : (r : Result Bool Refusal) (new : Content) → RefinesChange (InsertsDefault key old (with_true (start_elements specs (with_key old.keypos key d)))) old r new → RefinesChange (UpdatesElement key specs given old) old r new
-  written-comes = lifts (InsertsDefault key old (with_true (start_elements specs (with_key old.keypos key d)))) (UpdatesElement key specs given old) old writes-lifted
+  pub written-comes : (r : Result Bool Refusal) (new : Content) → RefinesChange (InsertsDefault key old (start (apply_elements specs) (with_key old.keypos key d))) old r new → RefinesChange (UpdatesElement key specs given old) old r new
+  written-comes = lifts (InsertsDefault key old (start (apply_elements specs) (with_key old.keypos key d))) (UpdatesElement key specs given old) old writes-lifted

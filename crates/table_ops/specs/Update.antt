@@ -1,19 +1,19 @@
 -- What an update does to the object of a key (stdlib manual, module ets, update_counter/3 and /4, update_element/3 and
 -- /4).
-use Rattle.std.specs.Prelude.{ℕ, ◌==◌, ◌&&◌, not, nat_lt, Bool, true, false, List, [], ◌∷◌, Option, is_some, Result, Ok, Err}
+use Rattle.std.specs.Prelude.{ℕ, ◌&&◌, nat_lt, Bool, true, false, List, [], ◌∷◌, Option, is_some, Result, Ok, Err}
 use Rattle.std.specs.Bool.{MatchBool}
 use Rattle.std.specs.List.{list_all}
 use Rattle.std.specs.Option.{option_map_or}
 use Rattle.ets_term.specs.declared.term.Term.{Term}
 use Rattle.bucket_table.specs.Slots.{Slot, with_objects, object_count}
-use Rattle.counters.specs.Counters.{apply_ops}
-use Rattle.counters.specs.Defaults.{with_key, start_counter, start_elements}
+use Rattle.counters.specs.Counters.{apply_ops, op_list}
+use Rattle.counters.specs.Defaults.{start, with_key}
 use Rattle.counters.specs.Elements.{element_spec_list, apply_elements}
+use Rattle.counters.specs.Positions.{may_update}
 use Rattle.counters.specs.declared.elements.ElementSpecs.{ElementSpecs}
 use Rattle.counters.specs.declared.fault.CounterFault.{CounterFault}
 use Rattle.counters.specs.declared.fault.CounterFault.TheVariants as fault
 use Rattle.counters.specs.declared.ops.Ops.{Ops}
-use Rattle.counters.specs.declared.ops.Ops.TheVariants.{One, Many}
 use Rattle.table_ops.specs.declared.kind.Kind.{Kind}
 use Rattle.table_ops.specs.declared.kind.Kind.TheVariants.{Set}
 use Rattle.table_ops.specs.declared.refusal.Refusal.{Refusal}
@@ -27,14 +27,9 @@ abbrev pub is_set : Kind → Bool
 is_set Set = true
 is_set _ = false
 
--- whether an update may name a position: it is at least 1 and not keypos
-abbrev pub may_update : ℕ → ℕ → Bool
-may_update keypos position = nat_lt 0 position && not (position == keypos)
-
 -- whether each operation has a position that an update may name
 abbrev pub ops_avoid_key : ℕ → Ops → Bool
-ops_avoid_key keypos (One op) = may_update keypos op.position
-ops_avoid_key keypos (Many ops) = list_all (λ op. may_update keypos op.position) ops
+ops_avoid_key keypos ops = list_all (λ op. may_update keypos op.position) (op_list ops)
 
 -- whether each value has a position that an update may name
 abbrev pub element_specs_avoid_key : ℕ → ElementSpecs → Bool
@@ -69,7 +64,7 @@ InsertsDefault key old (Err fault) r new = gives (Err (refusal_of fault)) old r 
 abbrev pub UpdatesOrInsertsCounter : Term → Ops → Option Term → Content → List Term → Change Term Content
 UpdatesOrInsertsCounter key ops default old [] =
     refuse_none old default (Err Badarg) (λ d.
-    InsertsDefault key old (start_counter ops (with_key old.keypos key d)))
+    InsertsDefault key old (start (apply_ops ops) (with_key old.keypos key d)))
 UpdatesOrInsertsCounter key ops default old (object ∷ objects) = UpdatesObject key old (apply_ops ops object)
 
 -- whether the Default is absent, or becomes an object if the key is set at keypos
@@ -90,20 +85,14 @@ UpdatesCounter key ops default old r new =
     (UpdatesOrInsertsCounter key ops default old (objects_under old.slots key) r new)
     (gives (Err Badarg) old r new)
 
--- the object with the answer `true`, or the fault
-abbrev pub with_true : Result Term CounterFault → Result (Term × Bool) CounterFault
-with_true (Ok object) = Ok (object, true)
-with_true (Err fault) = Err fault
-
 -- if the key has an object, its elements are set; else elements of the Default with the key are set and it is inserted;
 -- the answer is `false` if there is no Default either
 abbrev pub UpdatesOrInsertsElement : Term → ElementSpecs → Option Term → Content → List Term
     → Change Bool Content
 UpdatesOrInsertsElement key specs default old [] =
     refuse_none old default (Ok false) (λ d.
-    InsertsDefault key old (with_true (start_elements specs (with_key old.keypos key d))))
-UpdatesOrInsertsElement key specs default old (object ∷ objects) =
-    UpdatesObject key old (with_true (apply_elements specs object))
+    InsertsDefault key old (start (apply_elements specs) (with_key old.keypos key d)))
+UpdatesOrInsertsElement key specs default old (object ∷ objects) = UpdatesObject key old (apply_elements specs object)
 
 -- whether update_element allows these arguments: the table is a set, no value is for keypos, and the Default is absent
 -- or becomes an object

@@ -1,5 +1,5 @@
 -- When values make an object too deep.
-use Rattle.std.specs.Prelude.{◌≡◌, true, false, List, length}
+use Rattle.std.specs.Prelude.{◌≡◌, true, false, List}
 use Rattle.ets_term.specs.declared.term.Term.{Term}
 use Rattle.ets_term.specs.declared.term.Term.TheVariants.{Tuple}
 use Rattle.ets_term.specs.Depth.{is_too_deep}
@@ -10,5 +10,5 @@ use Rattle.counters.specs.declared.elements.ElementSpec.{ElementSpec}
 -- exactly if the object with these values is too deep
 abbrev pub MakesTooDeep : List ElementSpec → List Term → Type 0
 MakesTooDeep specs elements =
-    is_too_deep (Tuple elements) ≡ false → has_all_positions (length elements) specs ≡ true
+    is_too_deep (Tuple elements) ≡ false → has_all_positions specs elements ≡ true
     → make_too_deep specs elements ≡ is_too_deep (Tuple (with_values specs elements))

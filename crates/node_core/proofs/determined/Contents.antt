@@ -1,20 +1,18 @@
 -- Each change of the content of a table has a result, and changes nothing if it is refused.
-use Rattle.std.proofs.Common.{◌≡◌, ℕ, Bool, true, false, ◌&&◌, not, nat_lt, List, [], ◌∷◌, Option, None, Some, Result, Ok, Err, refl, sym, length, true≢false}
+use Rattle.std.proofs.Common.{◌≡◌, ℕ, Bool, true, false, ◌&&◌, nat_lt, List, [], ◌∷◌, Option, None, Some, Result, Ok, Err, refl, sym, true≢false}
 use Rattle.std.specs.Prelude.{is_some, if◌then◌else◌}
 use Rattle.std.specs.Option.{option_map_or}
-use Rattle.std.specs.Result.{result_map_both}
 use Rattle.std.specs.Bool.{MatchBool}
 use Rattle.std.specs.List.{list_any, list_all}
-use Rattle.ets_term.specs.declared.term.Term.{Term, out-Term}
-use Rattle.ets_term.specs.declared.term.Term.TheOpen.{Term-F}
-use Rattle.ets_term.specs.declared.term.Term.TheVariants as term
+use Rattle.ets_term.specs.declared.term.Term.{Term}
 use Rattle.ets_term.specs.Depth.{is_too_deep}
 use Rattle.ets_term.specs.Views.{as_tuple}
 use Rattle.bucket_table.specs.Slots.{Slot, objects_of, with_objects, object_count}
-use Rattle.counters.specs.Counters.{apply, apply_ops, apply_to_elements, are_counters, or_limit}
-use Rattle.counters.specs.Defaults.{with_key, refuse_deep, start_counter, start_elements}
-use Rattle.counters.specs.Elements.{apply_elements, apply_elements_form, element_spec_list, has_all_positions, make_too_deep, with_values, write_values}
-use Rattle.counters.specs.declared.elements.ElementSpec.{ElementSpec}
+use Rattle.counters.specs.Counters.{apply, apply_ops, op_list}
+use Rattle.counters.specs.Defaults.{refuse_deep, start, with_key}
+use Rattle.counters.specs.Elements.{apply_elements, element_spec_list, has_all_positions, write_values}
+use Rattle.counters.specs.Updates.{new_object}
+use Rattle.counters.specs.inside.Tuples.{are_counters}
 use Rattle.counters.specs.declared.elements.ElementSpecs.{ElementSpecs}
 use Rattle.counters.specs.declared.fault.CounterFault.{CounterFault}
 use Rattle.counters.specs.declared.fault.CounterFault.TheVariants as fault
@@ -25,7 +23,7 @@ use Rattle.table_ops.specs.declared.refusal.Refusal.TheVariants.{Badarg, SystemL
 use Rattle.table_ops.specs.Content.{Content, key_of, is_object, objects_under}
 use Rattle.table_ops.specs.Drop.{DeletesObject, without_those, equal_to}
 use Rattle.table_ops.specs.Put.{add, SetsObjects, PutsAll, InsertsWithinLimit, Inserts, InsertsNew, is_taken}
-use Rattle.table_ops.specs.Update.{counter_is_valid, element_is_valid, refusal_of, with_object, UpdatesObject, InsertsDefault, UpdatesOrInsertsCounter, UpdatesCounter, with_true, UpdatesOrInsertsElement, UpdatesElement}
+use Rattle.table_ops.specs.Update.{counter_is_valid, element_is_valid, refusal_of, with_object, UpdatesObject, InsertsDefault, UpdatesOrInsertsCounter, UpdatesCounter, UpdatesOrInsertsElement, UpdatesElement}
 use Rattle.table_ops.specs.Outcomes.{Outcome, gives, refuse, refuse_none}
 use Rattle.node_core.proofs.determined.Forms.{IsFair, Fair, of_table, ok-fair, err-fair, either-fair, refuse-fair, refuse_none-fair}
 
@@ -111,39 +109,41 @@ module _ {X : Type 0} (key : Term) (old : Content) where
       limited made.1 old (SetsObjects old.slots key (made.0 ∷ [])) (put old.slots key (made.0 ∷ []))
   default-fair (Err e) m = err-fair of_table old (refusal_of e) (no-memory e m)
 
--- counters
-limit-fair : (o : Option (List Term × Term)) → Fair of_update (or_limit o)
-limit-fair None = tt
-limit-fair (Some r) = tt
+-- an update of an object
+new-fair : {A : Type 0} (fits : Bool) (o : Option (List Term × A)) → Fair of_update (new_object fits o)
+new-fair true None = tt
+new-fair true (Some r) = tt
+new-fair false o = tt
 
-elements-fair : (b : Bool) (o : Option (List Term × Term)) → Fair of_update (if b then or_limit o else Err fault.Badarg)
-elements-fair true o = limit-fair o
-elements-fair false o = tt
-
-tuple-fair : (ops : Ops) (o : Option (List Term)) → Fair of_update (option_map_or (apply_to_elements ops) o (Err fault.Badarg))
-tuple-fair ops None = tt
-tuple-fair ops (Some elements) = elements-fair (are_counters ops elements) (apply ops elements)
+tuple-fair : {A : Type 0} (fits : List Term → Bool) (new : List Term → Option (List Term × A)) (o : Option (List Term)) → Fair of_update (option_map_or (λ es. new_object (fits es) (new es)) o (Err fault.Badarg))
+tuple-fair fits new None = tt
+tuple-fair fits new (Some es) = new-fair (fits es) (new es)
 
 counted-fair : (ops : Ops) (object : Term) → Fair of_update (apply_ops ops object)
-counted-fair ops object = tuple-fair ops (as_tuple object)
+counted-fair ops object = tuple-fair (are_counters (op_list ops)) (apply ops) (as_tuple object)
 
+written-fair : (specs : ElementSpecs) (object : Term) → Fair of_update (apply_elements specs object)
+written-fair specs object = tuple-fair (has_all_positions (element_spec_list specs)) (write_values (element_spec_list specs)) (as_tuple object)
+
+-- the object made from a Default
 deep-at : {X : Type 0} (b : Bool) (x : X) → Fair {X = X} of_update (if b then Err fault.SystemLimit else Ok x)
 deep-at true x = tt
 deep-at false x = tt
 
-deep-fair : {X : Type 0} (object_of : X → Term) (r : Result X CounterFault) → Fair of_update r → Fair of_update (refuse_deep object_of r)
-deep-fair object_of (Ok x) m = deep-at (is_too_deep (object_of x)) x
-deep-fair object_of (Err e) m = m
+deep-fair : {A : Type 0} (r : Result (Term × A) CounterFault) → Fair of_update r → Fair of_update (refuse_deep r)
+deep-fair (Ok x) m = deep-at (is_too_deep x.0) x
+deep-fair (Err e) m = m
 
-started-fair : (ops : Ops) (o : Option Term) → Fair of_update (start_counter ops o)
-started-fair ops None = tt
-started-fair ops (Some object) = deep-fair (λ r. r.0) (apply_ops ops object) (counted-fair ops object)
+started-fair : {A : Type 0} (update : Term → Result (Term × A) CounterFault) → ((object : Term) → Fair of_update (update object)) → (o : Option Term) → Fair of_update (start update o)
+started-fair update fair None = tt
+started-fair update fair (Some object) = deep-fair (update object) (fair object)
 
+-- counters
 counter-at : (key : Term) (ops : Ops) (default : Option Term) (old : Content) (objects : List Term)
     → IsFair of_table old (UpdatesOrInsertsCounter key ops default old objects)
 counter-at key ops default old [] =
     refuse_none-fair of_table old default Badarg tt (λ d.
-    default-fair key old (start_counter ops (with_key old.keypos key d)) (started-fair ops (with_key old.keypos key d)))
+    default-fair key old (start (apply_ops ops) (with_key old.keypos key d)) (started-fair (apply_ops ops) (counted-fair ops) (with_key old.keypos key d)))
 counter-at key ops default old (object ∷ objects) = updates-fair key old (apply_ops ops object) (counted-fair ops object)
 
 pub counter-fair : (key : Term) (ops : Ops) (default : Option Term) (old : Content) → IsFair of_table old (UpdatesCounter key ops default old)
@@ -151,31 +151,6 @@ counter-fair key ops default old =
     either-fair of_table old (counter_is_valid old key ops default) (λ valid. counter-at key ops default old (objects_under old.slots key)) (err-fair of_table old Badarg tt)
 
 -- elements
-true-fair : (r : Result Term CounterFault) → Fair of_update r → Fair of_update (with_true r)
-true-fair (Ok object) m = tt
-true-fair (Err e) m = m
-
-values-at : (some deep : Bool) (elements new : List Term) → Fair {X = List Term} of_update (if some then Err fault.Badarg else if deep then Err fault.SystemLimit else Ok new)
-values-at true deep elements new = tt
-values-at false true elements new = tt
-values-at false false elements new = tt
-
-both-fair : (r : Result (List Term) CounterFault) → Fair of_update r → Fair of_update (result_map_both term.Tuple (λ e. e) r)
-both-fair (Ok x) m = tt
-both-fair (Err e) m = m
-
-form-fair : (specs : List ElementSpec) (form : Term-F Term) → Fair of_update (apply_elements_form specs form)
-form-fair specs (Term-F.Tuple elements) =
-    both-fair (write_values specs elements) (values-at (not (has_all_positions (length elements) specs)) (make_too_deep specs elements) elements (with_values specs elements))
-form-fair specs _ = tt
-
-written-fair : (specs : ElementSpecs) (object : Term) → Fair of_update (apply_elements specs object)
-written-fair specs object = form-fair (element_spec_list specs) (out-Term object)
-
-made-fair : (specs : ElementSpecs) (o : Option Term) → Fair of_update (start_elements specs o)
-made-fair specs None = tt
-made-fair specs (Some object) = deep-fair (λ new. new) (apply_elements specs object) (written-fair specs object)
-
 -- false, and nothing is done, if there is no default
 false-fair : (old : Content) (default : Option Term) {otherwise : Term → Outcome (Result Bool Refusal) Content} → ((d : Term) → IsFair of_table old (otherwise d))
     → IsFair of_table old (refuse_none old default (Ok false) otherwise)
@@ -186,9 +161,8 @@ element-at : (key : Term) (specs : ElementSpecs) (default : Option Term) (old : 
     → IsFair of_table old (UpdatesOrInsertsElement key specs default old objects)
 element-at key specs default old [] =
     false-fair old default (λ d.
-    default-fair key old (with_true (start_elements specs (with_key old.keypos key d))) (true-fair (start_elements specs (with_key old.keypos key d)) (made-fair specs (with_key old.keypos key d))))
-element-at key specs default old (object ∷ objects) =
-    updates-fair key old (with_true (apply_elements specs object)) (true-fair (apply_elements specs object) (written-fair specs object))
+    default-fair key old (start (apply_elements specs) (with_key old.keypos key d)) (started-fair (apply_elements specs) (written-fair specs) (with_key old.keypos key d)))
+element-at key specs default old (object ∷ objects) = updates-fair key old (apply_elements specs object) (written-fair specs object)
 
 pub element-fair : (key : Term) (specs : ElementSpecs) (default : Option Term) (old : Content) → IsFair of_table old (UpdatesElement key specs default old)
 element-fair key specs default old =

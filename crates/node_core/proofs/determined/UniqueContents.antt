@@ -8,7 +8,7 @@ use Rattle.ets_term.specs.Depth.{is_too_deep}
 use Rattle.bucket_table.specs.Slots.{Slot, has_objects, object_count}
 use Rattle.bucket_table.specs.Rows.{HasDistinctKeys}
 use Rattle.counters.specs.Counters.{apply_ops}
-use Rattle.counters.specs.Defaults.{with_key, start_counter, start_elements}
+use Rattle.counters.specs.Defaults.{start, with_key}
 use Rattle.counters.specs.Elements.{apply_elements}
 use Rattle.counters.specs.declared.elements.ElementSpecs.{ElementSpecs}
 use Rattle.counters.specs.declared.fault.CounterFault.{CounterFault}
@@ -18,7 +18,7 @@ use Rattle.table_ops.specs.declared.refusal.Refusal.TheVariants.{Badarg, SystemL
 use Rattle.table_ops.specs.Content.{Content, key_of, is_object, objects_under, is_present}
 use Rattle.table_ops.specs.Drop.{DeletesObject, equal_to}
 use Rattle.table_ops.specs.Put.{InsertsWithinLimit, Inserts, InsertsNew, is_taken}
-use Rattle.table_ops.specs.Update.{counter_is_valid, element_is_valid, refusal_of, UpdatesObject, InsertsDefault, UpdatesOrInsertsCounter, UpdatesCounter, with_true, UpdatesOrInsertsElement, UpdatesElement}
+use Rattle.table_ops.specs.Update.{counter_is_valid, element_is_valid, refusal_of, UpdatesObject, InsertsDefault, UpdatesOrInsertsCounter, UpdatesCounter, UpdatesOrInsertsElement, UpdatesElement}
 use Rattle.table_ops.specs.Outcomes.{Change, Outcome, gives, refuse}
 use Rattle.node_core.proofs.determined.Alike.{AlikeContents, content_with}
 use Rattle.node_core.proofs.determined.Slots.{SameSlots, count-same, under-same, filled-same, sets-same, all-same, dropped-same}
@@ -76,13 +76,13 @@ module _ (c : Content) (ss : List Slot) (h : SameSlots c.slots ss) (distinct : H
 
   counter-at : (key : Term) (ops : Ops) (d : Option Term) (objects : List Term) → One (UpdatesOrInsertsCounter key ops d c objects) (UpdatesOrInsertsCounter key ops d other objects)
   counter-at key ops d [] =
-      refuse_none-unique Same AlikeContents c other before (Err Badarg) refl d (λ t. default key (start_counter ops (with_key c.keypos key t)))
+      refuse_none-unique Same AlikeContents c other before (Err Badarg) refl d (λ t. default key (start (apply_ops ops) (with_key c.keypos key t)))
   counter-at key ops d (object ∷ objects) = updates key (apply_ops ops object)
 
   element-at : (key : Term) (specs : ElementSpecs) (d : Option Term) (objects : List Term) → One (UpdatesOrInsertsElement key specs d c objects) (UpdatesOrInsertsElement key specs d other objects)
   element-at key specs d [] =
-      refuse_none-unique Same AlikeContents c other before (Ok false) refl d (λ t. default key (with_true (start_elements specs (with_key c.keypos key t))))
-  element-at key specs d (object ∷ objects) = updates key (with_true (apply_elements specs object))
+      refuse_none-unique Same AlikeContents c other before (Ok false) refl d (λ t. default key (start (apply_elements specs) (with_key c.keypos key t)))
+  element-at key specs d (object ∷ objects) = updates key (apply_elements specs object)
 
   -- ---- keys that have objects
   present-same : (key : Term) → is_present c.slots key ≡ is_present ss key

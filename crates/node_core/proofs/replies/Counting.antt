@@ -7,7 +7,7 @@ use Rattle.std.specs.List.{list_all}
 use Rattle.ets_term.specs.declared.term.Term.{Term, out-Term}
 use Rattle.ets_term.specs.declared.term.Term.TheOpen.{Term-F}
 use Rattle.ets_term.specs.declared.term.Term.TheVariants as term
-use Rattle.ets_term.specs.Depth.{is_too_deep}
+use Rattle.ets_term.specs.Depth.{elements, is_too_deep}
 use Rattle.ets_term.specs.Views.{tuple_form}
 use Rattle.ets_term.specs.Integers.{in_range}
 use Rattle.bucket_table.specs.Slots.{object_count}
@@ -16,10 +16,14 @@ use Rattle.counters.specs.declared.ops.Ops.{Ops}
 use Rattle.counters.specs.declared.ops.Ops.TheVariants.{One, Many}
 use Rattle.counters.specs.declared.fault.CounterFault.{CounterFault}
 use Rattle.counters.specs.declared.fault.CounterFault.TheVariants as fault
-use Rattle.counters.specs.Counters.{integer_at, apply_one, apply_all, apply, are_counters, or_limit, apply_to_elements, apply_ops}
-use Rattle.counters.specs.Defaults.{with_key, refuse_deep, start_counter}
-use Rattle.counters.specs.Ops.{op_of, op_of_parts, all_ops, ops_form, ops_of}
+use Rattle.counters.specs.Counters.{integer_at, apply_one, apply_all, apply, apply_ops, op_list}
+use Rattle.counters.specs.Defaults.{refuse_deep, start, with_key}
+use Rattle.counters.specs.Ops.{op_of_parts, ops_form, ops_of}
 use Rattle.counters.specs.Sums.{new_value}
+use Rattle.counters.specs.Updates.{new_object}
+use Rattle.counters.specs.inside.Reads.{all_ops}
+use Rattle.counters.specs.inside.Tuples.{are_counters}
+use Rattle.counters.proofs.ReadLaws.{read_all-length}
 use Rattle.table_ops.specs.declared.refusal.Refusal.{Refusal}
 use Rattle.table_ops.specs.declared.refusal.Refusal.TheVariants as refusal
 use Rattle.table_ops.specs.Content.{Content, objects_under}
@@ -91,7 +95,7 @@ count-as (Many ops) elements r e = by (apply_all ops elements) refl e
         let same = all.1 in
         record { terms = x.1; is = ap (λ (y : List Term × Term). y.1) (sym is); flat = all.0; few = omega arith }
 
-elements-as : (ops : Ops) (elements : List Term) (r : Term × Term) (b : Bool) (o : Option (List Term × Term)) → apply ops elements ≡ o → cond b (or_limit o) (Err fault.Badarg) ≡ Ok r → CountsAs ops r.1
+elements-as : (ops : Ops) (elements : List Term) (r : Term × Term) (b : Bool) (o : Option (List Term × Term)) → apply ops elements ≡ o → new_object b o ≡ Ok r → CountsAs ops r.1
 elements-as ops elements r false o at e = cc
 elements-as ops elements r true None at e = cc
 elements-as ops elements r true (Some x) at e =
@@ -101,8 +105,8 @@ elements-as ops elements r true (Some x) at e =
 pub updated-as : (ops : Ops) (object : Term) (r : Term × Term) → apply_ops ops object ≡ Ok r → CountsAs ops r.1
 updated-as ops object r e = by (out-Term object) e
   where
-    by : (form : Term-F Term) → option_map_or (apply_to_elements ops) (tuple_form form) (Err fault.Badarg) ≡ Ok r → CountsAs ops r.1
-    by (Term-F.Tuple elements) e = elements-as ops elements r (are_counters ops elements) (apply ops elements) refl e
+    by : (form : Term-F Term) → option_map_or (λ es. new_object (are_counters (op_list ops) es) (apply ops es)) (tuple_form form) (Err fault.Badarg) ≡ Ok r → CountsAs ops r.1
+    by (Term-F.Tuple elements) e = elements-as ops elements r (are_counters (op_list ops) elements) (apply ops elements) refl e
     by (Term-F.Int n) e = cc
     by (Term-F.Atom text) e = cc
     by (Term-F.Pid n) e = cc
@@ -110,7 +114,7 @@ updated-as ops object r e = by (out-Term object) e
     by (Term-F.List ts) e = cc
     by (Term-F.Binary bs) e = cc
 
-from-as : (ops : Ops) (o : Option Term) (r : Term × Term) → start_counter ops o ≡ Ok r → CountsAs ops r.1
+from-as : (ops : Ops) (o : Option Term) (r : Term × Term) → start (apply_ops ops) o ≡ Ok r → CountsAs ops r.1
 from-as ops None r e = cc
 from-as ops (Some object) r e = by (apply_ops ops object) refl e
   where
@@ -118,25 +122,9 @@ from-as ops (Some object) r e = by (apply_ops ops object) refl e
     deep true x at e = cc
     deep false x at e = let is : x ≡ r = cc in subst (λ (y : Term × Term). CountsAs ops y.1) is (updated-as ops object x at)
 
-    by : (c : Result (Term × Term) CounterFault) → apply_ops ops object ≡ c → refuse_deep {X = Term × Term} (λ p. p.0) c ≡ Ok r → CountsAs ops r.1
+    by : (c : Result (Term × Term) CounterFault) → apply_ops ops object ≡ c → refuse_deep c ≡ Ok r → CountsAs ops r.1
     by (Err why) at e = cc
     by (Ok x) at e = deep (is_too_deep x.0) x at e
-
--- ---- the list of operations is as long as the list of terms
-abbrev LongBehind : ℕ → List Term → Type 0
-LongBehind keypos terms = (ops : List Op) → all_ops keypos terms ≡ Some ops → length ops ≡ length terms
-
-all-long : (keypos : ℕ) (terms : List Term) (ops : List Op) → all_ops keypos terms ≡ Some ops → length ops ≡ length terms
-all-long keypos [] ops e = let is : [] ≡ ops = cc in sym (ap length is)
-all-long keypos (t ∷ ts) ops e = by (λ others at. all-long keypos ts others at) (op_of keypos t) e
-  where
-    rest : LongBehind keypos ts → (op : Op) (o : Option (List Op)) → all_ops keypos ts ≡ o → option_map (λ ops. op ∷ ops) o ≡ Some ops → length ops ≡ length (t ∷ ts)
-    rest behind op None at e = cc
-    rest behind op (Some others) at e = let is : op ∷ others ≡ ops = cc in sym (ap length is) ∙ ap suc (behind others at)
-
-    by : LongBehind keypos ts → (o : Option Op) → option_and_then (λ op. option_map (λ ops. op ∷ ops) (all_ops keypos ts)) o ≡ Some ops → length ops ≡ length (t ∷ ts)
-    by behind None e = cc
-    by behind (Some op) e = rest behind op (all_ops keypos ts) refl e
 
 -- an answer that takes no memory, or a list for which the updates' length is room
 abbrev pub IsCounted : Term → Term → Type 0
@@ -155,7 +143,7 @@ counted keypos updates answer (Many ops) at c =
 
     many : (terms : List Term) (o : Option (List Op)) → all_ops keypos terms ≡ o → option_map Many o ≡ Some (Many ops) → length ops ≡ length terms
     many terms None at e = cc
-    many terms (Some os) at e = let is : os ≡ ops = cc in ap length (sym is) ∙ all-long keypos terms os at
+    many terms (Some os) at e = let is : os ≡ ops = cc in ap length (sym is) ∙ read_all-length (λ term. op_of_parts keypos (elements term)) terms os at
 
     by : (form : Term-F Term) → out-Term updates ≡ form → ops_form keypos form ≡ Some (Many ops) → length ops ≡ length (Rattle.node_core.specs.inside.ReplyReserve.list_terms_form form)
     by (Term-F.Int n) is e = let bad : Some (One _) ≡ Some (Many ops) = e in absurd (cc)
@@ -182,7 +170,7 @@ module _ (key updates : Term) (default : Option Term) (x : Term) where
 
   under-as : (ops : Ops) (old new : Content) (o : Option Term) (objects : List Term) → UpdatesOrInsertsCounter key ops o old objects (Ok x) new → CountsAs ops x
   under-as ops old new None [] h = let bad : Ok x ≡ Err refusal.Badarg = h.0 in absurd (cc)
-  under-as ops old new (Some d) [] h = started-as ops old new (start_counter ops (with_key old.keypos key d)) (from-as ops (with_key old.keypos key d)) h
+  under-as ops old new (Some d) [] h = started-as ops old new (start (apply_ops ops) (with_key old.keypos key d)) (from-as ops (with_key old.keypos key d)) h
   under-as ops old new o (object ∷ objects) h = object-as ops old new (apply_ops ops object) (updated-as ops object) h
 
   content-as : (ops : Ops) (old new : Content) (b : Bool) → MatchBool b (UpdatesOrInsertsCounter key ops default old (objects_under old.slots key) (Ok x) new) (gives {R = Result Term Refusal} (Err refusal.Badarg) old (Ok x) new) → CountsAs ops x

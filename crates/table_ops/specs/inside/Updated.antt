@@ -1,5 +1,5 @@
 -- What private calls of an update do to the slot of a key.
-use Rattle.std.specs.Prelude.{◌≡◌, List, [], ◌∷◌, Option, Some, Result, Ok, Err}
+use Rattle.std.specs.Prelude.{◌≡◌, true, List, [], ◌∷◌, Option, Some, Result, Ok, Err}
 use Rattle.ets_term.specs.declared.term.Term.{Term}
 use Rattle.bucket_table.specs.Slots.{Slot}
 use Rattle.bucket_table.specs.Entries.{objects_in, with_objects_in}
@@ -31,7 +31,7 @@ abbrev pub UpdatesElementAt : ElementSpecs → Option Term → List Slot → Res
     → List Slot → Type 0
 UpdatesElementAt specs key old (Ok done) new =
     HadOneObject old key (λ was.
-    (object : Term) × (apply_elements specs was ≡ Ok object)
+    (object : Term) × (apply_elements specs was ≡ Ok (object, true))
     × (new ≡ with_objects_in old key (object ∷ [])))
 UpdatesElementAt specs key old (Err fault.Badarg) new =
     HadOneObject old key (λ was. (apply_elements specs was ≡ Err fault.Badarg) × (new ≡ old))

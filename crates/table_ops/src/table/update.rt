@@ -3,7 +3,8 @@
 ghost use Rattle.std.specs.Prelude.{◌≡◌, ◌&&◌, None, option_copied};
 ghost use Rattle.counters.specs.declared.elements.ElementSpecs.TheVariants as elements;
 ghost use Rattle.table_ops.specs.Refusals.{RefinesChange};
-ghost use Rattle.table_ops.specs.Update.{is_set, may_update, ops_avoid_key, element_specs_avoid_key, default_is_object, counter_is_valid, element_is_valid, UpdatesCounter, UpdatesElement};
+ghost use Rattle.counters.specs.Positions.{may_update};
+ghost use Rattle.table_ops.specs.Update.{is_set, ops_avoid_key, element_specs_avoid_key, default_is_object, counter_is_valid, element_is_valid, UpdatesCounter, UpdatesElement};
 
 use super::Table;
 use crate::refusal::Refusal;

@@ -5,7 +5,8 @@ ghost use Rattle.std.specs.List.{list_all};
 ghost use Rattle.bucket_table.specs.Entries.{IsEntry, HasOneObject};
 ghost use Rattle.counters.specs.declared.ops.Ops.TheVariants.{One};
 ghost use Rattle.counters.specs.declared.elements.ElementSpecs.TheVariants as elements;
-ghost use Rattle.table_ops.specs.Update.{may_update, ops_avoid_key, element_specs_avoid_key, default_is_object};
+ghost use Rattle.counters.specs.Positions.{may_update};
+ghost use Rattle.table_ops.specs.Update.{ops_avoid_key, element_specs_avoid_key, default_is_object};
 ghost use Rattle.table_ops.specs.inside.TableRows.{ChangesSlotsOnly, IsPlaceWithObjects};
 ghost use Rattle.table_ops.specs.inside.Updated.{UpdatesCounterAt, UpdatesElementAt};
 

@@ -1,5 +1,5 @@
 use Rattle.std.proofs.Common.{◌≡◌, ◌++◌, drop, option_map}
-use Rattle.counters.specs.Elements.{all_element_specs}
+use Rattle.counters.specs.inside.Reads.{all_element_specs}
 use Rattle.counters.proofs.elements.all_element_specs.Given as goal
 
 abbrev pub invariant-loop-term : goal.invariant-loop-term

@@ -1,5 +1,5 @@
 use Rattle.std.proofs.Common.{◌≡◌, ◌++◌, drop, option_map}
-use Rattle.counters.specs.Ops.{all_ops}
+use Rattle.counters.specs.inside.Reads.{all_ops}
 use Rattle.counters.proofs.ops.all_ops.Given as goal
 
 abbrev pub invariant-loop-term : goal.invariant-loop-term

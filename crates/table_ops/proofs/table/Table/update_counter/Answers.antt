@@ -1,7 +1,8 @@
 use Rattle.std.proofs.Common.{◌≡◌, ◌+◌, Some, Result, Ok, Err, true, ◌&&◌, sym, ap, subst, ◌∙◌, option_copied}
 use Rattle.std.proofs.lemmas.Result.{err_from_is_err_and}
 use Rattle.ets_term.specs.declared.term.Term.{Term}
-use Rattle.counters.specs.Defaults.{with_key, start_counter}
+use Rattle.counters.specs.Counters.{apply_ops}
+use Rattle.counters.specs.Defaults.{start, with_key}
 use Rattle.table_ops.specs.Content.{Content}
 use Rattle.table_ops.specs.ContentState.{ContentState}
 use Rattle.table_ops.specs.declared.refusal.Refusal.{Refusal}
@@ -54,7 +55,7 @@ returns-in_err-object-clause-content g c =
     ap (λ (t : ContentState). is_set t.content.kind && (ops_avoid_key t.content.keypos ops && default_is_object t.content.keypos k d)) c.self.view_is ∙ sym c.counter_is_valid.ensures ∙ c.if-not-counter_is_valid.false in
     let old : Content = content_of g.R.Rows.slots c.self.inside.inner in
     let given : d ≡ Some c.in-Some-default.default.now = ap option_copied c.in-Some-default.is in
-    let made = start_counter ops (with_key c.self.inside.inner.keypos k c.in-Some-default.default.now) in
+    let made = start (apply_ops ops) (with_key c.self.inside.inner.keypos k c.in-Some-default.default.now) in
     let f = c.in_err-object.field-0.0 in
     let p = err_from_is_err_and c.from_residual-in_err-object.result c.from_residual-in_err-object.ensures.1 in
     let failed : c.from_residual-in_err-object.result ≡ Err (refusal_of f) = p.1 ∙ ap Err p.2 in
@@ -74,7 +75,7 @@ returns-in_err-undo-clause-content g c =
     ap (λ (t : ContentState). is_set t.content.kind && (ops_avoid_key t.content.keypos ops && default_is_object t.content.keypos k d)) c.self.view_is ∙ sym c.counter_is_valid.ensures ∙ c.if-not-counter_is_valid.false in
     let old : Content = content_of g.R.Rows.slots c.self.inside.inner in
     let given : d ≡ Some c.in-Some-default.default.now = ap option_copied c.in-Some-default.is in
-    let made = start_counter ops (with_key c.self.inside.inner.keypos k c.in-Some-default.default.now) in
+    let made = start (apply_ops ops) (with_key c.self.inside.inner.keypos k c.in-Some-default.default.now) in
     let e = c.in_err-undo.field-0.0 in
     let slots = g.R.Rows.slots c.put.new.self.rows in
     let new : Content = content_of g.R.Rows.slots c.put.new.self in
@@ -114,7 +115,7 @@ returns-clause-content g c =
     ap (λ (t : ContentState). is_set t.content.kind && (ops_avoid_key t.content.keypos ops && default_is_object t.content.keypos k d)) c.self.view_is ∙ sym c.counter_is_valid.ensures ∙ c.if-not-counter_is_valid.false in
     let old : Content = content_of g.R.Rows.slots c.self.inside.inner in
     let given : d ≡ Some c.in-Some-default.default.now = ap option_copied c.in-Some-default.is in
-    let made = start_counter ops (with_key c.self.inside.inner.keypos k c.in-Some-default.default.now) in
+    let made = start (apply_ops ops) (with_key c.self.inside.inner.keypos k c.in-Some-default.default.now) in
     let slots = g.R.Rows.slots c.put.new.self.rows in
     rw (← c.self.view_is)
     (of-slots g.R.Rows.slots c.self.inside.inner c.put.new.self c.in_ok-undo.ensures.keeps.rest (λ (n : Content). UpdatesCounter k ops d old (Ok c.in_ok-object.answer) n)

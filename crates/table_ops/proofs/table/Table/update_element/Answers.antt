@@ -1,11 +1,12 @@
 use Rattle.std.proofs.Common.{◌≡◌, ◌+◌, Some, Result, Ok, Err, Bool, true, ◌&&◌, sym, ap, subst, ◌∙◌, option_copied}
 use Rattle.std.proofs.lemmas.Result.{err_from_is_err_and}
-use Rattle.counters.specs.Defaults.{with_key, start_elements}
+use Rattle.counters.specs.Elements.{apply_elements}
+use Rattle.counters.specs.Defaults.{start, with_key}
 use Rattle.table_ops.specs.Content.{Content}
 use Rattle.table_ops.specs.ContentState.{ContentState}
 use Rattle.table_ops.specs.declared.refusal.Refusal.{Refusal}
 use Rattle.table_ops.specs.Refusals.{RefinesChange}
-use Rattle.table_ops.specs.Update.{refusal_of, is_set, element_specs_avoid_key, default_is_object, with_true, UpdatesElement}
+use Rattle.table_ops.specs.Update.{refusal_of, is_set, element_specs_avoid_key, default_is_object, UpdatesElement}
 use Rattle.table_ops.specs.Invariants.{FitsKind}
 use Rattle.table_ops.specs.inside.Counted.{IsCounted}
 use Rattle.table_ops.specs.inside.TableRows.{content_of}
@@ -53,13 +54,13 @@ returns-in_err-object-clause-content g c =
     ap (λ (t : ContentState). is_set t.content.kind && (element_specs_avoid_key t.content.keypos specs && default_is_object t.content.keypos k d)) c.self.view_is ∙ sym c.element_is_valid.ensures ∙ c.if-not-element_is_valid.false in
     let old : Content = content_of g.R.Rows.slots c.self.inside.inner in
     let given : d ≡ Some c.in-Some-default.default.now = ap option_copied c.in-Some-default.is in
-    let made = with_true (start_elements specs (with_key c.self.inside.inner.keypos k c.in-Some-default.default.now)) in
+    let made = start (apply_elements specs) (with_key c.self.inside.inner.keypos k c.in-Some-default.default.now) in
     let f = c.in_err-object.field-0.0 in
     let p = err_from_is_err_and c.from_residual-in_err-object.result c.from_residual-in_err-object.ensures.1 in
     let failed : c.from_residual-in_err-object.result ≡ Err (refusal_of f) = p.1 ∙ ap Err p.2 in
     let done : RefinesChange (UpdatesElement k specs d old) old (Err (refusal_of f)) old =
     written-comes k specs c.in-Some-default.default.now old c.in_default.ensures d given may (Err (refusal_of f)) old
-    (fault-starts k old made f (λ e. ap with_true (c.in_err-object.ensures.badarg (ap Err e))) (λ e. ap with_true (c.in_err-object.ensures.limit (ap Err e)))) in
+    (fault-starts k old made f (λ e. c.in_err-object.ensures.badarg (ap Err e)) (λ e. c.in_err-object.ensures.limit (ap Err e))) in
     let same : old ≡ c.args.self.now.content = ap (λ (t : ContentState). t.content) c.self.view_is in
     subst (λ (r : Result Bool Refusal). RefinesChange (UpdatesElement k specs d c.args.self.now.content) c.args.self.now.content r c.args.self.now.content) (sym failed)
     (subst (λ (o : Content). RefinesChange (UpdatesElement k specs d o) o (Err (refusal_of f)) o) same done)
@@ -73,7 +74,7 @@ returns-in_err-undo-clause-content g c =
     ap (λ (t : ContentState). is_set t.content.kind && (element_specs_avoid_key t.content.keypos specs && default_is_object t.content.keypos k d)) c.self.view_is ∙ sym c.element_is_valid.ensures ∙ c.if-not-element_is_valid.false in
     let old : Content = content_of g.R.Rows.slots c.self.inside.inner in
     let given : d ≡ Some c.in-Some-default.default.now = ap option_copied c.in-Some-default.is in
-    let made = with_true (start_elements specs (with_key c.self.inside.inner.keypos k c.in-Some-default.default.now)) in
+    let made = start (apply_elements specs) (with_key c.self.inside.inner.keypos k c.in-Some-default.default.now) in
     let e = c.in_err-undo.field-0.0 in
     let slots = g.R.Rows.slots c.put.new.self.rows in
     let new : Content = content_of g.R.Rows.slots c.put.new.self in
@@ -82,7 +83,7 @@ returns-in_err-undo-clause-content g c =
     let done : RefinesChange (UpdatesElement k specs d old) old (Err e) new =
     of-slots g.R.Rows.slots c.self.inside.inner c.put.new.self c.in_err-undo.ensures.keeps.rest (λ (n : Content). RefinesChange (UpdatesElement k specs d old) old (Err e) n)
     (written-comes k specs c.in-Some-default.default.now old c.in_default.ensures d given may (Err e) (record old { slots = slots })
-    (refusal-starts k old made c.in_ok-object.object true (ap with_true c.in_ok-object.ensures.done) c.in_default.ensures c.self.inside.count c.self.invariant.counted slots e c.in_err-undo.ensures.slots)) in
+    (refusal-starts k old made c.in_ok-object.object true c.in_ok-object.ensures.done c.in_default.ensures c.self.inside.count c.self.invariant.counted slots e c.in_err-undo.ensures.slots)) in
     let same : old ≡ c.args.self.now.content = ap (λ (t : ContentState). t.content) c.self.view_is in
     subst (λ (r : Result Bool Refusal). RefinesChange (UpdatesElement k specs d c.args.self.now.content) c.args.self.now.content r new) (sym failed)
     (subst (λ (o : Content). RefinesChange (UpdatesElement k specs d o) o (Err e) new) same done)
@@ -99,7 +100,7 @@ invariant_of-self-2 g c =
     let new = g.R.Rows.slots c.put.new.self.rows in
     let b = both (is_set i.inner.kind) (element_specs_avoid_key i.inner.keypos specs && default_is_object i.inner.keypos k d) may in
     let named = both (element_specs_avoid_key i.inner.keypos specs) (default_is_object i.inner.keypos k d) b.1 in
-    let its = written-started i.inner.keypos specs k c.in-Some-default.default.now c.in_ok-object.object true named.0 (ap with_true c.in_ok-object.ensures.done) in
+    let its = written-started i.inner.keypos specs k c.in-Some-default.default.now c.in_ok-object.object true named.0 c.in_ok-object.ensures.done in
     holds-kept g.R.Rows.slots i.inner c.put.new.self c.in_ok-undo.ensures.keeps.rest (i.count + c.added_objects.result)
     (subst (λ n. IsCounted i.inner.kind i.inner.keypos i.inner.limit (i.count + n) new) (sym c.added_objects.ensures)
     (one-more c.in_ok-object.object k old its.0 c.in_default.ensures its.1 i.count c.self.invariant c.in_ok-undo.undo new c.in_ok-undo.ensures.slots))
@@ -113,9 +114,9 @@ returns-clause-content g c =
     ap (λ (t : ContentState). is_set t.content.kind && (element_specs_avoid_key t.content.keypos specs && default_is_object t.content.keypos k d)) c.self.view_is ∙ sym c.element_is_valid.ensures ∙ c.if-not-element_is_valid.false in
     let old : Content = content_of g.R.Rows.slots c.self.inside.inner in
     let given : d ≡ Some c.in-Some-default.default.now = ap option_copied c.in-Some-default.is in
-    let made = with_true (start_elements specs (with_key c.self.inside.inner.keypos k c.in-Some-default.default.now)) in
+    let made = start (apply_elements specs) (with_key c.self.inside.inner.keypos k c.in-Some-default.default.now) in
     let slots = g.R.Rows.slots c.put.new.self.rows in
     rw (← c.self.view_is)
     (of-slots g.R.Rows.slots c.self.inside.inner c.put.new.self c.in_ok-undo.ensures.keeps.rest (λ (n : Content). UpdatesElement k specs d old (Ok true) n)
     (written-comes k specs c.in-Some-default.default.now old c.in_default.ensures d given may (Ok true) (record old { slots = slots })
-    (object-starts k old made c.in_ok-object.object true (ap with_true c.in_ok-object.ensures.done) c.in_default.ensures c.self.inside.count c.self.invariant.counted slots c.in_ok-undo.undo c.in_ok-undo.ensures.slots)))
+    (object-starts k old made c.in_ok-object.object true c.in_ok-object.ensures.done c.in_default.ensures c.self.inside.count c.self.invariant.counted slots c.in_ok-undo.undo c.in_ok-undo.ensures.slots)))

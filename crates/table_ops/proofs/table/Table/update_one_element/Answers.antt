@@ -1,7 +1,8 @@
 use Rattle.std.proofs.Common.{◌≡◌, Bool, true, ◌&&◌, sym, ap, ◌∙◌}
 use Rattle.counters.specs.declared.elements.ElementSpecs.TheVariants.{One}
 use Rattle.table_ops.specs.ContentState.{ContentState}
-use Rattle.table_ops.specs.Update.{is_set, may_update}
+use Rattle.counters.specs.Positions.{may_update}
+use Rattle.table_ops.specs.Update.{is_set}
 use Rattle.table_ops.proofs.TableRowsLaws.{holds-kept}
 use Rattle.table_ops.proofs.InsertLaws.{both}
 use Rattle.table_ops.proofs.UpdateLaws.{one-there, written-at}
