@@ -14,7 +14,7 @@ use Rattle.match_spec.specs.Patterns.{Bindings, equal_terms, matches, data_list_
 use Rattle.match_spec.specs.inside.CompiledExpressions.{subterms_at}
 use Rattle.match_spec.specs.inside.CompiledPatterns.{part_fits, part_step, all_fit, part_of, parts_from, name_part, IsCompiled}
 use Rattle.match_spec.specs.inside.FirstPaths.{FirstPaths, first_path, paths_of, first_paths_of}
-use Rattle.match_spec.specs.Paths.{Path, subterm_at, items_of, element_or, variable_path, value_at}
+use Rattle.match_spec.specs.inside.Paths.{Path, subterm_at, items_of, element_or, variable_path, value_at}
 use Rattle.match_spec.specs.Variables.{variable, variables}
 use Rattle.match_spec.proofs.PathLaws.{first_path-first, paths_of-first}
 use Rattle.match_spec.proofs.TreeLaws.{data_of-term_of, equal_terms-refl}

@@ -12,14 +12,13 @@ use Rattle.ets_term.specs.laws.Ordered.{order_exact}
 use Rattle.match_spec.specs.BoundKeys.{is_ground, are_ground, bound_key, clause_key, all_bind, spec_key, IsKeyOfMatches, IsKeyOfResults}
 use Rattle.match_spec.specs.Functions.{data_list_element, tuple_element}
 use Rattle.match_spec.specs.Patterns.{Bindings, matches, data_list_matches, name_matches, equal_terms, occurrences, bindings_of}
-use Rattle.match_spec.specs.Paths.{value_at}
+use Rattle.match_spec.specs.inside.Paths.{value_at}
 use Rattle.match_spec.specs.Specifications.{RawClause, clause_parts, clause_result_or, result_or, first_result, result_of}
 use Rattle.match_spec.specs.Variables.{variable}
 use Rattle.match_spec.proofs.BoolLaws.{both-true, clash, same_Some, None-Some}
+use Rattle.match_spec.proofs.BindLaws.{sound}
 use Rattle.match_spec.proofs.ListLaws.{element_at_tree}
-
-pub equal_terms-exact : (d e : Data) → equal_terms d e ≡ true → d ≡ e
-equal_terms-exact d e h = order_exact d e ((Equal-is (data_order d e)).0 h)
+use Rattle.match_spec.proofs.TreeLaws.{equal_terms-exact}
 
 module _ (b : ℕ → Option Data) where
   named : (a : List ℕ) (t : Data) (any : Bool) (o : Option ℕ) → (not any && not (is_some o)) ≡ true → (any || name_matches b a o t) ≡ true → atom a ≡ t

@@ -13,7 +13,7 @@ use Rattle.match_spec.specs.inside.CompiledClauses.{is_good_by, raw_clause_of, a
 use Rattle.match_spec.specs.inside.CompiledExpressions.{expression_value, expressions_of}
 use Rattle.match_spec.specs.inside.FirstPaths.{FirstPaths, numbers_of, paths_of, first_paths_of}
 use Rattle.match_spec.specs.Patterns.{matches, occurrences, bindings_of}
-use Rattle.match_spec.specs.Paths.{value_at}
+use Rattle.match_spec.specs.inside.Paths.{value_at}
 use Rattle.match_spec.specs.Specifications.{RawClause, clause_parts, is_good, is_clause, are_clauses, is_spec, all_hold, last_value, body_value, clause_result_or, result_or, first_result, result_of}
 use Rattle.match_spec.specs.Expressions.{are_expressions}
 use Rattle.match_spec.specs.Variables.{variables}
