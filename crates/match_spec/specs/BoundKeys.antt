@@ -7,8 +7,8 @@ use Rattle.ets_term.specs.Data.{Data, list, DataList, no_terms, term, data_of}
 use Rattle.ets_term.specs.Depth.{element_at}
 use Rattle.ets_term.specs.declared.term.Term.{Term}
 use Rattle.match_spec.specs.Functions.{tuple_element}
-use Rattle.match_spec.specs.Patterns.{equal_terms, bindings_of}
-use Rattle.match_spec.specs.Specifications.{clause_parts, result_of}
+use Rattle.match_spec.specs.Patterns.{equal_terms}
+use Rattle.match_spec.specs.Specifications.{clause_parts}
 use Rattle.match_spec.specs.Variables.{variable, atoms_of}
 
 -- whether a part of a pattern has neither a variable nor `'_'`
@@ -35,12 +35,6 @@ spec_key keypos (list (term c cs)) =
     option_and_then (λ key. if all_bind keypos key cs then Some key else None) (clause_key keypos c)
 spec_key keypos spec = None
 
--- every object that matches the pattern has this key
-abbrev pub IsKeyOfMatches : ℕ → Data → Term → Type 0
-IsKeyOfMatches keypos pattern key =
-    (object : Term) → is_some (bindings_of pattern (data_of object)) ≡ true → element_at keypos object ≡ Some key
-
--- every object for which the match specification gives a result has this key
-abbrev pub IsKeyOfResults : ℕ → Data → Term → Type 0
-IsKeyOfResults keypos spec key =
-    (object : Term) → is_some (result_of spec (data_of object)) ≡ true → element_at keypos object ≡ Some key
+-- every term that has a result has this key
+abbrev pub IsKeyOf : {X : Type 0} → ℕ → (Data → Option X) → Term → Type 0
+IsKeyOf keypos result key = (t : Term) → is_some (result (data_of t)) ≡ true → element_at keypos t ≡ Some key

@@ -59,8 +59,7 @@ all_hold b object conditions = option_map_or (list_all is_true) (all_values b ob
 
 -- the value of the last expression of a body, or `'EXIT'` if one of its expressions fails
 abbrev pub body_value : Bindings → Data → DataList → Data
-body_value b object body =
-    unwrap_or (option_and_then (last_or None) (all_values b object body)) (atom (codes "EXIT"))
+body_value b object body = unwrap_or (option_and_then (last_or None) (all_values b object body)) (atom (codes "EXIT"))
 
 -- the result of a clause for an object: the value of its body, if its pattern matches and its conditions hold
 abbrev pub clause_result : Data → RawClause → Option Data
