@@ -12,7 +12,7 @@ use Rattle.ets_term.specs.Data.{Data, int, atom, pid, tid, tuple, list, binary, 
 use Rattle.match_spec.specs.Patterns.{Bindings, binding, equal_terms, bind, bind_name, bindings_after, bindings_after_all}
 use Rattle.match_spec.specs.Variables.{variable}
 use Rattle.match_spec.specs.inside.PathBindings.{is_bound_to, name_matches, matches, data_list_matches}
-use Rattle.match_spec.proofs.BoolLaws.{both-true, or-left, or-right, or-cases, same_Some, None-Some}
+use Rattle.match_spec.proofs.BoolLaws.{both-true, or-right, or-cases, same_Some, None-Some}
 use Rattle.match_spec.proofs.EntryLaws.{has-lookup, keys_of-entered, lookup-entered}
 use Rattle.match_spec.proofs.NumberLaws.{itself, same_number, putting, variable_numbers, data_list_variable_numbers, numbers-append, Rising, fold-rising, put-there}
 use Rattle.match_spec.proofs.TreeLaws.{equal_terms-exact, equal_terms-refl}

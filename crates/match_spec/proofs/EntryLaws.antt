@@ -1,5 +1,5 @@
 -- Entries in order of number: what a look-up finds, and what an insertion changes.
-use Rattle.std.proofs.Common.{◌≡◌, ℕ, nat_lt, ◌==◌, ◌||◌, cond, is_some, map, Bool, true, false, List, [], ◌∷◌, Option, Some, None, refl, sym, ap, subst, ◌∙◌, arith}
+use Rattle.std.proofs.Common.{◌≡◌, ℕ, nat_lt, ◌==◌, ◌||◌, cond, is_some, map, Bool, true, false, List, [], ◌∷◌, Option, Some, None, refl, ap, subst, ◌∙◌, arith}
 use Rattle.std.proofs.lemmas.Bool.Decides.{nat_tests}
 use Rattle.std.specs.BTreeMap.{insert_entry}
 use Rattle.std.specs.Map.{keys_of, lookup}

@@ -1,16 +1,13 @@
 -- What a ground part of a pattern matches, and the keys of objects that match.
 use Rattle.std.proofs.Common.{◌≡◌, ℕ, zero, suc, ◌<◌, length, get_or, drop, map, arith, [], ◌∷◌, ◌&&◌, ◌||◌, not, Bool, true, false, if◌then◌else◌, List, Option, Some, None, is_some, codes, Bor, option_copied, IfSome, refl, sym, ap, subst, ◌∙◌}
-use Rattle.std.specs.Cmp.{Equal-is}
 use Rattle.std.proofs.lemmas.List.Folds.{list_all-append}
 use Rattle.std.specs.List.{list_all}
 use Rattle.std.specs.Option.{option_map, option_and_then, option_map_or, option_or}
 use Rattle.std.specs.Str.{bytes_eq}
 use Rattle.ets_term.specs.Data.{Data, int, atom, pid, tid, tuple, list, binary, DataList, no_terms, term, data_list, data_of}
 use Rattle.ets_term.specs.Depth.{element_at}
-use Rattle.ets_term.specs.Order.{data_order}
 use Rattle.ets_term.specs.declared.term.Term.{Term}
 use Rattle.ets_term.specs.laws.Exact.{data_of-exact}
-use Rattle.ets_term.specs.laws.Ordered.{order_exact}
 use Rattle.match_spec.specs.BoundKeys.{is_ground as is_ground_by_atoms, bound_key, clause_key, all_bind, spec_key, IsKeyOf}
 use Rattle.match_spec.specs.Functions.{data_list_element, tuple_element}
 use Rattle.match_spec.specs.Patterns.{Bindings, binding, equal_terms, bindings_of}

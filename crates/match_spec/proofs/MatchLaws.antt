@@ -1,11 +1,11 @@
 -- Matching from left to right gives the only bindings by which a term matches, and agrees with matching by first paths.
-use Rattle.std.proofs.Common.{◌≡◌, ℕ, suc, ◌+◌, ◌==◌, ◌&&◌, ◌||◌, ◌++◌, fold, is_some, map, unwrap_or, Bool, true, false, if◌then◌else◌, List, [], ◌∷◌, Option, Some, None, codes, refl, sym, ap, subst, ◌∙◌, arith, zero-add, add-zero}
+use Rattle.std.proofs.Common.{◌≡◌, ℕ, suc, ◌+◌, ◌==◌, ◌&&◌, ◌||◌, fold, is_some, map, unwrap_or, Bool, true, false, if◌then◌else◌, List, [], ◌∷◌, Option, Some, None, codes, refl, sym, ap, subst, ◌∙◌, arith, zero-add, add-zero}
 use Rattle.std.specs.List.{cons_option}
 use Rattle.std.specs.Map.{keys_of, values_of}
 use Rattle.std.specs.Option.{option_map, option_map_or, option_or}
 use Rattle.std.specs.Str.{bytes_eq}
 use Rattle.ets_term.specs.Data.{Data, int, atom, pid, tid, tuple, list, binary, DataList, no_terms, term}
-use Rattle.match_spec.specs.Patterns.{Bindings, binding, bindings_after, bindings_of}
+use Rattle.match_spec.specs.Patterns.{Bindings, binding, bindings_of}
 use Rattle.match_spec.specs.Matching.{Match, AreTheBindings, IsBindings}
 use Rattle.match_spec.specs.Variables.{variable, variables}
 use Rattle.match_spec.specs.inside.PathBindings.{matches, data_list_matches, name_matches, is_bound_to, occurrences, bindings_by_paths}

@@ -13,7 +13,7 @@ use Rattle.match_spec.specs.declared.spec.clause.Clause.{Clause}
 use Rattle.match_spec.specs.inside.CompiledClauses.{is_good_by, raw_clause_of, applies, all_hold_of, last_value_of, body_value_by, result_of_first, clause_of, clause_else, clauses_from, clauses_of}
 use Rattle.match_spec.specs.inside.CompiledExpressions.{expression_value, expressions_of}
 use Rattle.match_spec.specs.inside.FirstPaths.{FirstPaths, numbers_of, paths_of, first_paths_of}
-use Rattle.match_spec.specs.Patterns.{Bindings, bindings_of}
+use Rattle.match_spec.specs.Patterns.{Bindings}
 use Rattle.match_spec.specs.inside.PathBindings.{matches, occurrences, bindings_by_paths}
 use Rattle.match_spec.specs.inside.Paths.{value_at}
 use Rattle.match_spec.specs.Specifications.{RawClause, clause_parts, is_good, is_clause, are_clauses, is_spec, is_true, all_hold, body_value, clause_result, first_result, result_of}

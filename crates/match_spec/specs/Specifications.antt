@@ -1,5 +1,5 @@
 -- Match specifications, and what they give for an object (ERTS User's Guide, Match Specifications in Erlang).
-use Rattle.std.specs.Prelude.{ℕ, ◌&&◌, nat_lt, Bool, true, false, if◌then◌else◌, List, Option, Some, None, unwrap_or, codes}
+use Rattle.std.specs.Prelude.{◌&&◌, nat_lt, Bool, true, false, if◌then◌else◌, Option, Some, None, unwrap_or, codes}
 use Rattle.std.specs.List.{list_all, last_or}
 use Rattle.std.specs.Option.{option_map_or, option_and_then, option_or}
 use Rattle.std.specs.Str.{bytes_eq}
