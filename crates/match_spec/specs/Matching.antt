@@ -1,12 +1,11 @@
--- When a term matches a pattern, without a computation: by bindings that exist.
+-- The bindings by which a term matches a pattern, and that they are the only ones.
 use Rattle.std.specs.Prelude.{◌≡◌, List, Option, Some, None, option_map}
 use Rattle.std.specs.Map.{keys_of, values_of}
 use Rattle.ets_term.specs.Data.{Data}
 use Rattle.match_spec.specs.Patterns.{Bindings, bindings_after}
 use Rattle.match_spec.specs.Variables.{variables}
 
--- the term matches the pattern by these bindings: matching leaves them as they are, and they bind exactly the pattern's
--- variables
+-- the term matches the pattern by these bindings: they bind exactly its variables, and matching leaves them as they are
 pub record Match (pattern t : Data) (b : Bindings) : Type 0 where
   pub fits : bindings_after b pattern t ≡ Some b
   pub bound : keys_of b ≡ variables pattern
