@@ -19,8 +19,9 @@ use Rattle.match_spec.specs.inside.CompiledExpressions.{expression_value, expres
 use Rattle.match_spec.specs.inside.FirstPaths.{FirstPaths, first_path, paths_of, first_paths_of}
 use Rattle.match_spec.specs.Functions.{truth, call}
 use Rattle.match_spec.specs.inside.Functions.{apply, deciding_truth, function_of, strict_connective as strict_by_enum, short_circuit_connective as short_circuit_by_enum}
-use Rattle.match_spec.specs.Patterns.{Bindings, occurrences}
-use Rattle.match_spec.specs.Paths.{Path, subterm_at}
+use Rattle.match_spec.specs.Patterns.{Bindings}
+use Rattle.match_spec.specs.inside.PathBindings.{occurrences}
+use Rattle.match_spec.specs.inside.Paths.{Path, subterm_at}
 use Rattle.match_spec.specs.Expressions.{value, all_values, strict_value, short_circuit_value, name_value, strict_connective, short_circuit_connective, is_function, is_expression, are_expressions, is_constant, is_bound}
 use Rattle.match_spec.specs.Variables.{variable, variables}
 use Rattle.match_spec.proofs.CallLaws.{strict_connective-is, short_circuit_connective-is, is_function-is, call-one, call-two}

@@ -10,12 +10,14 @@ use Rattle.ets_term.specs.Trees.{term_of}
 use Rattle.match_spec.specs.declared.pattern.part.Part.{Part, the_lemmas}
 use Rattle.match_spec.specs.declared.pattern.part.Part.TheOpen.{Part-F}
 use Rattle.match_spec.specs.declared.pattern.part.Part.TheVariants.{Wildcard, Repeated, Tuple, List as Terms, Literal}
-use Rattle.match_spec.specs.Patterns.{Bindings, equal_terms, matches, data_list_matches, name_matches, occurrences, bindings_of}
+use Rattle.match_spec.specs.Patterns.{Bindings, equal_terms, bindings_of}
 use Rattle.match_spec.specs.inside.CompiledExpressions.{subterms_at}
 use Rattle.match_spec.specs.inside.CompiledPatterns.{part_fits, part_step, all_fit, part_of, parts_from, name_part, IsCompiled}
+use Rattle.match_spec.specs.inside.PathBindings.{matches, data_list_matches, name_matches, occurrences, bindings_by_paths}
 use Rattle.match_spec.specs.inside.FirstPaths.{FirstPaths, first_path, paths_of, first_paths_of}
-use Rattle.match_spec.specs.Paths.{Path, subterm_at, items_of, element_or, variable_path, value_at}
+use Rattle.match_spec.specs.inside.Paths.{Path, subterm_at, items_of, element_or, variable_path, value_at}
 use Rattle.match_spec.specs.Variables.{variable, variables}
+use Rattle.match_spec.proofs.MatchLaws.{bindings_of-by_paths}
 use Rattle.match_spec.proofs.PathLaws.{first_path-first, paths_of-first}
 use Rattle.match_spec.proofs.TreeLaws.{data_of-term_of, equal_terms-refl}
 
@@ -115,14 +117,22 @@ module _ (pattern object : Data) where
     pub matches-part : matches b pattern object ≡ part_fits part object object
     matches-part = sym fits-pattern ∙ ap (λ p. part_fits p object object) (sym compiled.part_compiled)
 
+    by_paths_misfit : part_fits part object object ≡ false → None ≡ option_map values_of (bindings_by_paths pattern object)
+    by_paths_misfit h = rw (matches-part, h) refl
+
+    by_paths_fit : (ds : List Data) → part_fits part object object ≡ true → ds ≡ subterms_at paths object → Some ds ≡ option_map values_of (bindings_by_paths pattern object)
+    by_paths_fit ds h e = rw (matches-part, h) (ap Some (e ∙ ap (λ (ps : List Path). subterms_at ps object) compiled.paths_compiled ∙ subterms_at-first))
+
     pub bindings_of-misfit : part_fits part object object ≡ false → None ≡ option_map values_of (bindings_of pattern object)
-    bindings_of-misfit h = rw (matches-part, h) refl
+    bindings_of-misfit h = by_paths_misfit h ∙ sym (ap (option_map values_of) (bindings_of-by_paths pattern object))
 
     pub bindings_of-fit : (ds : List Data) → part_fits part object object ≡ true → ds ≡ subterms_at paths object → Some ds ≡ option_map values_of (bindings_of pattern object)
-    bindings_of-fit ds h e = rw (matches-part, h) (ap Some (e ∙ ap (λ (ps : List Path). subterms_at ps object) compiled.paths_compiled ∙ subterms_at-first))
+    bindings_of-fit ds h e = by_paths_fit ds h e ∙ sym (ap (option_map values_of) (bindings_of-by_paths pattern object))
 
     pub fits-bindings : part_fits part object object ≡ is_some (bindings_of pattern object)
-    fits-bindings = sym matches-part ∙ sym (is_some-if (matches (λ n. Some (value_at pattern object n)) pattern object) (occurrences pattern object))
+    fits-bindings =
+        sym matches-part ∙ sym (is_some-if (matches (λ n. Some (value_at pattern object n)) pattern object) (occurrences pattern object))
+        ∙ ap is_some (sym (bindings_of-by_paths pattern object))
 
     pub values-fit : is_some (bindings_of pattern object) ≡ true → (ds : List Data) → ds ≡ subterms_at paths object → Some ds ≡ option_map values_of (bindings_of pattern object)
     values-fit h ds e = bindings_of-fit ds (fits-bindings ∙ h) e

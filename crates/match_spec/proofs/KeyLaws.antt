@@ -1,25 +1,44 @@
 -- What a ground part of a pattern matches, and the keys of objects that match.
 use Rattle.std.proofs.Common.{◌≡◌, ℕ, zero, suc, ◌<◌, length, get_or, drop, map, arith, [], ◌∷◌, ◌&&◌, ◌||◌, not, Bool, true, false, if◌then◌else◌, List, Option, Some, None, is_some, codes, Bor, option_copied, IfSome, refl, sym, ap, subst, ◌∙◌}
-use Rattle.std.specs.Cmp.{Equal-is}
-use Rattle.std.specs.Option.{option_map, option_and_then, option_map_or}
+use Rattle.std.proofs.lemmas.List.Folds.{list_all-append}
+use Rattle.std.specs.List.{list_all}
+use Rattle.std.specs.Option.{option_map, option_and_then, option_map_or, option_or}
 use Rattle.std.specs.Str.{bytes_eq}
 use Rattle.ets_term.specs.Data.{Data, int, atom, pid, tid, tuple, list, binary, DataList, no_terms, term, data_list, data_of}
 use Rattle.ets_term.specs.Depth.{element_at}
-use Rattle.ets_term.specs.Order.{data_order}
 use Rattle.ets_term.specs.declared.term.Term.{Term}
 use Rattle.ets_term.specs.laws.Exact.{data_of-exact}
-use Rattle.ets_term.specs.laws.Ordered.{order_exact}
-use Rattle.match_spec.specs.BoundKeys.{is_ground, are_ground, bound_key, clause_key, all_bind, spec_key, IsKeyOfMatches, IsKeyOfResults}
+use Rattle.match_spec.specs.BoundKeys.{is_ground as is_ground_by_atoms, bound_key, clause_key, all_bind, spec_key, IsKeyOf}
 use Rattle.match_spec.specs.Functions.{data_list_element, tuple_element}
-use Rattle.match_spec.specs.Patterns.{Bindings, matches, data_list_matches, name_matches, equal_terms, occurrences, bindings_of}
-use Rattle.match_spec.specs.Paths.{value_at}
-use Rattle.match_spec.specs.Specifications.{RawClause, clause_parts, clause_result_or, result_or, first_result, result_of}
-use Rattle.match_spec.specs.Variables.{variable}
+use Rattle.match_spec.specs.Patterns.{Bindings, binding, equal_terms, bindings_of}
+use Rattle.match_spec.specs.Specifications.{RawClause, clause_parts, all_hold, body_value, clause_result, first_result, result_of}
+use Rattle.match_spec.specs.Variables.{variable, atoms_of, data_list_atoms}
+use Rattle.match_spec.specs.inside.Ground.{is_ground, are_ground}
+use Rattle.match_spec.specs.inside.PathBindings.{matches, data_list_matches, name_matches}
 use Rattle.match_spec.proofs.BoolLaws.{both-true, clash, same_Some, None-Some}
+use Rattle.match_spec.proofs.BindLaws.{sound}
 use Rattle.match_spec.proofs.ListLaws.{element_at_tree}
+use Rattle.match_spec.proofs.TreeLaws.{equal_terms-exact}
 
-pub equal_terms-exact : (d e : Data) → equal_terms d e ≡ true → d ≡ e
-equal_terms-exact d e h = order_exact d e ((Equal-is (data_order d e)).0 h)
+abbrev is_plain : List ℕ → Bool
+is_plain a = not (bytes_eq a (codes "_") || is_some (variable a))
+
+-- a part is ground if its atoms are
+plain_name : (x y : Bool) → (not (x || y) && true) ≡ (not x && not y)
+plain_name true y = refl
+plain_name false true = refl
+plain_name false false = refl
+
+mutual
+  ground-atoms : (p : Data) → list_all is_plain (atoms_of p) ≡ is_ground p
+  ground-atoms (atom a) = plain_name (bytes_eq a (codes "_")) (is_some (variable a))
+  ground-atoms (tuple ps) = grounds-atoms ps
+  ground-atoms (list ps) = grounds-atoms ps
+  ground-atoms p = refl
+
+  grounds-atoms : (ps : DataList) → list_all is_plain (data_list_atoms ps) ≡ are_ground ps
+  grounds-atoms no_terms = refl
+  grounds-atoms (term p ps) = list_all-append is_plain (atoms_of p) (data_list_atoms ps) ∙ rw (ground-atoms p, grounds-atoms ps) refl
 
 module _ (b : ℕ → Option Data) where
   named : (a : List ℕ) (t : Data) (any : Bool) (o : Option ℕ) → (not any && not (is_some o)) ≡ true → (any || name_matches b a o t) ≡ true → atom a ≡ t
@@ -44,9 +63,9 @@ module _ (b : ℕ → Option Data) where
     grounds-alone no_terms (term t ts) g h = cc
     grounds-alone (term p ps) no_terms g h = cc
 
-kept : (o : Option Data) (k : Data) → option_and_then (λ key. if is_ground key then Some key else None) o ≡ Some k → (o ≡ Some k) × (is_ground k ≡ true)
+kept : (o : Option Data) (k : Data) → option_and_then (λ key. if is_ground_by_atoms key then Some key else None) o ≡ Some k → (o ≡ Some k) × (is_ground k ≡ true)
 kept None k h = absurd (None-Some h)
-kept (Some d) k h = by (is_ground d) refl h
+kept (Some d) k h = by (is_ground_by_atoms d) (sym (ground-atoms d)) h
   where
     by : (c : Bool) → is_ground d ≡ c → (if c then Some d else None) ≡ Some k → (Some d ≡ Some k) × (is_ground k ≡ true)
     by true e q = (q, subst (λ x. is_ground x ≡ true) (same_Some q) e)
@@ -81,13 +100,13 @@ module _ (keypos : ℕ) where
       by (suc i) (list n) t h e = absurd (None-Some e)
       by (suc i) (binary n) t h e = absurd (None-Some e)
 
-  matched : (p t : Data) (c : Bool) → is_some (if c then Some (occurrences p t) else None) ≡ true → c ≡ true
-  matched p t true h = refl
-  matched p t false h = h
-
   -- every object that matches has the key that the pattern binds
   match_key : (p t k : Data) → bound_key keypos p ≡ Some k → is_some (bindings_of p t) ≡ true → tuple_element keypos t ≡ Some k
-  match_key p t k e h = let q = kept (tuple_element keypos p) k e in key-alone (λ n. Some (value_at p t n)) p t k (matched p t _ h) q.0 q.1
+  match_key p t k e h = by (bindings_of p t) refl h
+    where
+      by : (o : Option Bindings) → bindings_of p t ≡ o → is_some o ≡ true → tuple_element keypos t ≡ Some k
+      by None q i = cc
+      by (Some b) q i = let x = kept (tuple_element keypos p) k e in key-alone (binding b) p t k (sound [] b p t q).1 x.0 x.1
 
   term_key : (object key : Term) → tuple_element keypos (data_of object) ≡ Some (data_of key) → element_at keypos object ≡ Some key
   term_key object key e = by (element_at keypos object) (element_at_tree keypos object ∙ e)
@@ -96,18 +115,18 @@ module _ (keypos : ℕ) where
       by None h = absurd (None-Some h)
       by (Some t) h = ap Some (data_of-exact t key (same_Some h))
 
-  pub is_key_of_matches : (p : Data) (key : Term) → bound_key keypos p ≡ Some (data_of key) → IsKeyOfMatches keypos p key
+  pub is_key_of_matches : (p : Data) (key : Term) → bound_key keypos p ≡ Some (data_of key) → IsKeyOf keypos (bindings_of p) key
   is_key_of_matches p key e = λ object h. term_key object key (match_key p (data_of object) (data_of key) e h)
 
   module _ (t k : Data) where
     abbrev Has : Type 0
     Has = tuple_element keypos t ≡ Some k
 
-    clause_has : (o : Option RawClause) (rest : Option Data) → option_and_then (λ parts. bound_key keypos parts.pattern) o ≡ Some k → (is_some rest ≡ true → Has) → is_some (result_or o t rest) ≡ true → Has
+    clause_has : (o : Option RawClause) (rest : Option Data) → option_and_then (λ parts. bound_key keypos parts.pattern) o ≡ Some k → (is_some rest ≡ true → Has) → is_some (option_or (option_and_then (clause_result t) o) rest) ≡ true → Has
     clause_has None rest e f h = absurd (None-Some e)
     clause_has (Some c) rest e f h = by (bindings_of c.pattern t) refl h
       where
-        by : (o : Option Bindings) → bindings_of c.pattern t ≡ o → is_some (clause_result_or o t c rest) ≡ true → Has
+        by : (o : Option Bindings) → bindings_of c.pattern t ≡ o → is_some (option_or (option_and_then (λ b. if all_hold b t c.conditions then Some (body_value b t c.body) else None) o) rest) ≡ true → Has
         by None q i = f i
         by (Some b) q i = match_key c.pattern t k e (ap is_some q)
 
@@ -140,23 +159,26 @@ module _ (keypos : ℕ) where
     result_key (tuple n) e h = absurd (None-Some e)
     result_key (binary n) e h = absurd (None-Some e)
 
-  pub is_key_of_results : (spec : Data) (key : Term) → spec_key keypos spec ≡ Some (data_of key) → IsKeyOfResults keypos spec key
+  pub is_key_of_results : (spec : Data) (key : Term) → spec_key keypos spec ≡ Some (data_of key) → IsKeyOf keypos (result_of spec) key
   is_key_of_results spec key e = λ object h. term_key object key (result_key (data_of object) (data_of key) spec e h)
 
 -- the same for the key that `bound_key` returns
-pub every_match : (keypos : ℕ) (p : Data) (r : Option (Bor Term)) → option_map data_of (option_copied r) ≡ bound_key keypos p → IfSome r (λ key. IsKeyOfMatches keypos p key.now)
+pub every_match : (keypos : ℕ) (p : Data) (r : Option (Bor Term)) → option_map data_of (option_copied r) ≡ bound_key keypos p → IfSome r (λ key. IsKeyOf keypos (bindings_of p) key.now)
 every_match keypos p None e = tt
 every_match keypos p (Some key) e = is_key_of_matches keypos p key.now (sym e)
 
-pub every_result : (keypos : ℕ) (spec : Data) (r : Option (Bor Term)) → option_map data_of (option_copied r) ≡ spec_key keypos spec → IfSome r (λ key. IsKeyOfResults keypos spec key.now)
+pub every_result : (keypos : ℕ) (spec : Data) (r : Option (Bor Term)) → option_map data_of (option_copied r) ≡ spec_key keypos spec → IfSome r (λ key. IsKeyOf keypos (result_of spec) key.now)
 every_result keypos spec None e = tt
 every_result keypos spec (Some key) e = is_key_of_results keypos spec key.now (sym e)
 
+abbrev if_ground : Option Data → Option Data
+if_ground = option_and_then (λ k. if is_ground_by_atoms k then Some k else None)
+
 pub key_of_element : (keypos : ℕ) (p key : Term) → element_at keypos p ≡ Some key → bound_key keypos (data_of p) ≡ (if is_ground (data_of key) then Some (data_of key) else None)
-key_of_element keypos p key e = ap (option_and_then (λ k. if is_ground k then Some k else None)) (sym (element_at_tree keypos p) ∙ ap (option_map data_of) e)
+key_of_element keypos p key e = ap if_ground (sym (element_at_tree keypos p) ∙ ap (option_map data_of) e) ∙ rw (ground-atoms (data_of key)) refl
 
 pub key_of_none : (keypos : ℕ) (p : Term) → element_at keypos p ≡ None → bound_key keypos (data_of p) ≡ None
-key_of_none keypos p e = ap (option_and_then (λ k. if is_ground k then Some k else None)) (sym (element_at_tree keypos p) ∙ ap (option_map data_of) e)
+key_of_none keypos p e = ap if_ground (sym (element_at_tree keypos p) ∙ ap (option_map data_of) e)
 
 pub key_of_nothing : (keypos : ℕ) (cs : List Term) → length cs ≡ 0 → spec_key keypos (list (data_list (map data_of cs))) ≡ None
 key_of_nothing keypos [] h = refl

@@ -1,7 +1,9 @@
 mod Examples
+pub mod BindLaws
 pub mod BoolLaws
 pub mod CallLaws
 pub mod CompiledLaws
+pub mod EntryLaws
 pub mod ExpressionLaws
 pub mod FitLaws
 pub mod KeyLaws

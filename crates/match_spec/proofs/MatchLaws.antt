@@ -1,36 +1,21 @@
--- If a term matches by some bindings, each variable of the pattern is bound to the subterm at its first path.
-use Rattle.std.proofs.Common.{◌≡◌, ℕ, suc, ◌+◌, ◌==◌, ◌&&◌, ◌||◌, ◌++◌, is_some, map, unwrap_or, Bool, true, false, if◌then◌else◌, List, [], ◌∷◌, Option, Some, None, codes, refl, sym, ap, subst, ◌∙◌, arith, zero-add, add-zero}
-use Rattle.std.proofs.lemmas.Slice.Eq.{bytes_eq-Decides}
+-- Matching from left to right gives the only bindings by which a term matches, and agrees with matching by first paths.
+use Rattle.std.proofs.Common.{◌≡◌, ℕ, suc, ◌+◌, ◌==◌, ◌&&◌, ◌||◌, fold, is_some, map, unwrap_or, Bool, true, false, if◌then◌else◌, List, [], ◌∷◌, Option, Some, None, codes, refl, sym, ap, subst, ◌∙◌, arith, zero-add, add-zero}
+use Rattle.std.specs.List.{cons_option}
+use Rattle.std.specs.Map.{keys_of, values_of}
 use Rattle.std.specs.Option.{option_map, option_map_or, option_or}
 use Rattle.std.specs.Str.{bytes_eq}
 use Rattle.ets_term.specs.Data.{Data, int, atom, pid, tid, tuple, list, binary, DataList, no_terms, term}
-use Rattle.match_spec.specs.Patterns.{Bindings, binding, matches, data_list_matches, name_matches, is_bound_to, occurrences, bindings_of}
-use Rattle.match_spec.specs.Matching.{Match, IsBindings}
-use Rattle.match_spec.specs.laws.Bindings.{AreTheBindings}
-use Rattle.match_spec.specs.Paths.{Path, subterm_at, items_of, element_or, path_of, path_from, value_at}
-use Rattle.match_spec.specs.Variables.{variable_numbers, data_list_variable_numbers, variable, variables}
-use Rattle.std.specs.Prelude.{option_to_list}
-use Rattle.std.specs.Map.{values_of}
-use Rattle.match_spec.proofs.BoolLaws.{both-true, or-left, or-right, or-cases, clash, same_Some, None-Some}
-use Rattle.match_spec.proofs.NumberLaws.{has, has-append, has-fold, same_number, itself, Rising, fold-rising, above-apart, above-rising}
-use Rattle.match_spec.proofs.PathLaws.{found}
-use Rattle.match_spec.proofs.KeyLaws.{equal_terms-exact}
-
-unnumbered : (n : ℕ) → variable (codes "_") ≡ Some n → ⊥
-unnumbered n h = cc
-
-no_underscore : (a : List ℕ) (n : ℕ) → variable a ≡ Some n → bytes_eq a (codes "_") ≡ false
-no_underscore a n h = by (bytes_eq a (codes "_")) refl
-  where
-    by : (c : Bool) → bytes_eq a (codes "_") ≡ c → c ≡ false
-    by true e = absurd (unnumbered n (subst (λ x. variable x ≡ Some n) ((bytes_eq-Decides a (codes "_")).0 e) h))
-    by false e = refl
+use Rattle.match_spec.specs.Patterns.{Bindings, binding, bindings_of}
+use Rattle.match_spec.specs.Matching.{Match, AreTheBindings, IsBindings}
+use Rattle.match_spec.specs.Variables.{variable, variables}
+use Rattle.match_spec.specs.inside.PathBindings.{matches, data_list_matches, name_matches, is_bound_to, occurrences, bindings_by_paths}
+use Rattle.match_spec.specs.inside.Paths.{Path, subterm_at, items_of, element_or, path_of, path_from, value_at}
+use Rattle.match_spec.proofs.BindLaws.{no_underscore, just, Within, sound, complete, fixed}
+use Rattle.match_spec.proofs.BoolLaws.{both-true, or-left, or-right, or-cases, same_Some, None-Some}
+use Rattle.match_spec.proofs.EntryLaws.{has-lookup, rebuilt}
+use Rattle.match_spec.proofs.NumberLaws.{has, has-fold, has-numbers, same_number, itself, putting, variable_numbers, data_list_variable_numbers, variables-put, Rising, fold-rising}
 
 module _ (b : ℕ → Option Data) (n : ℕ) where
-  just : (o : Option Data) (t : Data) → is_bound_to o t ≡ true → o ≡ Some t
-  just None t h = cc
-  just (Some u) t h = ap Some (equal_terms-exact u t h)
-
   here : (a : List ℕ) (t : Data) (o : Option ℕ) (path : Path) → variable a ≡ o → (if option_map_or (λ k. n == k) o false then Some [] else None) ≡ Some path → (bytes_eq a (codes "_") || name_matches b a o t) ≡ true → b n ≡ Some (subterm_at path t)
   here a t None path v p h = cc
   here a t (Some m) path v p h = by (n == m) refl p
@@ -83,13 +68,13 @@ module _ (f g : ℕ → Option Data) where
   abbrev Agree : List ℕ → Type 0
   Agree ns = (n : ℕ) → has ns n ≡ true → f n ≡ g n
 
-  first_part : (xs ys : List ℕ) → Agree (xs ++ ys) → Agree xs
-  first_part xs ys h n e = h n (has-append xs ys n ∙ or-left _ _ e)
+  first_part : (p : Data) (ps : DataList) → Agree (data_list_variable_numbers (term p ps)) → Agree (variable_numbers p)
+  first_part p ps h n e = h n (has-numbers p ps n ∙ or-left _ _ e)
 
-  second_part : (xs ys : List ℕ) → Agree (xs ++ ys) → Agree ys
-  second_part xs ys h n e = h n (has-append xs ys n ∙ or-right _ _ e)
+  second_part : (p : Data) (ps : DataList) → Agree (data_list_variable_numbers (term p ps)) → Agree (data_list_variable_numbers ps)
+  second_part p ps h n e = h n (has-numbers p ps n ∙ or-right _ _ e)
 
-  alike_names : (a : List ℕ) (t : Data) (o : Option ℕ) → Agree (option_to_list o) → name_matches f a o t ≡ name_matches g a o t
+  alike_names : (a : List ℕ) (t : Data) (o : Option ℕ) → Agree (cons_option o []) → name_matches f a o t ≡ name_matches g a o t
   alike_names a t None h = refl
   alike_names a t (Some n) h = ap (λ u. is_bound_to u t) (h n (or-left _ _ (itself n)))
 
@@ -103,18 +88,7 @@ module _ (f g : ℕ → Option Data) where
     data_lists_alike : (ps ts : DataList) → Agree (data_list_variable_numbers ps) → data_list_matches f ps ts ≡ data_list_matches g ps ts
     data_lists_alike no_terms ts h = refl
     data_lists_alike (term p ps) no_terms h = refl
-    data_lists_alike (term p ps) (term t ts) h = λ i. matches_alike p t (first_part (variable_numbers p) (data_list_variable_numbers ps) h) i && data_lists_alike ps ts (second_part (variable_numbers p) (data_list_variable_numbers ps) h) i
-
--- the variables of a pattern are its numbers
-has-variables : (p : Data) (n : ℕ) → has (variable_numbers p) n ≡ true → has (variables p) n ≡ true
-has-variables p n h = has-fold (variable_numbers p) [] n ∙ or-left _ _ h
-
-pub has-variable_numbers : (p : Data) (n : ℕ) → has (variables p) n ≡ true → has (variable_numbers p) n ≡ true
-has-variable_numbers p n h = drop_false _ (sym (has-fold (variable_numbers p) [] n) ∙ h)
-  where
-    drop_false : (a : Bool) → (a || false) ≡ true → a ≡ true
-    drop_false true e = refl
-    drop_false false e = e
+    data_lists_alike (term p ps) (term t ts) h = λ i. matches_alike p t (first_part p ps h) i && data_lists_alike ps ts (second_part p ps h) i
 
 -- each variable has a first path
 some-or : {X : Type 0} (a b : Option X) → (is_some a || is_some b) ≡ true → is_some (option_or a b) ≡ true
@@ -126,7 +100,7 @@ some-map f None = refl
 some-map f (Some x) = refl
 
 module _ (n : ℕ) where
-  name_placed : (o : Option ℕ) → has (option_to_list o) n ≡ true → is_some {T = Path} (if option_map_or (λ k. n == k) o false then Some [] else None) ≡ true
+  name_placed : (o : Option ℕ) → has (cons_option o []) n ≡ true → is_some {T = Path} (if option_map_or (λ k. n == k) o false then Some [] else None) ≡ true
   name_placed None h = h
   name_placed (Some m) h = by (n == m) h
     where
@@ -148,71 +122,100 @@ module _ (n : ℕ) where
     data_list_placed i no_terms h = h
     data_list_placed i (term p ps) h =
         some-or (option_map (λ q. i ∷ q) (path_of n p)) (path_from n (suc i) ps)
-        (or-cases _ _ _ _ (sym (has-append (variable_numbers p) (data_list_variable_numbers ps) n) ∙ h) (λ e. some-map (λ q. i ∷ q) (path_of n p) ∙ placed p e) (data_list_placed (suc i) ps))
+        (or-cases _ _ _ _ (sym (has-numbers p ps n) ∙ h) (λ e. some-map (λ q. i ∷ q) (path_of n p) ∙ placed p e) (data_list_placed (suc i) ps))
 
-found_value : (pattern t : Data) (n : ℕ) (ns : List ℕ) → has ns n ≡ true → binding (map (λ m. (m, value_at pattern t m)) ns) n ≡ Some (value_at pattern t n)
-found_value pattern t n ns h = found pattern t n ns h
+some_value : (o : Option Data) (t : Data) → is_some o ≡ true → o ≡ Some (unwrap_or o t)
+some_value None t h = cc
+some_value (Some u) t h = refl
 
--- the bindings at the first paths are a match
-pub bindings_of-sound : (pattern t : Data) (b : Bindings) → bindings_of pattern t ≡ Some b → Match pattern t b
-bindings_of-sound pattern t b h = by (matches (λ n. Some (value_at pattern t n)) pattern t) refl h
-  where
-    keys : (ns : List ℕ) → map (λ (x : ℕ × Data). x.0) (map (λ n. (n, value_at pattern t n)) ns) ≡ ns
-    keys [] = refl
-    keys (n ∷ ns) = ap (λ ms. n ∷ ms) (keys ns)
+vacuous : (f : ℕ → Option Data) → Within (binding []) f
+vacuous f n u h = absurd (None-Some h)
 
-    by : (c : Bool) → matches (λ n. Some (value_at pattern t n)) pattern t ≡ c → (if c then Some (occurrences pattern t) else None) ≡ Some b → Match pattern t b
-    by false e q = cc
-    by true e q = subst (Match pattern t) (same_Some q) (record {
-      fits = matches_alike _ _ pattern t (λ n m. found_value pattern t n (variables pattern) (has-variables pattern n m)) ∙ e;
-      bound = keys (variables pattern);
-    })
-
--- if a term matches by some bindings, it matches by those at the first paths
-pub bindings_of-complete : (pattern t : Data) (b : Bindings) → Match pattern t b → bindings_of pattern t ≡ Some (occurrences pattern t)
-bindings_of-complete pattern t b m = rw (matches_alike (λ n. Some (value_at pattern t n)) (binding b) pattern t (λ n h. stands n (path_of n pattern) refl (placed n pattern h)) ∙ m.fits) refl
-  where
-    stands : (n : ℕ) (o : Option Path) → path_of n pattern ≡ o → is_some o ≡ true → Some (value_at pattern t n) ≡ binding b n
-    stands n None e h = cc
-    stands n (Some path) e h = ap (λ (w : Option Path). Some (subterm_at (unwrap_or w []) t)) e ∙ sym (follow (binding b) n pattern t path e m.fits)
-
-module _ (v : ℕ → Data) where
-  -- bindings in order of number are determined by the value of each variable
-  rebuilt : (b : Bindings) → Rising (map (λ (x : ℕ × Data). x.0) b) → ((n : ℕ) → has (map (λ (x : ℕ × Data). x.0) b) n ≡ true → binding b n ≡ Some (v n)) → b ≡ map (λ n. (n, v n)) (map (λ (x : ℕ × Data). x.0) b)
-  rebuilt [] a h = refl
-  rebuilt (x ∷ b) a h = λ i. (x.0, here_is i) ∷ rebuilt b (above-rising x.0 _ a) others i
+-- matching from left to right gives the subterms at the first paths
+module _ (pattern t : Data) (c : Bindings) (e : bindings_of pattern t ≡ Some c) where
+  value_bound : (n : ℕ) → has (variable_numbers pattern) n ≡ true → Some (value_at pattern t n) ≡ binding c n
+  value_bound n h = by (path_of n pattern) refl (placed n pattern h)
     where
-      here_is : x.1 ≡ v x.0
-      here_is = same_Some (rw (itself x.0) at (h x.0 (or-left _ _ (itself x.0))))
+      by : (o : Option Path) → path_of n pattern ≡ o → is_some o ≡ true → Some (value_at pattern t n) ≡ binding c n
+      by None q i = cc
+      by (Some path) q i = ap (λ (w : Option Path). Some (subterm_at (unwrap_or w []) t)) q ∙ sym (follow (binding c) n pattern t path q (sound [] c pattern t e).1)
 
-      others : (n : ℕ) → has (map (λ (x : ℕ × Data). x.0) b) n ≡ true → binding b n ≡ Some (v n)
-      others n e = by (n == x.0) refl
-        where
-          by : (c : Bool) → (n == x.0) ≡ c → binding b n ≡ Some (v n)
-          by true q = absurd (clash (subst (λ m. has (map (λ (x : ℕ × Data). x.0) b) m ≡ true) (same_number n x.0 q) e) (above-apart x.0 _ a))
-          by false q = rw q at (h n (or-right _ _ e))
+  keys_put : keys_of c ≡ fold putting [] (variable_numbers pattern)
+  keys_put = (sound [] c pattern t e).0.1 tt
 
--- all bindings by which a term matches are those at the first paths
-pub bindings_of-only : (pattern t : Data) (b : Bindings) → Match pattern t b → b ≡ occurrences pattern t
-bindings_of-only pattern t b m =
-    rebuilt (value_at pattern t) b (subst Rising (sym m.bound) (fold-rising (variable_numbers pattern) [] tt))
-    (λ n e. sym (stands n (path_of n pattern) refl (placed n pattern (has-variable_numbers pattern n (subst (λ ns. has ns n ≡ true) m.bound e)))))
-    ∙ ap (map (λ n. (n, value_at pattern t n))) m.bound
-  where
-    stands : (n : ℕ) (o : Option Path) → path_of n pattern ≡ o → is_some o ≡ true → Some (value_at pattern t n) ≡ binding b n
-    stands n None e h = cc
-    stands n (Some path) e h = ap (λ (w : Option Path). Some (subterm_at (unwrap_or w []) t)) e ∙ sym (follow (binding b) n pattern t path e m.fits)
+  keys-variables : keys_of c ≡ variables pattern
+  keys-variables = keys_put ∙ sym (variables-put pattern)
 
-pub are_the_bindings : (pattern t : Data) → AreTheBindings pattern t (bindings_of pattern t)
-are_the_bindings pattern t = by (bindings_of pattern t) refl
-  where
-    by : (o : Option Bindings) → bindings_of pattern t ≡ o → AreTheBindings pattern t o
-    by None q = λ b m. None-Some (sym q ∙ bindings_of-complete pattern t b m)
-    by (Some b) q = (bindings_of-sound pattern t b q, λ c m. bindings_of-only pattern t c m ∙ same_Some (sym (bindings_of-complete pattern t c m) ∙ q))
+  keys-rising : Rising (keys_of c)
+  keys-rising = subst Rising (sym keys_put) (fold-rising (variable_numbers pattern) [] tt)
 
-pub is_bindings : (pattern t : Data) (vs : Option (List Data)) → vs ≡ option_map values_of (bindings_of pattern t) → IsBindings pattern t vs
-is_bindings pattern t vs e = subst (IsBindings pattern t) (sym e) (by (bindings_of pattern t) refl)
-  where
-    by : (o : Option Bindings) → bindings_of pattern t ≡ o → IsBindings pattern t (option_map values_of o)
-    by None q = subst (AreTheBindings pattern t) q (are_the_bindings pattern t)
-    by (Some b) q = let those = subst (AreTheBindings pattern t) q (are_the_bindings pattern t) in (b, those.0, refl, those.1)
+  is_key : (n : ℕ) → has (keys_of c) n ≡ true → has (variable_numbers pattern) n ≡ true
+  is_key n h = drop_false _ (sym (has-fold (variable_numbers pattern) [] n) ∙ subst (λ ns. has ns n ≡ true) keys_put h)
+    where
+      drop_false : (a : Bool) → (a || false) ≡ true → a ≡ true
+      drop_false true i = refl
+      drop_false false i = i
+
+  are-occurrences : c ≡ occurrences pattern t
+  are-occurrences = rebuilt (value_at pattern t) c keys-rising (λ n h. sym (value_bound n (is_key n h))) ∙ ap (map (λ n. (n, value_at pattern t n))) keys-variables
+
+  found-by_paths : bindings_by_paths pattern t ≡ Some c
+  found-by_paths = rw (matches_alike (λ n. Some (value_at pattern t n)) (binding c) pattern t value_bound ∙ (sound [] c pattern t e).1) (ap Some (sym are-occurrences))
+
+  are-match : Match pattern t c
+  are-match = record { fits = fixed c pattern t (sound [] c pattern t e).1; bound = keys-variables }
+
+  -- other bindings by which the term matches are the same
+  module _ (d : Bindings) (m : Match pattern t d) where
+    within : Within (binding c) (binding d)
+    within =
+        let x = complete (binding d) [] pattern t (vacuous (binding d)) (sound d d pattern t m.fits).1 in
+        subst (λ b. Within (binding b) (binding d)) (same_Some (sym x.1 ∙ e)) x.2
+
+    abbrev v : ℕ → Data
+    v n = unwrap_or (binding d n) t
+
+    same_keys : keys_of d ≡ keys_of c
+    same_keys = m.bound ∙ sym keys-variables
+
+    shared : (n : ℕ) → has (keys_of c) n ≡ true → binding c n ≡ Some (v n)
+    shared n h =
+        let i = some_value (binding c n) t (has-lookup c n ∙ h) in
+        i ∙ ap Some (sym (ap (λ (o : Option Data). unwrap_or o t) (within n _ i)))
+
+    only : d ≡ c
+    only =
+        rebuilt v d (subst Rising (sym same_keys) keys-rising) (λ n h. some_value (binding d n) t (has-lookup d n ∙ h)) ∙ ap (map (λ n. (n, v n))) same_keys
+        ∙ sym (rebuilt v c keys-rising shared)
+
+module _ (pattern t : Data) where
+  none-match : bindings_of pattern t ≡ None → (b : Bindings) → Match pattern t b → ⊥
+  none-match e b m = None-Some (sym e ∙ (complete (binding b) [] pattern t (vacuous (binding b)) (sound b b pattern t m.fits).1).1)
+
+  none-by_paths : bindings_of pattern t ≡ None → bindings_by_paths pattern t ≡ None
+  none-by_paths e = by (matches values pattern t) refl
+    where
+      values : ℕ → Option Data
+      values n = Some (value_at pattern t n)
+
+      by : (x : Bool) → matches values pattern t ≡ x → (if x then Some (occurrences pattern t) else None) ≡ None
+      by true h = absurd (None-Some (sym e ∙ (complete values [] pattern t (vacuous values) h).1))
+      by false h = refl
+
+  -- both ways of matching agree
+  pub bindings_of-by_paths : bindings_of pattern t ≡ bindings_by_paths pattern t
+  bindings_of-by_paths = by (bindings_of pattern t) refl
+    where
+      by : (o : Option Bindings) → bindings_of pattern t ≡ o → bindings_of pattern t ≡ bindings_by_paths pattern t
+      by None e = e ∙ sym (none-by_paths e)
+      by (Some c) e = e ∙ sym (found-by_paths pattern t c e)
+
+  pub are_the_bindings : AreTheBindings pattern t (bindings_of pattern t)
+  are_the_bindings = by (bindings_of pattern t) refl
+    where
+      by : (o : Option Bindings) → bindings_of pattern t ≡ o → AreTheBindings pattern t o
+      by None e = none-match e
+      by (Some c) e = (are-match pattern t c e, λ d m. only pattern t c e d m)
+
+  pub is_bindings : (vs : Option (List Data)) → vs ≡ option_map values_of (bindings_of pattern t) → IsBindings pattern t vs
+  is_bindings vs e = (bindings_of pattern t, are_the_bindings, sym e)

@@ -1,8 +1,12 @@
 -- Numbers in lists, and lists of numbers in ascending order.
 use Rattle.std.proofs.Common.{◌≡◌, ℕ, ◌<◌, nat_lt, ◌==◌, ◌||◌, ◌++◌, fold, Bool, true, false, if◌then◌else◌, List, [], ◌∷◌, refl, ap, ◌∙◌, arith}
 use Rattle.std.proofs.lemmas.Bool.Decides.{nat_tests}
-use Rattle.std.specs.List.{list_any}
-use Rattle.match_spec.specs.Variables.{put}
+use Rattle.std.proofs.lemmas.List.Elements.{filter_map-append}
+use Rattle.std.specs.BTreeSet.{insert_key}
+use Rattle.std.specs.List.{filter_map, list_any}
+use Rattle.std.specs.Ordering.{nat_cmp}
+use Rattle.ets_term.specs.Data.{Data, DataList, term}
+use Rattle.match_spec.specs.Variables.{atoms_of, data_list_atoms, variable, variables}
 use Rattle.match_spec.proofs.BoolLaws.{or_assoc}
 
 pub same_number : (n m : ℕ) → (n == m) ≡ true → n ≡ m
@@ -11,6 +15,47 @@ same_number n m h = grind (arith, nat_tests)
 pub itself : (n : ℕ) → (n == n) ≡ true
 itself n = grind (arith, nat_tests)
 
+-- the numbers, in ascending order, with one more, unless it is present
+abbrev pub put : ℕ → List ℕ → List ℕ
+put n [] = n ∷ []
+put n (m ∷ ms) = if n == m then m ∷ ms else if nat_lt n m then n ∷ m ∷ ms else m ∷ put n ms
+
+abbrev pub putting : List ℕ → ℕ → List ℕ
+putting ms n = put n ms
+
+-- the numbers of the variables among atoms, of a pattern and of a list of patterns, in the order of their occurrences
+abbrev pub numbers_in : List (List ℕ) → List ℕ
+numbers_in atoms = filter_map variable atoms
+
+abbrev pub variable_numbers : Data → List ℕ
+variable_numbers p = numbers_in (atoms_of p)
+
+abbrev pub data_list_variable_numbers : DataList → List ℕ
+data_list_variable_numbers ps = numbers_in (data_list_atoms ps)
+
+pub numbers-append : (p : Data) (ps : DataList) → data_list_variable_numbers (term p ps) ≡ variable_numbers p ++ data_list_variable_numbers ps
+numbers-append p ps = filter_map-append variable (atoms_of p) (data_list_atoms ps)
+
+insert_key-put : (n : ℕ) (ms : List ℕ) → insert_key nat_cmp ms n ≡ put n ms
+insert_key-put n [] = refl
+insert_key-put n (m ∷ ms) = by (nat_lt n m) (n == m) refl refl (insert_key-put n ms)
+  where
+    less_apart : nat_lt n m ≡ true → (n == m) ≡ false
+    less_apart h = grind (arith, nat_tests)
+
+    by : (less same : Bool) → nat_lt n m ≡ less → (n == m) ≡ same → insert_key nat_cmp ms n ≡ put n ms → insert_key nat_cmp (m ∷ ms) n ≡ put n (m ∷ ms)
+    by true true l s rest = rw (l, less_apart l) refl
+    by true false l s rest = rw (l, s) refl
+    by false true l s rest = rw (l, s) refl
+    by false false l s rest = rw (l, s) (ap (λ ks. m ∷ ks) rest)
+
+fold-put : (ns acc : List ℕ) → fold (insert_key nat_cmp) acc ns ≡ fold putting acc ns
+fold-put [] acc = refl
+fold-put (n ∷ ns) acc = fold-put ns (insert_key nat_cmp acc n) ∙ ap (λ ms. fold putting ms ns) (insert_key-put n acc)
+
+pub variables-put : (p : Data) → variables p ≡ fold putting [] (variable_numbers p)
+variables-put p = fold-put (variable_numbers p) []
+
 -- whether a number is in a list
 abbrev pub has : List ℕ → ℕ → Bool
 has ns n = list_any (λ m. n == m) ns
@@ -18,6 +63,9 @@ has ns n = list_any (λ m. n == m) ns
 pub has-append : (xs ys : List ℕ) (n : ℕ) → has (xs ++ ys) n ≡ (has xs n || has ys n)
 has-append [] ys n = refl
 has-append (x ∷ xs) ys n = ap (λ c. (n == x) || c) (has-append xs ys n) ∙ or_assoc (n == x) (has xs n) (has ys n)
+
+pub has-numbers : (p : Data) (ps : DataList) (n : ℕ) → has (data_list_variable_numbers (term p ps)) n ≡ (has (variable_numbers p) n || has (data_list_variable_numbers ps) n)
+has-numbers p ps n = ap (λ ns. has ns n) (numbers-append p ps) ∙ has-append (variable_numbers p) (data_list_variable_numbers ps) n
 
 -- inserting a number adds that number alone
 pub has-put : (m : ℕ) (ms : List ℕ) (n : ℕ) → has (put m ms) n ≡ ((n == m) || has ms n)

@@ -2,7 +2,7 @@
 use Rattle.std.proofs.Common.{◌≡◌, ℕ, zero, suc, ◌<◌, ◌≤◌, ◌&&◌, Bool, true, false, List, [], ◌∷◌, map, length, get_or, drop, None, refl, arith}
 use Rattle.ets_term.specs.declared.term.Term.{Term}
 use Rattle.ets_term.specs.Data.{Data, data_list, data_of}
-use Rattle.match_spec.specs.Paths.{element_or, path_of, path_from}
+use Rattle.match_spec.specs.inside.Paths.{element_or, path_of, path_from}
 use Rattle.match_spec.specs.inside.CompiledPatterns.{all_fit}
 
 pub element_or-get : (ts : List Term) (i : ℕ) (t : Term) (d : Data) → i < length ts → data_of (get_or ts i t) ≡ element_or (data_list (map data_of ts)) i d

@@ -1,76 +1,26 @@
 -- The collected paths are the first paths of the pattern's variables.
-use Rattle.std.proofs.Common.{◌≡◌, ℕ, suc, nat_lt, ◌==◌, ◌||◌, ◌++◌, cond, is_some, map, fold, unwrap_or, Bool, true, false, if◌then◌else◌, List, [], ◌∷◌, Option, Some, None, refl, sym, ap, subst, ◌∙◌, arith}
-use Rattle.std.proofs.lemmas.Bool.Decides.{nat_tests}
+use Rattle.std.proofs.Common.{◌≡◌, ℕ, suc, ◌==◌, ◌||◌, ◌++◌, is_some, map, fold, unwrap_or, Bool, true, false, if◌then◌else◌, List, [], ◌∷◌, Option, Some, None, refl, sym, ap, subst, ◌∙◌}
 use Rattle.std.proofs.lemmas.List.{append-nil, append_assoc}
 use Rattle.std.proofs.lemmas.List.Sums.{fold-append}
-use Rattle.std.specs.BTreeMap.{insert_entry}
 use Rattle.std.specs.Cmp.{unsigned_ties}
-use Rattle.std.specs.List.{list_any}
+use Rattle.std.specs.List.{cons_option, list_any}
 use Rattle.std.specs.Map.{lookup}
 use Rattle.std.specs.Option.{option_map, option_map_or, option_or}
-use Rattle.std.specs.Ordering.{nat_cmp}
 use Rattle.ets_term.specs.Data.{Data, int, atom, pid, tid, tuple, list, binary, DataList, no_terms, term}
 use Rattle.match_spec.specs.Expressions.{is_bound}
 use Rattle.match_spec.specs.Patterns.{Bindings}
-use Rattle.match_spec.specs.Paths.{Path, path_of, path_from, variable_path, value_at}
-use Rattle.match_spec.specs.Variables.{variable_numbers, data_list_variable_numbers, variable, variables, put}
-use Rattle.std.specs.Prelude.{option_to_list}
+use Rattle.match_spec.specs.inside.Paths.{Path, path_of, path_from, variable_path, value_at}
+use Rattle.match_spec.specs.Variables.{variable, variables}
 use Rattle.match_spec.specs.inside.FirstPaths.{FirstPaths, path_in, first_path, numbers_of, paths_of, insert_unless, record_path, add_first_paths, add_first_paths_from, first_paths_of}
 use Rattle.match_spec.proofs.BoolLaws.{or-right, clash}
-use Rattle.match_spec.proofs.NumberLaws.{has, same_number, itself, Rising, put-rising, put-there, above-apart, above-rising}
-
-abbrev at_number : FirstPaths → ℕ → Option Path
-at_number first n = lookup (λ m. n == m) first
+use Rattle.match_spec.proofs.EntryLaws.{at_number, has-lookup, keys_of-entered, lookup-entered}
+use Rattle.match_spec.proofs.NumberLaws.{has, same_number, itself, put, putting, variable_numbers, data_list_variable_numbers, numbers-append, variables-put, Rising, fold-rising, put-there, above-apart, above-rising}
 
 path_in-number : (first : FirstPaths) (n : ℕ) → path_in first n ≡ at_number first n
 path_in-number first n = ap (λ (test : ℕ → Bool). lookup test first) (λ i m. sym (unsigned_ties n m) i)
 
-has-lookup : (first : FirstPaths) (n : ℕ) → is_some (at_number first n) ≡ has (numbers_of first) n
-has-lookup [] n = refl
-has-lookup (e ∷ es) n = by (n == e.0) (has-lookup es n)
-  where
-    by : (c : Bool) → is_some (at_number es n) ≡ has (numbers_of es) n → is_some (cond c (Some e.1) (at_number es n)) ≡ (c || has (numbers_of es) n)
-    by true rest = refl
-    by false rest = rest
-
 pub is_bound_lookup : (first : FirstPaths) (n : ℕ) → is_some (path_in first n) ≡ is_bound (numbers_of first) (Some n)
 is_bound_lookup first n = ap is_some (path_in-number first n) ∙ has-lookup first n
-
-module _ (n : ℕ) (current : Path) where
-  below : (m : ℕ) → nat_lt n m ≡ true → (n == m) ≡ false
-  below m h = grind (arith, nat_tests)
-
-  abbrev entered : FirstPaths → FirstPaths
-  entered es = insert_entry nat_cmp es n current
-
-  -- a new number is inserted in order
-  variable_numbers-entered : (es : FirstPaths) → at_number es n ≡ None → numbers_of (entered es) ≡ put n (numbers_of es)
-  variable_numbers-entered [] h = refl
-  variable_numbers-entered (e ∷ es) h = by (nat_lt n e.0) (n == e.0) refl refl h (variable_numbers-entered es)
-    where
-      by : (less same : Bool) → nat_lt n e.0 ≡ less → (n == e.0) ≡ same → cond same (Some e.1) (at_number es n) ≡ None → (at_number es n ≡ None → numbers_of (entered es) ≡ put n (numbers_of es))
-          → numbers_of (entered (e ∷ es)) ≡ put n (e.0 ∷ numbers_of es)
-      by true true l s q rest = cc
-      by true false l s q rest = rw (l, s) refl
-      by false true l s q rest = cc
-      by false false l s q rest = rw (l, s) (ap (λ ns. e.0 ∷ ns) (rest q))
-
-  -- and the paths of the others stay
-  lookup-entered : (es : FirstPaths) (m : ℕ) → at_number es n ≡ None → at_number (entered es) m ≡ cond (m == n) (Some current) (at_number es m)
-  lookup-entered [] m h = refl
-  lookup-entered (e ∷ es) m h = by (nat_lt n e.0) (n == e.0) refl refl h (lookup-entered es m)
-    where
-      swap : (c d : Bool) → (m == n) ≡ c → (m == e.0) ≡ d → (n == e.0) ≡ false → cond d (Some e.1) (cond c (Some current) (at_number es m)) ≡ cond c (Some current) (cond d (Some e.1) (at_number es m))
-      swap true true p q r = absurd (clash (subst (λ k. (k == e.0) ≡ true) (same_number m n p) q) r)
-      swap true false p q r = refl
-      swap false true p q r = refl
-      swap false false p q r = refl
-
-      by : (less same : Bool) → nat_lt n e.0 ≡ less → (n == e.0) ≡ same → cond same (Some e.1) (at_number es n) ≡ None → (at_number es n ≡ None → at_number (entered es) m ≡ cond (m == n) (Some current) (at_number es m))
-          → at_number (entered (e ∷ es)) m ≡ cond (m == n) (Some current) (at_number (e ∷ es) m)
-      by less true l s q rest = cc
-      by true false l s q rest = rw l refl
-      by false false l s q rest = rw (l, s) (ap (cond (m == e.0) (Some e.1)) (rest q) ∙ swap (m == n) (m == e.0) refl refl s)
 
 or-None : {X : Type 0} (x : Option X) → option_or x None ≡ x
 or-None None = refl
@@ -124,20 +74,13 @@ module _ (m : ℕ) where
         ∙ or-or (at_number first m) (below_here (current ++ i ∷ []) (path_of m p)) (below_here current (path_from m (suc i) ps))
         ∙ ap (option_or (at_number first m)) (ap (λ o. option_or o (below_here current (path_from m (suc i) ps))) (inside current i (path_of m p)) ∙ sym (map-or (λ path. current ++ path) (option_map (λ path. i ∷ path) (path_of m p)) (path_from m (suc i) ps)))
 
-abbrev putting : List ℕ → ℕ → List ℕ
-putting ms n = put n ms
-
-variable_numbers-record_path : (current : Path) (first : FirstPaths) (o : Option ℕ) → Rising (numbers_of first) → numbers_of (record_path current first o) ≡ fold putting (numbers_of first) (option_to_list o)
+variable_numbers-record_path : (current : Path) (first : FirstPaths) (o : Option ℕ) → Rising (numbers_of first) → numbers_of (record_path current first o) ≡ fold putting (numbers_of first) (cons_option o [])
 variable_numbers-record_path current first None a = refl
 variable_numbers-record_path current first (Some n) a = by (path_in first n) refl
   where
     by : (o : Option Path) → path_in first n ≡ o → numbers_of (insert_unless o first n current) ≡ put n (numbers_of first)
     by (Some p) e = sym (put-there n _ a (sym (has-lookup first n) ∙ ap is_some (sym (path_in-number first n) ∙ e)))
-    by None e = variable_numbers-entered n current first (sym (path_in-number first n) ∙ e)
-
-rising-fold : (ns acc : List ℕ) → Rising acc → Rising (fold putting acc ns)
-rising-fold [] acc a = a
-rising-fold (n ∷ ns) acc a = rising-fold ns (put n acc) (put-rising n acc a)
+    by None e = keys_of-entered n current first (sym (path_in-number first n) ∙ e)
 
 mutual
   variable_numbers-first : (current : Path) (first : FirstPaths) (p : Data) → Rising (numbers_of first) → numbers_of (add_first_paths current first p) ≡ fold putting (numbers_of first) (variable_numbers p)
@@ -153,8 +96,9 @@ mutual
   variable_numbers-from current i first no_terms r = refl
   variable_numbers-from current i first (term p ps) r =
       let same = variable_numbers-first (current ++ i ∷ []) first p r in
-      variable_numbers-from current (suc i) (add_first_paths (current ++ i ∷ []) first p) ps (subst Rising (sym same) (rising-fold (variable_numbers p) _ r))
+      variable_numbers-from current (suc i) (add_first_paths (current ++ i ∷ []) first p) ps (subst Rising (sym same) (fold-rising (variable_numbers p) _ r))
       ∙ ap (λ ms. fold putting ms (data_list_variable_numbers ps)) same ∙ sym (fold-append putting (numbers_of first) (variable_numbers p) (data_list_variable_numbers ps))
+      ∙ ap (fold putting (numbers_of first)) (sym (numbers-append p ps))
 
 -- paths in order of number are the results of looking up each number
 paths_at : (f : ℕ → Path) (es : FirstPaths) → Rising (numbers_of es) → ((n : ℕ) → has (numbers_of es) n ≡ true → f n ≡ unwrap_or (at_number es n) []) → paths_of es ≡ map f (numbers_of es)
@@ -186,11 +130,11 @@ module _ (pattern : Data) where
   first_path-first n = ap (λ (o : Option Path). unwrap_or o []) (path_in-first n)
 
   pub numbers_of-first : numbers_of (first_paths_of pattern) ≡ variables pattern
-  numbers_of-first = variable_numbers-first [] [] pattern tt
+  numbers_of-first = variable_numbers-first [] [] pattern tt ∙ sym (variables-put pattern)
 
   pub paths_of-first : paths_of (first_paths_of pattern) ≡ map (variable_path pattern) (variables pattern)
   paths_of-first =
-      paths_at (variable_path pattern) (first_paths_of pattern) (subst Rising (sym numbers_of-first) (rising-fold (variable_numbers pattern) [] tt)) (λ n h. ap (λ (o : Option Path). unwrap_or o []) (sym (number-first n)))
+      paths_at (variable_path pattern) (first_paths_of pattern) (subst Rising (sym (variable_numbers-first [] [] pattern tt)) (fold-rising (variable_numbers pattern) [] tt)) (λ n h. ap (λ (o : Option Path). unwrap_or o []) (sym (number-first n)))
       ∙ ap (map (variable_path pattern)) numbers_of-first
 
 module _ (pattern object : Data) where

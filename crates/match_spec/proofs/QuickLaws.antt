@@ -23,7 +23,7 @@ use Rattle.match_spec.specs.declared.spec.quick.QuickTest.{QuickTest}
 use Rattle.match_spec.specs.Functions.{data_list_element, truth}
 use Rattle.match_spec.specs.inside.Functions.{comparison_holds}
 use Rattle.match_spec.specs.Specifications.{result_of}
-use Rattle.match_spec.specs.Paths.{Path, element_or, subterm_at}
+use Rattle.match_spec.specs.inside.Paths.{Path, element_or, subterm_at}
 use Rattle.match_spec.specs.inside.CompiledClauses.{applies, all_hold_of, result_of_first}
 use Rattle.match_spec.specs.inside.CompiledExpressions.{expression_value}
 use Rattle.match_spec.specs.inside.CompiledPatterns.{part_fits, all_fit}

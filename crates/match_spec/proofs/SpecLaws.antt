@@ -1,7 +1,8 @@
 -- A compiled match specification gives the same results as the term.
 use Rattle.std.proofs.Common.{◌≡◌, ◌==◌, ℕ, zero, suc, ◌<◌, ◌&&◌, Bool, true, false, if◌then◌else◌, List, [], ◌∷◌, Option, Some, None, map, length, get_or, drop, nat_lt, refl, sym, ap, ◌∙◌, arith}
 use Rattle.std.proofs.lemmas.Bool.Decides.{nat_tests}
-use Rattle.std.specs.Option.{option_map, option_map_or}
+use Rattle.std.specs.List.{list_all, last_or}
+use Rattle.std.specs.Option.{option_map, option_map_or, option_and_then, option_or}
 use Rattle.ets_term.specs.Data.{Data, int, atom, pid, tid, tuple, list, binary, DataList, no_terms, term, data_list, data_of}
 use Rattle.ets_term.specs.declared.term.Term.{Term}
 use Rattle.ets_term.specs.declared.term.Term.TheVariants.{List as Lst}
@@ -12,40 +13,79 @@ use Rattle.match_spec.specs.declared.spec.clause.Clause.{Clause}
 use Rattle.match_spec.specs.inside.CompiledClauses.{is_good_by, raw_clause_of, applies, all_hold_of, last_value_of, body_value_by, result_of_first, clause_of, clause_else, clauses_from, clauses_of}
 use Rattle.match_spec.specs.inside.CompiledExpressions.{expression_value, expressions_of}
 use Rattle.match_spec.specs.inside.FirstPaths.{FirstPaths, numbers_of, paths_of, first_paths_of}
-use Rattle.match_spec.specs.Patterns.{matches, occurrences, bindings_of}
-use Rattle.match_spec.specs.Paths.{value_at}
-use Rattle.match_spec.specs.Specifications.{RawClause, clause_parts, is_good, is_clause, are_clauses, is_spec, all_hold, last_value, body_value, clause_result_or, result_or, first_result, result_of}
-use Rattle.match_spec.specs.Expressions.{are_expressions}
+use Rattle.match_spec.specs.Patterns.{Bindings}
+use Rattle.match_spec.specs.inside.PathBindings.{matches, occurrences, bindings_by_paths}
+use Rattle.match_spec.specs.inside.Paths.{value_at}
+use Rattle.match_spec.specs.Specifications.{RawClause, clause_parts, is_good, is_clause, are_clauses, is_spec, is_true, all_hold, body_value, clause_result, first_result, result_of}
+use Rattle.match_spec.specs.Expressions.{value, all_values, are_expressions}
 use Rattle.match_spec.specs.Variables.{variables}
 use Rattle.match_spec.proofs.BoolLaws.{both-true}
 use Rattle.match_spec.proofs.CompiledLaws.{compiled}
 use Rattle.match_spec.proofs.FitLaws.{fits-pattern}
+use Rattle.match_spec.proofs.MatchLaws.{bindings_of-by_paths}
 use Rattle.match_spec.proofs.PathLaws.{numbers_of-first}
+
+-- the values of an expression and of those after it
+abbrev with_value : Option Data → Option (List Data) → Option (List Data)
+with_value v vs = option_and_then (λ d. option_map (λ ds. d ∷ ds) vs) v
+
+hold-next : (v : Option Data) (vs : Option (List Data)) → (option_map_or is_true v false && option_map_or (list_all is_true) vs false) ≡ option_map_or (list_all is_true) (with_value v vs) false
+hold-next None vs = refl
+hold-next (Some d) (Some ds) = refl
+hold-next (Some d) None = by (is_true d)
+  where
+    by : (x : Bool) → (x && false) ≡ false
+    by true = refl
+    by false = refl
+
+last-one : (v : Option Data) → v ≡ option_and_then (last_or None) (with_value v (Some []))
+last-one None = refl
+last-one (Some d) = refl
+
+last-next : (v w : Option Data) (vs : Option (List Data)) → option_and_then (λ d. option_and_then (last_or None) (with_value w vs)) v ≡ option_and_then (last_or None) (with_value v (with_value w vs))
+last-next None w vs = refl
+last-next (Some d) None vs = refl
+last-next (Some d) (Some e) None = refl
+last-next (Some d) (Some e) (Some ds) = refl
 
 module _ (pattern object : Data) where
   hold_compiled : (es : DataList) → are_expressions (variables pattern) es ≡ true → all_hold_of (map (expression_value (paths_of (first_paths_of pattern))) (expressions_of (first_paths_of pattern) es)) object ≡ all_hold (occurrences pattern object) object es
   hold_compiled no_terms h = refl
-  hold_compiled (term e es) h = let p = both-true _ _ h in rw (compiled pattern object e p.0, hold_compiled es p.1) refl
+  hold_compiled (term e es) h =
+      let p = both-true _ _ h in
+      rw (compiled pattern object e p.0, hold_compiled es p.1) (hold-next (value (occurrences pattern object) object e) (all_values (occurrences pattern object) object es))
 
-  last_compiled : (es : DataList) → are_expressions (variables pattern) es ≡ true → last_value_of (map (expression_value (paths_of (first_paths_of pattern))) (expressions_of (first_paths_of pattern) es)) object ≡ last_value (occurrences pattern object) object es
+  last_compiled : (es : DataList) → are_expressions (variables pattern) es ≡ true → last_value_of (map (expression_value (paths_of (first_paths_of pattern))) (expressions_of (first_paths_of pattern) es)) object
+      ≡ option_and_then (last_or None) (all_values (occurrences pattern object) object es)
   last_compiled no_terms h = refl
-  last_compiled (term e no_terms) h = let p = both-true _ _ h in compiled pattern object e p.0
-  last_compiled (term e (term x es)) h = let p = both-true _ _ h in rw (compiled pattern object e p.0, last_compiled (term x es) p.1) refl
+  last_compiled (term e no_terms) h = let p = both-true _ _ h in compiled pattern object e p.0 ∙ last-one (value (occurrences pattern object) object e)
+  last_compiled (term e (term x es)) h =
+      let p = both-true _ _ h in
+      rw (compiled pattern object e p.0, last_compiled (term x es) p.1)
+      (last-next (value (occurrences pattern object) object e) (value (occurrences pattern object) object x) (all_values (occurrences pattern object) object es))
 
 module _ (object : Data) where
-  clause_result : (c : RawClause) (cs : List Clause) (rest : Option Data) → is_good c ≡ true → result_of_first cs object ≡ rest → result_of_first (clause_of c ∷ cs) object ≡ clause_result_or (bindings_of c.pattern object) object c rest
-  clause_result c cs rest good e =
+  -- what a clause gives by bindings, before the clauses after it
+  abbrev given_by : RawClause → Option Data → Option Bindings → Option Data
+  given_by c rest o = option_or (option_and_then (λ b. if all_hold b object c.conditions then Some (body_value b object c.body) else None) o) rest
+
+  clause_first : (c : RawClause) (cs : List Clause) (rest : Option Data) → is_good c ≡ true → result_of_first cs object ≡ rest → result_of_first (clause_of c ∷ cs) object ≡ given_by c rest (bindings_by_paths c.pattern object)
+  clause_first c cs rest good e =
       let p = both-true _ _ (both-true _ _ good).1 in
       rw (fits-pattern c.pattern object, hold_compiled c.pattern object c.conditions p.0, last_compiled c.pattern object c.body p.1, e) (by (matches (λ n. Some (value_at c.pattern object n)) c.pattern object))
     where
+      pick : (x : Bool) (d : Data) → (if x then Some d else rest) ≡ option_or (if x then Some d else None) rest
+      pick true d = refl
+      pick false d = refl
+
       by : (m : Bool) → (if m && all_hold (occurrences c.pattern object) object c.conditions then Some (body_value (occurrences c.pattern object) object c.body) else rest)
-          ≡ clause_result_or (if m then Some (occurrences c.pattern object) else None) object c rest
-      by true = refl
+          ≡ given_by c rest (if m then Some (occurrences c.pattern object) else None)
+      by true = pick (all_hold (occurrences c.pattern object) object c.conditions) (body_value (occurrences c.pattern object) object c.body)
       by false = refl
 
-  clause_else_result : (o : Option RawClause) (cs : List Clause) (rest : Option Data) → option_map_or is_good o false ≡ true → result_of_first cs object ≡ rest → result_of_first (clause_else o cs) object ≡ result_or o object rest
+  clause_else_result : (o : Option RawClause) (cs : List Clause) (rest : Option Data) → option_map_or is_good o false ≡ true → result_of_first cs object ≡ rest → result_of_first (clause_else o cs) object ≡ option_or (option_and_then (clause_result object) o) rest
   clause_else_result None cs rest good e = e
-  clause_else_result (Some c) cs rest good e = clause_result c cs rest good e
+  clause_else_result (Some c) cs rest good e = clause_first c cs rest good e ∙ ap (given_by c rest) (sym (bindings_of-by_paths c.pattern object))
 
   from : (cs : DataList) → are_clauses cs ≡ true → result_of_first (clauses_from cs) object ≡ first_result cs object
   from no_terms h = refl

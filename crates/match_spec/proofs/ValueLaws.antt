@@ -13,7 +13,7 @@ use Rattle.match_spec.specs.Specifications.{is_true}
 use Rattle.match_spec.specs.inside.Functions.{decides}
 use Rattle.match_spec.specs.declared.expression.function.Function.{Function}
 use Rattle.match_spec.specs.declared.expression.Expression.TheVariants.{Apply}
-use Rattle.match_spec.specs.Paths.{Path}
+use Rattle.match_spec.specs.inside.Paths.{Path}
 use Rattle.match_spec.proofs.CompiledLaws.{of-Apply}
 use Rattle.ets_term.specs.laws.Exact.{data_of-List}
 use Rattle.ets_term.specs.declared.term.Term.TheVariants.{List as Lst}

@@ -1,27 +1,19 @@
 -- The keys that patterns and match specifications bind.
-use Rattle.std.specs.Prelude.{◌≡◌, ℕ, ◌&&◌, not, Bool, true, false, if◌then◌else◌, Option, Some, None, is_some, codes}
+use Rattle.std.specs.Prelude.{◌≡◌, ℕ, ◌&&◌, ◌||◌, not, Bool, true, false, if◌then◌else◌, Option, Some, None, is_some, codes}
+use Rattle.std.specs.List.{list_all}
 use Rattle.std.specs.Option.{option_and_then, option_map_or}
 use Rattle.std.specs.Str.{bytes_eq}
-use Rattle.ets_term.specs.Data.{Data, atom, tuple, list, DataList, no_terms, term, data_of}
+use Rattle.ets_term.specs.Data.{Data, list, DataList, no_terms, term, data_of}
 use Rattle.ets_term.specs.Depth.{element_at}
 use Rattle.ets_term.specs.declared.term.Term.{Term}
 use Rattle.match_spec.specs.Functions.{tuple_element}
-use Rattle.match_spec.specs.Patterns.{equal_terms, bindings_of}
-use Rattle.match_spec.specs.Specifications.{clause_parts, result_of}
-use Rattle.match_spec.specs.Variables.{variable}
+use Rattle.match_spec.specs.Patterns.{equal_terms}
+use Rattle.match_spec.specs.Specifications.{clause_parts}
+use Rattle.match_spec.specs.Variables.{variable, atoms_of}
 
-abbrev mutual
-  -- whether a part of a pattern has neither a variable nor `'_'`
-  pub is_ground : Data → Bool
-  is_ground (atom a) = not (bytes_eq a (codes "_")) && not (is_some (variable a))
-  is_ground (tuple ps) = are_ground ps
-  is_ground (list ps) = are_ground ps
-  is_ground p = true
-
-  -- whether no part of a list has a variable or `'_'`
-  pub are_ground : DataList → Bool
-  are_ground no_terms = true
-  are_ground (term p ps) = is_ground p && are_ground ps
+-- whether a part of a pattern has neither a variable nor `'_'`
+abbrev pub is_ground : Data → Bool
+is_ground p = list_all (λ a. not (bytes_eq a (codes "_") || is_some (variable a))) (atoms_of p)
 
 -- the bound key of a pattern: its element at keypos, if that has neither a variable nor `'_'`
 abbrev pub bound_key : ℕ → Data → Option Data
@@ -43,12 +35,6 @@ spec_key keypos (list (term c cs)) =
     option_and_then (λ key. if all_bind keypos key cs then Some key else None) (clause_key keypos c)
 spec_key keypos spec = None
 
--- every object that matches the pattern has this key
-abbrev pub IsKeyOfMatches : ℕ → Data → Term → Type 0
-IsKeyOfMatches keypos pattern key =
-    (object : Term) → is_some (bindings_of pattern (data_of object)) ≡ true → element_at keypos object ≡ Some key
-
--- every object for which the match specification gives a result has this key
-abbrev pub IsKeyOfResults : ℕ → Data → Term → Type 0
-IsKeyOfResults keypos spec key =
-    (object : Term) → is_some (result_of spec (data_of object)) ≡ true → element_at keypos object ≡ Some key
+-- every term that has a result has this key
+abbrev pub IsKeyOf : {X : Type 0} → ℕ → (Data → Option X) → Term → Type 0
+IsKeyOf keypos result key = (t : Term) → is_some (result (data_of t)) ≡ true → element_at keypos t ≡ Some key

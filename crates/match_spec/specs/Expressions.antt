@@ -31,13 +31,11 @@ short_circuit_connective f =
 
 -- whether the second truth value decides a connective that the first truth value decides: both are equal
 abbrev pub decides : Bool → Bool → Bool
-decides true x = x
-decides false x = not x
+decides decisive x = if decisive then x else not x
 
 -- joins two booleans by the connective that the first truth value decides: true decides `or`, false decides `and`
 abbrev pub join : Bool → Bool → Bool → Bool
-join true x y = x || y
-join false x y = x && y
+join decisive x y = if decisive then x || y else x && y
 
 -- the value of `{const,T}` is T, which is not evaluated; any other call has the value `otherwise`
 abbrev pub constant_or : List ℕ → DataList → Option Data → Option Data

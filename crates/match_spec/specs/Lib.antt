@@ -2,9 +2,7 @@ pub mod BoundKeys
 pub mod Expressions
 pub mod Functions
 pub mod Patterns
-pub mod Paths
 pub mod Specifications
 pub mod Variables
 pub mod Matching
 pub mod inside
-pub mod laws

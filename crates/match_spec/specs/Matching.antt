@@ -1,18 +1,20 @@
--- When a term matches a pattern, without a computation: by bindings that exist.
-use Rattle.std.specs.Prelude.{◌≡◌, List, Option, Some, None, map, IsTrue}
-use Rattle.std.specs.Map.{values_of}
+-- The bindings by which a term matches a pattern, and that they are the only ones.
+use Rattle.std.specs.Prelude.{◌≡◌, List, Option, Some, None, option_map}
+use Rattle.std.specs.Map.{keys_of, values_of}
 use Rattle.ets_term.specs.Data.{Data}
+use Rattle.match_spec.specs.Patterns.{Bindings, bindings_after}
 use Rattle.match_spec.specs.Variables.{variables}
-use Rattle.match_spec.specs.Patterns.{binding, matches, Bindings}
 
--- the term matches the pattern by these bindings, which bind exactly the pattern's variables
+-- the term matches the pattern by these bindings: they bind exactly its variables, and matching leaves them as they are
 pub record Match (pattern t : Data) (b : Bindings) : Type 0 where
-  pub fits : IsTrue (matches (binding b) pattern t)
-  pub bound : map (λ x. x.0) b ≡ variables pattern
+  pub fits : bindings_after b pattern t ≡ Some b
+  pub bound : keys_of b ≡ variables pattern
 
--- the values, in order of number, of the only bindings by which a term matches a pattern; None if it does not match
+-- the only bindings by which a term matches a pattern, None if it does not match
+abbrev pub AreTheBindings : Data → Data → Option Bindings → Type 0
+AreTheBindings pattern t None = (b : Bindings) → Match pattern t b → ⊥
+AreTheBindings pattern t (Some b) = Match pattern t b × ((c : Bindings) → Match pattern t c → c ≡ b)
+
+-- the values of the only bindings, in order of number
 abbrev pub IsBindings : Data → Data → Option (List Data) → Type 0
-IsBindings pattern t None = (b : Bindings) → Match pattern t b → ⊥
-IsBindings pattern t (Some vs) =
-    (b : Bindings) × Match pattern t b × (values_of b ≡ vs)
-    × ((c : Bindings) → Match pattern t c → c ≡ b)
+IsBindings pattern t values = (b : Option Bindings) × AreTheBindings pattern t b × (option_map values_of b ≡ values)

@@ -1,11 +1,12 @@
 -- Match specifications, and what they give for an object (ERTS User's Guide, Match Specifications in Erlang).
-use Rattle.std.specs.Prelude.{ℕ, ◌&&◌, nat_lt, Bool, true, false, if◌then◌else◌, List, Option, Some, None, unwrap_or, codes}
-use Rattle.std.specs.Option.{option_map_or, option_and_then}
+use Rattle.std.specs.Prelude.{◌&&◌, nat_lt, Bool, true, false, if◌then◌else◌, Option, Some, None, unwrap_or, codes}
+use Rattle.std.specs.List.{list_all, last_or}
+use Rattle.std.specs.Option.{option_map_or, option_and_then, option_or}
 use Rattle.std.specs.Str.{bytes_eq}
 use Rattle.ets_term.specs.Data.{Data, atom, tuple, list, DataList, no_terms, term}
 use Rattle.ets_term.specs.Order.{data_list_len}
 use Rattle.match_spec.specs.Patterns.{Bindings, bindings_of}
-use Rattle.match_spec.specs.Expressions.{value, are_expressions}
+use Rattle.match_spec.specs.Expressions.{all_values, are_expressions}
 use Rattle.match_spec.specs.Variables.{variables}
 
 -- a pattern is an atom or a tuple
@@ -54,34 +55,23 @@ is_true d = false
 
 -- whether the value of each condition is true; a condition that fails does not hold
 abbrev pub all_hold : Bindings → Data → DataList → Bool
-all_hold b object no_terms = true
-all_hold b object (term c cs) = option_map_or is_true (value b object c) false && all_hold b object cs
+all_hold b object conditions = option_map_or (list_all is_true) (all_values b object conditions) false
 
--- the value of the last expression of a body, or None if one of the expressions fails
-abbrev pub last_value : Bindings → Data → DataList → Option Data
-last_value b object no_terms = None
-last_value b object (term e no_terms) = value b object e
-last_value b object (term e es) = option_and_then (λ d. last_value b object es) (value b object e)
-
--- the value of the last expression of a body, or `'EXIT'` if one of them fails
+-- the value of the last expression of a body, or `'EXIT'` if one of its expressions fails
 abbrev pub body_value : Bindings → Data → DataList → Data
-body_value b object body = unwrap_or (last_value b object body) (atom (codes "EXIT"))
+body_value b object body = unwrap_or (option_and_then (last_or None) (all_values b object body)) (atom (codes "EXIT"))
 
--- the result of a clause, if its pattern matched by bindings and its conditions hold; else `otherwise`
-abbrev pub clause_result_or : Option Bindings → Data → RawClause → Option Data → Option Data
-clause_result_or None object c otherwise = otherwise
-clause_result_or (Some b) object c otherwise =
-    if all_hold b object c.conditions then Some (body_value b object c.body) else otherwise
+-- the result of a clause for an object: the value of its body, if its pattern matches and its conditions hold
+abbrev pub clause_result : Data → RawClause → Option Data
+clause_result object c =
+    option_and_then (λ b. if all_hold b object c.conditions then Some (body_value b object c.body) else None)
+    (bindings_of c.pattern object)
 
--- the result of a clause for an object, if the clause applies; else `otherwise`
-abbrev pub result_or : Option RawClause → Data → Option Data → Option Data
-result_or None object otherwise = otherwise
-result_or (Some c) object otherwise = clause_result_or (bindings_of c.pattern object) object c otherwise
-
--- the result of the first clause whose pattern matches the object and whose conditions hold; None if there is none
+-- the result of the first clause that has one; None if there is none
 abbrev pub first_result : DataList → Data → Option Data
 first_result no_terms object = None
-first_result (term c cs) object = result_or (clause_parts c) object (first_result cs object)
+first_result (term c cs) object =
+    option_or (option_and_then (clause_result object) (clause_parts c)) (first_result cs object)
 
 -- the result of a match specification for an object, or None if no clause applies
 abbrev pub result_of : Data → Data → Option Data

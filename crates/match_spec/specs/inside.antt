@@ -3,4 +3,7 @@ pub mod CompiledExpressions
 pub mod CompiledPatterns
 pub mod FirstPaths
 pub mod Functions
+pub mod Ground
+pub mod PathBindings
+pub mod Paths
 pub mod QuickTests

@@ -3,7 +3,8 @@
 ghost use Rattle.std.specs.Prelude.{◌≡◌, if◌then◌else◌, Some, None, map, drop, option_copied};
 ghost use Rattle.std.specs.Option.{option_map};
 ghost use Rattle.ets_term.specs.Data.{atom, list, data_of, data_list};
-ghost use Rattle.match_spec.specs.BoundKeys.{is_ground, are_ground, bound_key, clause_key, all_bind, spec_key};
+ghost use Rattle.match_spec.specs.BoundKeys.{bound_key, clause_key, all_bind, spec_key};
+ghost use Rattle.match_spec.specs.inside.Ground.{is_ground, are_ground};
 
 use crate::spec::check::clause_parts;
 use crate::variable::variable;

@@ -4,7 +4,7 @@ ghost use Rattle.std.specs.Prelude.{◌≡◌, ◌↔◌, true, false, Some, is_
 ghost use Rattle.std.specs.Option.{option_map};
 ghost use Rattle.std.specs.Map.{values_of};
 ghost use Rattle.ets_term.specs.Data.{data_of};
-ghost use Rattle.match_spec.specs.BoundKeys.{bound_key, IsKeyOfMatches};
+ghost use Rattle.match_spec.specs.BoundKeys.{bound_key, IsKeyOf};
 ghost use Rattle.match_spec.specs.Patterns.{bindings_of};
 ghost use Rattle.match_spec.specs.Matching.{IsBindings};
 ghost use Rattle.match_spec.specs.Specifications.{is_pattern};
@@ -111,7 +111,7 @@ impl Pattern {
     /// or the pattern has no such element. Every object that matches has the returned key.
     pub fn bound_key(&self, keypos: Position) -> Option<&Term>
         ensures key { option_map data_of (option_copied result) ≡ bound_key keypos (data_of self.now) }
-        ensures every { IfSome result (λ key. IsKeyOfMatches keypos (data_of self.now) key.now) }
+        ensures every { IfSome result (λ key. IsKeyOf keypos (bindings_of (data_of self.now)) key.now) }
     {
         bound_part(&self.source, keypos)
     }

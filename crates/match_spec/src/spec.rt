@@ -3,7 +3,7 @@
 ghost use Rattle.std.specs.Prelude.{◌≡◌, [], ◌∷◌, ◌++◌, true, false, None, map, option_copied, IfOk, OnOk, IfSome, IsErrOf};
 ghost use Rattle.std.specs.Option.{option_map, option_map_or};
 ghost use Rattle.ets_term.specs.Data.{list, data_of, data_list};
-ghost use Rattle.match_spec.specs.BoundKeys.{spec_key, IsKeyOfResults};
+ghost use Rattle.match_spec.specs.BoundKeys.{spec_key, IsKeyOf};
 ghost use Rattle.match_spec.specs.Specifications.{is_true, is_spec, is_clause, are_clauses, is_good, result_of};
 ghost use Rattle.match_spec.specs.inside.CompiledClauses.{clauses_of, clauses_from, clause_of, clause_with, raw_clause_of};
 ghost use Rattle.match_spec.specs.inside.FirstPaths.{first_paths_of};
@@ -107,7 +107,7 @@ impl Spec {
     /// have neither a variable nor `'_'`. Otherwise returns `None`. Every object with a result has the returned key.
     pub fn bound_key(&self, keypos: Position) -> Option<&Term>
         ensures key { option_map data_of (option_copied result) ≡ spec_key keypos (data_of self.now) }
-        ensures every { IfSome result (λ key. IsKeyOfResults keypos (data_of self.now) key.now) }
+        ensures every { IfSome result (λ key. IsKeyOf keypos (result_of (data_of self.now)) key.now) }
     {
         match &self.source {
             Term::List(clauses) => common_bound_key(clauses.as_slice(), keypos),

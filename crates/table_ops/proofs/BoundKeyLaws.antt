@@ -19,7 +19,7 @@ use Rattle.bucket_table.specs.Rows.{HasDistinctKeys}
 use Rattle.table_ops.specs.declared.kind.Kind.{Kind}
 use Rattle.table_ops.specs.Content.{objects_under}
 use Rattle.table_ops.specs.Invariants.{IsObjectOfKey, AreSlots}
-use Rattle.match_spec.specs.BoundKeys.{IsKeyOfMatches}
+use Rattle.match_spec.specs.BoundKeys.{IsKeyOf}
 use Rattle.match_spec.specs.Patterns.{bindings_of}
 use Rattle.table_ops.specs.Queries.{bound_in, matches}
 use Rattle.table_ops.specs.Results.{chosen_count, matched_object}
@@ -201,14 +201,14 @@ module _ {A : Type 0} (now : A → Term) (keypos : ℕ) where
   if-some true d h = refl
   if-some false d h = h
 
-  pub bindings-require : (pattern : Term) (o : Option A) → IfSome o (λ k. IsKeyOfMatches keypos (data_of pattern) (now k)) → RequiresKey keypos (option_map now o) (λ object. is_some (bound_in pattern object))
+  pub bindings-require : (pattern : Term) (o : Option A) → IfSome o (λ k. IsKeyOf keypos (bindings_of (data_of pattern)) (now k)) → RequiresKey keypos (option_map now o) (λ object. is_some (bound_in pattern object))
   bindings-require pattern o h =
       requires-of (λ object. is_some (bound_in pattern object)) o
-      (some-weaker (λ k. IsKeyOfMatches keypos (data_of pattern) (now k)) (λ k. (object : Term) → is_some (bound_in pattern object) ≡ true → element_at keypos object ≡ Some (now k)) o
+      (some-weaker (λ k. IsKeyOf keypos (bindings_of (data_of pattern)) (now k)) (λ k. (object : Term) → is_some (bound_in pattern object) ≡ true → element_at keypos object ≡ Some (now k)) o
       (λ k e object t. e object (mapped-some (λ b. list (data_list (values_of b))) (bindings_of (data_of pattern) (data_of object)) t)) h)
 
-  pub objects-require : (pattern : Term) (o : Option A) → IfSome o (λ k. IsKeyOfMatches keypos (data_of pattern) (now k)) → RequiresKey keypos (option_map now o) (λ object. is_some (matched_object pattern object))
+  pub objects-require : (pattern : Term) (o : Option A) → IfSome o (λ k. IsKeyOf keypos (bindings_of (data_of pattern)) (now k)) → RequiresKey keypos (option_map now o) (λ object. is_some (matched_object pattern object))
   objects-require pattern o h =
       requires-of (λ object. is_some (matched_object pattern object)) o
-      (some-weaker (λ k. IsKeyOfMatches keypos (data_of pattern) (now k)) (λ k. (object : Term) → is_some (matched_object pattern object) ≡ true → element_at keypos object ≡ Some (now k)) o
+      (some-weaker (λ k. IsKeyOf keypos (bindings_of (data_of pattern)) (now k)) (λ k. (object : Term) → is_some (matched_object pattern object) ≡ true → element_at keypos object ≡ Some (now k)) o
       (λ k e object t. e object (if-some (matches pattern object) (data_of object) t)) h)

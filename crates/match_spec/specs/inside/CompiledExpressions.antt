@@ -14,7 +14,7 @@ use Rattle.ets_term.specs.declared.term.Term.TheVariants.{Atom}
 use Rattle.ets_term.specs.Order.{data_list_len}
 use Rattle.ets_term.specs.Trees.{term_of}
 use Rattle.match_spec.specs.Functions.{boolean, truth}
-use Rattle.match_spec.specs.Paths.{Path, subterm_at}
+use Rattle.match_spec.specs.inside.Paths.{Path, subterm_at}
 use Rattle.match_spec.specs.Variables.{variable}
 use Rattle.match_spec.specs.inside.FirstPaths.{FirstPaths, first_path}
 use Rattle.match_spec.specs.inside.Functions.{function_of, strict_connective, short_circuit_connective, apply, decides, neutral, combine}

@@ -8,7 +8,7 @@ use Rattle.match_spec.specs.declared.pattern.part.Part.{Part, fold-Part}
 use Rattle.match_spec.specs.declared.pattern.part.Part.TheOpen.{Part-F}
 use Rattle.match_spec.specs.declared.pattern.part.Part.TheVariants.{Wildcard, Repeated, Tuple, List as Terms, Literal}
 use Rattle.match_spec.specs.Patterns.{equal_terms}
-use Rattle.match_spec.specs.Paths.{Path, subterm_at}
+use Rattle.match_spec.specs.inside.Paths.{Path, subterm_at}
 use Rattle.match_spec.specs.Variables.{variable}
 use Rattle.match_spec.specs.inside.FirstPaths.{FirstPaths, first_path, paths_of, first_paths_of}
 

@@ -4,7 +4,7 @@ use Rattle.std.specs.BTreeMap.{is_at, insert_entry}
 use Rattle.std.specs.Map.{lookup}
 use Rattle.std.specs.Ordering.{nat_cmp}
 use Rattle.ets_term.specs.Data.{Data, atom, tuple, list, DataList, no_terms, term}
-use Rattle.match_spec.specs.Paths.{Path}
+use Rattle.match_spec.specs.inside.Paths.{Path}
 use Rattle.match_spec.specs.Variables.{variable}
 
 abbrev pub FirstPaths : Type 0

@@ -7,7 +7,7 @@ use Rattle.match_spec.specs.declared.expression.Expression.{Expression}
 use Rattle.match_spec.specs.declared.spec.clause.Clause.{Clause}
 use Rattle.match_spec.specs.declared.spec.quick.QuickTest.{QuickTest}
 use Rattle.match_spec.specs.Functions.{data_list_element, truth}
-use Rattle.match_spec.specs.Paths.{Path, subterm_at}
+use Rattle.match_spec.specs.inside.Paths.{Path, subterm_at}
 use Rattle.match_spec.specs.Specifications.{is_spec}
 use Rattle.match_spec.specs.inside.CompiledClauses.{all_hold_of, applies, result_of_first, clauses_of}
 use Rattle.match_spec.specs.inside.CompiledExpressions.{expression_value}

@@ -2,7 +2,7 @@
 //! leads to its first occurrence in the pattern.
 ghost use Rattle.std.specs.Prelude.{◌≡◌, [], ◌∷◌, map, IfOk, OnOk};
 ghost use Rattle.ets_term.specs.Data.{data_of, data_list};
-ghost use Rattle.match_spec.specs.Paths.{subterm_at, element_or};
+ghost use Rattle.match_spec.specs.inside.Paths.{subterm_at, element_or};
 ghost use Rattle.match_spec.specs.inside.CompiledExpressions.{subterms_at};
 ghost use Rattle.match_spec.specs.inside.FirstPaths.{add_first_paths, add_first_paths_from, first_paths_of, record_path, paths_of, first_path};
 

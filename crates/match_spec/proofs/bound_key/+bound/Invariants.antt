@@ -1,6 +1,6 @@
 use Rattle.std.proofs.Common.{◌≡◌, map, drop}
 use Rattle.ets_term.specs.Data.{data_of, data_list}
-use Rattle.match_spec.specs.BoundKeys.{are_ground}
+use Rattle.match_spec.specs.inside.Ground.{are_ground}
 use Rattle.match_spec.proofs.bound_key.+bound.Given as goal
 
 abbrev pub invariant-are_ground-loop-part : goal.invariant-are_ground-loop-part

@@ -2,7 +2,7 @@ use Rattle.std.proofs.Common.{◌≡◌, List, true, is_some, ap, ◌∙◌}
 use Rattle.ets_term.specs.Data.{data_of}
 use Rattle.ets_term.specs.declared.term.Term.{Term}
 use Rattle.match_spec.specs.Patterns.{bindings_of}
-use Rattle.match_spec.specs.Paths.{Path}
+use Rattle.match_spec.specs.inside.Paths.{Path}
 use Rattle.match_spec.specs.inside.CompiledExpressions.{subterms_at}
 use Rattle.match_spec.proofs.BoolLaws.{IfOk-map}
 use Rattle.match_spec.proofs.FitLaws.{values-fit}

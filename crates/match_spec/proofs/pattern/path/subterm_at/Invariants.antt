@@ -1,6 +1,6 @@
 use Rattle.std.proofs.Common.{◌≡◌, drop}
 use Rattle.ets_term.specs.Data.{data_of}
-use Rattle.match_spec.specs.Paths.{subterm_at}
+use Rattle.match_spec.specs.inside.Paths.{subterm_at}
 use Rattle.match_spec.proofs.pattern.path.subterm_at.Given as goal
 
 abbrev pub invariant-loop-i : goal.invariant-loop-i
