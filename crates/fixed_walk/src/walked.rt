@@ -6,6 +6,8 @@ ghost use Rattle.bucket_table.specs.Buckets.{IsGrown};
 ghost use Rattle.bucket_table.specs.Readying.{IsReadied};
 ghost use Rattle.bucket_table.specs.Slots.{object_count};
 ghost use Rattle.table_ops.specs.Invariants.{IsContent};
+ghost use Rattle.table_ops.specs.Limit.{SetsLimit};
+ghost use Rattle.fixed_walk.specs.TableState.{on_content};
 ghost use Rattle.fixed_walk.specs.Invariants.{IsFixedBySome, HasNoTombstones, TombstonesOnlyWhileFixed, with_fixes};
 
 use crate::lazy_fixes::LazyFixes;
@@ -90,6 +92,20 @@ impl<R: Rows> Walked<R> {
         ensures few { result < 2 ^ 32 }
     {
         self.table.size()
+    }
+
+    /// Returns the limit: the most objects that the table may have.
+    pub fn limit(&self) -> u32
+        ensures { result ≡ self.now.content.limit }
+    {
+        self.table.limit()
+    }
+
+    /// Sets the limit, unless the table has more objects. Returns whether it did. If not, nothing changes.
+    pub fn set_limit(&mut self, limit: u32) -> bool
+        ensures { on_content (SetsLimit limit) self.old result self.new }
+    {
+        self.table.set_limit(limit)
     }
 
     /// Returns the number of slots, tombstones included.

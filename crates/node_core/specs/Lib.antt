@@ -6,6 +6,7 @@ pub mod CallName
 pub mod Calls
 pub mod Machine
 pub mod Reads
+pub mod Limit
 pub mod Buckets
 pub mod Through
 pub mod Values

@@ -2,6 +2,7 @@ pub mod Content
 pub mod ContentState
 pub mod Drop
 pub mod Invariants
+pub mod Limit
 pub mod Outcomes
 pub mod Put
 pub mod Queries

@@ -4,6 +4,7 @@ ghost use Rattle.std.specs.Prelude.{◌≡◌, ◌<◌, ◌≤◌, ◌^◌, [], 
 ghost use Rattle.bucket_table.specs.Buckets.{IsGrown};
 ghost use Rattle.bucket_table.specs.Readying.{IsReadied};
 ghost use Rattle.bucket_table.specs.Slots.{object_count};
+ghost use Rattle.table_ops.specs.Limit.{SetsLimit};
 ghost use Rattle.table_ops.specs.Invariants.{IsContent};
 
 use crate::kind::Kind;
@@ -93,6 +94,25 @@ impl<R: Rows> Table<R> {
         ensures few { result < 2 ^ 32 }
     {
         self.count
+    }
+
+    /// Returns the limit: the most objects that the table may have.
+    pub fn limit(&self) -> u32
+        ensures { result ≡ self.now.content.limit }
+    {
+        self.inner.limit
+    }
+
+    /// Sets the limit, unless the table has more objects. Returns whether it did. If not, nothing changes.
+    pub fn set_limit(&mut self, limit: u32) -> bool
+        ensures content { SetsLimit limit self.old.content result self.new.content }
+        ensures buckets { self.new.buckets ≡ self.old.buckets }
+    {
+        let fits = self.size() <= limit as usize;
+        if fits {
+            self.inner.limit = limit;
+        }
+        fits
     }
 
     /// Returns the number of slots, tombstones included.
