@@ -33,7 +33,7 @@ impl<'a> Update<'a> {
     pub(crate) fn new(key: &'a Term, changes: &'a Term, default: Option<&'a Term>) -> Update<'a>
         ensures key { result.key.now ≡ key.now }
         ensures changes { result.changes.now ≡ changes.now }
-        ensures default { option_copied result.default ≡ option_copied default }
+        ensures default { option_copied result.default ≡ option_copied default.entry }
     {
         Update {
             key,
