@@ -3,40 +3,42 @@ use Rattle.std.specs.Prelude.{ℕ, List, [], ◌∷◌, Option, codes}
 use Rattle.std.specs.Map.{lookup}
 use Rattle.std.specs.Str.{bytes_eq}
 use Rattle.node_core.specs.declared.call_name.CallName.{CallName}
-use Rattle.node_core.specs.declared.call_name.CallName.TheVariants.{Delete, DeleteAllObjects, DeleteObject, First, FirstLookup, GiveAway, Info, Insert, InsertNew, Lookup, LookupElement, Match, MatchDelete, MatchObject, Member, New, Next, NextLookup, Receive, SafeFixtable, Select, SelectCount, SelectDelete, SetOptions, Tab2list, Take, UpdateCounter, UpdateElement, Whereis}
+use Rattle.node_core.specs.declared.call_name.CallName.TheVariants.{Read, Write}
+use Rattle.node_core.specs.declared.call_name.ReadName.TheVariants.{First, FirstLookup, Info, Lookup, LookupElement, Match, MatchObject, Member, Next, NextLookup, Select, SelectCount, Tab2list, Whereis}
+use Rattle.node_core.specs.declared.call_name.WriteName.TheVariants.{Delete, DeleteAllObjects, DeleteObject, GiveAway, Insert, InsertNew, MatchDelete, New, Receive, SafeFixtable, SelectDelete, SetOptions, Take, UpdateCounter, UpdateElement}
 
 -- each name, as it is spelled
 abbrev pub spellings : List (List ℕ × CallName)
 spellings =
-    (codes "delete", Delete)
-    ∷ (codes "delete_all_objects", DeleteAllObjects)
-    ∷ (codes "delete_object", DeleteObject)
-    ∷ (codes "first", First)
-    ∷ (codes "first_lookup", FirstLookup)
-    ∷ (codes "give_away", GiveAway)
-    ∷ (codes "info", Info)
-    ∷ (codes "insert", Insert)
-    ∷ (codes "insert_new", InsertNew)
-    ∷ (codes "lookup", Lookup)
-    ∷ (codes "lookup_element", LookupElement)
-    ∷ (codes "match", Match)
-    ∷ (codes "match_delete", MatchDelete)
-    ∷ (codes "match_object", MatchObject)
-    ∷ (codes "member", Member)
-    ∷ (codes "new", New)
-    ∷ (codes "next", Next)
-    ∷ (codes "next_lookup", NextLookup)
-    ∷ (codes "receive", Receive)
-    ∷ (codes "safe_fixtable", SafeFixtable)
-    ∷ (codes "select", Select)
-    ∷ (codes "select_count", SelectCount)
-    ∷ (codes "select_delete", SelectDelete)
-    ∷ (codes "setopts", SetOptions)
-    ∷ (codes "tab2list", Tab2list)
-    ∷ (codes "take", Take)
-    ∷ (codes "update_counter", UpdateCounter)
-    ∷ (codes "update_element", UpdateElement)
-    ∷ (codes "whereis", Whereis)
+    (codes "delete", Write Delete)
+    ∷ (codes "delete_all_objects", Write DeleteAllObjects)
+    ∷ (codes "delete_object", Write DeleteObject)
+    ∷ (codes "first", Read First)
+    ∷ (codes "first_lookup", Read FirstLookup)
+    ∷ (codes "give_away", Write GiveAway)
+    ∷ (codes "info", Read Info)
+    ∷ (codes "insert", Write Insert)
+    ∷ (codes "insert_new", Write InsertNew)
+    ∷ (codes "lookup", Read Lookup)
+    ∷ (codes "lookup_element", Read LookupElement)
+    ∷ (codes "match", Read Match)
+    ∷ (codes "match_delete", Write MatchDelete)
+    ∷ (codes "match_object", Read MatchObject)
+    ∷ (codes "member", Read Member)
+    ∷ (codes "new", Write New)
+    ∷ (codes "next", Read Next)
+    ∷ (codes "next_lookup", Read NextLookup)
+    ∷ (codes "receive", Write Receive)
+    ∷ (codes "safe_fixtable", Write SafeFixtable)
+    ∷ (codes "select", Read Select)
+    ∷ (codes "select_count", Read SelectCount)
+    ∷ (codes "select_delete", Write SelectDelete)
+    ∷ (codes "setopts", Write SetOptions)
+    ∷ (codes "tab2list", Read Tab2list)
+    ∷ (codes "take", Write Take)
+    ∷ (codes "update_counter", Write UpdateCounter)
+    ∷ (codes "update_element", Write UpdateElement)
+    ∷ (codes "whereis", Read Whereis)
     ∷ []
 
 -- the name with this spelling

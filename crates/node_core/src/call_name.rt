@@ -1,4 +1,5 @@
-//! The names of the calls of `ets`, and `receive`, as an enum, and how its values are read from texts.
+//! The names of the calls of `ets`, and `receive`: those that only read, and those that may write. How they are read
+//! from texts.
 ghost use Rattle.std.specs.Prelude.{◌≡◌};
 ghost use Rattle.node_core.specs.CallName.{call_name};
 
@@ -6,37 +7,49 @@ ghost use Rattle.node_core.specs.CallName.{call_name};
 /// table, and with two the objects of a key.
 #[derive(Clone, Copy, Debug, PartialEq, Eq)]
 pub enum CallName {
-    Delete,
-    DeleteAllObjects,
-    DeleteObject,
+    Read(ReadName),
+    Write(WriteName),
+}
+
+/// The name of a call that changes nothing.
+#[derive(Clone, Copy, Debug, PartialEq, Eq)]
+pub enum ReadName {
     First,
     FirstLookup,
-    GiveAway,
     Info,
-    Insert,
-    InsertNew,
     Lookup,
     LookupElement,
     Match,
-    MatchDelete,
     MatchObject,
     Member,
-    New,
     Next,
     NextLookup,
+    Select,
+    SelectCount,
+    Tab2list,
+    Whereis,
+}
+
+/// The name of a call that may change something.
+#[derive(Clone, Copy, Debug, PartialEq, Eq)]
+pub enum WriteName {
+    Delete,
+    DeleteAllObjects,
+    DeleteObject,
+    GiveAway,
+    Insert,
+    InsertNew,
+    MatchDelete,
+    New,
     /// `receive`, which is not a function of `ets`: a process empties its mailbox.
     Receive,
     SafeFixtable,
-    Select,
-    SelectCount,
     SelectDelete,
     /// `setopts`.
     SetOptions,
-    Tab2list,
     Take,
     UpdateCounter,
     UpdateElement,
-    Whereis,
 }
 
 impl CallName {
@@ -48,56 +61,56 @@ impl CallName {
     {
         match name.len() {
             4 => match name {
-                "info" => Some(CallName::Info),
-                "next" => Some(CallName::Next),
-                "take" => Some(CallName::Take),
+                "info" => Some(CallName::Read(ReadName::Info)),
+                "next" => Some(CallName::Read(ReadName::Next)),
+                "take" => Some(CallName::Write(WriteName::Take)),
                 _ => None,
             },
             5 => match name {
-                "first" => Some(CallName::First),
-                "match" => Some(CallName::Match),
+                "first" => Some(CallName::Read(ReadName::First)),
+                "match" => Some(CallName::Read(ReadName::Match)),
                 _ => None,
             },
             6 => match name {
-                "delete" => Some(CallName::Delete),
-                "insert" => Some(CallName::Insert),
-                "lookup" => Some(CallName::Lookup),
-                "member" => Some(CallName::Member),
-                "select" => Some(CallName::Select),
+                "delete" => Some(CallName::Write(WriteName::Delete)),
+                "insert" => Some(CallName::Write(WriteName::Insert)),
+                "lookup" => Some(CallName::Read(ReadName::Lookup)),
+                "member" => Some(CallName::Read(ReadName::Member)),
+                "select" => Some(CallName::Read(ReadName::Select)),
                 _ => None,
             },
             7 => match name {
-                "receive" => Some(CallName::Receive),
-                "setopts" => Some(CallName::SetOptions),
-                "whereis" => Some(CallName::Whereis),
+                "receive" => Some(CallName::Write(WriteName::Receive)),
+                "setopts" => Some(CallName::Write(WriteName::SetOptions)),
+                "whereis" => Some(CallName::Read(ReadName::Whereis)),
                 _ => None,
             },
             12 => match name {
-                "first_lookup" => Some(CallName::FirstLookup),
-                "match_delete" => Some(CallName::MatchDelete),
-                "match_object" => Some(CallName::MatchObject),
-                "select_count" => Some(CallName::SelectCount),
+                "first_lookup" => Some(CallName::Read(ReadName::FirstLookup)),
+                "match_delete" => Some(CallName::Write(WriteName::MatchDelete)),
+                "match_object" => Some(CallName::Read(ReadName::MatchObject)),
+                "select_count" => Some(CallName::Read(ReadName::SelectCount)),
                 _ => None,
             },
             13 => match name {
-                "delete_object" => Some(CallName::DeleteObject),
-                "safe_fixtable" => Some(CallName::SafeFixtable),
-                "select_delete" => Some(CallName::SelectDelete),
+                "delete_object" => Some(CallName::Write(WriteName::DeleteObject)),
+                "safe_fixtable" => Some(CallName::Write(WriteName::SafeFixtable)),
+                "select_delete" => Some(CallName::Write(WriteName::SelectDelete)),
                 _ => None,
             },
             14 => match name {
-                "lookup_element" => Some(CallName::LookupElement),
-                "update_counter" => Some(CallName::UpdateCounter),
-                "update_element" => Some(CallName::UpdateElement),
+                "lookup_element" => Some(CallName::Read(ReadName::LookupElement)),
+                "update_counter" => Some(CallName::Write(WriteName::UpdateCounter)),
+                "update_element" => Some(CallName::Write(WriteName::UpdateElement)),
                 _ => None,
             },
             _ => match name {
-                "new" => Some(CallName::New),
-                "tab2list" => Some(CallName::Tab2list),
-                "give_away" => Some(CallName::GiveAway),
-                "insert_new" => Some(CallName::InsertNew),
-                "next_lookup" => Some(CallName::NextLookup),
-                "delete_all_objects" => Some(CallName::DeleteAllObjects),
+                "new" => Some(CallName::Write(WriteName::New)),
+                "tab2list" => Some(CallName::Read(ReadName::Tab2list)),
+                "give_away" => Some(CallName::Write(WriteName::GiveAway)),
+                "insert_new" => Some(CallName::Write(WriteName::InsertNew)),
+                "next_lookup" => Some(CallName::Read(ReadName::NextLookup)),
+                "delete_all_objects" => Some(CallName::Write(WriteName::DeleteAllObjects)),
                 _ => None,
             },
         }

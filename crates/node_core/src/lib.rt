@@ -26,7 +26,7 @@ mod step;
 mod terms;
 mod walk;
 
-pub use call_name::CallName;
+pub use call_name::{CallName, ReadName, WriteName};
 pub use limits::Limits;
 pub use node::{Node, RunFault};
 pub use step::{Call, Reply, Step};

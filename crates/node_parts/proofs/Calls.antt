@@ -13,6 +13,10 @@ use Rattle.fixed_walk.specs.TableState.{TableState}
 use Rattle.ownership.specs.World.{Table, Processes, lives, table_at, resolve}
 use Rattle.node_core.specs.declared.call_name.CallName.{CallName}
 use Rattle.node_core.specs.declared.call_name.CallName.TheVariants as name
+use Rattle.node_core.specs.declared.call_name.ReadName.{ReadName}
+use Rattle.node_core.specs.declared.call_name.ReadName.TheVariants as read
+use Rattle.node_core.specs.declared.call_name.WriteName.{WriteName}
+use Rattle.node_core.specs.declared.call_name.WriteName.TheVariants as write
 use Rattle.node_core.specs.declared.node.access.Access.TheVariants.{Read, Write}
 use Rattle.node_core.specs.declared.step.Call.{Call}
 use Rattle.node_core.specs.declared.step.Reply.{Reply}
@@ -21,9 +25,9 @@ use Rattle.node_core.specs.declared.step.Step.TheVariants.{Ask}
 use Rattle.node_core.specs.State.{State}
 use Rattle.node_core.specs.Access.{CallRule, usable, with_table, reads, writes}
 use Rattle.node_core.specs.CallName.{call_name}
-use Rattle.node_core.specs.Calls.{call, call_by_text}
+use Rattle.node_core.specs.Calls.{call, read_call, write_call, call_by_text}
 use Rattle.node_core.specs.Machine.{step}
-use Rattle.node_core.specs.Reads.{reads_only, is_read}
+use Rattle.node_core.specs.Reads.{names_read, is_read}
 use Rattle.node_core.specs.Values.{is_value}
 use Rattle.node_core.specs.rules.Insertion.{objects_in}
 use Rattle.node_core.specs.rules.Reading.{lookup_reply, member_reply, lookup_element_reply, lookup_element_or_reply}
@@ -192,46 +196,37 @@ module _ {part_of : ℕ → Term → ℕ} {parts : List State} {whole : State} {
   abbrev KeysOfPart : Option (Term × (ℕ → List Term)) → Type 0
   KeysOfPart called = IsSomeAnd called (HasKeysOfPart part_of k part)
 
-  read-agrees : (p : ℕ) (n : CallName) (args : List Term) → reads_only n args ≡ true → KeysOfPart (keyed n args) → Agrees (call part p n args) (call whole p n args)
-  read-agrees p name.Lookup (x ∷ y ∷ []) only keys = reading p x y (lookup_reply y) keys (λ t mine f. lookup-same _ y mine f)
-  read-agrees p name.Member (x ∷ y ∷ []) only keys = reading p x y (member_reply y) keys (λ t mine f. member-same _ y mine f)
-  read-agrees p name.LookupElement (x ∷ y ∷ z ∷ []) only keys = reading p x y (lookup_element_reply y z) keys (λ t mine f. element-same _ y mine z f)
-  read-agrees p name.LookupElement (x ∷ y ∷ z ∷ w ∷ []) only keys = reading p x y (lookup_element_or_reply y z w) keys (λ t mine f. element_or-same _ y mine z w f)
-  read-agrees p name.Insert (x ∷ y ∷ []) only keys = absurd (true≢false (sym only))
-  read-agrees p name.InsertNew (x ∷ y ∷ []) only keys = absurd (true≢false (sym only))
-  read-agrees p name.Take (x ∷ y ∷ []) only keys = absurd (true≢false (sym only))
-  read-agrees p name.Delete (x ∷ y ∷ []) only keys = absurd (true≢false (sym only))
-  read-agrees p name.DeleteObject (x ∷ y ∷ []) only keys = absurd (true≢false (sym only))
-  read-agrees p name.UpdateCounter (x ∷ y ∷ z ∷ []) only keys = absurd (true≢false (sym only))
-  read-agrees p name.UpdateElement (x ∷ y ∷ z ∷ []) only keys = absurd (true≢false (sym only))
-  read-agrees p name.UpdateCounter (x ∷ y ∷ z ∷ w ∷ []) only keys = absurd (true≢false (sym only))
-  read-agrees p name.UpdateElement (x ∷ y ∷ z ∷ w ∷ []) only keys = absurd (true≢false (sym only))
-  read-agrees p _ _ only keys = absurd keys
+  read-agrees : (p : ℕ) (n : ReadName) (args : List Term) → KeysOfPart (keyed (name.Read n) args) → Agrees (read_call part p n args) (read_call whole p n args)
+  read-agrees p read.Lookup (x ∷ y ∷ []) keys = reading p x y (lookup_reply y) keys (λ t mine f. lookup-same _ y mine f)
+  read-agrees p read.Member (x ∷ y ∷ []) keys = reading p x y (member_reply y) keys (λ t mine f. member-same _ y mine f)
+  read-agrees p read.LookupElement (x ∷ y ∷ z ∷ []) keys = reading p x y (lookup_element_reply y z) keys (λ t mine f. element-same _ y mine z f)
+  read-agrees p read.LookupElement (x ∷ y ∷ z ∷ w ∷ []) keys = reading p x y (lookup_element_or_reply y z w) keys (λ t mine f. element_or-same _ y mine z w f)
+  read-agrees p _ _ keys = absurd keys
 
   writing : (p : ℕ) (x y : Term) (rule : CallRule) → HasKeysOfPart part_of k part (x, λ keypos. y ∷ [])
       → ((t : ℕ) (mine : Table) → Mine t y → HoldsRule rule t mine) → Follows (RoomOf x) (writes part p x rule) (writes whole p x rule)
   writing p x y rule keys holds = writes-follow p x rule (λ t mine named its. holds t mine (one x y keys t mine named its))
 
-  call-follows : (p : ℕ) (n : CallName) (args : List Term) → KeysOfPart (keyed n args) → Follows (IsSomeAnd (keyed n args) (HasRoomOfTable whole part)) (call part p n args) (call whole p n args)
-  call-follows p name.Lookup (x ∷ y ∷ []) keys = agrees-follows _ (read-agrees p name.Lookup (x ∷ y ∷ []) refl keys)
-  call-follows p name.Member (x ∷ y ∷ []) keys = agrees-follows _ (read-agrees p name.Member (x ∷ y ∷ []) refl keys)
-  call-follows p name.LookupElement (x ∷ y ∷ z ∷ []) keys = agrees-follows _ (read-agrees p name.LookupElement (x ∷ y ∷ z ∷ []) refl keys)
-  call-follows p name.LookupElement (x ∷ y ∷ z ∷ w ∷ []) keys = agrees-follows _ (read-agrees p name.LookupElement (x ∷ y ∷ z ∷ w ∷ []) refl keys)
-  call-follows p name.Insert (x ∷ y ∷ []) keys =
+  write-follows : (p : ℕ) (n : WriteName) (args : List Term) → KeysOfPart (keyed (name.Write n) args) → Follows (IsSomeAnd (keyed (name.Write n) args) (HasRoomOfTable whole part)) (write_call part p n args) (write_call whole p n args)
+  write-follows p write.Insert (x ∷ y ∷ []) keys =
       writes-follow p x _ (λ t mine named its. record { mirrors = insert-mirrors (rest_of are at t) y mine.state (among t mine.state.content.keypos (objects_in y) (keys t mine named its)); keeps = insert-keeps y })
-  call-follows p name.InsertNew (x ∷ y ∷ []) keys =
+  write-follows p write.InsertNew (x ∷ y ∷ []) keys =
       writes-follow p x _ (λ t mine named its. record { mirrors = insert_new-mirrors (rest_of are at t) y mine.state (among t mine.state.content.keypos (objects_in y) (keys t mine named its)); keeps = insert_new-keeps y })
-  call-follows p name.Take (x ∷ y ∷ []) keys = writing p x y _ keys (λ t mine own. record { mirrors = take-mirrors (rest_of are at t) y own mine.state; keeps = take-keeps y })
-  call-follows p name.Delete (x ∷ y ∷ []) keys = writing p x y _ keys (λ t mine own. record { mirrors = delete-mirrors (rest_of are at t) y own mine.state; keeps = delete-keeps_content y })
-  call-follows p name.DeleteObject (x ∷ y ∷ []) keys =
+  write-follows p write.Take (x ∷ y ∷ []) keys = writing p x y _ keys (λ t mine own. record { mirrors = take-mirrors (rest_of are at t) y own mine.state; keeps = take-keeps y })
+  write-follows p write.Delete (x ∷ y ∷ []) keys = writing p x y _ keys (λ t mine own. record { mirrors = delete-mirrors (rest_of are at t) y own mine.state; keeps = delete-keeps_content y })
+  write-follows p write.DeleteObject (x ∷ y ∷ []) keys =
       writes-follow p x _ (λ t mine named its.
       let others = others-kept are at t mine its in
       record { mirrors = delete_object-mirrors (rest_of are at t) y mine.state others.0 others.1 (among t mine.state.content.keypos (y ∷ []) (keys t mine named its)).0; keeps = delete_object-keeps y })
-  call-follows p name.UpdateCounter (x ∷ y ∷ z ∷ []) keys = writing p x y _ keys (λ t mine own. record { mirrors = update_counter-mirrors (rest_of are at t) y own z None mine.state; keeps = update_counter-keeps y z None })
-  call-follows p name.UpdateElement (x ∷ y ∷ z ∷ []) keys = writing p x y _ keys (λ t mine own. record { mirrors = update_element-mirrors (rest_of are at t) y own z None mine.state; keeps = update_element-keeps y z None })
-  call-follows p name.UpdateCounter (x ∷ y ∷ z ∷ w ∷ []) keys = writing p x y _ keys (λ t mine own. record { mirrors = update_counter-mirrors (rest_of are at t) y own z (Some w) mine.state; keeps = update_counter-keeps y z (Some w) })
-  call-follows p name.UpdateElement (x ∷ y ∷ z ∷ w ∷ []) keys = writing p x y _ keys (λ t mine own. record { mirrors = update_element-mirrors (rest_of are at t) y own z (Some w) mine.state; keeps = update_element-keeps y z (Some w) })
-  call-follows p _ _ keys = absurd keys
+  write-follows p write.UpdateCounter (x ∷ y ∷ z ∷ []) keys = writing p x y _ keys (λ t mine own. record { mirrors = update_counter-mirrors (rest_of are at t) y own z None mine.state; keeps = update_counter-keeps y z None })
+  write-follows p write.UpdateElement (x ∷ y ∷ z ∷ []) keys = writing p x y _ keys (λ t mine own. record { mirrors = update_element-mirrors (rest_of are at t) y own z None mine.state; keeps = update_element-keeps y z None })
+  write-follows p write.UpdateCounter (x ∷ y ∷ z ∷ w ∷ []) keys = writing p x y _ keys (λ t mine own. record { mirrors = update_counter-mirrors (rest_of are at t) y own z (Some w) mine.state; keeps = update_counter-keeps y z (Some w) })
+  write-follows p write.UpdateElement (x ∷ y ∷ z ∷ w ∷ []) keys = writing p x y _ keys (λ t mine own. record { mirrors = update_element-mirrors (rest_of are at t) y own z (Some w) mine.state; keeps = update_element-keeps y z (Some w) })
+  write-follows p _ _ keys = absurd keys
+
+  call-follows : (p : ℕ) (n : CallName) (args : List Term) → KeysOfPart (keyed n args) → Follows (IsSomeAnd (keyed n args) (HasRoomOfTable whole part)) (call part p n args) (call whole p n args)
+  call-follows p (name.Read n) args keys = agrees-follows _ (read-agrees p n args keys)
+  call-follows p (name.Write n) args keys = write-follows p n args keys
 
   -- ---- steps
   processes-same : whole.world.processes ≡ part.world.processes
@@ -264,9 +259,9 @@ module _ {part_of : ℕ → Term → ℕ} {parts : List State} {whole : State} {
     named P None n e h = absurd h
     named P (Some m) n e h = let is : m ≡ n = cc in subst (λ (c : CallName). IsSomeAnd (keyed c asked.args) P) is h
 
-    named-read : (o : Option CallName) (n : CallName) → o ≡ Some n → option_map_or (λ n. reads_only n asked.args) o false ≡ true → reads_only n asked.args ≡ true
-    named-read None n e h = cc
-    named-read (Some m) n e h = let is : m ≡ n = cc in subst (λ (c : CallName). reads_only c asked.args ≡ true) is h
+    read-named : (n : CallName) → call_name asked.name ≡ Some n → is_read asked ≡ true → KeysOfPart (keyed n asked.args) → Agrees (call part p n asked.args) (call whole p n asked.args)
+    read-named (name.Read n) e only keys = read-agrees p n asked.args keys
+    read-named (name.Write n) e only keys = absurd (true≢false (sym only ∙ ap names_read e))
 
     pub step-follows : IsOnPart part_of k part asked → Follows (HasAllRoomFor whole part asked) (step part (Ask p asked)) (step whole (Ask p asked))
     step-follows keys =
@@ -279,7 +274,7 @@ module _ {part_of : ℕ → Term → ℕ} {parts : List State} {whole : State} {
     step-agrees keys only =
         subst (λ (ended : Bool). Agrees (step part (Ask p asked)) (Asks whole ended)) (sym lived)
         (asks-agree (not (lives part.world.processes p)) (list_any is_too_deep asked.args) (call_name asked.name) (λ n e.
-        read-agrees p n asked.args (named-read (call_name asked.name) n e only) (named (HasKeysOfPart part_of k part) (call_name asked.name) n e keys)))
+        read-named n e only (named (HasKeysOfPart part_of k part) (call_name asked.name) n e keys)))
 
 pub calls-are-calls : CallsOnPartsAreCalls
 calls-are-calls part_of parts whole k part new p asked reply are there keys did =

@@ -7,7 +7,9 @@ use Rattle.ets_term.specs.Depth.{is_too_deep}
 use Rattle.table_ops.specs.Outcomes.{refuse}
 use Rattle.ownership.specs.World.{lives}
 use Rattle.node_core.specs.declared.call_name.CallName.{CallName}
-use Rattle.node_core.specs.declared.call_name.CallName.TheVariants as name
+use Rattle.node_core.specs.declared.call_name.CallName.TheVariants.{Read, Write}
+use Rattle.node_core.specs.declared.call_name.ReadName.TheVariants as read
+use Rattle.node_core.specs.declared.call_name.WriteName.TheVariants as write
 use Rattle.node_core.specs.declared.step.Reply.TheVariants.{Badarg, SystemLimit, NoProcess}
 use Rattle.node_core.specs.declared.step.Step.{Step}
 use Rattle.node_core.specs.declared.step.Step.TheVariants.{Enrol, End, Ask, Grow, Ready}
@@ -25,16 +27,16 @@ use Rattle.node_parts.proofs.ForAllWorlds.{enrol-all, receive-all, whereis-all, 
 
 module _ (whole : State) where
   call-for-all : (p : ℕ) (n : CallName) (args : List Term) → is_call_for_all n args ≡ true → ForAll (λ s. call s p n args) whole
-  call-for-all p name.Receive [] e = receive-all whole p
-  call-for-all p name.DeleteAllObjects (x ∷ []) e = delete_all-all whole p x
-  call-for-all p name.Delete (x ∷ []) e = delete_table-all whole p x
-  call-for-all p name.Whereis (x ∷ []) e = whereis-all whole x
-  call-for-all p name.MatchDelete (x ∷ y ∷ []) e = match_delete-all whole p x y
-  call-for-all p name.New (x ∷ y ∷ []) e = new-all whole p x y
-  call-for-all p name.SafeFixtable (x ∷ y ∷ []) e = fixtable-all whole p x y
-  call-for-all p name.SetOptions (x ∷ y ∷ []) e = set_options-all whole p x y
-  call-for-all p name.Info (x ∷ y ∷ []) e = info-all whole x y e
-  call-for-all p name.GiveAway (x ∷ y ∷ z ∷ []) e = give_away-all whole p x y z
+  call-for-all p (Write write.Receive) [] e = receive-all whole p
+  call-for-all p (Write write.DeleteAllObjects) (x ∷ []) e = delete_all-all whole p x
+  call-for-all p (Write write.Delete) (x ∷ []) e = delete_table-all whole p x
+  call-for-all p (Read read.Whereis) (x ∷ []) e = whereis-all whole x
+  call-for-all p (Write write.MatchDelete) (x ∷ y ∷ []) e = match_delete-all whole p x y
+  call-for-all p (Write write.New) (x ∷ y ∷ []) e = new-all whole p x y
+  call-for-all p (Write write.SafeFixtable) (x ∷ y ∷ []) e = fixtable-all whole p x y
+  call-for-all p (Write write.SetOptions) (x ∷ y ∷ []) e = set_options-all whole p x y
+  call-for-all p (Read read.Info) (x ∷ y ∷ []) e = info-all whole x y e
+  call-for-all p (Write write.GiveAway) (x ∷ y ∷ z ∷ []) e = give_away-all whole p x y z
   call-for-all p _ _ e = absurd (true≢false (sym e))
 
   named : (o : Option CallName) (args : List Term) (n : CallName) → o ≡ Some n → option_map_or (λ name. is_call_for_all name args) o true ≡ true → is_call_for_all n args ≡ true

@@ -7,7 +7,9 @@ use Rattle.bucket_table.specs.Slots.{object_count}
 use Rattle.table_ops.specs.Content.{key_of}
 use Rattle.ownership.specs.World.{Table, table_at, resolve}
 use Rattle.node_core.specs.declared.call_name.CallName.{CallName}
-use Rattle.node_core.specs.declared.call_name.CallName.TheVariants as name
+use Rattle.node_core.specs.declared.call_name.CallName.TheVariants.{Read, Write}
+use Rattle.node_core.specs.declared.call_name.ReadName.TheVariants as read
+use Rattle.node_core.specs.declared.call_name.WriteName.TheVariants as write
 use Rattle.node_core.specs.declared.step.Call.{Call}
 use Rattle.node_core.specs.State.{State}
 use Rattle.node_core.specs.CallName.{call_name}
@@ -22,19 +24,19 @@ keys_among keypos objects = filter_map (key_of keypos) objects
 -- The term by which a call names its table, and the only keys that the call looks at and changes, by the table's keypos.
 -- None for any other call.
 abbrev pub keyed : CallName → List Term → Option (Term × (ℕ → List Term))
-keyed name.Insert (x ∷ y ∷ []) = Some (x, λ keypos. keys_among keypos (objects_in y))
-keyed name.InsertNew (x ∷ y ∷ []) = Some (x, λ keypos. keys_among keypos (objects_in y))
-keyed name.Lookup (x ∷ y ∷ []) = Some (x, λ keypos. y ∷ [])
-keyed name.Member (x ∷ y ∷ []) = Some (x, λ keypos. y ∷ [])
-keyed name.Take (x ∷ y ∷ []) = Some (x, λ keypos. y ∷ [])
-keyed name.Delete (x ∷ y ∷ []) = Some (x, λ keypos. y ∷ [])
-keyed name.DeleteObject (x ∷ y ∷ []) = Some (x, λ keypos. keys_among keypos (y ∷ []))
-keyed name.LookupElement (x ∷ y ∷ z ∷ []) = Some (x, λ keypos. y ∷ [])
-keyed name.UpdateCounter (x ∷ y ∷ z ∷ []) = Some (x, λ keypos. y ∷ [])
-keyed name.UpdateElement (x ∷ y ∷ z ∷ []) = Some (x, λ keypos. y ∷ [])
-keyed name.LookupElement (x ∷ y ∷ z ∷ w ∷ []) = Some (x, λ keypos. y ∷ [])
-keyed name.UpdateCounter (x ∷ y ∷ z ∷ w ∷ []) = Some (x, λ keypos. y ∷ [])
-keyed name.UpdateElement (x ∷ y ∷ z ∷ w ∷ []) = Some (x, λ keypos. y ∷ [])
+keyed (Write write.Insert) (x ∷ y ∷ []) = Some (x, λ keypos. keys_among keypos (objects_in y))
+keyed (Write write.InsertNew) (x ∷ y ∷ []) = Some (x, λ keypos. keys_among keypos (objects_in y))
+keyed (Read read.Lookup) (x ∷ y ∷ []) = Some (x, λ keypos. y ∷ [])
+keyed (Read read.Member) (x ∷ y ∷ []) = Some (x, λ keypos. y ∷ [])
+keyed (Write write.Take) (x ∷ y ∷ []) = Some (x, λ keypos. y ∷ [])
+keyed (Write write.Delete) (x ∷ y ∷ []) = Some (x, λ keypos. y ∷ [])
+keyed (Write write.DeleteObject) (x ∷ y ∷ []) = Some (x, λ keypos. keys_among keypos (y ∷ []))
+keyed (Read read.LookupElement) (x ∷ y ∷ z ∷ []) = Some (x, λ keypos. y ∷ [])
+keyed (Write write.UpdateCounter) (x ∷ y ∷ z ∷ []) = Some (x, λ keypos. y ∷ [])
+keyed (Write write.UpdateElement) (x ∷ y ∷ z ∷ []) = Some (x, λ keypos. y ∷ [])
+keyed (Read read.LookupElement) (x ∷ y ∷ z ∷ w ∷ []) = Some (x, λ keypos. y ∷ [])
+keyed (Write write.UpdateCounter) (x ∷ y ∷ z ∷ w ∷ []) = Some (x, λ keypos. y ∷ [])
+keyed (Write write.UpdateElement) (x ∷ y ∷ z ∷ w ∷ []) = Some (x, λ keypos. y ∷ [])
 keyed _ _ = None
 
 -- in the table that this term names, if there is one, these keys belong to part k

@@ -23,6 +23,7 @@ use Rattle.node_core.specs.CallName.{call_name}
 use Rattle.node_core.specs.Calls.{call, call_by_text}
 use Rattle.node_core.specs.declared.call_name.CallName.{CallName}
 use Rattle.node_core.specs.declared.call_name.CallName.TheVariants as name
+use Rattle.node_core.specs.declared.call_name.WriteName.TheVariants as write
 use Rattle.node_core.specs.Machine.{step}
 use Rattle.node_core.specs.Observable.{observable}
 use Rattle.node_core.specs.State.{State}
@@ -66,10 +67,10 @@ limit-right limit other None reply l (inr e) named = subst (λ r. Right (or_limi
 limit-right limit other (Some reason) reply l h named = subst (λ r. Right (Some reason) other (about_whole_call limit) r) (sym h.0) (sym h.1, ap Some named)
 
 limit-refuses : (name : CallName) → refusal_of (limit_of name) ≡ SystemLimit
-limit-refuses name.Insert = refl
-limit-refuses name.InsertNew = refl
-limit-refuses name.New = refl
-limit-refuses name.SafeFixtable = refl
+limit-refuses (name.Write write.Insert) = refl
+limit-refuses (name.Write write.InsertNew) = refl
+limit-refuses (name.Write write.New) = refl
+limit-refuses (name.Write write.SafeFixtable) = refl
 limit-refuses _ = refl
 
 -- ---- arguments that are too deep

@@ -26,9 +26,13 @@ use Rattle.node_core.specs.declared.step.Reply.{Reply}
 use Rattle.node_core.specs.declared.step.Reply.TheVariants.{Value, Badarg}
 use Rattle.node_core.specs.State.{State}
 use Rattle.node_core.specs.Access.{WorldResultToReply, changes_world}
-use Rattle.node_core.specs.Calls.{call}
+use Rattle.node_core.specs.Calls.{call, read_call, write_call}
 use Rattle.node_core.specs.declared.call_name.CallName.{CallName}
 use Rattle.node_core.specs.declared.call_name.CallName.TheVariants as name
+use Rattle.node_core.specs.declared.call_name.ReadName.{ReadName}
+use Rattle.node_core.specs.declared.call_name.ReadName.TheVariants as read
+use Rattle.node_core.specs.declared.call_name.WriteName.{WriteName}
+use Rattle.node_core.specs.declared.call_name.WriteName.TheVariants as write
 use Rattle.node_core.specs.rules.Insertion.{Insert, InsertNew}
 use Rattle.node_core.specs.rules.Reading.{lookup_reply, member_reply, lookup_element_reply, lookup_element_or_reply, tab2list_reply}
 use Rattle.node_core.specs.rules.Removal.{Take, Delete, DeleteObject, DeleteAllObjects}
@@ -45,7 +49,7 @@ use Rattle.node_reasons.specs.Reasons.{argument, table_of_term, on_table}
 use Rattle.node_reasons.specs.Objects.{no_further_rule, why_insert, why_delete_object, why_next, why_match, why_select, why_lookup_element, why_lookup_element_or}
 use Rattle.node_reasons.specs.Updates.{why_update_counter, why_update_element}
 use Rattle.node_reasons.specs.Tables.{why_whereis, why_new_with, why_new, why_info, why_safe_fixtable, on_owned_table, why_heir, why_setopts, why_receiver, why_give_away_to, why_give_away}
-use Rattle.node_reasons.specs.Calls.{why_call}
+use Rattle.node_reasons.specs.Calls.{why_call, why_read_call, why_write_call}
 use Rattle.node_reasons.proofs.Explained.{ReasonExplains, ReasonExplainsAll, Either, either-explained, gives-explained, Where, used-explained, reads-explained, changes-explained, truth-value, world-badarg, world-limit, world-value}
 use Rattle.node_reasons.proofs.ExplainedRules.{insert-explained, insert_new-explained, deletion-explained, key-value, slot-value, next-explained, next_lookup-explained, fixes-explained, match-explained, match_object-explained, match_delete-explained, select-explained, select_count-explained, select_delete-explained, element-explained, element-or-explained}
 use Rattle.node_reasons.proofs.ExplainedUpdates.{counter-explained, update-explained}
@@ -205,38 +209,45 @@ module _ (old : State) where
 
   -- ---- the calls
   module _ (p : ℕ) where
-    pub call-explained : (name : CallName) (args : List Term) → ReasonExplainsAll (why_call old.world p name args) (call old p name args)
-    call-explained name.Receive [] = λ reply new h. inl (ap is_value h.0)
-    call-explained name.Tab2list (x ∷ []) = reads-explained old p x no_further_rule tab2list_reply (λ f. inl refl)
-    call-explained name.DeleteAllObjects (x ∷ []) = changes-explained old p x Write no_further_rule DeleteAllObjects (λ f g reply h. inl (ap is_value h.0))
-    call-explained name.Delete (x ∷ []) = delete_table-explained p x
-    call-explained name.First (x ∷ []) = reads-explained old p x no_further_rule first_reply (λ f. inl (key-value (first_key f.content.slots)))
-    call-explained name.FirstLookup (x ∷ []) = reads-explained old p x no_further_rule first_lookup_reply (λ f. inl (slot-value (first_slot f.content.slots)))
-    call-explained name.Whereis (x ∷ []) = naming-explained x
-    call-explained name.Insert (x ∷ y ∷ []) = changes-explained old p x Write (why_insert y) (Insert y) (insert-explained y)
-    call-explained name.InsertNew (x ∷ y ∷ []) = changes-explained old p x Write (why_insert y) (InsertNew y) (insert_new-explained y)
-    call-explained name.Lookup (x ∷ y ∷ []) = reads-explained old p x no_further_rule (lookup_reply y) (λ f. inl refl)
-    call-explained name.Member (x ∷ y ∷ []) = reads-explained old p x no_further_rule (member_reply y) (λ f. inl (truth-value (is_present f.content.slots y)))
-    call-explained name.Take (x ∷ y ∷ []) = changes-explained old p x Write no_further_rule (Take y) (λ f g reply h. inl (ap is_value h.0))
-    call-explained name.Delete (x ∷ y ∷ []) = changes-explained old p x Write no_further_rule (Delete y) (λ f g reply h. inl (ap is_value h.0))
-    call-explained name.DeleteObject (x ∷ y ∷ []) = changes-explained old p x Write (why_delete_object y) (DeleteObject y) (deletion-explained y)
-    call-explained name.Match (x ∷ y ∷ []) = reads-explained old p x (why_match y) (match_reply y) (match-explained y)
-    call-explained name.MatchObject (x ∷ y ∷ []) = reads-explained old p x (why_match y) (match_object_reply y) (match_object-explained y)
-    call-explained name.MatchDelete (x ∷ y ∷ []) = changes-explained old p x Write (why_match y) (MatchDelete y) (match_delete-explained y)
-    call-explained name.Select (x ∷ y ∷ []) = reads-explained old p x (why_select y) (select_reply y) (select-explained y)
-    call-explained name.SelectCount (x ∷ y ∷ []) = reads-explained old p x (why_select y) (select_count_reply y) (select_count-explained y)
-    call-explained name.SelectDelete (x ∷ y ∷ []) = changes-explained old p x Write (why_select y) (SelectDelete y) (select_delete-explained y)
-    call-explained name.New (x ∷ y ∷ []) = making-explained p x y
-    call-explained name.Next (x ∷ y ∷ []) = reads-explained old p x (why_next y) (next_reply y) (next-explained y)
-    call-explained name.NextLookup (x ∷ y ∷ []) = reads-explained old p x (why_next y) (next_lookup_reply y) (next_lookup-explained y)
-    call-explained name.SafeFixtable (x ∷ y ∷ []) = fixing-explained p x y
-    call-explained name.SetOptions (x ∷ y ∷ []) = setting-explained p x y
-    call-explained name.Info (x ∷ y ∷ []) = informing-explained x y
-    call-explained name.LookupElement (x ∷ y ∷ z ∷ []) = reads-explained old p x (why_lookup_element y z) (lookup_element_reply y z) (element-explained y z)
-    call-explained name.UpdateCounter (x ∷ y ∷ z ∷ []) = changes-explained old p x Write (why_update_counter y z None) (UpdateCounter y z None) (counter-explained y z None)
-    call-explained name.UpdateElement (x ∷ y ∷ z ∷ []) = changes-explained old p x Write (why_update_element y z None) (UpdateElement y z None) (update-explained y z None)
-    call-explained name.GiveAway (x ∷ y ∷ z ∷ []) = giving-explained p x y z
-    call-explained name.LookupElement (x ∷ y ∷ z ∷ default ∷ []) = reads-explained old p x (why_lookup_element_or y z) (lookup_element_or_reply y z default) (element-or-explained y z default)
-    call-explained name.UpdateCounter (x ∷ y ∷ z ∷ default ∷ []) = changes-explained old p x Write (why_update_counter y z (Some default)) (UpdateCounter y z (Some default)) (counter-explained y z (Some default))
-    call-explained name.UpdateElement (x ∷ y ∷ z ∷ default ∷ []) = changes-explained old p x Write (why_update_element y z (Some default)) (UpdateElement y z (Some default)) (update-explained y z (Some default))
-    call-explained _ _ = λ reply new h. (h.0, refl)
+    read-explained : (called : ReadName) (args : List Term) → ReasonExplainsAll (why_read_call old.world p called args) (read_call old p called args)
+    read-explained read.Tab2list (x ∷ []) = reads-explained old p x no_further_rule tab2list_reply (λ f. inl refl)
+    read-explained read.First (x ∷ []) = reads-explained old p x no_further_rule first_reply (λ f. inl (key-value (first_key f.content.slots)))
+    read-explained read.FirstLookup (x ∷ []) = reads-explained old p x no_further_rule first_lookup_reply (λ f. inl (slot-value (first_slot f.content.slots)))
+    read-explained read.Whereis (x ∷ []) = naming-explained x
+    read-explained read.Lookup (x ∷ y ∷ []) = reads-explained old p x no_further_rule (lookup_reply y) (λ f. inl refl)
+    read-explained read.Member (x ∷ y ∷ []) = reads-explained old p x no_further_rule (member_reply y) (λ f. inl (truth-value (is_present f.content.slots y)))
+    read-explained read.Match (x ∷ y ∷ []) = reads-explained old p x (why_match y) (match_reply y) (match-explained y)
+    read-explained read.MatchObject (x ∷ y ∷ []) = reads-explained old p x (why_match y) (match_object_reply y) (match_object-explained y)
+    read-explained read.Select (x ∷ y ∷ []) = reads-explained old p x (why_select y) (select_reply y) (select-explained y)
+    read-explained read.SelectCount (x ∷ y ∷ []) = reads-explained old p x (why_select y) (select_count_reply y) (select_count-explained y)
+    read-explained read.Next (x ∷ y ∷ []) = reads-explained old p x (why_next y) (next_reply y) (next-explained y)
+    read-explained read.NextLookup (x ∷ y ∷ []) = reads-explained old p x (why_next y) (next_lookup_reply y) (next_lookup-explained y)
+    read-explained read.Info (x ∷ y ∷ []) = informing-explained x y
+    read-explained read.LookupElement (x ∷ y ∷ z ∷ []) = reads-explained old p x (why_lookup_element y z) (lookup_element_reply y z) (element-explained y z)
+    read-explained read.LookupElement (x ∷ y ∷ z ∷ default ∷ []) = reads-explained old p x (why_lookup_element_or y z) (lookup_element_or_reply y z default) (element-or-explained y z default)
+    read-explained _ _ = λ reply new h. (h.0, refl)
+
+    write-explained : (called : WriteName) (args : List Term) → ReasonExplainsAll (why_write_call old.world p called args) (write_call old p called args)
+    write-explained write.Receive [] = λ reply new h. inl (ap is_value h.0)
+    write-explained write.DeleteAllObjects (x ∷ []) = changes-explained old p x Write no_further_rule DeleteAllObjects (λ f g reply h. inl (ap is_value h.0))
+    write-explained write.Delete (x ∷ []) = delete_table-explained p x
+    write-explained write.Insert (x ∷ y ∷ []) = changes-explained old p x Write (why_insert y) (Insert y) (insert-explained y)
+    write-explained write.InsertNew (x ∷ y ∷ []) = changes-explained old p x Write (why_insert y) (InsertNew y) (insert_new-explained y)
+    write-explained write.Take (x ∷ y ∷ []) = changes-explained old p x Write no_further_rule (Take y) (λ f g reply h. inl (ap is_value h.0))
+    write-explained write.Delete (x ∷ y ∷ []) = changes-explained old p x Write no_further_rule (Delete y) (λ f g reply h. inl (ap is_value h.0))
+    write-explained write.DeleteObject (x ∷ y ∷ []) = changes-explained old p x Write (why_delete_object y) (DeleteObject y) (deletion-explained y)
+    write-explained write.MatchDelete (x ∷ y ∷ []) = changes-explained old p x Write (why_match y) (MatchDelete y) (match_delete-explained y)
+    write-explained write.SelectDelete (x ∷ y ∷ []) = changes-explained old p x Write (why_select y) (SelectDelete y) (select_delete-explained y)
+    write-explained write.New (x ∷ y ∷ []) = making-explained p x y
+    write-explained write.SafeFixtable (x ∷ y ∷ []) = fixing-explained p x y
+    write-explained write.SetOptions (x ∷ y ∷ []) = setting-explained p x y
+    write-explained write.UpdateCounter (x ∷ y ∷ z ∷ []) = changes-explained old p x Write (why_update_counter y z None) (UpdateCounter y z None) (counter-explained y z None)
+    write-explained write.UpdateElement (x ∷ y ∷ z ∷ []) = changes-explained old p x Write (why_update_element y z None) (UpdateElement y z None) (update-explained y z None)
+    write-explained write.GiveAway (x ∷ y ∷ z ∷ []) = giving-explained p x y z
+    write-explained write.UpdateCounter (x ∷ y ∷ z ∷ default ∷ []) = changes-explained old p x Write (why_update_counter y z (Some default)) (UpdateCounter y z (Some default)) (counter-explained y z (Some default))
+    write-explained write.UpdateElement (x ∷ y ∷ z ∷ default ∷ []) = changes-explained old p x Write (why_update_element y z (Some default)) (UpdateElement y z (Some default)) (update-explained y z (Some default))
+    write-explained _ _ = λ reply new h. (h.0, refl)
+
+    pub call-explained : (called : CallName) (args : List Term) → ReasonExplainsAll (why_call old.world p called args) (call old p called args)
+    call-explained (name.Read called) args = read-explained called args
+    call-explained (name.Write called) args = write-explained called args

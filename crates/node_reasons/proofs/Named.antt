@@ -8,6 +8,10 @@ use Rattle.ownership.specs.World.{Table, Tables, World, table_at, resolve, metad
 use Rattle.node_core.specs.CallName.{call_name}
 use Rattle.node_core.specs.declared.call_name.CallName.{CallName}
 use Rattle.node_core.specs.declared.call_name.CallName.TheVariants as name
+use Rattle.node_core.specs.declared.call_name.ReadName.{ReadName}
+use Rattle.node_core.specs.declared.call_name.ReadName.TheVariants as read
+use Rattle.node_core.specs.declared.call_name.WriteName.{WriteName}
+use Rattle.node_core.specs.declared.call_name.WriteName.TheVariants as write
 use Rattle.node_core.specs.declared.node.access.Access.TheVariants.{Read, Write}
 use Rattle.node_core.specs.declared.step.Step.{Step}
 use Rattle.node_core.specs.declared.step.Step.TheVariants.{Enrol, End, Ask, Grow, Ready}
@@ -25,41 +29,48 @@ use Rattle.node_reasons.specs.inside.RefusalReasonsOfCalls.{state_of, content_in
 use Rattle.node_reasons.proofs.NamedRules.{last, on-named, content-named, use-named, fixing-named, informing-named, making-named, setting-named, giving-named, element-named, element-or-named, counting-named, counting-or-named, writing-named}
 
 module _ (w : World) (p : ℕ) where
-  pub call-named : (name : CallName) (args : List Term) → NamesReason (why_call w p name args) (refusal_reason_of_call w p name args)
-  call-named name.Receive [] = tt {0}
-  call-named name.Tab2list (x ∷ []) = use-named Read p (table_of_term w.tables x)
-  call-named name.DeleteAllObjects (x ∷ []) = use-named Write p (table_of_term w.tables x)
-  call-named name.Delete (x ∷ []) = use-named Write p (table_of_term w.tables x)
-  call-named name.First (x ∷ []) = use-named Read p (table_of_term w.tables x)
-  call-named name.FirstLookup (x ∷ []) = use-named Read p (table_of_term w.tables x)
-  call-named name.Whereis (x ∷ []) = last _ (argument 1 rule.NotAnAtom)
-  call-named name.Insert (x ∷ y ∷ []) = on-named Write p (why_insert y) (table_of_term w.tables x) (argument 2 rule.NotAnObject) (λ c. last _ _)
-  call-named name.InsertNew (x ∷ y ∷ []) = on-named Write p (why_insert y) (table_of_term w.tables x) (argument 2 rule.NotAnObject) (λ c. last _ _)
-  call-named name.Lookup (x ∷ y ∷ []) = use-named Read p (table_of_term w.tables x)
-  call-named name.Member (x ∷ y ∷ []) = use-named Read p (table_of_term w.tables x)
-  call-named name.Take (x ∷ y ∷ []) = use-named Write p (table_of_term w.tables x)
-  call-named name.Delete (x ∷ y ∷ []) = use-named Write p (table_of_term w.tables x)
-  call-named name.DeleteObject (x ∷ y ∷ []) = on-named Write p (why_delete_object y) (table_of_term w.tables x) (argument 2 rule.NotAnObject) (λ c. last _ _)
-  call-named name.Match (x ∷ y ∷ []) = on-named Read p (why_match y) (table_of_term w.tables x) (argument 2 rule.NotAPattern) (λ c. last _ _)
-  call-named name.MatchObject (x ∷ y ∷ []) = on-named Read p (why_match y) (table_of_term w.tables x) (argument 2 rule.NotAPattern) (λ c. last _ _)
-  call-named name.MatchDelete (x ∷ y ∷ []) = on-named Write p (why_match y) (table_of_term w.tables x) (argument 2 rule.NotAPattern) (λ c. last _ _)
-  call-named name.Select (x ∷ y ∷ []) = on-named Read p (why_select y) (table_of_term w.tables x) (argument 2 rule.NotASpecification) (λ c. last _ _)
-  call-named name.SelectCount (x ∷ y ∷ []) = on-named Read p (why_select y) (table_of_term w.tables x) (argument 2 rule.NotASpecification) (λ c. last _ _)
-  call-named name.SelectDelete (x ∷ y ∷ []) = on-named Write p (why_select y) (table_of_term w.tables x) (argument 2 rule.NotASpecification) (λ c. last _ _)
-  call-named name.New (x ∷ y ∷ []) = making-named w.tables x y
-  call-named name.Next (x ∷ y ∷ []) = on-named Read p (why_next y) (table_of_term w.tables x) (argument 2 rule.NoKey) (λ c. last _ _)
-  call-named name.NextLookup (x ∷ y ∷ []) = on-named Read p (why_next y) (table_of_term w.tables x) (argument 2 rule.NoKey) (λ c. last _ _)
-  call-named name.SafeFixtable (x ∷ y ∷ []) = fixing-named p (table_of_term w.tables x) y
-  call-named name.SetOptions (x ∷ y ∷ []) = setting-named p (table_of_term w.tables x) y
-  call-named name.Info (x ∷ y ∷ []) = informing-named x y
-  call-named name.LookupElement (x ∷ y ∷ z ∷ []) = content-named Read p (why_lookup_element y z) (table_of_term w.tables x) (refusal_reason_of_lookup_element y z true) (element-named y z)
-  call-named name.UpdateCounter (x ∷ y ∷ z ∷ []) = content-named Write p (why_update_counter y z None) (table_of_term w.tables x) (refusal_reason_of_update_counter y z None) (counting-named y z)
-  call-named name.UpdateElement (x ∷ y ∷ z ∷ []) = content-named Write p (why_update_element y z None) (table_of_term w.tables x) (refusal_reason_of_update_element y z None) (writing-named y z None)
-  call-named name.GiveAway (x ∷ y ∷ z ∷ []) = giving-named w.processes p (table_of_term w.tables x) y
-  call-named name.LookupElement (x ∷ y ∷ z ∷ default ∷ []) = content-named Read p (why_lookup_element_or y z) (table_of_term w.tables x) (refusal_reason_of_lookup_element y z false) (element-or-named y z)
-  call-named name.UpdateCounter (x ∷ y ∷ z ∷ default ∷ []) = content-named Write p (why_update_counter y z (Some default)) (table_of_term w.tables x) (refusal_reason_of_update_counter y z (Some default)) (counting-or-named y z default)
-  call-named name.UpdateElement (x ∷ y ∷ z ∷ default ∷ []) = content-named Write p (why_update_element y z (Some default)) (table_of_term w.tables x) (refusal_reason_of_update_element y z (Some default)) (writing-named y z (Some default))
-  call-named _ _ = refl
+  read-named : (called : ReadName) (args : List Term) → NamesReason (why_call w p (name.Read called) args) (refusal_reason_of_call w p (name.Read called) args)
+  read-named read.Tab2list (x ∷ []) = use-named Read p (table_of_term w.tables x)
+  read-named read.First (x ∷ []) = use-named Read p (table_of_term w.tables x)
+  read-named read.FirstLookup (x ∷ []) = use-named Read p (table_of_term w.tables x)
+  read-named read.Whereis (x ∷ []) = last _ (argument 1 rule.NotAnAtom)
+  read-named read.Lookup (x ∷ y ∷ []) = use-named Read p (table_of_term w.tables x)
+  read-named read.Member (x ∷ y ∷ []) = use-named Read p (table_of_term w.tables x)
+  read-named read.Match (x ∷ y ∷ []) = on-named Read p (why_match y) (table_of_term w.tables x) (argument 2 rule.NotAPattern) (λ c. last _ _)
+  read-named read.MatchObject (x ∷ y ∷ []) = on-named Read p (why_match y) (table_of_term w.tables x) (argument 2 rule.NotAPattern) (λ c. last _ _)
+  read-named read.Select (x ∷ y ∷ []) = on-named Read p (why_select y) (table_of_term w.tables x) (argument 2 rule.NotASpecification) (λ c. last _ _)
+  read-named read.SelectCount (x ∷ y ∷ []) = on-named Read p (why_select y) (table_of_term w.tables x) (argument 2 rule.NotASpecification) (λ c. last _ _)
+  read-named read.Next (x ∷ y ∷ []) = on-named Read p (why_next y) (table_of_term w.tables x) (argument 2 rule.NoKey) (λ c. last _ _)
+  read-named read.NextLookup (x ∷ y ∷ []) = on-named Read p (why_next y) (table_of_term w.tables x) (argument 2 rule.NoKey) (λ c. last _ _)
+  read-named read.Info (x ∷ y ∷ []) = informing-named x y
+  read-named read.LookupElement (x ∷ y ∷ z ∷ []) = content-named Read p (why_lookup_element y z) (table_of_term w.tables x) (refusal_reason_of_lookup_element y z true) (element-named y z)
+  read-named read.LookupElement (x ∷ y ∷ z ∷ default ∷ []) = content-named Read p (why_lookup_element_or y z) (table_of_term w.tables x) (refusal_reason_of_lookup_element y z false) (element-or-named y z)
+  read-named _ _ = refl
+
+  write-named : (called : WriteName) (args : List Term) → NamesReason (why_call w p (name.Write called) args) (refusal_reason_of_call w p (name.Write called) args)
+  write-named write.Receive [] = tt {0}
+  write-named write.DeleteAllObjects (x ∷ []) = use-named Write p (table_of_term w.tables x)
+  write-named write.Delete (x ∷ []) = use-named Write p (table_of_term w.tables x)
+  write-named write.Insert (x ∷ y ∷ []) = on-named Write p (why_insert y) (table_of_term w.tables x) (argument 2 rule.NotAnObject) (λ c. last _ _)
+  write-named write.InsertNew (x ∷ y ∷ []) = on-named Write p (why_insert y) (table_of_term w.tables x) (argument 2 rule.NotAnObject) (λ c. last _ _)
+  write-named write.Take (x ∷ y ∷ []) = use-named Write p (table_of_term w.tables x)
+  write-named write.Delete (x ∷ y ∷ []) = use-named Write p (table_of_term w.tables x)
+  write-named write.DeleteObject (x ∷ y ∷ []) = on-named Write p (why_delete_object y) (table_of_term w.tables x) (argument 2 rule.NotAnObject) (λ c. last _ _)
+  write-named write.MatchDelete (x ∷ y ∷ []) = on-named Write p (why_match y) (table_of_term w.tables x) (argument 2 rule.NotAPattern) (λ c. last _ _)
+  write-named write.SelectDelete (x ∷ y ∷ []) = on-named Write p (why_select y) (table_of_term w.tables x) (argument 2 rule.NotASpecification) (λ c. last _ _)
+  write-named write.New (x ∷ y ∷ []) = making-named w.tables x y
+  write-named write.SafeFixtable (x ∷ y ∷ []) = fixing-named p (table_of_term w.tables x) y
+  write-named write.SetOptions (x ∷ y ∷ []) = setting-named p (table_of_term w.tables x) y
+  write-named write.UpdateCounter (x ∷ y ∷ z ∷ []) = content-named Write p (why_update_counter y z None) (table_of_term w.tables x) (refusal_reason_of_update_counter y z None) (counting-named y z)
+  write-named write.UpdateElement (x ∷ y ∷ z ∷ []) = content-named Write p (why_update_element y z None) (table_of_term w.tables x) (refusal_reason_of_update_element y z None) (writing-named y z None)
+  write-named write.GiveAway (x ∷ y ∷ z ∷ []) = giving-named w.processes p (table_of_term w.tables x) y
+  write-named write.UpdateCounter (x ∷ y ∷ z ∷ default ∷ []) = content-named Write p (why_update_counter y z (Some default)) (table_of_term w.tables x) (refusal_reason_of_update_counter y z (Some default)) (counting-or-named y z default)
+  write-named write.UpdateElement (x ∷ y ∷ z ∷ default ∷ []) = content-named Write p (why_update_element y z (Some default)) (table_of_term w.tables x) (refusal_reason_of_update_element y z (Some default)) (writing-named y z (Some default))
+  write-named _ _ = refl
+
+  pub call-named : (called : CallName) (args : List Term) → NamesReason (why_call w p called args) (refusal_reason_of_call w p called args)
+  call-named (name.Read called) args = read-named called args
+  call-named (name.Write called) args = write-named called args
 
 -- ---- without the buckets
 at-named : (ts : Tables) (o : Option ℕ) → option_and_then (table_at (observable_tables ts)) o ≡ option_map observable_table (option_and_then (table_at ts) o)

@@ -4,7 +4,8 @@ use Rattle.std.specs.Option.{option_map_or}
 use Rattle.ets_term.specs.Depth.{is_too_deep}
 use Rattle.ownership.specs.World.{World, lives, process_at, table_at}
 use Rattle.node_core.specs.declared.call_name.CallName.{CallName}
-use Rattle.node_core.specs.declared.call_name.CallName.TheVariants as name
+use Rattle.node_core.specs.declared.call_name.CallName.TheVariants.{Write}
+use Rattle.node_core.specs.declared.call_name.WriteName.TheVariants as write
 use Rattle.node_core.specs.declared.step.Call.{Call}
 use Rattle.node_core.specs.declared.step.Reply.{Reply}
 use Rattle.node_core.specs.declared.step.Step.{Step}
@@ -20,10 +21,10 @@ use Rattle.node_reasons.specs.Calls.{why_call}
 
 -- the limit that a call can exceed
 abbrev pub limit_of : CallName → Rule
-limit_of name.Insert = rule.TooManyObjects
-limit_of name.InsertNew = rule.TooManyObjects
-limit_of name.New = rule.TooManyTables
-limit_of name.SafeFixtable = rule.TooManyFixes
+limit_of (Write write.Insert) = rule.TooManyObjects
+limit_of (Write write.InsertNew) = rule.TooManyObjects
+limit_of (Write write.New) = rule.TooManyTables
+limit_of (Write write.SafeFixtable) = rule.TooManyFixes
 limit_of _ = rule.LimitExceeded
 
 -- the reason that was found; if there is none and the step was refused, the reason is this limit

@@ -18,8 +18,6 @@ use ownership::{Metadata, World};
 pub struct TableUse<'a, R: Rows> {
     /// The process that makes the call.
     pub pid: u32,
-    /// The first argument of the call.
-    pub term: &'a Term,
     /// The owner, protection and name of the table; `None` if the term names no table.
     pub metadata: Option<&'a Metadata>,
     /// The table with its objects; `None` if the term names no table.
@@ -28,22 +26,19 @@ pub struct TableUse<'a, R: Rows> {
 
 impl<'a, R: Rows> TableUse<'a, R> {
     /// Finds the table that a term names, for a call of the process `pid`.
-    pub fn find(world: &'a World<R>, pid: u32, term: &'a Term) -> TableUse<'a, R>
+    pub fn find(world: &'a World<R>, pid: u32, term: &Term) -> TableUse<'a, R>
         ensures pid { result.pid ≡ pid }
-        ensures term { result.term.now ≡ term.now }
         ensures metadata { option_copied result.metadata ≡ metadata_of (table_of_term world.now.tables term.now) }
         ensures table { option_copied result.table ≡ state_of (table_of_term world.now.tables term.now) }
     {
         match world.resolve(term) {
             None => TableUse {
                 pid,
-                term,
                 metadata: None,
                 table: None,
             },
             Some(id) => TableUse {
                 pid,
-                term,
                 metadata: world.metadata(id),
                 table: world.table(id),
             },

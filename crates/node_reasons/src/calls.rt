@@ -1,16 +1,16 @@
 //! The reason of a call that is refused with badarg, by the call's name: its first broken rule. All rules of the call
 //! but the last are checked. If the call breaks none of these, it breaks its last rule.
-ghost use Rattle.std.specs.Prelude.{◌≡◌, [], ◌∷◌, option_copied};
+ghost use Rattle.std.specs.Prelude.{◌≡◌, option_copied};
 ghost use Rattle.node_reasons.specs.Reasons.{argument};
 ghost use Rattle.node_reasons.specs.Why.{limit_of};
-ghost use Rattle.node_reasons.specs.inside.RefusalReasonsOfCalls.{content_in, refusal_reason_by_name, refusal_reason_of_call};
+ghost use Rattle.node_reasons.specs.inside.RefusalReasonsOfCalls.{content_in, refusal_reason_of_call, refusal_reason_of_read_call, refusal_reason_of_write_call};
 
 use crate::access::TableUse;
 use crate::reason::{Reason, Rule};
 use crate::{tables, updates};
 use bucket_table::Rows;
 use ets_term::Term;
-use node_core::CallName;
+use node_core::{CallName, ReadName, WriteName};
 use ownership::World;
 
 /// Returns the rule of the limit that a call can exceed. `LimitExceeded` is the rule of all other calls, such as
@@ -19,15 +19,14 @@ pub fn limit_of(name: CallName) -> Rule
     ensures { result ≡ limit_of name }
 {
     match name {
-        CallName::Insert | CallName::InsertNew => Rule::TooManyObjects,
-        CallName::New => Rule::TooManyTables,
-        CallName::SafeFixtable => Rule::TooManyFixes,
+        CallName::Write(WriteName::Insert | WriteName::InsertNew) => Rule::TooManyObjects,
+        CallName::Write(WriteName::New) => Rule::TooManyTables,
+        CallName::Write(WriteName::SafeFixtable) => Rule::TooManyFixes,
         _ => Rule::LimitExceeded,
     }
 }
 
-/// Returns the reason of a call that is refused with badarg. Finds the table that the first argument names, if any, and
-/// then chooses by the number of arguments.
+/// Returns the reason of a call that is refused with badarg, from the table that its first argument names, if any.
 pub fn refusal_reason_of_call<R: Rows>(
     world: &World<R>,
     pid: u32,
@@ -36,121 +35,103 @@ pub fn refusal_reason_of_call<R: Rows>(
 ) -> Reason
     ensures { result ≡ refusal_reason_of_call world.now pid name args.now }
 {
-    match args {
-        [x] => refusal_reason_of_unary_call(&TableUse::find(world, pid, x), name),
-        [x, y] => refusal_reason_of_binary_call(&TableUse::find(world, pid, x), name, y),
-        [x, y, z] => refusal_reason_of_ternary_call(&TableUse::find(world, pid, x), name, y, z),
-        [x, y, z, default] => refusal_reason_of_quaternary_call(
-            &TableUse::find(world, pid, x),
-            name,
-            y,
-            z,
-            default,
-        ),
-        _ => Reason::about_whole_call(Rule::WrongArity),
-    }
-}
-
-/// Returns the reason of a call of one argument that is refused with badarg.
-fn refusal_reason_of_unary_call<R: Rows>(table_use: &TableUse<R>, name: CallName) -> Reason
-    ensures { result ≡ refusal_reason_by_name table_use.now.pid (option_copied table_use.now.metadata)
-        (content_in (option_copied table_use.now.table)) name (table_use.now.term.now ∷ []) }
-{
+    let [term, ..] = args else {
+        return Reason::about_whole_call(Rule::WrongArity);
+    };
+    let table_use = TableUse::find(world, pid, term);
     match name {
-        CallName::Delete => table_use.refusal_reason_of_write(),
-        CallName::DeleteAllObjects => table_use.refusal_reason_of_write(),
-        CallName::First => table_use.refusal_reason_of_read(),
-        CallName::FirstLookup => table_use.refusal_reason_of_read(),
-        CallName::Tab2list => table_use.refusal_reason_of_read(),
-        CallName::Whereis => Reason::argument(1, Rule::NotAnAtom),
-        _ => Reason::about_whole_call(Rule::WrongArity),
+        CallName::Read(name) => refusal_reason_of_read_call(&table_use, name, args),
+        CallName::Write(name) => refusal_reason_of_write_call(&table_use, name, args),
     }
 }
 
-/// Returns the reason of a call of two arguments that is refused with badarg.
-fn refusal_reason_of_binary_call<R: Rows>(
+/// Returns the reason of a call that only reads and is refused with badarg.
+fn refusal_reason_of_read_call<R: Rows>(
     table_use: &TableUse<R>,
-    name: CallName,
-    y: &Term,
+    name: ReadName,
+    args: &[Term],
 ) -> Reason
-    ensures { result ≡ refusal_reason_by_name table_use.now.pid (option_copied table_use.now.metadata)
-        (content_in (option_copied table_use.now.table)) name (table_use.now.term.now ∷ y.now ∷ []) }
+    ensures { result ≡ refusal_reason_of_read_call table_use.now.pid (option_copied table_use.now.metadata)
+        (content_in (option_copied table_use.now.table)) name args.now }
 {
-    match name {
-        CallName::Delete => table_use.refusal_reason_of_write(),
-        CallName::DeleteObject => table_use.write_reason_or(second_argument(Rule::NotAnObject)),
-        CallName::Info => tables::refusal_reason_of_info(y),
-        CallName::Insert => table_use.write_reason_or(second_argument(Rule::NotAnObject)),
-        CallName::InsertNew => table_use.write_reason_or(second_argument(Rule::NotAnObject)),
-        CallName::Lookup => table_use.refusal_reason_of_read(),
-        CallName::Match => table_use.read_reason_or(second_argument(Rule::NotAPattern)),
-        CallName::MatchDelete => table_use.write_reason_or(second_argument(Rule::NotAPattern)),
-        CallName::MatchObject => table_use.read_reason_or(second_argument(Rule::NotAPattern)),
-        CallName::Member => table_use.refusal_reason_of_read(),
-        CallName::New => tables::refusal_reason_of_new(table_use.term, y),
-        CallName::Next => table_use.read_reason_or(second_argument(Rule::NoKey)),
-        CallName::NextLookup => table_use.read_reason_or(second_argument(Rule::NoKey)),
-        CallName::SafeFixtable => tables::refusal_reason_of_safe_fixtable(table_use, y),
-        CallName::Select => table_use.read_reason_or(second_argument(Rule::NotASpecification)),
-        CallName::SelectCount => table_use.read_reason_or(second_argument(Rule::NotASpecification)),
-        CallName::SelectDelete => table_use.write_reason_or(second_argument(
-            Rule::NotASpecification,
+    match (name, args) {
+        (ReadName::First, [_]) => table_use.refusal_reason_of_read(),
+        (ReadName::FirstLookup, [_]) => table_use.refusal_reason_of_read(),
+        (ReadName::Info, [_, y]) => tables::refusal_reason_of_info(y),
+        (ReadName::Lookup, [_, _]) => table_use.refusal_reason_of_read(),
+        // Without a default, the key must have an object: `needs_object` is `true`. With a default, it need not.
+        (ReadName::LookupElement, [_, y, z]) => {
+            updates::refusal_reason_of_lookup_element(table_use, y, z, true)
+        }
+        (ReadName::LookupElement, [_, y, z, _]) => {
+            updates::refusal_reason_of_lookup_element(table_use, y, z, false)
+        }
+        (ReadName::Match, [_, _]) => table_use.read_reason_or(second_argument(Rule::NotAPattern)),
+        (ReadName::MatchObject, [_, _]) => {
+            table_use.read_reason_or(second_argument(Rule::NotAPattern))
+        }
+        (ReadName::Member, [_, _]) => table_use.refusal_reason_of_read(),
+        (ReadName::Next, [_, _]) => table_use.read_reason_or(second_argument(Rule::NoKey)),
+        (ReadName::NextLookup, [_, _]) => table_use.read_reason_or(second_argument(Rule::NoKey)),
+        (ReadName::Select, [_, _]) => {
+            table_use.read_reason_or(second_argument(Rule::NotASpecification))
+        }
+        (ReadName::SelectCount, [_, _]) => {
+            table_use.read_reason_or(second_argument(Rule::NotASpecification))
+        }
+        (ReadName::Tab2list, [_]) => table_use.refusal_reason_of_read(),
+        (ReadName::Whereis, [_]) => Reason::argument(1, Rule::NotAnAtom),
+        _ => Reason::about_whole_call(Rule::WrongArity),
+    }
+}
+
+/// Returns the reason of any other call that is refused with badarg.
+fn refusal_reason_of_write_call<R: Rows>(
+    table_use: &TableUse<R>,
+    name: WriteName,
+    args: &[Term],
+) -> Reason
+    ensures { result ≡ refusal_reason_of_write_call table_use.now.pid (option_copied table_use.now.metadata)
+        (content_in (option_copied table_use.now.table)) name args.now }
+{
+    match (name, args) {
+        (WriteName::Delete, [_]) => table_use.refusal_reason_of_write(),
+        (WriteName::Delete, [_, _]) => table_use.refusal_reason_of_write(),
+        (WriteName::DeleteAllObjects, [_]) => table_use.refusal_reason_of_write(),
+        (WriteName::DeleteObject, [_, _]) => {
+            table_use.write_reason_or(second_argument(Rule::NotAnObject))
+        }
+        (WriteName::GiveAway, [_, y, _]) => tables::refusal_reason_of_give_away(table_use, y),
+        (WriteName::Insert, [_, _]) => table_use.write_reason_or(second_argument(
+            Rule::NotAnObject,
         )),
-        CallName::SetOptions => table_use.owner_reason_or(second_argument(Rule::NotOptions)),
-        CallName::Take => table_use.refusal_reason_of_write(),
-        _ => Reason::about_whole_call(Rule::WrongArity),
-    }
-}
-
-/// Returns the reason of a call of three arguments that is refused with badarg.
-fn refusal_reason_of_ternary_call<R: Rows>(
-    table_use: &TableUse<R>,
-    name: CallName,
-    y: &Term,
-    z: &Term,
-) -> Reason
-    ensures { result ≡ refusal_reason_by_name table_use.now.pid (option_copied table_use.now.metadata)
-        (content_in (option_copied table_use.now.table)) name (table_use.now.term.now ∷ y.now ∷ z.now ∷ []) }
-{
-    match name {
-        CallName::GiveAway => tables::refusal_reason_of_give_away(table_use, y),
-        // Without a default, the key must have an object: `needs_object` is `true`.
-        CallName::LookupElement => updates::refusal_reason_of_lookup_element(table_use, y, z, true),
-        CallName::UpdateCounter => updates::refusal_reason_of_update_counter(table_use, y, z, None),
-        CallName::UpdateElement => updates::refusal_reason_of_update_element(table_use, y, z, None),
-        _ => Reason::about_whole_call(Rule::WrongArity),
-    }
-}
-
-/// Returns the reason of a call of four arguments, the last a default, that is refused with badarg.
-fn refusal_reason_of_quaternary_call<R: Rows>(
-    table_use: &TableUse<R>,
-    name: CallName,
-    y: &Term,
-    z: &Term,
-    default: &Term,
-) -> Reason
-    ensures { result ≡ refusal_reason_by_name table_use.now.pid (option_copied table_use.now.metadata)
-        (content_in (option_copied table_use.now.table)) name
-        (table_use.now.term.now ∷ y.now ∷ z.now ∷ default.now ∷ []) }
-{
-    match name {
-        // With a default, the key need not have an object: `needs_object` is `false`.
-        CallName::LookupElement => updates::refusal_reason_of_lookup_element(
-            table_use, y, z, false,
-        ),
-        CallName::UpdateCounter => updates::refusal_reason_of_update_counter(
-            table_use,
-            y,
-            z,
-            Some(default),
-        ),
-        CallName::UpdateElement => updates::refusal_reason_of_update_element(
-            table_use,
-            y,
-            z,
-            Some(default),
-        ),
+        (WriteName::InsertNew, [_, _]) => {
+            table_use.write_reason_or(second_argument(Rule::NotAnObject))
+        }
+        (WriteName::MatchDelete, [_, _]) => {
+            table_use.write_reason_or(second_argument(Rule::NotAPattern))
+        }
+        (WriteName::New, [x, y]) => tables::refusal_reason_of_new(x, y),
+        (WriteName::SafeFixtable, [_, y]) => tables::refusal_reason_of_safe_fixtable(table_use, y),
+        (WriteName::SelectDelete, [_, _]) => {
+            table_use.write_reason_or(second_argument(Rule::NotASpecification))
+        }
+        (WriteName::SetOptions, [_, _]) => {
+            table_use.owner_reason_or(second_argument(Rule::NotOptions))
+        }
+        (WriteName::Take, [_, _]) => table_use.refusal_reason_of_write(),
+        (WriteName::UpdateCounter, [_, y, z]) => {
+            updates::refusal_reason_of_update_counter(table_use, y, z, None)
+        }
+        (WriteName::UpdateCounter, [_, y, z, default]) => {
+            updates::refusal_reason_of_update_counter(table_use, y, z, Some(default))
+        }
+        (WriteName::UpdateElement, [_, y, z]) => {
+            updates::refusal_reason_of_update_element(table_use, y, z, None)
+        }
+        (WriteName::UpdateElement, [_, y, z, default]) => {
+            updates::refusal_reason_of_update_element(table_use, y, z, Some(default))
+        }
         _ => Reason::about_whole_call(Rule::WrongArity),
     }
 }

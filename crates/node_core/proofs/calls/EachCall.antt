@@ -11,6 +11,10 @@ use Rattle.fixed_walk.specs.TableState.{TableState}
 use Rattle.ownership.specs.World.{Table, lives, table_at}
 use Rattle.node_core.specs.declared.call_name.CallName.{CallName}
 use Rattle.node_core.specs.declared.call_name.CallName.TheVariants as name
+use Rattle.node_core.specs.declared.call_name.ReadName.{ReadName}
+use Rattle.node_core.specs.declared.call_name.ReadName.TheVariants as read
+use Rattle.node_core.specs.declared.call_name.WriteName.{WriteName}
+use Rattle.node_core.specs.declared.call_name.WriteName.TheVariants as write
 use Rattle.node_core.specs.declared.node.access.Access.TheVariants.{Write}
 use Rattle.node_core.specs.declared.step.Reply.{Reply}
 use Rattle.node_core.specs.declared.step.Reply.TheVariants.{Value, Badarg, SystemLimit, NoProcess}
@@ -20,7 +24,7 @@ use Rattle.node_core.specs.State.{State}
 use Rattle.node_core.specs.Observable.{observable_table_state, observable_table, observable}
 use Rattle.node_core.specs.Access.{CallRule, reads, writes}
 use Rattle.node_core.specs.CallName.{call_name}
-use Rattle.node_core.specs.Calls.{call, call_by_text}
+use Rattle.node_core.specs.Calls.{call, read_call, write_call, call_by_text}
 use Rattle.node_core.specs.Machine.{step}
 use Rattle.node_core.specs.rules.Growth.{ok_reply, growth_reply}
 use Rattle.node_core.specs.rules.Reading.{lookup_reply, member_reply, lookup_element_reply, lookup_element_or_reply, tab2list_reply}
@@ -36,11 +40,11 @@ use Rattle.node_core.proofs.moves.WorldLaws.{enrol-lawful, end-lawful}
 use Rattle.node_core.proofs.moves.WorldMoves.{enrol-moves, end-moves}
 
 -- whether the reply of a call that changes something may take memory to copy
-abbrev pub may_need_copy : CallName → Bool
-may_need_copy name.New = true
-may_need_copy name.Receive = true
-may_need_copy name.Take = true
-may_need_copy name.UpdateCounter = true
+abbrev pub may_need_copy : WriteName → Bool
+may_need_copy write.New = true
+may_need_copy write.Receive = true
+may_need_copy write.Take = true
+may_need_copy write.UpdateCounter = true
 may_need_copy _ = false
 
 module _ (p : ℕ) (needs : Bool) (old : State) where
@@ -60,51 +64,54 @@ module _ (p : ℕ) (needs : Bool) (old : State) where
   writing : (x : Term) {rule : CallRule} → IsLawful own needs rule → Laws (writes old p x rule) (writes (observable old) p x rule)
   writing x lawful = changes-lawful own needs old p Write x lawful
 
-  pub call-lawful : (name : CallName) (args : List Term) → (may_need_copy name ≡ true → needs ≡ true)
-      → Laws (call old p name args) (call (observable old) p name args)
-  call-lawful name.Receive [] copy = receive-lawful own needs old p (copy refl)
-  call-lawful name.Tab2list (x ∷ []) copy = reading x tab2list_reply (λ f. refl)
-  call-lawful name.DeleteAllObjects (x ∷ []) copy = writing x (delete_all-lawful own needs)
-  call-lawful name.Delete (x ∷ []) copy = delete_table-lawful own needs old p x
-  call-lawful name.First (x ∷ []) copy = reading x first_reply (λ f. refl)
-  call-lawful name.FirstLookup (x ∷ []) copy = reading x first_lookup_reply (λ f. refl)
-  call-lawful name.Whereis (x ∷ []) copy = whereis-lawful own needs old x
-  call-lawful name.Insert (x ∷ y ∷ []) copy = writing x (insert-lawful own needs y)
-  call-lawful name.InsertNew (x ∷ y ∷ []) copy = writing x (insert_new-lawful own needs y)
-  call-lawful name.Lookup (x ∷ y ∷ []) copy = reading x (lookup_reply y) (λ f. refl)
-  call-lawful name.Member (x ∷ y ∷ []) copy = reading x (member_reply y) (λ f. refl)
-  call-lawful name.Take (x ∷ y ∷ []) copy = writing x (take-lawful own needs (copy refl) y)
-  call-lawful name.Delete (x ∷ y ∷ []) copy = writing x (delete-lawful own needs y)
-  call-lawful name.DeleteObject (x ∷ y ∷ []) copy = writing x (delete_object-lawful own needs y)
-  call-lawful name.Match (x ∷ y ∷ []) copy = reading x (match_reply y) (λ f. refl)
-  call-lawful name.MatchObject (x ∷ y ∷ []) copy = reading x (match_object_reply y) (λ f. refl)
-  call-lawful name.MatchDelete (x ∷ y ∷ []) copy = writing x (match_delete-lawful own needs y)
-  call-lawful name.Select (x ∷ y ∷ []) copy = reading x (select_reply y) (λ f. refl)
-  call-lawful name.SelectCount (x ∷ y ∷ []) copy = reading x (select_count_reply y) (λ f. refl)
-  call-lawful name.SelectDelete (x ∷ y ∷ []) copy = writing x (select_delete-lawful own needs y)
-  call-lawful name.New (x ∷ y ∷ []) copy = new_call-lawful own needs old p (copy refl) x y
-  call-lawful name.Next (x ∷ y ∷ []) copy = reading x (next_reply y) (λ f. refl)
-  call-lawful name.NextLookup (x ∷ y ∷ []) copy = reading x (next_lookup_reply y) (λ f. refl)
-  call-lawful name.SafeFixtable (x ∷ y ∷ []) copy = fixtable-lawful p needs old x y
-  call-lawful name.SetOptions (x ∷ y ∷ []) copy = set_options_call-lawful own needs old p x y
-  call-lawful name.Info (x ∷ y ∷ []) copy = info-lawful own needs old x y
-  call-lawful name.LookupElement (x ∷ y ∷ z ∷ []) copy = reading x (lookup_element_reply y z) (λ f. refl)
-  call-lawful name.UpdateCounter (x ∷ y ∷ z ∷ []) copy = writing x (update_counter-lawful own needs (copy refl) y z None)
-  call-lawful name.UpdateElement (x ∷ y ∷ z ∷ []) copy = writing x (update_element-lawful own needs y z None)
-  call-lawful name.GiveAway (x ∷ y ∷ z ∷ []) copy = give_away-lawful own needs old p x y z
-  call-lawful name.LookupElement (x ∷ y ∷ z ∷ w ∷ []) copy = reading x (lookup_element_or_reply y z w) (λ f. refl)
-  call-lawful name.UpdateCounter (x ∷ y ∷ z ∷ w ∷ []) copy = writing x (update_counter-lawful own needs (copy refl) y z (Some w))
-  call-lawful name.UpdateElement (x ∷ y ∷ z ∷ w ∷ []) copy = writing x (update_element-lawful own needs y z (Some w))
-  call-lawful _ _ copy = none
+  pub read-lawful : (name : ReadName) (args : List Term) → Laws (read_call old p name args) (read_call (observable old) p name args)
+  read-lawful read.Tab2list (x ∷ []) = reading x tab2list_reply (λ f. refl)
+  read-lawful read.First (x ∷ []) = reading x first_reply (λ f. refl)
+  read-lawful read.FirstLookup (x ∷ []) = reading x first_lookup_reply (λ f. refl)
+  read-lawful read.Whereis (x ∷ []) = whereis-lawful own needs old x
+  read-lawful read.Lookup (x ∷ y ∷ []) = reading x (lookup_reply y) (λ f. refl)
+  read-lawful read.Member (x ∷ y ∷ []) = reading x (member_reply y) (λ f. refl)
+  read-lawful read.Match (x ∷ y ∷ []) = reading x (match_reply y) (λ f. refl)
+  read-lawful read.MatchObject (x ∷ y ∷ []) = reading x (match_object_reply y) (λ f. refl)
+  read-lawful read.Select (x ∷ y ∷ []) = reading x (select_reply y) (λ f. refl)
+  read-lawful read.SelectCount (x ∷ y ∷ []) = reading x (select_count_reply y) (λ f. refl)
+  read-lawful read.Next (x ∷ y ∷ []) = reading x (next_reply y) (λ f. refl)
+  read-lawful read.NextLookup (x ∷ y ∷ []) = reading x (next_lookup_reply y) (λ f. refl)
+  read-lawful read.Info (x ∷ y ∷ []) = info-lawful own needs old x y
+  read-lawful read.LookupElement (x ∷ y ∷ z ∷ []) = reading x (lookup_element_reply y z) (λ f. refl)
+  read-lawful read.LookupElement (x ∷ y ∷ z ∷ w ∷ []) = reading x (lookup_element_or_reply y z w) (λ f. refl)
+  read-lawful _ _ = none
 
-  pub call_by_text-lawful : (text : List ℕ) (args : List Term) → ((name : CallName) → call_name text ≡ Some name → may_need_copy name ≡ true → needs ≡ true)
-      → Laws (call_by_text old p text args) (call_by_text (observable old) p text args)
-  call_by_text-lawful text args copy = by (call_name text) copy
+  pub write-lawful : (name : WriteName) (args : List Term) → (may_need_copy name ≡ true → needs ≡ true)
+      → Laws (write_call old p name args) (write_call (observable old) p name args)
+  write-lawful write.Receive [] copy = receive-lawful own needs old p (copy refl)
+  write-lawful write.DeleteAllObjects (x ∷ []) copy = writing x (delete_all-lawful own needs)
+  write-lawful write.Delete (x ∷ []) copy = delete_table-lawful own needs old p x
+  write-lawful write.Insert (x ∷ y ∷ []) copy = writing x (insert-lawful own needs y)
+  write-lawful write.InsertNew (x ∷ y ∷ []) copy = writing x (insert_new-lawful own needs y)
+  write-lawful write.Take (x ∷ y ∷ []) copy = writing x (take-lawful own needs (copy refl) y)
+  write-lawful write.Delete (x ∷ y ∷ []) copy = writing x (delete-lawful own needs y)
+  write-lawful write.DeleteObject (x ∷ y ∷ []) copy = writing x (delete_object-lawful own needs y)
+  write-lawful write.MatchDelete (x ∷ y ∷ []) copy = writing x (match_delete-lawful own needs y)
+  write-lawful write.SelectDelete (x ∷ y ∷ []) copy = writing x (select_delete-lawful own needs y)
+  write-lawful write.New (x ∷ y ∷ []) copy = new_call-lawful own needs old p (copy refl) x y
+  write-lawful write.SafeFixtable (x ∷ y ∷ []) copy = fixtable-lawful p needs old x y
+  write-lawful write.SetOptions (x ∷ y ∷ []) copy = set_options_call-lawful own needs old p x y
+  write-lawful write.UpdateCounter (x ∷ y ∷ z ∷ []) copy = writing x (update_counter-lawful own needs (copy refl) y z None)
+  write-lawful write.UpdateElement (x ∷ y ∷ z ∷ []) copy = writing x (update_element-lawful own needs y z None)
+  write-lawful write.GiveAway (x ∷ y ∷ z ∷ []) copy = give_away-lawful own needs old p x y z
+  write-lawful write.UpdateCounter (x ∷ y ∷ z ∷ w ∷ []) copy = writing x (update_counter-lawful own needs (copy refl) y z (Some w))
+  write-lawful write.UpdateElement (x ∷ y ∷ z ∷ w ∷ []) copy = writing x (update_element-lawful own needs y z (Some w))
+  write-lawful _ _ copy = none
+
+  call_by_text-lawful : (text : List ℕ) (args : List Term) → needs ≡ true → Laws (call_by_text old p text args) (call_by_text (observable old) p text args)
+  call_by_text-lawful text args needed = by (call_name text)
     where
-      by : (found : Option CallName) → ((name : CallName) → found ≡ Some name → may_need_copy name ≡ true → needs ≡ true)
+      by : (found : Option CallName)
           → Laws (refuse_none old found Badarg (λ name. call old p name args)) (refuse_none (observable old) found Badarg (λ name. call (observable old) p name args))
-      by None copy = none
-      by (Some name) copy = call-lawful name args (copy name refl)
+      by None = none
+      by (Some (name.Read name)) = read-lawful name args
+      by (Some (name.Write name)) = write-lawful name args (λ _. needed)
 
 -- ---- for each step
 growth-at : (o : Option Table)
@@ -131,7 +138,7 @@ step-lawful old (End p) =
 step-lawful old (Ask p asked) =
     either-lawful (λ w. p == w) true old (not (lives old.world.processes p)) (λ _. tells-lawful (λ w. p == w) true old NoProcess) (
     either-lawful (λ w. p == w) true old (list_any is_too_deep asked.args) (λ _. tells-lawful (λ w. p == w) true old SystemLimit) (
-    call_by_text-lawful p true old asked.name asked.args (λ name is copy. refl)))
+    call_by_text-lawful p true old asked.name asked.args refl))
 step-lawful old (Grow t) =
     tells-as (λ w. false) true old (growth_reply old t) (growth_reply (observable old) t) (growth-observable old t)
 step-lawful old (Ready t bucket) =

@@ -1,13 +1,14 @@
 -- A call that nothing refuses early is answered by its name; one that changes nothing, from the state to itself.
-use Rattle.std.proofs.Common.{◌≡◌, ℕ, Bool, true, false, not, cond, List, Option, None, Some, refl, sym, subst, true≢false, Result, Ok, Err, IfOk}
+use Rattle.std.proofs.Common.{◌≡◌, ℕ, Bool, true, false, not, cond, List, Option, None, Some, refl, sym, ap, subst, true≢false, Result, Ok, Err, IfOk}
 use Rattle.std.specs.List.{list_any}
 use Rattle.std.specs.declared.alloc.AllocError.{AllocError}
-use Rattle.std.specs.Option.{option_map_or}
 use Rattle.ets_term.specs.declared.term.Term.{Term}
 use Rattle.ets_term.specs.Depth.{is_too_deep}
 use Rattle.table_ops.specs.Outcomes.{Outcome, refuse, refuse_none}
 use Rattle.ownership.specs.World.{lives}
 use Rattle.node_core.specs.declared.call_name.CallName.{CallName}
+use Rattle.node_core.specs.declared.call_name.CallName.TheVariants.{Read}
+use Rattle.node_core.specs.declared.call_name.ReadName.{ReadName}
 use Rattle.node_core.specs.declared.step.Call.{Call}
 use Rattle.node_core.specs.declared.step.Step.TheVariants.{Ask}
 use Rattle.node_core.specs.declared.step.Reply.{Reply}
@@ -15,9 +16,9 @@ use Rattle.node_core.specs.declared.step.Reply.TheVariants.{Badarg, SystemLimit,
 use Rattle.node_core.specs.State.{State}
 use Rattle.node_core.specs.Observable.{observable}
 use Rattle.node_core.specs.CallName.{call_name}
-use Rattle.node_core.specs.Calls.{call, call_by_text}
+use Rattle.node_core.specs.Calls.{call, read_call, call_by_text}
 use Rattle.node_core.specs.Machine.{step}
-use Rattle.node_core.specs.Reads.{reads_only, is_read, Reads}
+use Rattle.node_core.specs.Reads.{names_read, is_read, Reads}
 use Rattle.node_core.specs.inside.Refusals.{early_refusal, RefusesEarly}
 use Rattle.node_core.proofs.buckets.Steps.{done-observable}
 
@@ -55,9 +56,9 @@ module _ (old new : State) (p : ℕ) (asked : Call) (name : CallName) (named : S
   asks-ok (Ok reply) h = asks reply h
   asks-ok (Err error) h = tt
 
-module _ (s : State) (p : ℕ) (asked : Call) (name : CallName) (named : Some name ≡ call_name asked.name) (reads : reads_only name asked.args ≡ true) (r : Reply) where
+module _ (s : State) (p : ℕ) (asked : Call) (name : ReadName) (named : Some (Read name) ≡ call_name asked.name) (r : Reply) where
   is-read : is_read asked ≡ true
-  is-read = subst (λ found. option_map_or (λ name. reads_only name asked.args) found false ≡ true) named reads
+  is-read = ap names_read (sym named)
 
   as-read : step s (Ask p asked) r s → Reads (observable s) p asked (Some r)
   as-read h = (is-read, done-observable s s (Ask p asked) r h)
@@ -65,5 +66,5 @@ module _ (s : State) (p : ℕ) (asked : Call) (name : CallName) (named : Some na
   pub refusal-reads : Some r ≡ early_refusal s p asked.args → Reads (observable s) p asked (Some r)
   refusal-reads e = as-read (early-refuses s r (call_by_text s p asked.name asked.args) (lives s.world.processes p) (list_any is_too_deep asked.args) e)
 
-  pub reply-reads : None ≡ early_refusal s p asked.args → call s p name asked.args r s → Reads (observable s) p asked (Some r)
-  reply-reads e h = as-read (asks s s p asked name named e r h)
+  pub reply-reads : None ≡ early_refusal s p asked.args → read_call s p name asked.args r s → Reads (observable s) p asked (Some r)
+  reply-reads e h = as-read (asks s s p asked (Read name) named e r h)

@@ -15,7 +15,8 @@ use Rattle.fixed_walk.specs.TableState.{TableState}
 use Rattle.fixed_walk.specs.Walk.{first_key, first_slot}
 use Rattle.fixed_walk.proofs.FromLaws.{key_in, first-key}
 use Rattle.node_core.specs.declared.call_name.CallName.{CallName}
-use Rattle.node_core.specs.declared.call_name.CallName.TheVariants as name
+use Rattle.node_core.specs.declared.call_name.CallName.TheVariants.{Read}
+use Rattle.node_core.specs.declared.call_name.ReadName.TheVariants.{Tab2list, Match, MatchObject, Select, First, Next, FirstLookup, NextLookup}
 use Rattle.node_core.specs.declared.step.Reply.{Reply}
 use Rattle.node_core.specs.declared.step.Reply.TheVariants.{Badarg}
 use Rattle.node_core.specs.Values.{is_value}
@@ -35,17 +36,17 @@ use Rattle.node_core.proofs.walks.WalkCalls.{answer_reply, end-of}
 -- how two replies to a call with this name agree
 abbrev pub Shown : CallName → Reply → Reply → Type 0
 Shown n r q =
-    (Contains (name.Tab2list ∷ name.Match ∷ name.MatchObject ∷ name.Select ∷ []) n × AreSameLists r q)
-    ⊎ (Contains (name.Next ∷ name.NextLookup ∷ []) n × (is_value r ≡ true) × (is_value q ≡ true))
-    ⊎ (Contains (name.First ∷ name.FirstLookup ∷ []) n × (is_value r ≡ true) × (is_value q ≡ true) × (r ≢ key_reply None) × (q ≢ key_reply None))
+    (Contains (Read Tab2list ∷ Read Match ∷ Read MatchObject ∷ Read Select ∷ []) n × AreSameLists r q)
+    ⊎ (Contains (Read Next ∷ Read NextLookup ∷ []) n × (is_value r ≡ true) × (is_value q ≡ true))
+    ⊎ (Contains (Read First ∷ Read FirstLookup ∷ []) n × (is_value r ≡ true) × (is_value q ≡ true) × (r ≢ key_reply None) × (q ≢ key_reply None))
 
 abbrev pub AgreeByName : CallName → Reply → Reply → Type 0
 AgreeByName n r q = (r ≡ q) ⊎ Shown n r q
 
-lists : (n : CallName) → Contains (name.Tab2list ∷ name.Match ∷ name.MatchObject ∷ name.Select ∷ []) n → (xs ys : List Term) → Shuffled Term xs ys → AgreeByName n (list_reply xs) (list_reply ys)
+lists : (n : CallName) → Contains (Read Tab2list ∷ Read Match ∷ Read MatchObject ∷ Read Select ∷ []) n → (xs ys : List Term) → Shuffled Term xs ys → AgreeByName n (list_reply xs) (list_reply ys)
 lists n has xs ys h = inr (inl (has, (xs, ys, refl, refl, permuted Term xs ys h)))
 
-keys : (n : CallName) → Contains (name.Next ∷ name.NextLookup ∷ []) n → (r q : Reply) → is_value r ≡ true → is_value q ≡ true → AgreeByName n r q
+keys : (n : CallName) → Contains (Read Next ∷ Read NextLookup ∷ []) n → (r q : Reply) → is_value r ≡ true → is_value q ≡ true → AgreeByName n r q
 keys n has r q v w = inr (inr (inl (has, v, w)))
 
 -- ---- the first key
@@ -96,26 +97,26 @@ module _ (f : TableState) (ss : List Slot) (h : SameSlots f.content.slots ss) (d
   select_count-same spec = ap (λ (n : ℕ). cond (is_spec (data_of spec)) (count_reply n) Badarg) (chosen-same (is_chosen spec) f.content.slots ss h)
 
   -- ---- lists of all keys
-  pub tab2list-agrees : AgreeByName name.Tab2list (tab2list_reply f) (tab2list_reply other)
-  tab2list-agrees = lists name.Tab2list (0, omega arith, refl) _ _ (objects-shuffled f.content.slots ss h)
+  pub tab2list-agrees : AgreeByName (Read Tab2list) (tab2list_reply f) (tab2list_reply other)
+  tab2list-agrees = lists (Read Tab2list) (0, omega arith, refl) _ _ (objects-shuffled f.content.slots ss h)
 
   results-shuffled : (give : Term → Option Data) → Shuffled Term (map term_of (filter_map give (all_objects f.content.slots))) (map term_of (filter_map give (all_objects ss)))
   results-shuffled give = map-shuffled term_of _ _ (found-shuffled give _ _ (objects-shuffled f.content.slots ss h))
 
-  searched : (b : Bool) (n : CallName) → Contains (name.Tab2list ∷ name.Match ∷ name.MatchObject ∷ name.Select ∷ []) n → (xs ys : List Term) → Shuffled Term xs ys
+  searched : (b : Bool) (n : CallName) → Contains (Read Tab2list ∷ Read Match ∷ Read MatchObject ∷ Read Select ∷ []) n → (xs ys : List Term) → Shuffled Term xs ys
       → AgreeByName n (cond b (list_reply xs) Badarg) (cond b (list_reply ys) Badarg)
   searched true n has xs ys s = lists n has xs ys s
   searched false n has xs ys s = inl refl
 
-  pub match-agrees : (pattern : Term) → AgreeByName name.Match (match_reply pattern f) (match_reply pattern other)
-  match-agrees pattern = searched (is_pattern (data_of pattern)) name.Match (1, omega arith, refl) _ _ (results-shuffled (bound_in pattern))
+  pub match-agrees : (pattern : Term) → AgreeByName (Read Match) (match_reply pattern f) (match_reply pattern other)
+  match-agrees pattern = searched (is_pattern (data_of pattern)) (Read Match) (1, omega arith, refl) _ _ (results-shuffled (bound_in pattern))
 
-  pub match_object-agrees : (pattern : Term) → AgreeByName name.MatchObject (match_object_reply pattern f) (match_object_reply pattern other)
+  pub match_object-agrees : (pattern : Term) → AgreeByName (Read MatchObject) (match_object_reply pattern f) (match_object_reply pattern other)
   match_object-agrees pattern =
-      searched (is_pattern (data_of pattern)) name.MatchObject (2, omega arith, refl) _ _ (filter-shuffled (matches pattern) _ _ (objects-shuffled f.content.slots ss h))
+      searched (is_pattern (data_of pattern)) (Read MatchObject) (2, omega arith, refl) _ _ (filter-shuffled (matches pattern) _ _ (objects-shuffled f.content.slots ss h))
 
-  pub select-agrees : (spec : Term) → AgreeByName name.Select (select_reply spec f) (select_reply spec other)
-  select-agrees spec = searched (is_spec (data_of spec)) name.Select (3, omega arith, refl) _ _ (results-shuffled (spec_result spec))
+  pub select-agrees : (spec : Term) → AgreeByName (Read Select) (select_reply spec f) (select_reply spec other)
+  select-agrees spec = searched (is_spec (data_of spec)) (Read Select) (3, omega arith, refl) _ _ (results-shuffled (spec_result spec))
 
   -- ---- keys of a traversal
   key-value : (o : Option Term) → is_value (key_reply o) ≡ true
@@ -123,7 +124,7 @@ module _ (f : TableState) (ss : List Slot) (h : SameSlots f.content.slots ss) (d
   key-value (Some key) = refl
 
   -- both are the end, or both are not
-  module _ (n : CallName) (has : Contains (name.First ∷ name.FirstLookup ∷ []) n) (objects : Bool) (value : (ss : List Slot) → is_value (answer_reply objects None ss) ≡ true)
+  module _ (n : CallName) (has : Contains (Read First ∷ Read FirstLookup ∷ []) n) (objects : Bool) (value : (ss : List Slot) → is_value (answer_reply objects None ss) ≡ true)
       (end : (ss : List Slot) → first_key ss ≡ None → answer_reply objects None ss ≡ key_reply None) (free : HasNoEnd f.content.slots) where
     not-end : (xs : List Slot) (key : Term) → HasNoEnd xs → first_key xs ≡ Some key → answer_reply objects None xs ≢ key_reply None
     not-end xs key none e r = let both : Some (Some key) ≡ Some None = ap (λ (o : Option Term). Some o) (sym e) ∙ end-of objects None xs none r in cc
@@ -138,8 +139,8 @@ module _ (f : TableState) (ss : List Slot) (h : SameSlots f.content.slots ss) (d
     first-by : AgreeByName n (answer_reply objects None f.content.slots) (answer_reply objects None ss)
     first-by = both-first (first_key f.content.slots) (first_key ss) refl refl (first-same f.content.slots ss h)
 
-  pub first-agrees : HasNoEnd f.content.slots → AgreeByName name.First (first_reply f) (first_reply other)
-  first-agrees = first-by name.First (0, omega arith, refl) false (λ ss. key-value (first_key ss)) (λ ss e. ap key_reply e)
+  pub first-agrees : HasNoEnd f.content.slots → AgreeByName (Read First) (first_reply f) (first_reply other)
+  first-agrees = first-by (Read First) (0, omega arith, refl) false (λ ss. key-value (first_key ss)) (λ ss e. ap key_reply e)
 
   no-first-slot : (ss : List Slot) → first_key ss ≡ None → slot_reply (first_slot ss) ≡ key_reply None
   no-first-slot ss e = by (first_slot ss) (first-key ss ∙ e)
@@ -148,10 +149,10 @@ module _ (f : TableState) (ss : List Slot) (h : SameSlots f.content.slots ss) (d
       by None e = refl
       by (Some s) e = absurd (cc)
 
-  pub first_lookup-agrees : HasNoEnd f.content.slots → AgreeByName name.FirstLookup (first_lookup_reply f) (first_lookup_reply other)
-  first_lookup-agrees = first-by name.FirstLookup (1, omega arith, refl) true (λ ss. key-value (option_map key_and_objects (first_slot ss))) no-first-slot
+  pub first_lookup-agrees : HasNoEnd f.content.slots → AgreeByName (Read FirstLookup) (first_lookup_reply f) (first_lookup_reply other)
+  first_lookup-agrees = first-by (Read FirstLookup) (1, omega arith, refl) true (λ ss. key-value (option_map key_and_objects (first_slot ss))) no-first-slot
 
-  next-at : (n : CallName) → Contains (name.Next ∷ name.NextLookup ∷ []) n → (answer : List Slot → Reply) → ((xs : List Slot) → is_value (answer xs) ≡ true)
+  next-at : (n : CallName) → Contains (Read Next ∷ Read NextLookup ∷ []) n → (answer : List Slot → Reply) → ((xs : List Slot) → is_value (answer xs) ≡ true)
       → (o u : Option (List Slot)) → is_some o ≡ is_some u → AgreeByName n (option_map_or answer o Badarg) (option_map_or answer u Badarg)
   next-at n has answer v None None e = inl refl
   next-at n has answer v None (Some ys) e = cc
@@ -162,14 +163,14 @@ module _ (f : TableState) (ss : List Slot) (h : SameSlots f.content.slots ss) (d
   mapped find answer None = refl
   mapped find answer (Some xs) = refl
 
-  behind-agrees : {A : Type 0} (n : CallName) → Contains (name.Next ∷ name.NextLookup ∷ []) n → (find : List Slot → A) (answer : A → Reply) → ((a : A) → is_value (answer a) ≡ true)
+  behind-agrees : {A : Type 0} (n : CallName) → Contains (Read Next ∷ Read NextLookup ∷ []) n → (find : List Slot → A) (answer : A → Reply) → ((a : A) → is_value (answer a) ≡ true)
       → (key : Term) → AgreeByName n (option_map_or answer (option_map find (slots_behind f.content.slots key)) Badarg) (option_map_or answer (option_map find (slots_behind ss key)) Badarg)
   behind-agrees n has find answer v key =
       subst₂ (AgreeByName n) (sym (mapped find answer (slots_behind f.content.slots key))) (sym (mapped find answer (slots_behind ss key)))
       (next-at n has (λ xs. answer (find xs)) (λ xs. v (find xs)) (slots_behind f.content.slots key) (slots_behind ss key) (behind-same key f.content.slots ss h))
 
-  pub next-agrees : (key : Term) → AgreeByName name.Next (next_reply key f) (next_reply key other)
-  next-agrees key = behind-agrees name.Next (0, omega arith, refl) first_key key_reply key-value key
+  pub next-agrees : (key : Term) → AgreeByName (Read Next) (next_reply key f) (next_reply key other)
+  next-agrees key = behind-agrees (Read Next) (0, omega arith, refl) first_key key_reply key-value key
 
-  pub next_lookup-agrees : (key : Term) → AgreeByName name.NextLookup (next_lookup_reply key f) (next_lookup_reply key other)
-  next_lookup-agrees key = behind-agrees name.NextLookup (1, omega arith, refl) first_slot slot_reply (λ s. key-value (option_map key_and_objects s)) key
+  pub next_lookup-agrees : (key : Term) → AgreeByName (Read NextLookup) (next_lookup_reply key f) (next_lookup_reply key other)
+  next_lookup-agrees key = behind-agrees (Read NextLookup) (1, omega arith, refl) first_slot slot_reply (λ s. key-value (option_map key_and_objects s)) key

@@ -7,6 +7,8 @@ use Rattle.fixed_walk.specs.TableState.{TableState}
 use Rattle.ownership.specs.World.{Table, Tables, table_at}
 use Rattle.node_core.specs.declared.call_name.CallName.{CallName}
 use Rattle.node_core.specs.declared.call_name.CallName.TheVariants as name
+use Rattle.node_core.specs.declared.call_name.ReadName.{ReadName}
+use Rattle.node_core.specs.declared.call_name.ReadName.TheVariants as read
 use Rattle.node_core.specs.declared.node.access.Access.TheVariants.{Read}
 use Rattle.node_core.specs.declared.step.Reply.{Reply}
 use Rattle.node_core.specs.declared.step.Reply.TheVariants.{Badarg}
@@ -22,21 +24,21 @@ use Rattle.node_core.proofs.determined.UniqueReads.{AgreeByName, tab2list-agrees
 use Rattle.node_core.proofs.determined.UniqueStates.{HasDistinctSlots, reads-unique, reads-unique-free}
 
 module _ (old : State) (us : Tables) (a : AlikeTables old.world.tables us) (distinct : HasDistinctSlots old) (free : (t : ℕ) (table : Table) → table_at old.world.tables t ≡ Some table → HasNoEnd table.state.content.slots) (p : ℕ) where
-  read : (n : CallName) (x : Term) (answer : TableState → Reply)
-      → ((f : TableState) (ss : List Slot) → SameSlots f.content.slots ss → HasDistinctKeys f.content.slots → AgreeByName n (answer f) (answer (state_with f ss)))
-      → Unique (AgreeByName n) AlikeStates (reads old p x answer) (reads (with_tables old us) p x answer)
-  read n x answer each = reads-unique old us a distinct (AgreeByName n) (inl refl) p x answer each
+  reading : (n : ReadName) (x : Term) (answer : TableState → Reply)
+      → ((f : TableState) (ss : List Slot) → SameSlots f.content.slots ss → HasDistinctKeys f.content.slots → AgreeByName (name.Read n) (answer f) (answer (state_with f ss)))
+      → Unique (AgreeByName (name.Read n)) AlikeStates (reads old p x answer) (reads (with_tables old us) p x answer)
+  reading n x answer each = reads-unique old us a distinct (AgreeByName (name.Read n)) (inl refl) p x answer each
 
   pub agreeing : ShowsOrder old us p AgreeByName
   agreeing = record {
-    tab2list = λ x. read name.Tab2list x _ (λ f ss h d. tab2list-agrees f ss h d);
-    first = λ x. reads-unique-free old us a distinct (AgreeByName name.First) (inl refl) free p x first_reply (λ f ss h d. first-agrees f ss h d);
-    first_lookup = λ x. reads-unique-free old us a distinct (AgreeByName name.FirstLookup) (inl refl) free p x first_lookup_reply (λ f ss h d. first_lookup-agrees f ss h d);
-    next = λ x y. read name.Next x _ (λ f ss h d. next-agrees f ss h d y);
-    next_lookup = λ x y. read name.NextLookup x _ (λ f ss h d. next_lookup-agrees f ss h d y);
-    match = λ x y. read name.Match x _ (λ f ss h d. match-agrees f ss h d y);
-    match_object = λ x y. read name.MatchObject x _ (λ f ss h d. match_object-agrees f ss h d y);
-    select = λ x y. read name.Select x _ (λ f ss h d. select-agrees f ss h d y);
+    tab2list = λ x. reading read.Tab2list x _ (λ f ss h d. tab2list-agrees f ss h d);
+    first = λ x. reads-unique-free old us a distinct (AgreeByName (name.Read read.First)) (inl refl) free p x first_reply (λ f ss h d. first-agrees f ss h d);
+    first_lookup = λ x. reads-unique-free old us a distinct (AgreeByName (name.Read read.FirstLookup)) (inl refl) free p x first_lookup_reply (λ f ss h d. first_lookup-agrees f ss h d);
+    next = λ x y. reading read.Next x _ (λ f ss h d. next-agrees f ss h d y);
+    next_lookup = λ x y. reading read.NextLookup x _ (λ f ss h d. next_lookup-agrees f ss h d y);
+    match = λ x y. reading read.Match x _ (λ f ss h d. match-agrees f ss h d y);
+    match_object = λ x y. reading read.MatchObject x _ (λ f ss h d. match_object-agrees f ss h d y);
+    select = λ x y. reading read.Select x _ (λ f ss h d. select-agrees f ss h d y);
   }
 
 -- a state is like itself

@@ -22,6 +22,10 @@ use Rattle.ownership.specs.End.{with_ended, after_exit}
 use Rattle.ownership.proofs.MetadataLaws.{fixed-same}
 use Rattle.node_core.specs.declared.call_name.CallName.{CallName}
 use Rattle.node_core.specs.declared.call_name.CallName.TheVariants as name
+use Rattle.node_core.specs.declared.call_name.ReadName.{ReadName}
+use Rattle.node_core.specs.declared.call_name.ReadName.TheVariants as read
+use Rattle.node_core.specs.declared.call_name.WriteName.{WriteName}
+use Rattle.node_core.specs.declared.call_name.WriteName.TheVariants as write
 use Rattle.node_core.specs.declared.node.access.Access.{Access}
 use Rattle.node_core.specs.declared.node.access.Access.TheVariants.{Read, Write}
 use Rattle.node_core.specs.declared.step.Reply.{Reply}
@@ -32,7 +36,7 @@ use Rattle.node_core.specs.State.{State}
 use Rattle.node_core.specs.Access.{CallRule, WorldResultToReply, changes_world, changes, reads, writes, usable}
 use Rattle.node_core.specs.Access as access
 use Rattle.node_core.specs.CallName.{call_name}
-use Rattle.node_core.specs.Calls.{call}
+use Rattle.node_core.specs.Calls.{call, read_call, write_call}
 use Rattle.node_core.specs.Machine.{step}
 use Rattle.node_core.specs.Values.{is_value}
 use Rattle.node_core.specs.rules.Growth.{growth_reply}
@@ -128,13 +132,13 @@ module _ (old : State) where
       either-whole old (HaveBoundedFixes old) (names_form (out-Term x)) (same-whole _) (same-whole Badarg))
 
   module _ (p : ℕ) where
-    write : (x : Term) {rule : CallRule} → IsWholeRule rule → Whole (writes old p x rule)
-    write x whole = changes-whole p Write x whole
+    written : (x : Term) {rule : CallRule} → IsWholeRule rule → Whole (writes old p x rule)
+    written x whole = changes-whole p Write x whole
 
     -- a rule that gives a value
     valued : (x : Term) (answer : TableState → Reply) (after : TableState → TableState) → ((f : TableState) → is_value (answer f) ≡ true)
         → Whole (writes old p x (λ f. gives (answer f) (after f)))
-    valued x answer after v = write x (λ f. gives-value f (AreBounded f.fixes) (answer f) (after f) (v f))
+    valued x answer after v = written x (λ f. gives-value f (AreBounded f.fixes) (answer f) (after f) (v f))
 
     fixtable-whole : (x flag : Term) → Whole (SafeFixtable old p x flag)
     fixtable-whole x flag =
@@ -143,41 +147,48 @@ module _ (old : State) where
         (changes-whole p Read x (λ f. gives-value f (AreBounded f.fixes) true_reply (after_release p f) refl)) (
         same-whole Badarg))
 
+    read-whole : (n : ReadName) (args : List Term) → Whole (read_call old p n args)
+    read-whole read.Tab2list (x ∷ []) = reads-whole p x _
+    read-whole read.First (x ∷ []) = reads-whole p x _
+    read-whole read.FirstLookup (x ∷ []) = reads-whole p x _
+    read-whole read.Whereis (x ∷ []) = refuse_none-whole old (HaveBoundedFixes old) (as_atom x) (λ text e. same-whole _)
+    read-whole read.Lookup (x ∷ y ∷ []) = reads-whole p x _
+    read-whole read.Member (x ∷ y ∷ []) = reads-whole p x _
+    read-whole read.Match (x ∷ y ∷ []) = reads-whole p x _
+    read-whole read.MatchObject (x ∷ y ∷ []) = reads-whole p x _
+    read-whole read.Select (x ∷ y ∷ []) = reads-whole p x _
+    read-whole read.SelectCount (x ∷ y ∷ []) = reads-whole p x _
+    read-whole read.Next (x ∷ y ∷ []) = reads-whole p x _
+    read-whole read.NextLookup (x ∷ y ∷ []) = reads-whole p x _
+    read-whole read.Info (x ∷ y ∷ []) = info-whole x y
+    read-whole read.LookupElement (x ∷ y ∷ z ∷ []) = reads-whole p x _
+    read-whole read.LookupElement (x ∷ y ∷ z ∷ w ∷ []) = reads-whole p x _
+    read-whole _ _ = same-whole Badarg
+
+    write-whole : (n : WriteName) (args : List Term) → Whole (write_call old p n args)
+    write-whole write.Receive [] = gives-value old (HaveBoundedFixes old) (Value (terms (mailbox_of old.world.processes p))) _ refl
+    write-whole write.DeleteAllObjects (x ∷ []) = valued x (λ f. true_reply) (after_delete every_object) (λ f. refl)
+    write-whole write.Delete (x ∷ []) = delete_table-whole p x
+    write-whole write.Insert (x ∷ y ∷ []) = written x (insert-whole y)
+    write-whole write.InsertNew (x ∷ y ∷ []) = written x (insert_new-whole y)
+    write-whole write.Take (x ∷ y ∷ []) = valued x _ (after_delete (has_key y)) (λ f. refl)
+    write-whole write.Delete (x ∷ y ∷ []) = valued x (λ f. true_reply) (after_delete (has_key y)) (λ f. refl)
+    write-whole write.DeleteObject (x ∷ y ∷ []) = written x (delete_object-whole y)
+    write-whole write.MatchDelete (x ∷ y ∷ []) = written x (match_delete-whole y)
+    write-whole write.SelectDelete (x ∷ y ∷ []) = written x (select_delete-whole y)
+    write-whole write.New (x ∷ y ∷ []) = new-whole p x y
+    write-whole write.SafeFixtable (x ∷ y ∷ []) = fixtable-whole x y
+    write-whole write.SetOptions (x ∷ y ∷ []) = set_options-whole p x y
+    write-whole write.UpdateCounter (x ∷ y ∷ z ∷ []) = written x (update_counter-whole y z None)
+    write-whole write.UpdateElement (x ∷ y ∷ z ∷ []) = written x (update_element-whole y z None)
+    write-whole write.GiveAway (x ∷ y ∷ z ∷ []) = give_away-whole p x y z
+    write-whole write.UpdateCounter (x ∷ y ∷ z ∷ w ∷ []) = written x (update_counter-whole y z (Some w))
+    write-whole write.UpdateElement (x ∷ y ∷ z ∷ w ∷ []) = written x (update_element-whole y z (Some w))
+    write-whole _ _ = same-whole Badarg
+
     call-whole : (n : CallName) (args : List Term) → Whole (call old p n args)
-    call-whole name.Receive [] = gives-value old (HaveBoundedFixes old) (Value (terms (mailbox_of old.world.processes p))) _ refl
-    call-whole name.Tab2list (x ∷ []) = reads-whole p x _
-    call-whole name.DeleteAllObjects (x ∷ []) = valued x (λ f. true_reply) (after_delete every_object) (λ f. refl)
-    call-whole name.Delete (x ∷ []) = delete_table-whole p x
-    call-whole name.First (x ∷ []) = reads-whole p x _
-    call-whole name.FirstLookup (x ∷ []) = reads-whole p x _
-    call-whole name.Whereis (x ∷ []) = refuse_none-whole old (HaveBoundedFixes old) (as_atom x) (λ text e. same-whole _)
-    call-whole name.Insert (x ∷ y ∷ []) = write x (insert-whole y)
-    call-whole name.InsertNew (x ∷ y ∷ []) = write x (insert_new-whole y)
-    call-whole name.Lookup (x ∷ y ∷ []) = reads-whole p x _
-    call-whole name.Member (x ∷ y ∷ []) = reads-whole p x _
-    call-whole name.Take (x ∷ y ∷ []) = valued x _ (after_delete (has_key y)) (λ f. refl)
-    call-whole name.Delete (x ∷ y ∷ []) = valued x (λ f. true_reply) (after_delete (has_key y)) (λ f. refl)
-    call-whole name.DeleteObject (x ∷ y ∷ []) = write x (delete_object-whole y)
-    call-whole name.Match (x ∷ y ∷ []) = reads-whole p x _
-    call-whole name.MatchObject (x ∷ y ∷ []) = reads-whole p x _
-    call-whole name.MatchDelete (x ∷ y ∷ []) = write x (match_delete-whole y)
-    call-whole name.Select (x ∷ y ∷ []) = reads-whole p x _
-    call-whole name.SelectCount (x ∷ y ∷ []) = reads-whole p x _
-    call-whole name.SelectDelete (x ∷ y ∷ []) = write x (select_delete-whole y)
-    call-whole name.New (x ∷ y ∷ []) = new-whole p x y
-    call-whole name.Next (x ∷ y ∷ []) = reads-whole p x _
-    call-whole name.NextLookup (x ∷ y ∷ []) = reads-whole p x _
-    call-whole name.SafeFixtable (x ∷ y ∷ []) = fixtable-whole x y
-    call-whole name.SetOptions (x ∷ y ∷ []) = set_options-whole p x y
-    call-whole name.Info (x ∷ y ∷ []) = info-whole x y
-    call-whole name.LookupElement (x ∷ y ∷ z ∷ []) = reads-whole p x _
-    call-whole name.UpdateCounter (x ∷ y ∷ z ∷ []) = write x (update_counter-whole y z None)
-    call-whole name.UpdateElement (x ∷ y ∷ z ∷ []) = write x (update_element-whole y z None)
-    call-whole name.GiveAway (x ∷ y ∷ z ∷ []) = give_away-whole p x y z
-    call-whole name.LookupElement (x ∷ y ∷ z ∷ w ∷ []) = reads-whole p x _
-    call-whole name.UpdateCounter (x ∷ y ∷ z ∷ w ∷ []) = write x (update_counter-whole y z (Some w))
-    call-whole name.UpdateElement (x ∷ y ∷ z ∷ w ∷ []) = write x (update_element-whole y z (Some w))
-    call-whole _ _ = same-whole Badarg
+    call-whole (name.Read n) args = read-whole n args
+    call-whole (name.Write n) args = write-whole n args
 
 -- ---- steps
 pub step-whole : (old : State) (s : Step) → IsWhole old (HaveBoundedFixes old) (step old s)

@@ -10,6 +10,9 @@ use Rattle.fixed_walk.specs.TableState.{TableState}
 use Rattle.ownership.specs.World.{Table, lives}
 use Rattle.node_core.specs.declared.call_name.CallName.{CallName}
 use Rattle.node_core.specs.declared.call_name.CallName.TheVariants as name
+use Rattle.node_core.specs.declared.call_name.ReadName.{ReadName}
+use Rattle.node_core.specs.declared.call_name.WriteName.{WriteName}
+use Rattle.node_core.specs.declared.call_name.WriteName.TheVariants as write
 use Rattle.node_core.specs.declared.node.access.Access.TheVariants.{Write}
 use Rattle.node_core.specs.declared.step.Reply.{Reply}
 use Rattle.node_core.specs.declared.step.Reply.TheVariants.{Value, Badarg, SystemLimit, NoProcess}
@@ -22,11 +25,11 @@ use Rattle.node_core.specs.declared.node.reply_reserve.ReplyReserve.TheVariants.
 use Rattle.node_core.specs.State.{State}
 use Rattle.node_core.specs.Access.{usable, with_table, ChangeResultToReply, writes}
 use Rattle.node_core.specs.CallName.{call_name}
-use Rattle.node_core.specs.Calls.{call, call_by_text}
+use Rattle.node_core.specs.Calls.{call, write_call, call_by_text}
 use Rattle.node_core.specs.rules.Updates.{UpdateCounter, Counts}
 use Rattle.node_core.specs.inside.ReplyReserve.{StepsWithBuckets, is_flat, list_terms, FitsCapacity, TakesNoMemory, FitCapacity, Suffices}
 use Rattle.node_core.proofs.replies.Counting.{counts-as, IsCounted}
-use Rattle.node_core.proofs.calls.EachCall.{may_need_copy, call-lawful}
+use Rattle.node_core.proofs.calls.EachCall.{may_need_copy, read-lawful, write-lawful}
 
 -- ---- update_counter
 roomy : (updates x : Term) (reply : Reply) (capacity : ℕ) → length (list_terms updates) ≤ capacity → reply ≡ Value x → IsCounted updates x → (is_flat reply ≡ true) ⊎ FitsCapacity capacity reply
@@ -71,38 +74,16 @@ ask-suffices old p asked (Ok spare) h =
     (refused-suffices old (list_any is_too_deep asked.args) SystemLimit (call_by_text old p asked.name asked.args) spare refl h)
 ask-suffices old p asked (Err error) h = h
 
-pub named-suffices : (old : State) (p : ℕ) (asked : Call) (name : CallName) (r : Result ReplyReserve AllocError) → Some name ≡ call_name asked.name → IfOk r (Suffices old (call old p name asked.args)) → IfOk r (Suffices old (StepsWithBuckets old (Ask p asked)))
-named-suffices old p asked name r is h = ask-suffices old p asked r (subst (λ found. SufficesForName old p found asked.args r) is h)
+pub named-suffices : (old : State) (p : ℕ) (asked : Call) (called : WriteName) (r : Result ReplyReserve AllocError) → Some (name.Write called) ≡ call_name asked.name → IfOk r (Suffices old (write_call old p called asked.args)) → IfOk r (Suffices old (StepsWithBuckets old (Ask p asked)))
+named-suffices old p asked called r is h = ask-suffices old p asked r (subst (λ found. SufficesForName old p found asked.args r) is h)
 
-pub other-suffices : (old : State) (p : ℕ) (asked : Call) → None ≡ call_name asked.name → Suffices old (StepsWithBuckets old (Ask p asked)) Nothing
-other-suffices old p asked is = ask-suffices old p asked (Ok Nothing) (subst (λ found. SufficesForName old p found asked.args (Ok Nothing)) is (unnamed-suffices old p asked.args))
+pub unknown-suffices : (old : State) (p : ℕ) (asked : Call) → None ≡ call_name asked.name → Suffices old (StepsWithBuckets old (Ask p asked)) Nothing
+unknown-suffices old p asked is = ask-suffices old p asked (Ok Nothing) (subst (λ found. SufficesForName old p found asked.args (Ok Nothing)) is (unnamed-suffices old p asked.args))
 
-pub quiet-suffices : (old : State) (p : ℕ) (name : CallName) (args : List Term) → may_need_copy name ≡ false → TakesNoMemory old (call old p name args)
-quiet-suffices old p name args quiet reply new h = ((call-lawful p false old name args (λ may. sym quiet ∙ may)).lawful reply new h).quiet refl
+pub read-suffices : (old : State) (p : ℕ) (asked : Call) (called : ReadName) → Some (name.Read called) ≡ call_name asked.name → Suffices old (StepsWithBuckets old (Ask p asked)) Nothing
+read-suffices old p asked called is =
+    ask-suffices old p asked (Ok Nothing) (subst (λ found. SufficesForName old p found asked.args (Ok Nothing)) is
+    (λ reply new h. ((read-lawful p false old called asked.args).lawful reply new h).quiet refl))
 
--- what suffices for the updates of counters with these arguments, with and without a default
-abbrev pub SufficesForUpdates : CallName → Term → Result ReplyReserve AllocError → Type 0
-SufficesForUpdates name updates r =
-    (old : State) → (p : ℕ) → (x y : Term)
-    → IfOk r (λ reserve. Suffices old (call old p name (x ∷ y ∷ updates ∷ [])) reserve
-    × ((default : Term) → Suffices old (call old p name (x ∷ y ∷ updates ∷ default ∷ [])) reserve))
-
-module _ (old : State) (p : ℕ) (name : CallName) where
-  pub updates-suffices : (args : List Term) (updates : Term) (r : Result ReplyReserve AllocError) → 3 ≤ length args → length args < 5 → updates ≡ get_or args 2 updates
-      → SufficesForUpdates name updates r → IfOk r (Suffices old (call old p name args))
-  updates-suffices [] updates r some few is h = absurd (omega (arith, some))
-  updates-suffices (x ∷ []) updates r some few is h = absurd (omega (arith, some))
-  updates-suffices (x ∷ y ∷ []) updates r some few is h = absurd (omega (arith, some))
-  updates-suffices (x ∷ y ∷ z ∷ []) updates (Ok reserve) some few is h = subst (λ t. Suffices old (call old p name (x ∷ y ∷ t ∷ [])) reserve) is (h old p x y).0
-  updates-suffices (x ∷ y ∷ z ∷ []) updates (Err error) some few is h = tt
-  updates-suffices (x ∷ y ∷ z ∷ default ∷ []) updates (Ok reserve) some few is h = subst (λ t. Suffices old (call old p name (x ∷ y ∷ t ∷ default ∷ [])) reserve) is ((h old p x y).1 default)
-  updates-suffices (x ∷ y ∷ z ∷ default ∷ []) updates (Err error) some few is h = tt
-  updates-suffices (x ∷ y ∷ z ∷ default ∷ w ∷ args) updates r some few is h = absurd (omega (arith, few))
-
--- calls of two arguments, but for the two whose replies are predicted
-pub two-suffices : (old : State) (p : ℕ) (called : CallName) (x y : Term) → (called ≡ name.New → ⊥) → (called ≡ name.Take → ⊥) → TakesNoMemory old (call old p called (x ∷ y ∷ []))
-two-suffices old p name.New x y new take = absurd (new refl)
-two-suffices old p name.Take x y new take = absurd (take refl)
-two-suffices old p name.Receive x y new take = λ reply new h. inl (ap is_flat h.0)
-two-suffices old p name.UpdateCounter x y new take = λ reply new h. inl (ap is_flat h.0)
-two-suffices old p called x y new take = quiet-suffices old p called (x ∷ y ∷ []) refl
+pub quiet-suffices : (old : State) (p : ℕ) (called : WriteName) (args : List Term) → may_need_copy called ≡ false → TakesNoMemory old (write_call old p called args)
+quiet-suffices old p called args quiet reply new h = ((write-lawful p false old called args (λ may. sym quiet ∙ may)).lawful reply new h).quiet refl

@@ -20,6 +20,7 @@ use Rattle.fixed_walk.proofs.FromLaws.{key_in, first-key, next-key-is}
 use Rattle.ownership.specs.World.{Table, Tables, table_at, resolve, lives}
 use Rattle.node_core.specs.declared.call_name.CallName.{CallName}
 use Rattle.node_core.specs.declared.call_name.CallName.TheVariants as name
+use Rattle.node_core.specs.declared.call_name.ReadName.TheVariants as read
 use Rattle.node_core.specs.declared.node.access.Access.{Access}
 use Rattle.node_core.specs.declared.node.access.Access.TheVariants.{Read}
 use Rattle.node_core.specs.declared.step.Reply.{Reply}
@@ -141,10 +142,10 @@ module _ (old new : State) (q t : ℕ) (r : Reply) (table : Table) (at : table_a
       on-table (is_table old t term) found asked e (reading-replies term answer found.1 found.0 own (is-here (is_table old t term) found asked e) h)
 
   call-replies : (name : CallName) (args : List Term) (asked : Option Term × Bool) → walk_call old t name args ≡ Some asked → call old q name args r new → Replies asked.1 asked.0 table.state.content.slots r
-  call-replies name.First (term ∷ []) asked e h = reads-walk term first_reply (None, false) asked refl e h
-  call-replies name.FirstLookup (term ∷ []) asked e h = reads-walk term first_lookup_reply (None, true) asked refl e h
-  call-replies name.Next (term ∷ key ∷ []) asked e h = reads-walk term (next_reply key) (Some key, false) asked refl e h
-  call-replies name.NextLookup (term ∷ key ∷ []) asked e h = reads-walk term (next_lookup_reply key) (Some key, true) asked refl e h
+  call-replies (name.Read read.First) (term ∷ []) asked e h = reads-walk term first_reply (None, false) asked refl e h
+  call-replies (name.Read read.FirstLookup) (term ∷ []) asked e h = reads-walk term first_lookup_reply (None, true) asked refl e h
+  call-replies (name.Read read.Next) (term ∷ key ∷ []) asked e h = reads-walk term (next_reply key) (Some key, false) asked refl e h
+  call-replies (name.Read read.NextLookup) (term ∷ key ∷ []) asked e h = reads-walk term (next_lookup_reply key) (Some key, true) asked refl e h
   call-replies _ _ asked e h = absurd (cc)
 
   -- refusals before the call is made

@@ -5,7 +5,8 @@ use Rattle.std.specs.Map.{keys_of}
 use Rattle.std.specs.Option.{IsSomeAnd}
 use Rattle.ets_term.specs.declared.term.Term.{Term}
 use Rattle.ownership.specs.World.{Table}
-use Rattle.node_core.specs.declared.call_name.CallName.TheVariants.{Tab2list, Match, MatchObject, Select, First, Next, FirstLookup, NextLookup}
+use Rattle.node_core.specs.declared.call_name.CallName.TheVariants.{Read}
+use Rattle.node_core.specs.declared.call_name.ReadName.TheVariants.{Tab2list, Match, MatchObject, Select, First, Next, FirstLookup, NextLookup}
 use Rattle.node_core.specs.declared.step.Step.{Step}
 use Rattle.node_core.specs.declared.step.Step.TheVariants.{Ask}
 use Rattle.node_core.specs.declared.step.Reply.{Reply}
@@ -31,9 +32,9 @@ AreSameLists r q =
 -- may be another, and the next key may be another or the end of the table.
 abbrev pub Agree : Step → Reply → Reply → Type 0
 Agree (Ask p asked) r q = (r ≡ q) ⊎ IsSomeAnd (call_name asked.name) (λ name.
-    (Contains (Tab2list ∷ Match ∷ MatchObject ∷ Select ∷ []) name × AreSameLists r q)
-    ⊎ (Contains (Next ∷ NextLookup ∷ []) name × (is_value r ≡ true) × (is_value q ≡ true))
-    ⊎ (Contains (First ∷ FirstLookup ∷ []) name × (is_value r ≡ true) × (is_value q ≡ true)
+    (Contains (Read Tab2list ∷ Read Match ∷ Read MatchObject ∷ Read Select ∷ []) name × AreSameLists r q)
+    ⊎ (Contains (Read Next ∷ Read NextLookup ∷ []) name × (is_value r ≡ true) × (is_value q ≡ true))
+    ⊎ (Contains (Read First ∷ Read FirstLookup ∷ []) name × (is_value r ≡ true) × (is_value q ≡ true)
     × (r ≢ key_reply None) × (q ≢ key_reply None)))
 Agree _ r q = r ≡ q
 

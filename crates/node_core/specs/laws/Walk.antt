@@ -9,7 +9,8 @@ use Rattle.bucket_table.specs.Rows.{HasDistinctKeys}
 use Rattle.table_ops.specs.Content.{is_present}
 use Rattle.ownership.specs.World.{resolve}
 use Rattle.node_core.specs.declared.call_name.CallName.{CallName}
-use Rattle.node_core.specs.declared.call_name.CallName.TheVariants as name
+use Rattle.node_core.specs.declared.call_name.CallName.TheVariants.{Read}
+use Rattle.node_core.specs.declared.call_name.ReadName.TheVariants as read
 use Rattle.node_core.specs.declared.step.Reply.{Reply}
 use Rattle.node_core.specs.declared.step.Reply.TheVariants.{Value}
 use Rattle.node_core.specs.declared.step.Step.{Step}
@@ -36,10 +37,10 @@ is_table s t term = option_map_or (λ u. u == t) (resolve s.world.tables term) f
 -- What a call does for a traversal of this table, or None for any other call. The first part of the pair is None for
 -- first, and Some for next of this key. The second part says whether the call also returns the objects.
 abbrev pub walk_call : State → ℕ → CallName → List Term → Option (Option Term × Bool)
-walk_call s t name.First (term ∷ []) = if is_table s t term then Some (None, false) else None
-walk_call s t name.FirstLookup (term ∷ []) = if is_table s t term then Some (None, true) else None
-walk_call s t name.Next (term ∷ key ∷ []) = if is_table s t term then Some (Some key, false) else None
-walk_call s t name.NextLookup (term ∷ key ∷ []) = if is_table s t term then Some (Some key, true) else None
+walk_call s t (Read read.First) (term ∷ []) = if is_table s t term then Some (None, false) else None
+walk_call s t (Read read.FirstLookup) (term ∷ []) = if is_table s t term then Some (None, true) else None
+walk_call s t (Read read.Next) (term ∷ key ∷ []) = if is_table s t term then Some (Some key, false) else None
+walk_call s t (Read read.NextLookup) (term ∷ key ∷ []) = if is_table s t term then Some (Some key, true) else None
 walk_call s t _ _ = None
 
 -- the same for a step that is a call of this process; None for any other step

@@ -5,7 +5,7 @@ ghost use Rattle.std.specs.List.{list_any};
 ghost use Rattle.ets_term.specs.Depth.{is_too_deep};
 ghost use Rattle.node_core.specs.Machine.{step};
 ghost use Rattle.node_core.specs.Observable.{observable};
-ghost use Rattle.node_core.specs.Reads.{reads_only, Reads};
+ghost use Rattle.node_core.specs.Reads.{Reads};
 ghost use Rattle.node_core.specs.declared.step.Reply.TheVariants.{NoProcess};
 ghost use Rattle.node_core.specs.declared.step.Step.TheVariants.{Ask};
 ghost use Rattle.node_core.specs.inside.Refusals.{RefusesEarly, to_reply, RefusalToReply};
@@ -45,20 +45,14 @@ impl<H: KeyHash + Copy + Drop> Node<H> {
         ensures reply { IfOk result (λ replied. replied ≡ false → reply.new ≡ reply.old) }
         ensures err { OnErr result (reply.new ≡ NoProcess) }
     {
-        let Some(name) = CallName::read(call.name.text()) else {
+        let Some(CallName::Read(name)) = CallName::read(call.name.text()) else {
             return Ok(false);
         };
         let args = call.args.as_slice();
-        if !reads_only(name, args) {
-            return Ok(false);
-        }
         if self.refuse_early(pid, args, reply) {
             return Ok(true);
         }
-        let Some(result) = self.read_call(pid, name, args, reply) else {
-            // This does not happen, because `read_call` makes each call that only reads.
-            return Ok(false);
-        };
+        let result = self.read_call(pid, name, args, reply);
         match write_refusal(result, reply) {
             Ok(()) => Ok(true),
             Err(error) => {
@@ -102,32 +96,6 @@ impl<H: KeyHash + Copy + Drop> Node<H> {
             return true;
         }
         false
-    }
-}
-
-/// Returns whether a call with this name and these arguments only reads.
-fn reads_only(name: CallName, args: &[Term]) -> bool
-    ensures { result ≡ reads_only name args.now }
-{
-    match args {
-        [_] => matches!(
-            name,
-            CallName::First | CallName::FirstLookup | CallName::Tab2list | CallName::Whereis
-        ),
-        [_, _] => matches!(
-            name,
-            CallName::Info
-                | CallName::Lookup
-                | CallName::Match
-                | CallName::MatchObject
-                | CallName::Member
-                | CallName::Next
-                | CallName::NextLookup
-                | CallName::Select
-                | CallName::SelectCount
-        ),
-        [_, _, _] | [_, _, _, _] => matches!(name, CallName::LookupElement),
-        _ => false,
     }
 }
 

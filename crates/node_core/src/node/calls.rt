@@ -1,22 +1,19 @@
 //! The dispatch from a call's name and number of arguments to its method. Six frequent calls are tried first: `lookup`,
-//! `member`, `insert`, `delete/2`, `update_counter/3` and `update_element/3`. Of the others, those that change nothing
-//! come first.
-ghost use Rattle.std.specs.Prelude.{◌≡◌, [], ◌∷◌, false};
-ghost use Rattle.node_core.specs.Calls.{call};
-ghost use Rattle.node_core.specs.Reads.{reads_only};
-ghost use Rattle.node_core.specs.inside.Refusals.{RefinesInto, RefinesRead};
+//! `member`, `insert`, `delete/2`, `update_counter/3` and `update_element/3`.
+ghost use Rattle.node_core.specs.Calls.{call, read_call, write_call};
+ghost use Rattle.node_core.specs.inside.Refusals.{RefinesInto};
 
 use super::Node;
 use super::replies::{write_reply, write_true, write_truth, write_value};
 use super::updates::Update;
-use crate::call_name::CallName;
+use crate::call_name::{CallName, ReadName, WriteName};
 use crate::step::Reply;
 use ets_term::{KeyHash, Term};
 use table_ops::Refusal;
 
 impl<H: KeyHash + Copy + Drop> Node<H> {
-    /// Makes a call, and writes its reply. The six frequent calls come first. All others are in `make_rare_call`, which
-    /// is not inlined, so that the code for the frequent calls stays short.
+    /// Makes a call, and writes its reply. The six frequent calls come first. All others are in `read_call` and
+    /// `write_call`, which are not inlined, so that the code for the frequent calls stays short.
     #[inline(always)]
     pub(crate) fn make_call(
         &mut self,
@@ -27,223 +24,103 @@ impl<H: KeyHash + Copy + Drop> Node<H> {
     ) -> Result<(), Refusal>
         ensures { RefinesInto (call self.old pid name args.now) self.old result reply.new self.new }
     {
-        match args {
-            [x, y] => match name {
-                CallName::Lookup => self.lookup_into(pid, x, y, reply),
-                CallName::Member => self.member_into(pid, x, y, reply),
-                CallName::Insert => self.insert_into(pid, x, y, reply),
-                CallName::Delete => self.delete_into(pid, x, y, reply),
-                _ => self.make_rare_call(pid, name, args, reply),
-            },
-            [x, y, z] => {
-                let update = Update {
-                    key: y,
-                    changes: z,
-                    default: None,
-                };
-                match name {
-                    CallName::UpdateCounter => self.update_counter_into(pid, x, update, reply),
-                    CallName::UpdateElement => self.update_element_into(pid, x, update, reply),
-                    _ => self.make_rare_call(pid, name, args, reply),
-                }
+        match (name, args) {
+            (CallName::Read(ReadName::Lookup), [x, y]) => self.lookup_into(pid, x, y, reply),
+            (CallName::Read(ReadName::Member), [x, y]) => self.member_into(pid, x, y, reply),
+            (CallName::Read(name), _) => self.read_call(pid, name, args, reply),
+            (CallName::Write(WriteName::Insert), [x, y]) => self.insert_into(pid, x, y, reply),
+            (CallName::Write(WriteName::Delete), [x, y]) => self.delete_into(pid, x, y, reply),
+            (CallName::Write(WriteName::UpdateCounter), [x, y, z]) => {
+                self.update_counter_into(pid, x, Update::new(y, z, None), reply)
             }
-            _ => self.make_rare_call(pid, name, args, reply),
+            (CallName::Write(WriteName::UpdateElement), [x, y, z]) => {
+                self.update_element_into(pid, x, Update::new(y, z, None), reply)
+            }
+            (CallName::Write(name), _) => self.write_call(pid, name, args, reply),
         }
     }
 
-    /// Makes any call, and writes its reply. Frequent calls have functions of their own, which `make_call` tries before
-    /// this one. It makes them too, because its contract holds for each name.
+    /// Makes a call that only reads, and writes its reply. Refuses a wrong number of arguments with `Badarg`.
     #[inline(never)]
-    fn make_rare_call(
-        &mut self,
-        pid: u32,
-        name: CallName,
-        args: &[Term],
-        reply: &mut Reply,
-    ) -> Result<(), Refusal>
-        ensures { RefinesInto (call self.old pid name args.now) self.old result reply.new self.new }
-    {
-        match self.read_call(pid, name, args, reply) {
-            Some(result) => result,
-            None => self.change_call(pid, name, args, reply),
-        }
-    }
-
-    /// Makes a call that changes nothing, and writes its reply; returns `None` for any other call.
     pub(crate) fn read_call(
         &self,
         pid: u32,
-        name: CallName,
-        args: &[Term],
-        reply: &mut Reply,
-    ) -> Option<Result<(), Refusal>>
-        ensures { RefinesRead self.now pid name args.now result reply.new }
-    {
-        match args {
-            [x] => self.read_call_of_one(pid, name, x, reply),
-            [x, y] => match name {
-                CallName::Lookup => Some(self.lookup_into(pid, x, y, reply)),
-                CallName::Member => Some(self.member_into(pid, x, y, reply)),
-                _ => self.read_call_of_two(pid, name, x, y, reply),
-            },
-            [x, y, z] => match name {
-                CallName::LookupElement => {
-                    Some(write_value(self.lookup_element(pid, x, y, z), reply))
-                }
-                _ => None,
-            },
-            [x, y, z, default] => match name {
-                CallName::LookupElement => Some(write_value(
-                    self.lookup_element_or(pid, x, y, z, default),
-                    reply,
-                )),
-                _ => None,
-            },
-            _ => None,
-        }
-    }
-
-    /// Makes a call of one argument that changes nothing. Returns `None` if the name has no such call.
-    #[inline(never)]
-    fn read_call_of_one(
-        &self,
-        pid: u32,
-        name: CallName,
-        x: &Term,
-        reply: &mut Reply,
-    ) -> Option<Result<(), Refusal>>
-        ensures { RefinesRead self.now pid name (x.now ∷ []) result reply.new }
-    {
-        match name {
-            CallName::First => Some(write_reply(self.first(pid, x), reply)),
-            CallName::FirstLookup => Some(write_reply(self.first_lookup(pid, x), reply)),
-            CallName::Tab2list => Some(write_reply(self.tab2list(pid, x), reply)),
-            CallName::Whereis => Some(write_reply(self.whereis(x), reply)),
-            _ => None,
-        }
-    }
-
-    /// Makes a call of two arguments that changes nothing. Returns `None` if the name has no such call. `read_call`
-    /// tries `lookup` and `member` before. They are here too, because the contract holds for each name.
-    #[inline(never)]
-    fn read_call_of_two(
-        &self,
-        pid: u32,
-        name: CallName,
-        x: &Term,
-        y: &Term,
-        reply: &mut Reply,
-    ) -> Option<Result<(), Refusal>>
-        ensures { RefinesRead self.now pid name (x.now ∷ y.now ∷ []) result reply.new }
-    {
-        match name {
-            CallName::Info => Some(write_reply(self.info(x, y), reply)),
-            CallName::Lookup => Some(self.lookup_into(pid, x, y, reply)),
-            CallName::Match => Some(write_reply(self.match_bindings(pid, x, y), reply)),
-            CallName::MatchObject => Some(write_reply(self.match_object(pid, x, y), reply)),
-            CallName::Member => Some(self.member_into(pid, x, y, reply)),
-            CallName::Next => Some(write_reply(self.next(pid, x, y), reply)),
-            CallName::NextLookup => Some(write_reply(self.next_lookup(pid, x, y), reply)),
-            CallName::Select => Some(write_reply(self.select(pid, x, y), reply)),
-            CallName::SelectCount => Some(write_reply(self.select_count(pid, x, y), reply)),
-            _ => None,
-        }
-    }
-
-    /// Makes a call that may change the node, and writes its reply. Refuses a call that does not exist with `Badarg`.
-    fn change_call(
-        &mut self,
-        pid: u32,
-        name: CallName,
+        name: ReadName,
         args: &[Term],
         reply: &mut Reply,
     ) -> Result<(), Refusal>
-        requires { reads_only name args.now ≡ false }
-        ensures { RefinesInto (call self.old pid name args.now) self.old result reply.new self.new }
+        ensures { RefinesInto (read_call self.now pid name args.now)
+            self.now result reply.new self.now }
     {
-        match args {
-            [] => match name {
-                CallName::Receive => write_reply(self.receive(pid), reply),
-                _ => Err(Refusal::Badarg),
-            },
-            [x] => self.change_call_of_one(pid, name, x, reply),
-            [x, y] => self.change_call_of_two(pid, name, x, y, reply),
-            [x, y, z] => {
-                let update = Update {
-                    key: y,
-                    changes: z,
-                    default: None,
-                };
-                match name {
-                    CallName::GiveAway => write_reply(self.give_away(pid, x, y, z), reply),
-                    CallName::UpdateCounter => self.update_counter_into(pid, x, update, reply),
-                    CallName::UpdateElement => self.update_element_into(pid, x, update, reply),
-                    _ => Err(Refusal::Badarg),
-                }
+        match (name, args) {
+            (ReadName::First, [x]) => write_reply(self.first(pid, x), reply),
+            (ReadName::FirstLookup, [x]) => write_reply(self.first_lookup(pid, x), reply),
+            (ReadName::Info, [x, y]) => write_reply(self.info(x, y), reply),
+            (ReadName::Lookup, [x, y]) => self.lookup_into(pid, x, y, reply),
+            (ReadName::LookupElement, [x, y, z]) => {
+                write_value(self.lookup_element(pid, x, y, z), reply)
             }
-            [x, y, z, default] => {
-                let update = Update {
-                    key: y,
-                    changes: z,
-                    default: Some(default),
-                };
-                match name {
-                    CallName::UpdateCounter => self.update_counter_into(pid, x, update, reply),
-                    CallName::UpdateElement => self.update_element_into(pid, x, update, reply),
-                    _ => Err(Refusal::Badarg),
-                }
+            (ReadName::LookupElement, [x, y, z, default]) => {
+                write_value(self.lookup_element_or(pid, x, y, z, default), reply)
             }
+            (ReadName::Match, [x, y]) => write_reply(self.match_bindings(pid, x, y), reply),
+            (ReadName::MatchObject, [x, y]) => write_reply(self.match_object(pid, x, y), reply),
+            (ReadName::Member, [x, y]) => self.member_into(pid, x, y, reply),
+            (ReadName::Next, [x, y]) => write_reply(self.next(pid, x, y), reply),
+            (ReadName::NextLookup, [x, y]) => write_reply(self.next_lookup(pid, x, y), reply),
+            (ReadName::Select, [x, y]) => write_reply(self.select(pid, x, y), reply),
+            (ReadName::SelectCount, [x, y]) => write_reply(self.select_count(pid, x, y), reply),
+            (ReadName::Tab2list, [x]) => write_reply(self.tab2list(pid, x), reply),
+            (ReadName::Whereis, [x]) => write_reply(self.whereis(x), reply),
             _ => Err(Refusal::Badarg),
         }
     }
 
-    /// Makes a call of one argument that may change the node. Refuses a name without such a call with `Badarg`.
+    /// Makes a call that may write, and writes its reply. Refuses a wrong number of arguments with `Badarg`.
     #[inline(never)]
-    fn change_call_of_one(
+    pub(crate) fn write_call(
         &mut self,
         pid: u32,
-        name: CallName,
-        x: &Term,
+        name: WriteName,
+        args: &[Term],
         reply: &mut Reply,
     ) -> Result<(), Refusal>
-        requires { reads_only name (x.now ∷ []) ≡ false }
-        ensures { RefinesInto (call self.old pid name (x.now ∷ []))
+        ensures { RefinesInto (write_call self.old pid name args.now)
             self.old result reply.new self.new }
     {
-        match name {
-            CallName::Delete => write_reply(self.delete_table(pid, x), reply),
-            CallName::DeleteAllObjects => {
+        match (name, args) {
+            (WriteName::Delete, [x]) => write_reply(self.delete_table(pid, x), reply),
+            (WriteName::Delete, [x, y]) => self.delete_into(pid, x, y, reply),
+            (WriteName::DeleteAllObjects, [x]) => {
                 write_true(self.alloc, self.delete_all_objects(pid, x), reply)
             }
-            _ => Err(Refusal::Badarg),
-        }
-    }
-
-    /// Makes a call of two arguments that may change the node. Refuses a name without such a call with `Badarg`.
-    #[inline(never)]
-    fn change_call_of_two(
-        &mut self,
-        pid: u32,
-        name: CallName,
-        x: &Term,
-        y: &Term,
-        reply: &mut Reply,
-    ) -> Result<(), Refusal>
-        requires { reads_only name (x.now ∷ y.now ∷ []) ≡ false }
-        ensures { RefinesInto (call self.old pid name (x.now ∷ y.now ∷ []))
-            self.old result reply.new self.new }
-    {
-        match name {
-            CallName::Delete => self.delete_into(pid, x, y, reply),
-            CallName::DeleteObject => write_true(self.alloc, self.delete_object(pid, x, y), reply),
-            CallName::Insert => self.insert_into(pid, x, y, reply),
-            CallName::InsertNew => write_truth(self.alloc, self.insert_new(pid, x, y), reply),
-            CallName::MatchDelete => write_reply(self.match_delete(pid, x, y), reply),
-            CallName::New => write_reply(self.new_call(pid, x, y), reply),
-            CallName::SafeFixtable => write_reply(self.safe_fixtable(pid, x, y), reply),
-            CallName::SelectDelete => write_reply(self.select_delete(pid, x, y), reply),
-            CallName::SetOptions => write_reply(self.set_options(pid, x, y), reply),
-            CallName::Take => write_reply(self.take(pid, x, y), reply),
+            (WriteName::DeleteObject, [x, y]) => {
+                write_true(self.alloc, self.delete_object(pid, x, y), reply)
+            }
+            (WriteName::GiveAway, [x, y, z]) => write_reply(self.give_away(pid, x, y, z), reply),
+            (WriteName::Insert, [x, y]) => self.insert_into(pid, x, y, reply),
+            (WriteName::InsertNew, [x, y]) => {
+                write_truth(self.alloc, self.insert_new(pid, x, y), reply)
+            }
+            (WriteName::MatchDelete, [x, y]) => write_reply(self.match_delete(pid, x, y), reply),
+            (WriteName::New, [x, y]) => write_reply(self.new_call(pid, x, y), reply),
+            (WriteName::Receive, []) => write_reply(self.receive(pid), reply),
+            (WriteName::SafeFixtable, [x, y]) => write_reply(self.safe_fixtable(pid, x, y), reply),
+            (WriteName::SelectDelete, [x, y]) => write_reply(self.select_delete(pid, x, y), reply),
+            (WriteName::SetOptions, [x, y]) => write_reply(self.set_options(pid, x, y), reply),
+            (WriteName::Take, [x, y]) => write_reply(self.take(pid, x, y), reply),
+            (WriteName::UpdateCounter, [x, y, z]) => {
+                self.update_counter_into(pid, x, Update::new(y, z, None), reply)
+            }
+            (WriteName::UpdateCounter, [x, y, z, default]) => {
+                self.update_counter_into(pid, x, Update::new(y, z, Some(default)), reply)
+            }
+            (WriteName::UpdateElement, [x, y, z]) => {
+                self.update_element_into(pid, x, Update::new(y, z, None), reply)
+            }
+            (WriteName::UpdateElement, [x, y, z, default]) => {
+                self.update_element_into(pid, x, Update::new(y, z, Some(default)), reply)
+            }
             _ => Err(Refusal::Badarg),
         }
     }

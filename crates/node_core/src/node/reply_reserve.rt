@@ -3,7 +3,7 @@
 ghost use Rattle.std.specs.Prelude.{◌≡◌, ℕ, true, false, ◌≤◌, [], ◌∷◌, length, vec_capacity, IfOk, OnErr, MatchOption};
 ghost use Rattle.std.specs.List.{list_all};
 ghost use Rattle.node_core.specs.Access.{writes};
-ghost use Rattle.node_core.specs.Calls.{call};
+ghost use Rattle.node_core.specs.Calls.{write_call};
 ghost use Rattle.node_core.specs.rules.Removal.{Take};
 ghost use Rattle.node_core.specs.rules.Tables.{New};
 ghost use Rattle.node_core.specs.State.{State};
@@ -11,7 +11,7 @@ ghost use Rattle.node_core.specs.inside.ReplyReserve.{StepsWithBuckets, is_flat_
 
 use super::Node;
 use super::replies::{list_reply, terms_reply};
-use crate::call_name::CallName;
+use crate::call_name::{CallName, WriteName};
 use crate::step::{Reply, Step};
 use ets_term::{Items, KeyHash, Term};
 use std::alloc::{AllocError, Global};
@@ -39,58 +39,35 @@ impl<H: KeyHash + Copy + Drop> Node<H> {
             return Ok(ReplyReserve::Nothing);
         };
         match CallName::read(call.name.text()) {
-            Some(name) => self.reserve_for_call(*pid, name, call.args.as_slice()),
-            None => Ok(ReplyReserve::Nothing),
+            Some(CallName::Write(name)) => self.reserve_for_call(*pid, name, call.args.as_slice()),
+            _ => Ok(ReplyReserve::Nothing),
         }
     }
 
-    /// Reserves memory for a second copy of a call's reply.
+    /// Reserves memory for a second copy of a call's reply: for `receive`, `take` and `new`, a copy of it, and for
+    /// `update_counter`, capacity for the list of new values.
     fn reserve_for_call(
         &self,
         pid: u32,
-        name: CallName,
+        name: WriteName,
         args: &[Term],
     ) -> Result<ReplyReserve, AllocError>
-        ensures { IfOk result (Suffices self.now (call self.now pid name args.now)) }
+        ensures { IfOk result (Suffices self.now (write_call self.now pid name args.now)) }
     {
-        match args {
-            [] => self.reserve_for_none(pid, name),
-            [_] => Ok(ReplyReserve::Nothing),
-            [x, y] => self.reserve_for_two(pid, name, x, y),
-            [_, _, updates] | [_, _, updates, _] => reserve_for_updates(self.alloc, name, updates),
-            _ => Ok(ReplyReserve::Nothing),
-        }
-    }
-
-    /// Reserves memory for a call without arguments: for `receive`, a copy of the mailbox.
-    fn reserve_for_none(&self, pid: u32, name: CallName) -> Result<ReplyReserve, AllocError>
-        ensures { IfOk result (Suffices self.now (call self.now pid name [])) }
-    {
-        match name {
-            CallName::Receive => {
+        match (name, args) {
+            (WriteName::Receive, []) => {
                 let copy = terms_reply(self.alloc, self.world.mailbox(pid))?;
                 Ok(ReplyReserve::Predicted(copy))
             }
-            _ => Ok(ReplyReserve::Nothing),
-        }
-    }
-
-    /// Reserves memory for a call of two arguments: for `take` and `new`, a copy of the reply.
-    fn reserve_for_two(
-        &self,
-        pid: u32,
-        name: CallName,
-        x: &Term,
-        y: &Term,
-    ) -> Result<ReplyReserve, AllocError>
-        ensures { IfOk result (Suffices self.now (call self.now pid name (x.now ∷ y.now ∷ []))) }
-    {
-        match name {
-            CallName::Take => {
+            (WriteName::Take, [x, y]) => {
                 let copy = self.predict_take(pid, x, y)?;
                 Ok(ReplyReserve::Predicted(copy))
             }
-            CallName::New => predict_name(self.alloc, x),
+            (WriteName::New, [x, _]) => predict_name(self.alloc, x),
+            (WriteName::UpdateCounter, [_, _, updates] | [_, _, updates, _]) => {
+                let room = capacity_for(self.alloc, updates)?;
+                Ok(ReplyReserve::Capacity(room))
+            }
             _ => Ok(ReplyReserve::Nothing),
         }
     }
@@ -104,25 +81,6 @@ impl<H: KeyHash + Copy + Drop> Node<H> {
             Some(table) => list_reply(self.alloc, table.lookup(key)),
             None => Ok(Reply::Badarg),
         }
-    }
-}
-
-/// Reserves memory for a call with updates: for `update_counter`, capacity for the list of new values.
-fn reserve_for_updates(
-    alloc: Global,
-    name: CallName,
-    updates: &Term,
-) -> Result<ReplyReserve, AllocError>
-    ensures { (old : State) → (pid : ℕ) → (x y : Term)
-        → IfOk result (λ r. Suffices old (call old pid name (x ∷ y ∷ updates.now ∷ [])) r
-        × ((default : Term) → Suffices old (call old pid name (x ∷ y ∷ updates.now ∷ default ∷ [])) r)) }
-{
-    match name {
-        CallName::UpdateCounter => {
-            let room = capacity_for(alloc, updates)?;
-            Ok(ReplyReserve::Capacity(room))
-        }
-        _ => Ok(ReplyReserve::Nothing),
     }
 }
 

@@ -1,6 +1,6 @@
 //! The calls `update_counter` and `update_element`. Both try the frequent form first: one update, without a Default,
 //! which is the object for a missing key.
-ghost use Rattle.std.specs.Prelude.{option_copied};
+ghost use Rattle.std.specs.Prelude.{◌≡◌, option_copied};
 ghost use Rattle.table_ops.specs.Refusals as table_refusals;
 ghost use Rattle.node_core.specs.Access.{writes};
 ghost use Rattle.node_core.specs.rules.Updates.{Counts, WritesElements, UpdateCounter, UpdateElement};
@@ -26,6 +26,21 @@ pub(crate) struct Update<'a> {
     pub(crate) key: &'a Term,
     pub(crate) changes: &'a Term,
     pub(crate) default: Option<&'a Term>,
+}
+
+impl<'a> Update<'a> {
+    #[inline(always)]
+    pub(crate) fn new(key: &'a Term, changes: &'a Term, default: Option<&'a Term>) -> Update<'a>
+        ensures key { result.key.now ≡ key.now }
+        ensures changes { result.changes.now ≡ changes.now }
+        ensures default { option_copied result.default ≡ option_copied default.entry }
+    {
+        Update {
+            key,
+            changes,
+            default,
+        }
+    }
 }
 
 impl<H: KeyHash + Copy + Drop> Node<H> {

@@ -10,6 +10,10 @@ use Rattle.ownership.specs.declared.metadata.Metadata.{Metadata}
 use Rattle.node_core.specs.CallName.{call_name}
 use Rattle.node_core.specs.declared.call_name.CallName.{CallName}
 use Rattle.node_core.specs.declared.call_name.CallName.TheVariants as name
+use Rattle.node_core.specs.declared.call_name.ReadName.{ReadName}
+use Rattle.node_core.specs.declared.call_name.ReadName.TheVariants as read
+use Rattle.node_core.specs.declared.call_name.WriteName.{WriteName}
+use Rattle.node_core.specs.declared.call_name.WriteName.TheVariants as write
 use Rattle.node_core.specs.declared.node.access.Access.{Access}
 use Rattle.node_core.specs.declared.node.access.Access.TheVariants.{Read, Write}
 use Rattle.node_core.specs.declared.step.Call.{Call}
@@ -45,44 +49,53 @@ module _ (p : ℕ) (metadata : Option Metadata) (content : Option Content) where
   abbrev pub last_on_content : Access → (Content → Reason) → Reason
   last_on_content access rest = refusal_reason_of_content access p metadata content rest
 
-  -- the reason by the call's name; a name with any other number of arguments breaks the rule on their number
-  abbrev pub refusal_reason_by_name : CallName → List Term → Reason
-  refusal_reason_by_name name.Tab2list (x ∷ []) = refusal_reason_of_use Read p metadata
-  refusal_reason_by_name name.DeleteAllObjects (x ∷ []) = refusal_reason_of_use Write p metadata
-  refusal_reason_by_name name.Delete (x ∷ []) = refusal_reason_of_use Write p metadata
-  refusal_reason_by_name name.First (x ∷ []) = refusal_reason_of_use Read p metadata
-  refusal_reason_by_name name.FirstLookup (x ∷ []) = refusal_reason_of_use Read p metadata
-  refusal_reason_by_name name.Whereis (x ∷ []) = argument 1 rule.NotAnAtom
-  refusal_reason_by_name name.Insert (x ∷ y ∷ []) = last_on_second Write rule.NotAnObject
-  refusal_reason_by_name name.InsertNew (x ∷ y ∷ []) = last_on_second Write rule.NotAnObject
-  refusal_reason_by_name name.Lookup (x ∷ y ∷ []) = refusal_reason_of_use Read p metadata
-  refusal_reason_by_name name.Member (x ∷ y ∷ []) = refusal_reason_of_use Read p metadata
-  refusal_reason_by_name name.Take (x ∷ y ∷ []) = refusal_reason_of_use Write p metadata
-  refusal_reason_by_name name.Delete (x ∷ y ∷ []) = refusal_reason_of_use Write p metadata
-  refusal_reason_by_name name.DeleteObject (x ∷ y ∷ []) = last_on_second Write rule.NotAnObject
-  refusal_reason_by_name name.Match (x ∷ y ∷ []) = last_on_second Read rule.NotAPattern
-  refusal_reason_by_name name.MatchObject (x ∷ y ∷ []) = last_on_second Read rule.NotAPattern
-  refusal_reason_by_name name.MatchDelete (x ∷ y ∷ []) = last_on_second Write rule.NotAPattern
-  refusal_reason_by_name name.Select (x ∷ y ∷ []) = last_on_second Read rule.NotASpecification
-  refusal_reason_by_name name.SelectCount (x ∷ y ∷ []) = last_on_second Read rule.NotASpecification
-  refusal_reason_by_name name.SelectDelete (x ∷ y ∷ []) = last_on_second Write rule.NotASpecification
-  refusal_reason_by_name name.New (x ∷ y ∷ []) = refusal_reason_of_new x y
-  refusal_reason_by_name name.Next (x ∷ y ∷ []) = last_on_second Read rule.NoKey
-  refusal_reason_by_name name.NextLookup (x ∷ y ∷ []) = last_on_second Read rule.NoKey
-  refusal_reason_by_name name.SafeFixtable (x ∷ y ∷ []) = refusal_reason_of_safe_fixtable p metadata y
-  refusal_reason_by_name name.SetOptions (x ∷ y ∷ []) = owner_reason_or p metadata (argument 2 rule.NotOptions)
-  refusal_reason_by_name name.Info (x ∷ y ∷ []) = refusal_reason_of_info y
-  refusal_reason_by_name name.LookupElement (x ∷ y ∷ z ∷ []) = last_on_content Read (refusal_reason_of_lookup_element y z true)
-  refusal_reason_by_name name.UpdateCounter (x ∷ y ∷ z ∷ []) = last_on_content Write (refusal_reason_of_update_counter y z None)
-  refusal_reason_by_name name.UpdateElement (x ∷ y ∷ z ∷ []) = last_on_content Write (refusal_reason_of_update_element y z None)
-  refusal_reason_by_name name.GiveAway (x ∷ y ∷ z ∷ []) = refusal_reason_of_give_away p metadata y
-  refusal_reason_by_name name.LookupElement (x ∷ y ∷ z ∷ default ∷ []) =
+  -- the reason of a call that only reads, by its name; a name with any other number of arguments breaks the rule on their
+  -- number
+  abbrev pub refusal_reason_of_read_call : ReadName → List Term → Reason
+  refusal_reason_of_read_call read.Tab2list (x ∷ []) = refusal_reason_of_use Read p metadata
+  refusal_reason_of_read_call read.First (x ∷ []) = refusal_reason_of_use Read p metadata
+  refusal_reason_of_read_call read.FirstLookup (x ∷ []) = refusal_reason_of_use Read p metadata
+  refusal_reason_of_read_call read.Whereis (x ∷ []) = argument 1 rule.NotAnAtom
+  refusal_reason_of_read_call read.Lookup (x ∷ y ∷ []) = refusal_reason_of_use Read p metadata
+  refusal_reason_of_read_call read.Member (x ∷ y ∷ []) = refusal_reason_of_use Read p metadata
+  refusal_reason_of_read_call read.Match (x ∷ y ∷ []) = last_on_second Read rule.NotAPattern
+  refusal_reason_of_read_call read.MatchObject (x ∷ y ∷ []) = last_on_second Read rule.NotAPattern
+  refusal_reason_of_read_call read.Select (x ∷ y ∷ []) = last_on_second Read rule.NotASpecification
+  refusal_reason_of_read_call read.SelectCount (x ∷ y ∷ []) = last_on_second Read rule.NotASpecification
+  refusal_reason_of_read_call read.Next (x ∷ y ∷ []) = last_on_second Read rule.NoKey
+  refusal_reason_of_read_call read.NextLookup (x ∷ y ∷ []) = last_on_second Read rule.NoKey
+  refusal_reason_of_read_call read.Info (x ∷ y ∷ []) = refusal_reason_of_info y
+  refusal_reason_of_read_call read.LookupElement (x ∷ y ∷ z ∷ []) = last_on_content Read (refusal_reason_of_lookup_element y z true)
+  refusal_reason_of_read_call read.LookupElement (x ∷ y ∷ z ∷ default ∷ []) =
       last_on_content Read (refusal_reason_of_lookup_element y z false)
-  refusal_reason_by_name name.UpdateCounter (x ∷ y ∷ z ∷ default ∷ []) =
+  refusal_reason_of_read_call _ _ = about_whole_call rule.WrongArity
+
+  -- the reason of any other call, in the same way
+  abbrev pub refusal_reason_of_write_call : WriteName → List Term → Reason
+  refusal_reason_of_write_call write.DeleteAllObjects (x ∷ []) = refusal_reason_of_use Write p metadata
+  refusal_reason_of_write_call write.Delete (x ∷ []) = refusal_reason_of_use Write p metadata
+  refusal_reason_of_write_call write.Insert (x ∷ y ∷ []) = last_on_second Write rule.NotAnObject
+  refusal_reason_of_write_call write.InsertNew (x ∷ y ∷ []) = last_on_second Write rule.NotAnObject
+  refusal_reason_of_write_call write.Take (x ∷ y ∷ []) = refusal_reason_of_use Write p metadata
+  refusal_reason_of_write_call write.Delete (x ∷ y ∷ []) = refusal_reason_of_use Write p metadata
+  refusal_reason_of_write_call write.DeleteObject (x ∷ y ∷ []) = last_on_second Write rule.NotAnObject
+  refusal_reason_of_write_call write.MatchDelete (x ∷ y ∷ []) = last_on_second Write rule.NotAPattern
+  refusal_reason_of_write_call write.SelectDelete (x ∷ y ∷ []) = last_on_second Write rule.NotASpecification
+  refusal_reason_of_write_call write.New (x ∷ y ∷ []) = refusal_reason_of_new x y
+  refusal_reason_of_write_call write.SafeFixtable (x ∷ y ∷ []) = refusal_reason_of_safe_fixtable p metadata y
+  refusal_reason_of_write_call write.SetOptions (x ∷ y ∷ []) = owner_reason_or p metadata (argument 2 rule.NotOptions)
+  refusal_reason_of_write_call write.UpdateCounter (x ∷ y ∷ z ∷ []) = last_on_content Write (refusal_reason_of_update_counter y z None)
+  refusal_reason_of_write_call write.UpdateElement (x ∷ y ∷ z ∷ []) = last_on_content Write (refusal_reason_of_update_element y z None)
+  refusal_reason_of_write_call write.GiveAway (x ∷ y ∷ z ∷ []) = refusal_reason_of_give_away p metadata y
+  refusal_reason_of_write_call write.UpdateCounter (x ∷ y ∷ z ∷ default ∷ []) =
       last_on_content Write (refusal_reason_of_update_counter y z (Some default))
-  refusal_reason_by_name name.UpdateElement (x ∷ y ∷ z ∷ default ∷ []) =
+  refusal_reason_of_write_call write.UpdateElement (x ∷ y ∷ z ∷ default ∷ []) =
       last_on_content Write (refusal_reason_of_update_element y z (Some default))
-  refusal_reason_by_name _ _ = about_whole_call rule.WrongArity
+  refusal_reason_of_write_call _ _ = about_whole_call rule.WrongArity
+
+  abbrev pub refusal_reason_by_name : CallName → List Term → Reason
+  refusal_reason_by_name (name.Read called) args = refusal_reason_of_read_call called args
+  refusal_reason_by_name (name.Write called) args = refusal_reason_of_write_call called args
 
 -- the reason of a call that is badarg
 abbrev pub refusal_reason_of_call : World → ℕ → CallName → List Term → Reason

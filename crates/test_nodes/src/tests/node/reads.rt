@@ -42,12 +42,12 @@ static READS: [ReadRow; 25] = [
     (Pid(0), "whereis(t)", "#Tid<0>"),
     (Pid(0), "info(t,size)", "1"),
     (Pid(0), "lookup(u,a)", "** badarg"),
+    (Pid(0), "lookup(t)", "** badarg"),
     (Pid(1), "lookup(t,a)", "** noproc"),
     (Pid(0), "lookup(t,a)", "[{a,1}]"),
     (Pid(0), "insert(t,{b,2})", LEFT_TO_STEP),
     (Pid(0), "take(t,a)", LEFT_TO_STEP),
     (Pid(1), "delete(t)", LEFT_TO_STEP),
-    (Pid(0), "lookup(t)", LEFT_TO_STEP),
     (Pid(0), "lookups(t,a)", LEFT_TO_STEP),
 ];
 
