@@ -1,4 +1,4 @@
-use Rattle.std.proofs.Common.{◌≡◌, Some, Ok, sym, ap, subst, ◌∙◌}
+use Rattle.std.proofs.Common.{◌≡◌, Some, Ok, subst}
 use Rattle.node_core.specs.declared.call_name.CallName.TheVariants.{Read}
 use Rattle.node_core.specs.CallName.{call_name}
 use Rattle.node_core.specs.Calls.{read_call}
