@@ -1,5 +1,5 @@
 -- What is reserved before a call suffices for its reply.
-use Rattle.std.proofs.Common.{◌≡◌, ℕ, ◌≤◌, ◌<◌, ◌⊎◌, inl, inr, Bool, true, false, not, List, [], ◌∷◌, Option, None, Some, Result, Ok, Err, refl, sym, subst, ap, ◌∙◌, length, get_or, arith}
+use Rattle.std.proofs.Common.{◌≡◌, ℕ, ◌≤◌, ◌<◌, ◌⊎◌, inl, inr, Bool, true, false, not, List, [], ◌∷◌, Option, None, Some, Result, Ok, Err, refl, sym, subst, ap, ◌∙◌, true≢false, length, get_or, arith}
 use Rattle.std.specs.Prelude.{MatchOption, IfOk, vec_capacity}
 use Rattle.std.specs.List.{list_any}
 use Rattle.ets_term.specs.declared.term.Term.{Term}
@@ -10,7 +10,6 @@ use Rattle.fixed_walk.specs.TableState.{TableState}
 use Rattle.ownership.specs.World.{Table, lives}
 use Rattle.node_core.specs.declared.call_name.CallName.{CallName}
 use Rattle.node_core.specs.declared.call_name.CallName.TheVariants as name
-use Rattle.node_core.specs.declared.call_name.ReadName.{ReadName}
 use Rattle.node_core.specs.declared.call_name.WriteName.{WriteName}
 use Rattle.node_core.specs.declared.call_name.WriteName.TheVariants as write
 use Rattle.node_core.specs.declared.node.access.Access.TheVariants.{Write}
@@ -26,6 +25,7 @@ use Rattle.node_core.specs.State.{State}
 use Rattle.node_core.specs.Access.{usable, with_table, ChangeResultToReply, writes}
 use Rattle.node_core.specs.CallName.{call_name}
 use Rattle.node_core.specs.Calls.{call, write_call, call_by_text}
+use Rattle.node_core.specs.Reads.{names_read}
 use Rattle.node_core.specs.rules.Updates.{UpdateCounter, Counts}
 use Rattle.node_core.specs.inside.ReplyReserve.{StepsWithBuckets, is_flat, list_terms, FitsCapacity, TakesNoMemory, FitCapacity, Suffices}
 use Rattle.node_core.proofs.replies.Counting.{counts-as, IsCounted}
@@ -77,13 +77,41 @@ ask-suffices old p asked (Err error) h = h
 pub named-suffices : (old : State) (p : ℕ) (asked : Call) (called : WriteName) (r : Result ReplyReserve AllocError) → Some (name.Write called) ≡ call_name asked.name → IfOk r (Suffices old (write_call old p called asked.args)) → IfOk r (Suffices old (StepsWithBuckets old (Ask p asked)))
 named-suffices old p asked called r is h = ask-suffices old p asked r (subst (λ found. SufficesForName old p found asked.args r) is h)
 
-pub unknown-suffices : (old : State) (p : ℕ) (asked : Call) → None ≡ call_name asked.name → Suffices old (StepsWithBuckets old (Ask p asked)) Nothing
-unknown-suffices old p asked is = ask-suffices old p asked (Ok Nothing) (subst (λ found. SufficesForName old p found asked.args (Ok Nothing)) is (unnamed-suffices old p asked.args))
+pub other-suffices : (old : State) (p : ℕ) (asked : Call) → None ≡ call_name asked.name → Suffices old (StepsWithBuckets old (Ask p asked)) Nothing
+other-suffices old p asked is = ask-suffices old p asked (Ok Nothing) (subst (λ found. SufficesForName old p found asked.args (Ok Nothing)) is (unnamed-suffices old p asked.args))
 
-pub read-suffices : (old : State) (p : ℕ) (asked : Call) (called : ReadName) → Some (name.Read called) ≡ call_name asked.name → Suffices old (StepsWithBuckets old (Ask p asked)) Nothing
-read-suffices old p asked called is =
+pub read-suffices : (old : State) (p : ℕ) (asked : Call) (called : CallName) → Some called ≡ call_name asked.name → names_read (Some called) ≡ true → Suffices old (StepsWithBuckets old (Ask p asked)) Nothing
+read-suffices old p asked (name.Read called) is only =
     ask-suffices old p asked (Ok Nothing) (subst (λ found. SufficesForName old p found asked.args (Ok Nothing)) is
     (λ reply new h. ((read-lawful p false old called asked.args).lawful reply new h).quiet refl))
+read-suffices old p asked (name.Write called) is only = absurd (true≢false (sym only))
 
 pub quiet-suffices : (old : State) (p : ℕ) (called : WriteName) (args : List Term) → may_need_copy called ≡ false → TakesNoMemory old (write_call old p called args)
 quiet-suffices old p called args quiet reply new h = ((write-lawful p false old called args (λ may. sym quiet ∙ may)).lawful reply new h).quiet refl
+
+-- what suffices for the updates of counters with these arguments, with and without a default
+abbrev pub SufficesForUpdates : WriteName → Term → Result ReplyReserve AllocError → Type 0
+SufficesForUpdates name updates r =
+    (old : State) → (p : ℕ) → (x y : Term)
+    → IfOk r (λ reserve. Suffices old (write_call old p name (x ∷ y ∷ updates ∷ [])) reserve
+    × ((default : Term) → Suffices old (write_call old p name (x ∷ y ∷ updates ∷ default ∷ [])) reserve))
+
+module _ (old : State) (p : ℕ) (name : WriteName) where
+  pub updates-suffices : (args : List Term) (updates : Term) (r : Result ReplyReserve AllocError) → 3 ≤ length args → length args < 5 → updates ≡ get_or args 2 updates
+      → SufficesForUpdates name updates r → IfOk r (Suffices old (write_call old p name args))
+  updates-suffices [] updates r some few is h = absurd (omega (arith, some))
+  updates-suffices (x ∷ []) updates r some few is h = absurd (omega (arith, some))
+  updates-suffices (x ∷ y ∷ []) updates r some few is h = absurd (omega (arith, some))
+  updates-suffices (x ∷ y ∷ z ∷ []) updates (Ok reserve) some few is h = subst (λ t. Suffices old (write_call old p name (x ∷ y ∷ t ∷ [])) reserve) is (h old p x y).0
+  updates-suffices (x ∷ y ∷ z ∷ []) updates (Err error) some few is h = tt
+  updates-suffices (x ∷ y ∷ z ∷ default ∷ []) updates (Ok reserve) some few is h = subst (λ t. Suffices old (write_call old p name (x ∷ y ∷ t ∷ default ∷ [])) reserve) is ((h old p x y).1 default)
+  updates-suffices (x ∷ y ∷ z ∷ default ∷ []) updates (Err error) some few is h = tt
+  updates-suffices (x ∷ y ∷ z ∷ default ∷ w ∷ args) updates r some few is h = absurd (omega (arith, few))
+
+-- calls of two arguments, but for the two whose replies are predicted
+pub two-suffices : (old : State) (p : ℕ) (called : WriteName) (x y : Term) → (called ≡ write.New → ⊥) → (called ≡ write.Take → ⊥) → TakesNoMemory old (write_call old p called (x ∷ y ∷ []))
+two-suffices old p write.New x y new take = absurd (new refl)
+two-suffices old p write.Take x y new take = absurd (take refl)
+two-suffices old p write.Receive x y new take = λ reply new h. inl (ap is_flat h.0)
+two-suffices old p write.UpdateCounter x y new take = λ reply new h. inl (ap is_flat h.0)
+two-suffices old p called x y new take = quiet-suffices old p called (x ∷ y ∷ []) refl

@@ -38,14 +38,16 @@ impl<H: KeyHash + Copy + Drop> Node<H> {
         let Step::Ask(pid, call) = event else {
             return Ok(ReplyReserve::Nothing);
         };
-        match CallName::read(call.name.text()) {
-            Some(CallName::Write(name)) => self.reserve_for_call(*pid, name, call.args.as_slice()),
-            _ => Ok(ReplyReserve::Nothing),
+        let Some(name) = CallName::read(call.name.text()) else {
+            return Ok(ReplyReserve::Nothing);
+        };
+        match name {
+            CallName::Read(_) => Ok(ReplyReserve::Nothing),
+            CallName::Write(name) => self.reserve_for_call(*pid, name, call.args.as_slice()),
         }
     }
 
-    /// Reserves memory for a second copy of a call's reply: for `receive`, `take` and `new`, a copy of it, and for
-    /// `update_counter`, capacity for the list of new values.
+    /// Reserves memory for a second copy of a call's reply.
     fn reserve_for_call(
         &self,
         pid: u32,
@@ -54,20 +56,44 @@ impl<H: KeyHash + Copy + Drop> Node<H> {
     ) -> Result<ReplyReserve, AllocError>
         ensures { IfOk result (Suffices self.now (write_call self.now pid name args.now)) }
     {
-        match (name, args) {
-            (WriteName::Receive, []) => {
+        match args {
+            [] => self.reserve_for_none(pid, name),
+            [_] => Ok(ReplyReserve::Nothing),
+            [x, y] => self.reserve_for_two(pid, name, x, y),
+            [_, _, updates] | [_, _, updates, _] => reserve_for_updates(self.alloc, name, updates),
+            _ => Ok(ReplyReserve::Nothing),
+        }
+    }
+
+    /// Reserves memory for a call without arguments: for `receive`, a copy of the mailbox.
+    fn reserve_for_none(&self, pid: u32, name: WriteName) -> Result<ReplyReserve, AllocError>
+        ensures { IfOk result (Suffices self.now (write_call self.now pid name [])) }
+    {
+        match name {
+            WriteName::Receive => {
                 let copy = terms_reply(self.alloc, self.world.mailbox(pid))?;
                 Ok(ReplyReserve::Predicted(copy))
             }
-            (WriteName::Take, [x, y]) => {
+            _ => Ok(ReplyReserve::Nothing),
+        }
+    }
+
+    /// Reserves memory for a call of two arguments: for `take` and `new`, a copy of the reply.
+    fn reserve_for_two(
+        &self,
+        pid: u32,
+        name: WriteName,
+        x: &Term,
+        y: &Term,
+    ) -> Result<ReplyReserve, AllocError>
+        ensures { IfOk result (Suffices self.now (write_call self.now pid name (x.now ∷ y.now ∷ []))) }
+    {
+        match name {
+            WriteName::Take => {
                 let copy = self.predict_take(pid, x, y)?;
                 Ok(ReplyReserve::Predicted(copy))
             }
-            (WriteName::New, [x, _]) => predict_name(self.alloc, x),
-            (WriteName::UpdateCounter, [_, _, updates] | [_, _, updates, _]) => {
-                let room = capacity_for(self.alloc, updates)?;
-                Ok(ReplyReserve::Capacity(room))
-            }
+            WriteName::New => predict_name(self.alloc, x),
             _ => Ok(ReplyReserve::Nothing),
         }
     }
@@ -81,6 +107,25 @@ impl<H: KeyHash + Copy + Drop> Node<H> {
             Some(table) => list_reply(self.alloc, table.lookup(key)),
             None => Ok(Reply::Badarg),
         }
+    }
+}
+
+/// Reserves memory for a call with updates: for `update_counter`, capacity for the list of new values.
+fn reserve_for_updates(
+    alloc: Global,
+    name: WriteName,
+    updates: &Term,
+) -> Result<ReplyReserve, AllocError>
+    ensures { (old : State) → (pid : ℕ) → (x y : Term)
+        → IfOk result (λ r. Suffices old (write_call old pid name (x ∷ y ∷ updates.now ∷ [])) r
+        × ((default : Term) → Suffices old (write_call old pid name (x ∷ y ∷ updates.now ∷ default ∷ [])) r)) }
+{
+    match name {
+        WriteName::UpdateCounter => {
+            let room = capacity_for(alloc, updates)?;
+            Ok(ReplyReserve::Capacity(room))
+        }
+        _ => Ok(ReplyReserve::Nothing),
     }
 }
 
