@@ -5,7 +5,6 @@ ghost use Rattle.std.specs.Prelude.{◌≡◌, ℕ, ◌<◌, ◌^◌, IfSome, le
 ghost use Rattle.split_key.specs.Keys.{key_of_item, key_of_dummy};
 ghost use Rattle.node_list.specs.Places.{HasSplitKeyAtMost};
 ghost use Rattle.bucket_table.specs.inside.Directory.{HasKeyBelow};
-ghost use Rattle.bucket_table.specs.inside.SplitIndex.{RowsInvariant};
 
 use super::SplitIndex;
 use super::buckets::item_hash;
@@ -17,8 +16,7 @@ impl<H: KeyHash + Copy + Drop> SplitIndex<H> {
     /// Returns a node before all items with this split key. It is the first item of a near interval by the hints, or
     /// the dummy of the nearest ready bucket. The hash is computed only if `near_start` finds no node.
     pub fn search_start(&self, split_key: u64) -> At
-        requires rows { RowsInvariant H.hash self.now }
-        requires small { split_key < 2 ^ 33 }
+        requires { split_key < 2 ^ 33 }
         ensures { (hash : ℕ) → split_key ≡ key_of_item hash → hash < 2 ^ 32
             → HasKeyBelow split_key result self.now.list.cells }
     {
@@ -33,7 +31,6 @@ impl<H: KeyHash + Copy + Drop> SplitIndex<H> {
     /// neither is found.
     #[inline(always)]
     fn near_start(&self, split_key: u64) -> Option<At>
-        requires rows { RowsInvariant H.hash self.now }
         ensures { IfSome result (λ at. HasKeyBelow split_key at self.now.list.cells) }
     {
         self.list.reveal_invariant();
@@ -50,7 +47,6 @@ impl<H: KeyHash + Copy + Drop> SplitIndex<H> {
     /// dummy of the nearest ready bucket.
     #[inline(never)]
     fn far_start(&self, hash: u32) -> At
-        requires rows { RowsInvariant H.hash self.now }
         ensures { HasKeyBelow (key_of_item hash) result self.now.list.cells }
     {
         self.list.reveal_invariant();
@@ -68,7 +64,6 @@ impl<H: KeyHash + Copy + Drop> SplitIndex<H> {
 
     /// Returns a node at which the insertion of a bucket's dummy can start.
     pub fn dummy_start(&self, bucket: u32) -> At
-        requires rows { RowsInvariant H.hash self.now }
         requires below { bucket < length self.now.directory }
         ensures { HasSplitKeyAtMost (key_of_dummy bucket) result self.now.list.cells }
     {

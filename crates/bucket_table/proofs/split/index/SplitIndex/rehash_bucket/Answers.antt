@@ -5,9 +5,9 @@ use Rattle.bucket_table.proofs.split.index.SplitIndex.rehash_bucket.Goals as goa
 
 pub rehash_bucket-requires : goal.rehash_bucket-requires
 rehash_bucket-requires g c = record {
-  parity = placed-parity (g.H.KeyHash.hash c.args.self.now.hasher) c.args.self.now.directory c.args.self.now.list.cells c.requires.rows.rows.split.placed;
-  hints = right g.H.KeyHash.hash c.args.self.now c.requires.rows;
+  parity = placed-parity (g.H.KeyHash.hash c.self.inside.hasher) c.self.inside.directory c.self.inside.list.cells c.self.invariant.rows.split.placed;
+  hints = right _ _ _ _ c.self.invariant;
 }
 
-pub returns-clause-rows : goal.returns-clause-rows
-returns-clause-rows g c = anew g.H.KeyHash.hash c.args.self.now c.requires.rows c.rehash_bucket.new.self (omega (arith, c.rehash_bucket.ensures.interval_bits)) c.rehash_bucket.ensures.hints
+pub invariant_of-self : goal.invariant_of-self
+invariant_of-self g c = anew _ _ _ _ c.self.invariant c.rehash_bucket.new.self (omega (arith, c.rehash_bucket.ensures.interval_bits)) c.rehash_bucket.ensures.hints
