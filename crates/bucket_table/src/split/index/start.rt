@@ -10,7 +10,7 @@ use super::SplitIndex;
 use super::buckets::item_hash;
 use ets_term::KeyHash;
 use node_list::At;
-use split_key::{dummy_key, item_key};
+use split_key::dummy_key;
 
 impl<H: KeyHash + Copy + Drop> SplitIndex<H> {
     /// Returns a node before all items with this split key. It is the first item of a near interval by the hints, or
@@ -22,7 +22,7 @@ impl<H: KeyHash + Copy + Drop> SplitIndex<H> {
     {
         match self.near_start(split_key) {
             Some(first) => first,
-            None => self.far_start(item_hash(split_key)),
+            None => self.far_start(item_hash(split_key), split_key),
         }
     }
 
@@ -43,14 +43,13 @@ impl<H: KeyHash + Copy + Drop> SplitIndex<H> {
         self.hints.near_hint_below(interval)
     }
 
-    /// Returns a node before all items with this hash. It is the first item of a lower interval by the hints, or the
-    /// dummy of the nearest ready bucket.
+    /// Returns a node before all items with this hash, whose split key is given too. It is the first item of a lower
+    /// interval by the hints, or the dummy of the nearest ready bucket.
     #[inline(never)]
-    fn far_start(&self, hash: u32) -> At
-        ensures { HasKeyBelow (key_of_item hash) result self.now.list.cells }
+    fn far_start(&self, hash: u32, split_key: u64) -> At
+        ensures { split_key ≡ key_of_item hash → HasKeyBelow split_key result self.now.list.cells }
     {
         self.list.reveal_invariant();
-        let split_key = item_key(hash);
         let interval = self.hints.interval_of(split_key);
         // `bucket` is the nearest ready bucket, and `start` is its dummy. Hints below `floor` are not read:
         // their items come before the dummy.
