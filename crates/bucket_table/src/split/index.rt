@@ -5,8 +5,8 @@ ghost use Rattle.std.specs.Prelude.{◌≡◌, ◌∷◌, [], true, false, None,
 ghost use Rattle.node_list.specs.Cells.{new_cell};
 ghost use Rattle.bucket_table.specs.inside.Directory.{IsFirstUnready};
 
-// The modules: the `slots` at their places, ready `buckets`, the operations `find`, `insert`, `remove` and `sweep`, and the
-// `start` of a search.
+// The modules: the `slots` at their places, ready `buckets`, the operations `find`, `insert`, `remove` and `sweep`, and
+// the `start` of a search.
 mod buckets;
 mod find;
 mod insert;

@@ -4,8 +4,7 @@ ghost use Rattle.std.specs.Prelude.{◌≡◌, ℕ, ◌≤◌, ◌<◌, ◌-◌,
 ghost use Rattle.std.specs.Borrow.{sem};
 ghost use Rattle.node_list.specs.Cells.{Sorted, new_item};
 ghost use Rattle.node_list.specs.ListState.{HasRoom};
-ghost use Rattle.node_list.specs.Places.{HasDistinctPlaces, HasItem, IsPlaceOf, IsNextItem, item_at, split_key_at};
-ghost use Rattle.split_key.specs.Keys.{key_of_item};
+ghost use Rattle.node_list.specs.Places.{HasDistinctPlaces, HasItem, IsPlaceOf, IsNextItem, item_at};
 ghost use Rattle.bucket_table.specs.inside.Directory.{DirectoryInvariant};
 ghost use Rattle.bucket_table.specs.inside.Lending.{LendsChain};
 

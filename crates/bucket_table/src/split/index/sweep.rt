@@ -1,7 +1,7 @@
 //! A sweep scans all nodes of the list, and removes or empties slots. A purge by the tombstone log scans only the nodes
 //! near each logged hash. A tombstone is a slot without objects.
 
-ghost use Rattle.std.specs.Prelude.{◌≡◌, ℕ, ◌+◌, ◌≤◌, List, ◌∷◌, Some, length};
+ghost use Rattle.std.specs.Prelude.{◌≡◌, ℕ, List, ◌∷◌, Some};
 ghost use Rattle.node_list.specs.Places.{IsPlaceOf, place_after};
 ghost use Rattle.bucket_table.specs.declared.split.sweep.SweepMode.TheVariants.{RemoveTombstones};
 ghost use Rattle.bucket_table.specs.inside.Nodes.{slots_of};
