@@ -96,19 +96,11 @@ impl<H: KeyHash + Copy + Drop> SplitIndex<H> {
     /// Rehashes the first hints of a bucket, and those of its parent. After a list that was inserted by one call there
     /// may be no further insertion that rehashes them.
     fn rehash_with_parent(&mut self, bucket: u32)
+        requires { 0 < bucket }
         ensures { self.new ≡ self.old }
     {
-        self.rehash_bucket(bucket);
-        if bucket > 0 {
-            self.rehash_bucket(parent(bucket));
-        }
-    }
-
-    /// Rehashes the first hints of a bucket.
-    fn rehash_bucket(&mut self, bucket: u32)
-        ensures { self.new ≡ self.old }
-    {
-        self.hints.rehash_bucket(&self.list, dummy_key(bucket));
+        self.hints
+            .rehash_buckets(&self.list, dummy_key(bucket), dummy_key(parent(bucket)));
     }
 
     /// Returns the lowest bucket from `from` on that is not ready. If all are ready, returns the number of buckets.

@@ -1,4 +1,4 @@
-use Rattle.std.proofs.Common.{◌≡◌, ◌*◌, ◌+◌, ◌^◌, ℕ, List, Option, None, get_or, length, refl, ◌<◌, sym, ◌∙◌, ap, subst}
+use Rattle.std.proofs.Common.{◌≡◌, ◌*◌, ◌+◌, ◌^◌, ℕ, zero, suc, IsSome, List, Option, None, get_or, length, refl, ◌<◌, sym, ◌∙◌, ap, subst, arith}
 use Rattle.std.proofs.lemmas.Result.{err_from_is_err_and}
 use Rattle.split_key.specs.Keys.{key_of_dummy}
 use Rattle.node_list.specs.Cells.{new_cell}
@@ -10,6 +10,11 @@ use Rattle.bucket_table.specs.inside.SplitIndex.{IndexState, MakesReady}
 use Rattle.bucket_table.proofs.hints.Change.{hints-dummy}
 use Rattle.bucket_table.proofs.hints.Invariant.{rows-ready}
 use Rattle.bucket_table.proofs.split.index.SplitIndex.make_ready.Goals as goal
+
+-- Bucket 0 is always ready.
+not-first : (directory : List (Option ℕ)) (bucket : ℕ) → IsSome (get_or directory 0 None) → get_or directory bucket None ≡ None → 0 < bucket
+not-first directory zero first none = absurd (let P : Option ℕ → Type 0 = λ o. IsSome o in let e : IsSome {T = ℕ} None = subst P none first in cc)
+not-first directory (suc b) first none = omega arith
 
 pub insert_dummy-requires : goal.insert_dummy-requires
 insert_dummy-requires g c =
@@ -45,6 +50,11 @@ invariant_of-self-2 g c =
       rows = subst D (sym c.set.ensures) base;
       previous = hints-dummy (2 ^ (hints.interval_bits + 1)) hints.previous c.in_ok-at.at (key_of_dummy c.args.bucket) cells c.insert_dummy.new.self.cells c.self.invariant.previous is;
     }
+
+pub rehash_with_parent-requires : goal.rehash_with_parent-requires
+rehash_with_parent-requires g c =
+    let U : IndexState g.row.H.Denot → Type 0 = λ v. get_or v.directory c.args.bucket None ≡ None in
+    not-first c.self.inside.directory c.args.bucket c.self.invariant.rows.split.first (subst U (sym c.self.view_is) c.requires.unready)
 
 pub returns-clause-ok : goal.returns-clause-ok
 returns-clause-ok g c =
