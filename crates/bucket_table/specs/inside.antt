@@ -8,3 +8,4 @@ pub mod Intervals
 pub mod Sweeps
 pub mod TombstoneLog
 pub mod Order
+pub mod Lending

@@ -73,10 +73,10 @@ impl<H: KeyHash + Copy + Drop> SplitRows<H> {
         ensures visits { HasLooked (H.hash self.now.hasher) self.now.slots self.now.ready
             key.now steps.old steps.new }
     {
-        self.index.list.reveal_invariant();
-        let hash = self.index.hasher.hash32(key);
+        self.index.reveal_invariant();
+        let hash = self.index.hash(key);
         let at = self.index.find(hash, key, steps)?;
-        let (_key, chain) = self.index.list.item(at)?;
+        let (_key, chain) = self.index.item(at)?;
         Some(chain.as_slice())
     }
 }

@@ -62,11 +62,7 @@ module _ (directory : List (Option ℕ)) (interval_bits : ℕ) (current : List (
       }
 
   -- There are also enough after a doubling.
-  enough-doubled : (narrower : ℕ) → narrower + 1 ≡ interval_bits → HasIntervalsFor (2 * length directory) narrower
+  pub enough-doubled : (narrower : ℕ) → narrower + 1 ≡ interval_bits → HasIntervalsFor (2 * length directory) narrower
   enough-doubled narrower e =
       let most : interval_bits + h.doublings ≤ 31 = h.narrow in
       record { doublings = suc h.doublings; size = size; narrow = omega arith }
-
-  pub enough-tried : {E : Type 0} (result : Result (Unit {0}) E) (old new : Hints) → old.interval_bits ≡ interval_bits → OnOk result (IsDoubled old new) → OnOk result (HasIntervalsFor (2 * length directory) new.interval_bits)
-  enough-tried (Ok _) old new e ok = enough-doubled new.interval_bits (ok.narrow ∙ e)
-  enough-tried (Err _) old new e ok = tt

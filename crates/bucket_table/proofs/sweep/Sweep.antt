@@ -1,5 +1,5 @@
 -- A sweep of all slots, node by node.
-use Rattle.std.proofs.Common.{◌≡◌, ◌≢◌, ℕ, ◌+◌, ◌^◌, inl, inr, List, [], ◌∷◌, ◌++◌, length, Option, Some, None, refl, sym, ◌∙◌, ap, subst, arith}
+use Rattle.std.proofs.Common.{◌≡◌, ◌≢◌, ℕ, ◌+◌, inl, inr, List, [], ◌∷◌, ◌++◌, length, Option, Some, None, refl, sym, ◌∙◌, ap, subst, arith}
 use Rattle.std.proofs.lemmas.Bool.{cases_eq}
 use Rattle.std.proofs.lemmas.Bool.Decides.{nat_tests}
 use Rattle.std.proofs.lemmas.List.{append_assoc}
@@ -16,12 +16,10 @@ use Rattle.bucket_table.specs.inside.Nodes.{slots_of, with_slot}
 use Rattle.bucket_table.specs.inside.Sweeps.{after_sweep, up_to, slots_after_sweep, SweepsNext}
 use Rattle.ets_term.specs.Order.{same}
 use Rattle.bucket_table.specs.inside.Directory.{DirectoryInvariant}
-use Rattle.bucket_table.specs.inside.Intervals.{AreSound, ListInvariant}
 use Rattle.bucket_table.proofs.list.Content.{fresh-apart, with-here, with-on, with-fresh}
 use Rattle.bucket_table.proofs.list.Passed.{apart-from}
 use Rattle.bucket_table.proofs.list.Length.{length-removed}
 use Rattle.bucket_table.proofs.directory.Placed.{from-with}
-use Rattle.bucket_table.proofs.directory.Change.{without-split}
 use Rattle.bucket_table.proofs.list.Places.{Seat, seat-found}
 
 pub to-here : (at : ℕ) (c : Cell) (cs : List Cell) → c.at ≡ at → up_to at (c ∷ cs) ≡ c ∷ []
@@ -283,14 +281,6 @@ empties at next cs n a =
 
 pub item-seat : (at : ℕ) (cs : List Cell) (i : HasItem at cs) → Seat i.item.term at cs
 item-seat at cs i = record { cell = i.cell; later = i.later; item = i.item; is = i.is; has = i.has; same_term = refl }
-
-pub rows-out : (hash_of : Term → ℕ) (directory : List (Option ℕ)) (interval_bits : ℕ) (current after : List (Option (Option ℕ))) (at : ℕ) (cells new : List Cell) → ListInvariant hash_of directory interval_bits current cells → HasDistinctPlaces cells → HasItem at cells → new ≡ without at cells → AreSound (2 ^ interval_bits) after new → ListInvariant hash_of directory interval_bits after new
-rows-out hash_of directory interval_bits current after at cells new r a i e h =
-    let f = seat-found i.item.term at cells a r.split.distinct (item-seat at cells i) in
-    record {
-      split = without-split hash_of directory cells r.split i.item.term at new f e;
-      hinted = record { doublings = r.hinted.doublings; size = r.hinted.size; narrow = r.hinted.narrow; hints = h };
-    }
 
 pub length-out : (hash_of : Term → ℕ) (directory : List (Option ℕ)) (at : ℕ) (cells new : List Cell) → DirectoryInvariant hash_of directory cells → HasDistinctPlaces cells → HasItem at cells → new ≡ without at cells → length (slots_of new) + 1 ≡ length (slots_of cells)
 length-out hash_of directory at cells new s a i e =

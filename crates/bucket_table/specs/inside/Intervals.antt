@@ -67,6 +67,12 @@ pub record ListInvariant (hash_of : Term → ℕ) (directory : List (Option ℕ)
   pub split : DirectoryInvariant hash_of directory cells
   pub hinted : HintsInvariant directory interval_bits current cells
 
+-- The invariant of the index: the list and the directory agree, and the current and previous hints are right.
+pub record IndexInvariant (hash_of : Term → ℕ) (directory : List (Option ℕ)) (hints : Hints) (cells : List Cell)
+    : Type 0 where
+  pub rows : ListInvariant hash_of directory hints.interval_bits hints.current cells
+  pub previous : AreSound (2 ^ (hints.interval_bits + 1)) hints.previous cells
+
 -- A hint gives this place as the first item of an interval from `floor` up to `interval`.
 pub record IsNearestBelow (floor interval at : ℕ) (current : List (Option (Option ℕ))) : Type 0 where
   pub lower : ℕ

@@ -25,9 +25,9 @@ impl<H: KeyHash + Copy + Drop> SplitRows<H> {
         ensures hasher { self.new.hasher ≡ self.old.hasher }
         ensures buckets { self.new.ready ≡ self.old.ready }
     {
-        self.index.list.reveal_invariant();
-        self.index.list.reserve(additional)?;
-        let nodes = self.index.list.len().saturating_add(additional);
+        self.index.reveal_invariant();
+        self.index.reserve(additional)?;
+        let nodes = self.index.nodes().saturating_add(additional);
         self.log.reserve_for(nodes);
         Ok(())
     }
@@ -42,7 +42,7 @@ impl<H: KeyHash + Copy + Drop> SplitRows<H> {
         ensures hasher { self.new.hasher ≡ self.old.hasher }
         ensures buckets { self.new.ready ≡ self.old.ready }
     {
-        self.index.list.reveal_invariant();
+        self.index.reveal_invariant();
         self.log.log_hash(objects.len() == 0, hash);
         self.index.insert(hash, key, objects);
         self.slots += 1;
@@ -57,7 +57,7 @@ impl<H: KeyHash + Copy + Drop> SplitRows<H> {
         ensures hasher { self.new.hasher ≡ self.old.hasher }
         ensures buckets { self.new.ready ≡ self.old.ready }
     {
-        self.index.list.reveal_invariant();
+        self.index.reveal_invariant();
         let slot = self.index.remove(place);
         self.slots -= 1;
         slot
@@ -69,11 +69,11 @@ impl<H: KeyHash + Copy + Drop> SplitRows<H> {
         ensures hasher { self.new.hasher ≡ self.old.hasher }
         ensures buckets { self.new.ready ≡ self.old.ready }
     {
-        self.index.list.reveal_invariant();
-        let before = self.index.list.len();
+        self.index.reveal_invariant();
+        let before = self.index.nodes();
         // This removes only slots, no dummies, so the difference in nodes is the number of slots removed.
         self.index.sweep_all(mode);
-        self.slots -= before - self.index.list.len();
+        self.slots -= before - self.index.nodes();
         self.log.reset_after(mode);
     }
 }

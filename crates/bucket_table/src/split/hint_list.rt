@@ -96,16 +96,6 @@ impl HintList {
         }
     }
 
-    /// Returns whether the hints of `count` intervals from `first` on are all known.
-    pub fn are_known(&self, first: usize, count: usize) -> bool {
-        for interval in first..first.saturating_add(count) {
-            if self.get(interval).is_none() {
-                return false;
-            }
-        }
-        true
-    }
-
     /// Sets the hint of an interval. Past the end of the list it does nothing.
     pub fn set(&mut self, interval: usize, hint: Hint)
         ensures { SetsHint interval hint self.old self.new }

@@ -4,38 +4,50 @@
 ghost use Rattle.std.specs.Prelude.{◌≡◌, ◌∷◌, [], true, false, None, IfOk, map, is_some};
 ghost use Rattle.node_list.specs.Cells.{new_cell};
 ghost use Rattle.bucket_table.specs.inside.Directory.{IsFirstUnready};
-ghost use Rattle.bucket_table.specs.inside.SplitIndex.{RowsInvariant};
 
-// The modules: ready `buckets`, the operations `find`, `insert`, `remove` and `sweep`, the `start` of a search, and the
-// `rehash` of a bucket's hints.
+// The modules: the `slots` at their places, ready `buckets`, the operations `find`, `insert`, `remove` and `sweep`, and
+// the `start` of a search.
 mod buckets;
 mod find;
 mod insert;
-mod rehash;
 mod remove;
+mod slots;
 mod start;
 mod sweep;
 
-pub use self::buckets::item_hash;
 use super::directory::Directory;
 use super::hints::Hints;
 use ets_term::KeyHash;
 use node_list::NodeList;
 use std::alloc::{AllocError, Global};
+use std::marker::Model;
 
 /// A split-ordered list, the directory of its dummies and the hints. Each method keeps these three consistent.
 #[derive(Drop)]
 pub struct SplitIndex<H: KeyHash + Copy + Drop> {
-    pub hasher: H,
-    pub list: NodeList,
-    pub directory: Directory,
-    pub hints: Hints,
+    hasher: H,
+    list: NodeList,
+    directory: Directory,
+    hints: Hints,
+}
+
+// The value that contracts see of this type (`view`), and what is true of its fields between calls (`invariant`).
+impl<H: KeyHash + Copy + Drop> Model for SplitIndex<H> {
+    ghost use Rattle.bucket_table.specs.inside.SplitIndex.{IndexState, index_code};
+    ghost use Rattle.bucket_table.specs.inside.Intervals.{IndexInvariant};
+
+    ghost Value = { IndexState H };
+
+    ghost coded = { index_code H.code };
+
+    ghost view = { λ i. record { hasher = i.hasher; list = i.list; directory = i.directory } };
+
+    ghost invariant = { λ i. IndexInvariant (H.hash i.hasher) i.directory i.hints i.list.cells };
 }
 
 impl<H: KeyHash + Copy + Drop> SplitIndex<H> {
     /// Creates an index without items and with two buckets, of which the first is ready.
     pub fn new(alloc: Global, hasher: H) -> Result<SplitIndex<H>, AllocError>
-        ensures rows { IfOk result (λ index. RowsInvariant H.hash index) }
         ensures cells { IfOk result (λ index. index.list.cells ≡ new_cell 0 0 None ∷ []) }
         ensures buckets { IfOk result (λ index. map is_some index.directory ≡ true ∷ false ∷ []) }
         ensures first_unready { IfOk result (λ index. IsFirstUnready index.directory 1) }

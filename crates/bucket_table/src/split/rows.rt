@@ -4,7 +4,7 @@ ghost use Rattle.std.specs.Prelude.{◌≡◌, IfOk, map};
 ghost use Rattle.bucket_table.specs.SplitRowsState.{key_of_place};
 
 use super::SplitRows;
-use super::index::item_hash;
+use super::index::SplitIndex;
 use super::sweep::SweepMode;
 use crate::entry::{Place, SlotEntry};
 use crate::growth::{Growth, MAX_BUCKETS, Readying};
@@ -13,7 +13,6 @@ use crate::rows::Rows;
 use ets_term::{KeyHash, Term};
 use node_list::{Chain, Steps};
 use packed_term::{Object, Packed};
-use split_key::rev32;
 use std::alloc::AllocError;
 use std::mem;
 
@@ -40,7 +39,7 @@ impl<H: KeyHash + Copy + Drop> Rows for SplitRows<H> {
     }
 
     fn put(&mut self, rows: Vec<(Term, Chain)>) -> Result<(), AllocError> {
-        let hashed = hashed_rows(self.index.hasher, rows)?;
+        let hashed = hashed_rows(&self.index, rows)?;
         self.reserve_slots(hashed.len())?;
         for (hash, (key, objects)) in hashed {
             self.insert_slot(hash, key, objects);
@@ -73,20 +72,20 @@ impl<H: KeyHash + Copy + Drop> Rows for SplitRows<H> {
             self.sweep_slots(SweepMode::RemoveTombstones);
             return;
         }
-        self.index.list.reveal_invariant();
-        let before = self.index.list.len();
+        self.index.reveal_invariant();
+        let before = self.index.nodes();
         // This removes only slots, no dummies, so the difference in nodes is the number of slots removed.
         self.index.purge_hashes(&mut self.log.hashes);
-        self.slots -= before - self.index.list.len();
+        self.slots -= before - self.index.nodes();
     }
 
     fn len(&self) -> usize {
-        self.index.list.reveal_invariant();
+        self.index.reveal_invariant();
         self.slots
     }
 
     fn reveal_invariant(&self) {
-        self.index.list.reveal_invariant();
+        self.index.reveal_invariant();
     }
 
     fn first_at(&self) -> Option<(KeyRef<'_>, &[Object])> {
@@ -104,15 +103,15 @@ impl<H: KeyHash + Copy + Drop> Rows for SplitRows<H> {
     }
 
     fn find(&self, key: &Term) -> Option<Place> {
-        self.index.list.reveal_invariant();
-        let hash = self.index.hasher.hash32(key);
+        self.index.reveal_invariant();
+        let hash = self.index.hash(key);
         let mut steps = Steps::new();
         self.index.find(hash, key, &mut steps)
     }
 
     fn entry(&self, key: &Term) -> SlotEntry {
-        self.index.list.reveal_invariant();
-        let hash = self.index.hasher.hash32(key);
+        self.index.reveal_invariant();
+        let hash = self.index.hash(key);
         let mut steps = Steps::new();
         match self.index.find(hash, key, &mut steps) {
             Some(place) => SlotEntry::Occupied(place),
@@ -121,52 +120,52 @@ impl<H: KeyHash + Copy + Drop> Rows for SplitRows<H> {
     }
 
     fn first_place(&self) -> Option<Place> {
-        self.index.list.next_item_at(0)
+        self.index.next_item_at(0)
     }
 
     fn next_place(&self, place: Place) -> Option<Place> {
-        self.index.list.reveal_invariant();
-        self.index.list.next_item_at(place + 1)
+        self.index.reveal_invariant();
+        self.index.next_item_at(place + 1)
     }
 
     fn slot_at(&self, place: Place) -> (KeyRef<'_>, &[Object]) {
-        self.index.list.reveal_invariant();
-        match self.index.list.item(place) {
+        self.index.reveal_invariant();
+        match self.index.item(place) {
             Some((key, chain)) => (KeyRef::Stored(key), chain.as_slice()),
             None => unreachable!(),
         }
     }
 
     fn objects_at(&self, place: Place) -> &[Object] {
-        self.index.list.reveal_invariant();
-        match self.index.list.item(place) {
+        self.index.reveal_invariant();
+        match self.index.item(place) {
             Some((_key, chain)) => chain.as_slice(),
             None => unreachable!(),
         }
     }
 
     fn replace_at(&mut self, place: Place, objects: Chain) -> Chain {
-        self.index.list.reveal_invariant();
-        let hash = item_hash(self.index.list.split_key(place));
+        self.index.reveal_invariant();
+        let hash = self.index.hash_at(place);
         // Without objects, the slot becomes a tombstone, which the next purge finds by its hash.
         self.log.log_hash(objects.len() == 0, hash);
-        let chain = self.index.list.chain_mut(place);
+        let chain = self.index.chain_mut(place);
         mem::replace(chain, objects)
     }
 
     fn replace_one_at(&mut self, place: Place, object: Object) -> Object {
-        self.index.list.reveal_invariant();
-        self.index.list.chain_mut(place).replace(0, object)
+        self.index.reveal_invariant();
+        self.index.chain_mut(place).replace(0, object)
     }
 
     #[inline(always)]
     fn set_element_at(&mut self, place: Place, index: usize, value: Packed) {
-        self.index.list.reveal_invariant();
-        self.index.list.chain_mut(place).set_element(index, value);
+        self.index.reveal_invariant();
+        self.index.chain_mut(place).set_element(index, value);
     }
 
     fn delete_at(&mut self, place: Place) -> usize {
-        self.index.list.reveal_invariant();
+        self.index.reveal_invariant();
         let dropped_objects = self.index.delete(place);
         self.slots -= 1;
         dropped_objects
@@ -184,7 +183,8 @@ impl<H: KeyHash + Copy + Drop> Rows for SplitRows<H> {
     }
 
     fn grow(&mut self) -> Result<Growth, AllocError> {
-        let buckets = self.index.directory.len();
+        self.index.reveal_invariant();
+        let buckets = self.index.buckets() as usize;
         if buckets >= MAX_BUCKETS {
             return Ok(Growth::AtMost);
         }
@@ -193,31 +193,27 @@ impl<H: KeyHash + Copy + Drop> Rows for SplitRows<H> {
     }
 
     fn ready(&mut self, bucket: u32) -> Result<Readying, AllocError> {
-        let index = bucket as usize;
-        if index >= self.index.directory.len() {
+        if bucket >= self.index.buckets() {
             return Ok(Readying::NotABucket);
         }
-        if self.index.directory.get(index).is_some() {
+        if self.index.is_ready(bucket) {
             return Ok(Readying::AlreadyReady);
         }
-        let start = self.index.dummy_start(bucket);
-        let at = self.index.list.insert_dummy(start, rev32(bucket))?;
-        self.index.directory.set(index, at);
-        self.index.rehash_with_parent(bucket);
+        self.index.make_ready(bucket)?;
         self.first_unready = self.index.first_unready(self.first_unready);
         Ok(Readying::Ready)
     }
 
     fn buckets(&self) -> u32 {
-        self.index.directory.len() as u32
+        self.index.buckets()
     }
 
     fn is_ready(&self, bucket: u32) -> bool {
-        self.index.directory.get(bucket as usize).is_some()
+        self.index.is_ready(bucket)
     }
 
     fn first_unready(&self) -> Option<u32> {
-        if self.first_unready < self.index.directory.len() {
+        if self.first_unready < self.index.buckets() as usize {
             Some(self.first_unready as u32)
         } else {
             None
@@ -228,15 +224,15 @@ impl<H: KeyHash + Copy + Drop> Rows for SplitRows<H> {
 /// Returns rows with their keys packed, each with the hash of its key. If memory is refused, drops the rows and returns
 /// an error.
 fn hashed_rows<H: KeyHash + Copy + Drop>(
-    hasher: H,
+    index: &SplitIndex<H>,
     rows: Vec<(Term, Chain)>,
 ) -> Result<Vec<(u32, (Packed, Chain))>, AllocError>
-    ensures { IfOk result (λ hashed. hashed.items ≡ map (λ row. (H.hash hasher row.0, row)) rows.items) }
+    ensures { IfOk result (λ hashed. hashed.items ≡ map (λ row. (H.hash index.now.hasher row.0, row)) rows.items) }
 {
     let alloc = *rows.allocator();
     let mut hashed = Vec::with_capacity(alloc, rows.len())?;
     for (key, objects) in rows {
-        let hash = hasher.hash32(&key);
+        let hash = index.hash(&key);
         hashed.push_reserved((hash, (Packed::pack(alloc, &key)?, objects)));
     }
     Ok(hashed)

@@ -2,31 +2,32 @@
 //! Each removal splits the previous hint of its item's interval, and a bucket that becomes ready those of its intervals.
 //! A hint caches the place of the first item of an interval. A previous interval is two current intervals, a *pair*.
 
-ghost use Rattle.std.specs.Prelude.{◌≡◌, ◌+◌, ◌*◌, ◌/◌, ◌^◌, ◌≤◌, None, get_or};
+ghost use Rattle.std.specs.Prelude.{◌≡◌, ◌+◌, ◌*◌, ◌/◌, ◌^◌, ◌<◌, ◌≤◌, Some, None, get_or};
 ghost use Rattle.bucket_table.specs.inside.Directory.{HaveParity};
 ghost use Rattle.bucket_table.specs.inside.Intervals.{HintsAreSound, IsSoundHint};
 
 use super::{Hints, INTERVALS_PER_BUCKET};
 use crate::split::hint::Hint;
-use node_list::NodeList;
+use node_list::{At, NodeList};
 
 /// The number of previous hints that one insertion rehashes: 32 bytes, half a line of the processor's cache.
 const HINTS_REHASHED_AT_INSERTION: usize = 8;
 
 impl Hints {
-    /// Returns the hints of the lower and the upper half of the previous interval `pair`. The halves are the current
-    /// intervals `2 * pair` and `2 * pair + 1`. If the first item of the pair is in the upper half, the lower half is
-    /// empty. If it is in the lower half, a scan from there finds the first item of the upper half.
-    fn split_hint(&self, list: &NodeList, pair: usize) -> (Hint, Hint)
+    /// Returns the hints of the lower and the upper half of the previous interval `pair`, whose hint is `first`. The
+    /// halves are the current intervals `2 * pair` and `2 * pair + 1`. If the first item of the pair is in the upper
+    /// half, the lower half is empty. If it is in the lower half, a scan from there finds the first item of the upper
+    /// half.
+    fn split_hint(&self, list: &NodeList, pair: usize, first: Option<At>) -> (Hint, Hint)
         requires parity { HaveParity list.now.cells }
         requires hints { HintsAreSound self.now list.now.cells }
+        requires known { get_or self.now.previous pair None ≡ Some first }
         ensures lower { IsSoundHint (2 ^ self.now.interval_bits) (2 * pair) list.now.cells result.0 }
         ensures upper { IsSoundHint (2 ^ self.now.interval_bits) (2 * pair + 1) list.now.cells result.1 }
     {
-        match self.previous.get(pair) {
-            None => (Hint::unknown(), Hint::unknown()),
-            Some(None) => (Hint::empty(), Hint::empty()),
-            Some(Some(first)) => {
+        match first {
+            None => (Hint::empty(), Hint::empty()),
+            Some(first) => {
                 list.reveal_invariant();
                 let interval = self.interval_of(list.split_key(first));
                 // The upper half has the odd number.
@@ -39,8 +40,9 @@ impl Hints {
         }
     }
 
-    /// Rehashes one previous hint: sets the current hints of the two halves of its interval, if they are unknown. Reads
-    /// no node if both are known. The previous hint is unknown afterwards.
+    /// Rehashes one previous hint, if it is known. It is unknown afterwards. Inlined, because about half of the hints are
+    /// unknown already.
+    #[inline(always)]
     fn rehash_pair(&mut self, list: &NodeList, pair: usize)
         requires parity { HaveParity list.now.cells }
         requires hints { HintsAreSound self.old list.now.cells }
@@ -48,14 +50,30 @@ impl Hints {
         ensures interval_bits { self.new.interval_bits ≡ self.old.interval_bits }
         ensures previous { get_or self.new.previous pair None ≡ None }
     {
-        if pair < self.previous.len() && self.previous.get(pair).is_some() {
-            if !self.current.are_known(2 * pair, 2) {
-                let (lower, upper) = self.split_hint(list, pair);
-                self.current.set_if_unknown(2 * pair, lower);
-                self.current.set_if_unknown(2 * pair + 1, upper);
+        if pair < self.previous.len() {
+            if let Some(first) = self.previous.get(pair) {
+                self.rehash_known_pair(list, pair, first);
             }
-            self.previous.set(pair, Hint::unknown());
         }
+    }
+
+    /// Rehashes one known previous hint, `first`: sets the current hints of the two halves of its interval. These were
+    /// unknown, because each call that sets one of them rehashes the previous hint before. The previous hint is unknown
+    /// afterwards.
+    #[inline(never)]
+    fn rehash_known_pair(&mut self, list: &NodeList, pair: usize, first: Option<At>)
+        requires parity { HaveParity list.now.cells }
+        requires hints { HintsAreSound self.old list.now.cells }
+        requires few { pair < 2 ^ 63 }
+        requires known { get_or self.old.previous pair None ≡ Some first }
+        ensures hints { HintsAreSound self.new list.now.cells }
+        ensures interval_bits { self.new.interval_bits ≡ self.old.interval_bits }
+        ensures previous { get_or self.new.previous pair None ≡ None }
+    {
+        let (lower, upper) = self.split_hint(list, pair, first);
+        self.current.set(2 * pair, lower);
+        self.current.set(2 * pair + 1, upper);
+        self.previous.set(pair, Hint::unknown());
     }
 
     /// Rehashes `count` previous hints from `first_pair` on.
@@ -70,19 +88,32 @@ impl Hints {
         }
     }
 
-    /// Adds unknown current hints if some are missing. Then rehashes the previous hints of the first four intervals of a
-    /// bucket, whose dummy has this split key, if the list has the current ones.
-    pub fn rehash_bucket(&mut self, list: &NodeList, split_key: u64)
+    /// Rehashes the previous hints of the first four intervals of a bucket, whose dummy has this split key, if the list
+    /// has the current ones.
+    #[inline(always)]
+    fn rehash_bucket(&mut self, list: &NodeList, split_key: u64)
+        requires parity { HaveParity list.now.cells }
+        requires hints { HintsAreSound self.old list.now.cells }
+        ensures hints { HintsAreSound self.new list.now.cells }
+        ensures interval_bits { self.new.interval_bits ≡ self.old.interval_bits }
+    {
+        let interval = self.interval_of(split_key);
+        if interval <= self.current.len().saturating_sub(INTERVALS_PER_BUCKET) {
+            self.rehash_pairs(list, interval / 2, INTERVALS_PER_BUCKET / 2);
+        }
+    }
+
+    /// Adds unknown current hints if some are missing. Then rehashes the first hints of two buckets, whose dummies have
+    /// these split keys.
+    pub fn rehash_buckets(&mut self, list: &NodeList, split_key: u64, other_key: u64)
         requires parity { HaveParity list.now.cells }
         requires hints { HintsAreSound self.old list.now.cells }
         ensures hints { HintsAreSound self.new list.now.cells }
         ensures interval_bits { self.new.interval_bits ≡ self.old.interval_bits }
     {
         self.extend_generation();
-        let interval = self.interval_of(split_key);
-        if interval <= self.current.len().saturating_sub(INTERVALS_PER_BUCKET) {
-            self.rehash_pairs(list, interval / 2, INTERVALS_PER_BUCKET / 2);
-        }
+        self.rehash_bucket(list, split_key);
+        self.rehash_bucket(list, other_key);
     }
 
     /// Rehashes the previous hint of the interval of a split key.

@@ -4,7 +4,7 @@
 
 ghost use Rattle.std.specs.Prelude.{◌≡◌};
 ghost use Rattle.bucket_table.specs.inside.Search.{CanStartSearch};
-ghost use Rattle.bucket_table.specs.inside.SplitIndex.{RowsInvariant, FindsItem, CountsVisits};
+ghost use Rattle.bucket_table.specs.inside.SplitIndex.{FindsItem, CountsVisits};
 
 use super::SplitIndex;
 use ets_term::{KeyHash, Term};
@@ -16,7 +16,6 @@ impl<H: KeyHash + Copy + Drop> SplitIndex<H> {
     /// `hash` is the key's hash, and `steps` counts the visited nodes.
     #[inline(always)]
     pub fn find(&self, hash: u32, key: &Term, steps: &mut Steps) -> Option<At>
-        requires rows { RowsInvariant H.hash self.now }
         requires hash { hash ≡ H.hash self.now.hasher key.now }
         ensures found { FindsItem self.now key.now result }
         ensures visits { CountsVisits H.hash self.now key.now steps.old steps.new }
@@ -37,7 +36,6 @@ impl<H: KeyHash + Copy + Drop> SplitIndex<H> {
     /// intervals have a current hint.
     #[inline(never)]
     fn find_by_previous_hint(&self, hash: u32, key: &Term, steps: &mut Steps) -> Option<At>
-        requires rows { RowsInvariant H.hash self.now }
         requires hash { hash ≡ H.hash self.now.hasher key.now }
         ensures found { FindsItem self.now key.now result }
         ensures visits { CountsVisits H.hash self.now key.now steps.old steps.new }
@@ -58,7 +56,6 @@ impl<H: KeyHash + Copy + Drop> SplitIndex<H> {
     /// ready bucket.
     #[inline(never)]
     fn find_without_hint(&self, hash: u32, key: &Term, steps: &mut Steps) -> Option<At>
-        requires rows { RowsInvariant H.hash self.now }
         requires hash { hash ≡ H.hash self.now.hasher key.now }
         ensures found { FindsItem self.now key.now result }
         ensures visits { CountsVisits H.hash self.now key.now steps.old steps.new }

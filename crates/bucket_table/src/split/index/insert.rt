@@ -7,7 +7,7 @@ ghost use Rattle.ets_term.specs.Order.{same};
 ghost use Rattle.split_key.specs.Keys.{key_of_item};
 ghost use Rattle.node_list.specs.ListState.{HasRoom};
 ghost use Rattle.bucket_table.specs.inside.Nodes.{slots_of};
-ghost use Rattle.bucket_table.specs.inside.SplitIndex.{RowsInvariant, KeepsDirectory, InsertsItem};
+ghost use Rattle.bucket_table.specs.inside.SplitIndex.{KeepsDirectory, InsertsItem};
 
 use super::SplitIndex;
 use ets_term::KeyHash;
@@ -18,11 +18,9 @@ use split_key::{item_key, rev32};
 impl<H: KeyHash + Copy + Drop> SplitIndex<H> {
     /// Inserts an item for a key that has no item. Memory must be reserved, and `hash` must be the key's hash.
     pub fn insert(&mut self, hash: u32, key: Packed, objects: Chain)
-        requires rows { RowsInvariant H.hash self.old }
         requires room { HasRoom self.old.list 1 }
         requires new { lookup (same key) (slots_of self.old.list.cells) ≡ None }
         requires hash { hash ≡ H.hash self.old.hasher key }
-        ensures rows { RowsInvariant H.hash self.new }
         ensures keeps { KeepsDirectory self.old self.new }
         ensures now { InsertsItem (key_of_item hash) key objects self.old.list.cells self.new.list.cells }
         ensures len { length self.new.list.cells ≡ length self.old.list.cells + 1 }

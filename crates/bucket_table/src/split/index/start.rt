@@ -5,26 +5,24 @@ ghost use Rattle.std.specs.Prelude.{◌≡◌, ℕ, ◌<◌, ◌^◌, IfSome, le
 ghost use Rattle.split_key.specs.Keys.{key_of_item, key_of_dummy};
 ghost use Rattle.node_list.specs.Places.{HasSplitKeyAtMost};
 ghost use Rattle.bucket_table.specs.inside.Directory.{HasKeyBelow};
-ghost use Rattle.bucket_table.specs.inside.SplitIndex.{RowsInvariant};
 
 use super::SplitIndex;
 use super::buckets::item_hash;
 use ets_term::KeyHash;
 use node_list::At;
-use split_key::{dummy_key, item_key};
+use split_key::dummy_key;
 
 impl<H: KeyHash + Copy + Drop> SplitIndex<H> {
     /// Returns a node before all items with this split key. It is the first item of a near interval by the hints, or
     /// the dummy of the nearest ready bucket. The hash is computed only if `near_start` finds no node.
     pub fn search_start(&self, split_key: u64) -> At
-        requires rows { RowsInvariant H.hash self.now }
-        requires small { split_key < 2 ^ 33 }
+        requires { split_key < 2 ^ 33 }
         ensures { (hash : ℕ) → split_key ≡ key_of_item hash → hash < 2 ^ 32
             → HasKeyBelow split_key result self.now.list.cells }
     {
         match self.near_start(split_key) {
             Some(first) => first,
-            None => self.far_start(item_hash(split_key)),
+            None => self.far_start(item_hash(split_key), split_key),
         }
     }
 
@@ -33,7 +31,6 @@ impl<H: KeyHash + Copy + Drop> SplitIndex<H> {
     /// neither is found.
     #[inline(always)]
     fn near_start(&self, split_key: u64) -> Option<At>
-        requires rows { RowsInvariant H.hash self.now }
         ensures { IfSome result (λ at. HasKeyBelow split_key at self.now.list.cells) }
     {
         self.list.reveal_invariant();
@@ -46,15 +43,13 @@ impl<H: KeyHash + Copy + Drop> SplitIndex<H> {
         self.hints.near_hint_below(interval)
     }
 
-    /// Returns a node before all items with this hash. It is the first item of a lower interval by the hints, or the
-    /// dummy of the nearest ready bucket.
+    /// Returns a node before all items with this hash, whose split key is given too. It is the first item of a lower
+    /// interval by the hints, or the dummy of the nearest ready bucket.
     #[inline(never)]
-    fn far_start(&self, hash: u32) -> At
-        requires rows { RowsInvariant H.hash self.now }
-        ensures { HasKeyBelow (key_of_item hash) result self.now.list.cells }
+    fn far_start(&self, hash: u32, split_key: u64) -> At
+        ensures { split_key ≡ key_of_item hash → HasKeyBelow split_key result self.now.list.cells }
     {
         self.list.reveal_invariant();
-        let split_key = item_key(hash);
         let interval = self.hints.interval_of(split_key);
         // `bucket` is the nearest ready bucket, and `start` is its dummy. Hints below `floor` are not read:
         // their items come before the dummy.
@@ -68,7 +63,6 @@ impl<H: KeyHash + Copy + Drop> SplitIndex<H> {
 
     /// Returns a node at which the insertion of a bucket's dummy can start.
     pub fn dummy_start(&self, bucket: u32) -> At
-        requires rows { RowsInvariant H.hash self.now }
         requires below { bucket < length self.now.directory }
         ensures { HasSplitKeyAtMost (key_of_dummy bucket) result self.now.list.cells }
     {

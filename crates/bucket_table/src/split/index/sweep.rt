@@ -1,11 +1,11 @@
 //! A sweep scans all nodes of the list, and removes or empties slots. A purge by the tombstone log scans only the nodes
 //! near each logged hash. A tombstone is a slot without objects.
 
-ghost use Rattle.std.specs.Prelude.{◌≡◌, ℕ, ◌+◌, ◌≤◌, List, ◌∷◌, Some, length};
+ghost use Rattle.std.specs.Prelude.{◌≡◌, ℕ, List, ◌∷◌, Some};
 ghost use Rattle.node_list.specs.Places.{IsPlaceOf, place_after};
 ghost use Rattle.bucket_table.specs.declared.split.sweep.SweepMode.TheVariants.{RemoveTombstones};
 ghost use Rattle.bucket_table.specs.inside.Nodes.{slots_of};
-ghost use Rattle.bucket_table.specs.inside.SplitIndex.{RowsInvariant, KeepsDirectory};
+ghost use Rattle.bucket_table.specs.inside.SplitIndex.{KeepsDirectory};
 ghost use Rattle.bucket_table.specs.inside.Sweeps.{Sweeps, after_sweep, SweepsNext, IsActionFor};
 ghost use Rattle.bucket_table.specs.inside.TombstoneLog.{TombstonesAreAmong};
 ghost use Rattle.bucket_table.specs.Slots.{without_tombstones};
@@ -22,7 +22,7 @@ impl<H: KeyHash + Copy + Drop> SplitIndex<H> {
         requires { IsPlaceOf at self.now.list.cells }
         ensures { IsActionFor mode at self.now.list.cells result }
     {
-        match self.list.item(at) {
+        match self.item(at) {
             None => NodeAction::Keep,
             Some((_, objects)) => match mode {
                 SweepMode::MakeAllTombstones => NodeAction::MakeTombstone,
@@ -43,15 +43,13 @@ impl<H: KeyHash + Copy + Drop> SplitIndex<H> {
     /// Sweeps the node `next`, which follows the kept node `at`. Returns the last kept node: `next`, or `at` if `next`
     /// was removed.
     fn sweep_next(&mut self, mode: SweepMode, at: At, next: At) -> At
-        requires rows { RowsInvariant H.hash self.old }
         requires place { IsPlaceOf at self.old.list.cells }
         requires next { place_after at self.old.list.cells ≡ Some next }
-        ensures rows { RowsInvariant H.hash self.new }
         ensures keeps { KeepsDirectory self.old self.new }
         ensures cells { SweepsNext mode at self.old.list.cells result self.new.list.cells }
         ensures each { Sweeps mode self.old.list.cells self.new.list.cells }
     {
-        self.list.reveal_invariant();
+        self.reveal_invariant();
         match self.action_for(mode, next) {
             NodeAction::Keep => next,
             NodeAction::Remove => {
@@ -59,7 +57,7 @@ impl<H: KeyHash + Copy + Drop> SplitIndex<H> {
                 at
             }
             NodeAction::MakeTombstone => {
-                self.list.chain_mut(next).truncate(0);
+                self.chain_mut(next).truncate(0);
                 next
             }
         }
@@ -67,8 +65,6 @@ impl<H: KeyHash + Copy + Drop> SplitIndex<H> {
 
     /// Removes the tombstones whose keys have this hash, and any other tombstone that the scan for them meets.
     fn purge_hash(&mut self, hash: u32)
-        requires rows { RowsInvariant H.hash self.old }
-        ensures rows { RowsInvariant H.hash self.new }
         ensures keeps { KeepsDirectory self.old self.new }
         ensures purged { without_tombstones (slots_of self.new.list.cells)
             ≡ without_tombstones (slots_of self.old.list.cells) }
@@ -77,11 +73,11 @@ impl<H: KeyHash + Copy + Drop> SplitIndex<H> {
             → TombstonesAreAmong (H.hash self.old.hasher) (hash ∷ others) (slots_of self.old.list.cells)
             → TombstonesAreAmong (H.hash self.old.hasher) others (slots_of self.new.list.cells) }
     {
-        self.list.reveal_invariant();
+        self.reveal_invariant();
         let split_key = item_key(hash);
         let mut at = self.search_start(split_key);
         while let Some(next) = self.list.after(at) {
-            self.list.reveal_invariant();
+            self.reveal_invariant();
             if split_key < self.list.split_key(next) {
                 return;
             }
@@ -91,9 +87,7 @@ impl<H: KeyHash + Copy + Drop> SplitIndex<H> {
 
     /// Removes all tombstones. `hashes` must have the hash of each tombstone, and is empty afterwards.
     pub fn purge_hashes(&mut self, hashes: &mut Vec<u32>)
-        requires rows { RowsInvariant H.hash self.old }
         requires logged { TombstonesAreAmong (H.hash self.old.hasher) hashes.old.items (slots_of self.old.list.cells) }
-        ensures rows { RowsInvariant H.hash self.new }
         ensures keeps { KeepsDirectory self.old self.new }
         ensures slots { slots_of self.new.list.cells ≡ without_tombstones (slots_of self.old.list.cells) }
         ensures each { Sweeps RemoveTombstones self.old.list.cells self.new.list.cells }
@@ -105,8 +99,6 @@ impl<H: KeyHash + Copy + Drop> SplitIndex<H> {
 
     /// Sweeps all slots once.
     pub fn sweep_all(&mut self, mode: SweepMode)
-        requires rows { RowsInvariant H.hash self.old }
-        ensures rows { RowsInvariant H.hash self.new }
         ensures keeps { KeepsDirectory self.old self.new }
         ensures slots { slots_of self.new.list.cells ≡ after_sweep mode (slots_of self.old.list.cells) }
         ensures each { Sweeps mode self.old.list.cells self.new.list.cells }

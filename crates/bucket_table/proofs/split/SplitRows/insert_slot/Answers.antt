@@ -23,7 +23,7 @@ insert-requires-clause-room g c =
 
 pub insert-requires-clause-new : goal.insert-requires-clause-new
 insert-requires-clause-new g c =
-    sym (objects-same c.self.inside.index.list.cells c.reveal_invariant.ensures.apart c.self.invariant.rows.rows.split.distinct c.args.key) ∙ (ap (λ (v : SplitRowsState g.row.H.Denot). lookup (same c.args.key) v.slots) c.self.view_is ∙ c.requires.new)
+    sym (objects-same c.self.inside.index.list.cells c.reveal_invariant.ensures.apart c.reveal_invariant.ensures.directory.distinct c.args.key) ∙ (ap (λ (v : SplitRowsState g.row.H.Denot). lookup (same c.args.key) v.slots) c.self.view_is ∙ c.requires.new)
 
 pub insert-requires-clause-hash : goal.insert-requires-clause-hash
 insert-requires-clause-hash g c = c.requires.hash ∙ ap (λ (v : SplitRowsState g.row.H.Denot). g.H.KeyHash.hash v.hasher c.args.key) (sym c.self.view_is)
@@ -39,14 +39,13 @@ invariant_of-self g c =
     let hash_of = g.H.KeyHash.hash index.hasher in
     let hash : c.args.hash ≡ hash_of c.args.key = c.requires.hash ∙ ap (λ (v : SplitRowsState g.row.H.Denot). g.H.KeyHash.hash v.hasher c.args.key) (sym c.self.view_is) in
     let ss = slots_of index.list.cells in
-    let enters = put-added hash_of index.directory index.list.cells c.self.invariant.rows.rows.split e.now.at (key_of_item c.args.hash) c.args.key c.args.objects new.list.cells e.now.is in
+    let enters = put-added hash_of index.directory index.list.cells c.reveal_invariant.ensures.directory e.now.at (key_of_item c.args.hash) c.args.key c.args.objects new.list.cells e.now.is in
     let one = length-added ss (slots_of new.list.cells) c.args.key c.args.objects enters in
     let hs = c.log_hash.new.self.hashes.items in
     let A : ℕ → Type 0 = λ h. IsAmong h hs in
     let D : List (Option ℕ) → Type 0 = λ ds. IsFirstUnready ds c.self.inside.first_unready in
     let N : g.row.H.Denot → Type 0 = λ h. LogInvariant (g.H.KeyHash.hash h) c.log_hash.new.self.overflowed hs (slots_of new.list.cells) in
     record {
-      rows = e.rows;
       counted = omega (arith, one, c.self.invariant.counted);
       due = subst D (sym e.keeps.directory) c.self.invariant.due;
       logged = subst N (sym e.keeps.hasher) (λ kept. among-entered hash_of hs ss (slots_of new.list.cells) c.args.key c.args.objects enters

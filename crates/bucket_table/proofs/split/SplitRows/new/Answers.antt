@@ -9,7 +9,6 @@ invariant_of-result g c =
     let e = c.in_ok-index.ensures in
     let N : List Cell → Type 0 = λ zs. TombstonesAreAmong (g.H.KeyHash.hash c.in_ok-index.index.hasher) c.new-2.result.hashes.items (slots_of zs) in
     record {
-      rows = e.rows;
       counted = sym (ap (λ (zs : List Cell). length (slots_of zs)) e.cells);
       due = e.first_unready;
       logged = λ _. subst N (sym e.cells) tt;

@@ -4,9 +4,9 @@ use Rattle.bucket_table.proofs.split.index.SplitIndex.first_unready.Given as goa
 
 abbrev pub invariant-loop-first_unready : goal.invariant-loop-first_unready
 invariant-loop-first_unready g l = record {
-  before : AllReadyBelow l.self.directory l.first_unready;
-  most : l.first_unready ≤ length l.self.directory;
+  before : AllReadyBelow l.self-inside.directory l.first_unready;
+  most : l.first_unready ≤ length l.self-inside.directory;
 }
 
 abbrev pub decreases-loop-first_unready : goal.decreases-loop-first_unready
-decreases-loop-first_unready g l = length l.self.directory - l.first_unready
+decreases-loop-first_unready g l = length l.self-inside.directory - l.first_unready

@@ -4,9 +4,9 @@ use Rattle.bucket_table.proofs.split.index.SplitIndex.nearest_ready.Given as goa
 
 abbrev pub invariant-loop-place : goal.invariant-loop-place
 invariant-loop-place g l = record {
-  below : l.at < length l.self.directory;
+  below : l.at < length l.self-inside.directory;
   before : key_of_dummy l.at ≤ key_of_dummy l.bucket;
-  own : IsSome (get_or l.self.directory l.bucket None) → l.at ≡ l.bucket;
+  own : IsSome (get_or l.self-inside.directory l.bucket None) → l.at ≡ l.bucket;
 }
 
 abbrev pub decreases-loop-place : goal.decreases-loop-place

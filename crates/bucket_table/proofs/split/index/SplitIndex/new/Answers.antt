@@ -6,8 +6,8 @@ use Rattle.bucket_table.proofs.directory.FirstUnready.{first_unready-new}
 use Rattle.bucket_table.proofs.hints.Invariant.{new-rows}
 use Rattle.bucket_table.proofs.split.index.SplitIndex.new.Goals as goal
 
-pub returns-clause-rows : goal.returns-clause-rows
-returns-clause-rows g c =
+pub invariant_of-result : goal.invariant_of-result
+invariant_of-result g c =
     let directory = c.in_ok-directory.directory in
     let hints = c.in_ok-hints.hints in
     let e = c.in_ok-hints.ensures in

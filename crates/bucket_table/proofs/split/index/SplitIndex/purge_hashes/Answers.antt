@@ -20,7 +20,6 @@ loop-hash-preserved g c =
     let a : TombstonesAreAmong hash_of (c.in-Some.hash ∷ c.pop.new.self.items) ss = among-more hash_of (c.pop.new.self.items ++ c.in-Some.hash ∷ []) (c.in-Some.hash ∷ c.pop.new.self.items) (λ h. among-turn h c.in-Some.hash c.pop.new.self.items) ss (subst A is i.logged) in
     let N : g.row.H.Denot → Type 0 = λ h. TombstonesAreAmong (g.H.KeyHash.hash h) c.pop.new.self.items (slots_of c.purge_hash.new.self.list.cells) in
     record {
-      rows = e.rows;
       logged = subst N (sym e.keeps.hasher) (e.tombstones c.pop.new.self.items a);
       slots = e.purged ∙ i.slots;
       each = sweeps-on _ _ _ _ i.each e.each;

@@ -1,7 +1,7 @@
 use Rattle.std.proofs.Common.{◌≡◌, length}
 use Rattle.bucket_table.specs.Slots.{without_tombstones}
 use Rattle.bucket_table.specs.inside.Nodes.{slots_of}
-use Rattle.bucket_table.specs.inside.SplitIndex.{RowsInvariant, KeepsDirectory}
+use Rattle.bucket_table.specs.inside.SplitIndex.{KeepsDirectory}
 use Rattle.bucket_table.specs.inside.TombstoneLog.{TombstonesAreAmong}
 use Rattle.bucket_table.specs.declared.split.sweep.SweepMode.TheVariants.{RemoveTombstones}
 use Rattle.bucket_table.specs.inside.Sweeps.{Sweeps}
@@ -9,7 +9,6 @@ use Rattle.bucket_table.proofs.split.index.SplitIndex.purge_hashes.Given as goal
 
 abbrev pub invariant-loop-hash : goal.invariant-loop-hash
 invariant-loop-hash g l = record {
-  rows : RowsInvariant g.H.KeyHash.hash l.self;
   logged : TombstonesAreAmong (g.H.KeyHash.hash l.self.hasher) l.hashes.items (slots_of l.self.list.cells);
   slots : without_tombstones (slots_of l.self.list.cells) ≡ without_tombstones (slots_of l.initial.self.list.cells);
   each : Sweeps RemoveTombstones l.initial.self.list.cells l.self.list.cells;

@@ -6,12 +6,12 @@ use Rattle.bucket_table.proofs.hints.Parts.{item-small}
 use Rattle.bucket_table.proofs.sweep.Sweep.{item-seat}
 use Rattle.bucket_table.proofs.split.index.SplitIndex.start_before.Goals as goal
 
-pub search_start-requires-clause-small : goal.search_start-requires-clause-small
-search_start-requires-clause-small g c =
+pub search_start-requires : goal.search_start-requires
+search_start-requires g c =
     let index = c.args.self.now in
     let hash_of = g.H.KeyHash.hash index.hasher in
     let term = c.requires.item.item.term in
-    let split = c.requires.rows.rows.split in
+    let split = c.reveal_invariant.ensures.directory in
     let found = seat-found term c.args.at index.list.cells c.reveal_invariant.ensures.apart split.distinct (item-seat c.args.at index.list.cells c.requires.item) in
     let key = hash-key hash_of index.directory term c.args.at index.list.cells split.placed found c.args.split_key c.requires.key in
     let small = item-small (hash_of term) in
@@ -22,7 +22,7 @@ returns g c =
     let index = c.args.self.now in
     let hash_of = g.H.KeyHash.hash index.hasher in
     let term = c.requires.item.item.term in
-    let split = c.requires.rows.rows.split in
+    let split = c.reveal_invariant.ensures.directory in
     let found = seat-found term c.args.at index.list.cells c.reveal_invariant.ensures.apart split.distinct (item-seat c.args.at index.list.cells c.requires.item) in
     let key = hash-key hash_of index.directory term c.args.at index.list.cells split.placed found c.args.split_key c.requires.key in
     let small = g.met.H.KeyHash.below index.hasher term in

@@ -1,4 +1,4 @@
-use Rattle.std.proofs.Common.{◌≡◌, ◌+◌, ◌^◌, List, length, sym, ◌∙◌, ap, subst, arith}
+use Rattle.std.proofs.Common.{◌≡◌, List, length, sym, ◌∙◌, ap, subst, arith}
 use Rattle.ets_term.specs.declared.term.Term.{Term}
 use Rattle.std.proofs.Common.{[]}
 use Rattle.bucket_table.specs.declared.split.sweep.SweepMode.{SweepMode}
@@ -8,8 +8,6 @@ use Rattle.node_list.specs.Changes.{cells_with}
 use Rattle.bucket_table.specs.inside.Nodes.{slots_of}
 use Rattle.bucket_table.specs.inside.Sweeps.{SweepsNext, HaveSameSweep}
 use Rattle.bucket_table.proofs.list.Length.{length-set_value}
-use Rattle.bucket_table.proofs.hints.Change.{hints-with}
-use Rattle.bucket_table.proofs.hints.Invariant.{rows-with}
 use Rattle.bucket_table.proofs.list.Places.{seat-found, length-with}
 use Rattle.bucket_table.proofs.sweep.Sweep.{neighbour, next-is_place, next-item, stays, goes, empties, item-seat, length-out}
 use Rattle.bucket_table.proofs.sweep.Order.{alike-gone, alike-emptied}
@@ -18,8 +16,8 @@ use Rattle.bucket_table.proofs.split.index.SplitIndex.sweep_next.Goals as goal
 pub action_for-requires : goal.action_for-requires
 action_for-requires g c = next-is_place c.args.mode c.args.at c.args.next c.args.self.now.list.cells (neighbour c.args.at c.args.next c.args.self.now.list.cells c.reveal_invariant.ensures.apart c.requires.place c.requires.next)
 
-pub delete_after-count-requires-clause-item : goal.delete_after-count-requires-clause-item
-delete_after-count-requires-clause-item g c = next-item c.args.mode c.args.at c.args.next c.args.self.now.list.cells (neighbour c.args.at c.args.next c.args.self.now.list.cells c.reveal_invariant.ensures.apart c.requires.place c.requires.next) c.in-Remove.ensures.0
+pub delete_after-count-requires : goal.delete_after-count-requires
+delete_after-count-requires g c = next-item c.args.mode c.args.at c.args.next c.args.self.now.list.cells (neighbour c.args.at c.args.next c.args.self.now.list.cells c.reveal_invariant.ensures.apart c.requires.place c.requires.next) c.in-Remove.ensures.0
 
 pub returns-in-Keep-clause-cells : goal.returns-in-Keep-clause-cells
 returns-in-Keep-clause-cells g c = stays c.args.mode c.args.at c.args.next c.args.self.now.list.cells (neighbour c.args.at c.args.next c.args.self.now.list.cells c.reveal_invariant.ensures.apart c.requires.place c.requires.next) c.in-Keep.ensures
@@ -30,21 +28,11 @@ returns-in-Remove-clause-cells g c = goes c.args.mode c.args.at c.args.next c.ar
 pub returns-in-Remove-clause-each : goal.returns-in-Remove-clause-each
 returns-in-Remove-clause-each g c =
     let new = c.delete_after-count.new.self.list.cells in
-    let l = length-out (g.H.KeyHash.hash c.args.self.now.hasher) c.args.self.now.directory c.args.next c.args.self.now.list.cells new c.requires.rows.rows.split c.reveal_invariant.ensures.apart c.in-Remove.ensures.0 c.delete_after-count.ensures.cells in
+    let l = length-out (g.H.KeyHash.hash c.args.self.now.hasher) c.args.self.now.directory c.args.next c.args.self.now.list.cells new c.reveal_invariant.ensures.directory c.reveal_invariant.ensures.apart c.in-Remove.ensures.0 c.delete_after-count.ensures.cells in
     record {
       alike = alike-gone c.args.mode c.args.next c.args.self.now.list.cells new c.reveal_invariant.ensures.apart c.delete_after-count.ensures.cells c.in-Remove.ensures.1;
       len = omega (arith, l, c.delete_after-count.ensures.len);
       fewer = omega (arith, c.delete_after-count.ensures.len);
-    }
-
-pub returns-in-MakeTombstone-clause-rows : goal.returns-in-MakeTombstone-clause-rows
-returns-in-MakeTombstone-clause-rows g c =
-    let i = c.in-MakeTombstone.ensures.0 in
-    let f = seat-found i.item.term c.args.next c.args.self.now.list.cells c.reveal_invariant.ensures.apart c.requires.rows.rows.split.distinct (item-seat c.args.next c.args.self.now.list.cells i) in
-    let index = c.args.self.now in
-    record {
-      rows = rows-with (g.H.KeyHash.hash index.hasher) index.directory index.hints.interval_bits index.hints.current index.list.cells c.requires.rows.rows i.item.term c.args.next c.truncate.new.self f;
-      previous = hints-with (2 ^ (index.hints.interval_bits + 1)) index.hints.previous c.args.next c.truncate.new.self index.list.cells c.requires.rows.previous;
     }
 
 pub returns-in-MakeTombstone-clause-cells : goal.returns-in-MakeTombstone-clause-cells
@@ -58,7 +46,7 @@ pub returns-in-MakeTombstone-clause-each : goal.returns-in-MakeTombstone-clause-
 returns-in-MakeTombstone-clause-each g c =
     let cells = c.args.self.now.list.cells in
     let i = c.in-MakeTombstone.ensures.0 in
-    let f = seat-found i.item.term c.args.next cells c.reveal_invariant.ensures.apart c.requires.rows.rows.split.distinct (item-seat c.args.next cells i) in
+    let f = seat-found i.item.term c.args.next cells c.reveal_invariant.ensures.apart c.reveal_invariant.ensures.directory.distinct (item-seat c.args.next cells i) in
     let l = ap length (f.replaced c.truncate.new.self) ∙ length-set_value (same i.item.term) (slots_of cells) c.truncate.new.self in
     let m = length-with c.args.next c.truncate.new.self cells in
     let none : c.truncate.new.self ≡ [] = c.truncate.ensures in

@@ -20,23 +20,23 @@ use Rattle.bucket_table.proofs.order.Read.{objects-there}
 use Rattle.bucket_table.proofs.order.Remove.{content-removed, places-before}
 use Rattle.bucket_table.proofs.split.rows.SplitRowsRows.delete_at.Goals as goal
 
-pub delete-dropped_objects-requires-clause-item : goal.delete-dropped_objects-requires-clause-item
-delete-dropped_objects-requires-clause-item g c =
+pub delete-dropped_objects-requires : goal.delete-dropped_objects-requires
+delete-dropped_objects-requires g c =
     let P : SplitRowsState g.row.H.Denot → Type 0 = λ v. IsSome (key_of_place v.places c.args.place) in
-    let p = at-place c.args.place c.self.inside.index.list.cells c.reveal_invariant.ensures.apart c.self.invariant.rows.rows.split.distinct (subst P (sym c.self.view_is) c.requires) in
+    let p = at-place c.args.place c.self.inside.index.list.cells c.reveal_invariant.ensures.apart c.reveal_invariant.ensures.directory.distinct (subst P (sym c.self.view_is) c.requires) in
     found-item p.key c.args.place c.self.inside.index.list.cells p.found
 
 pub overflow_sub-self : goal.overflow_sub-self
 overflow_sub-self g c =
     let P : SplitRowsState g.row.H.Denot → Type 0 = λ v. IsSome (key_of_place v.places c.args.place) in
-    let p = at-place c.args.place c.self.inside.index.list.cells c.reveal_invariant.ensures.apart c.self.invariant.rows.rows.split.distinct (subst P (sym c.self.view_is) c.requires) in
+    let p = at-place c.args.place c.self.inside.index.list.cells c.reveal_invariant.ensures.apart c.reveal_invariant.ensures.directory.distinct (subst P (sym c.self.view_is) c.requires) in
     let l = length-removed (same p.key) (slots_of c.self.inside.index.list.cells) p.found.item.chain p.found.objects in
     omega (arith, l, c.self.invariant.counted)
 
 pub invariant_of-self : goal.invariant_of-self
 invariant_of-self g c =
     let P : SplitRowsState g.row.H.Denot → Type 0 = λ v. IsSome (key_of_place v.places c.args.place) in
-    let p = at-place c.args.place c.self.inside.index.list.cells c.reveal_invariant.ensures.apart c.self.invariant.rows.rows.split.distinct (subst P (sym c.self.view_is) c.requires) in
+    let p = at-place c.args.place c.self.inside.index.list.cells c.reveal_invariant.ensures.apart c.reveal_invariant.ensures.directory.distinct (subst P (sym c.self.view_is) c.requires) in
     let l = length-removed (same p.key) (slots_of c.self.inside.index.list.cells) p.found.item.chain p.found.objects in
     let e = c.delete-dropped_objects.ensures in
     let new = c.delete-dropped_objects.new.self in
@@ -47,7 +47,6 @@ invariant_of-self g c =
     let N : g.row.H.Denot → Type 0 = λ h. LogInvariant (g.H.KeyHash.hash h) its_log.overflowed its_log.hashes.items (slots_of new.list.cells) in
     let S : List Slot → Type 0 = λ ss. TombstonesAreAmong hash_of its_log.hashes.items ss in
     record {
-      rows = e.rows;
       counted = omega (arith, l, ap length is, c.self.invariant.counted);
       due = subst D (sym e.keeps.directory) c.self.invariant.due;
       logged = subst N (sym e.keeps.hasher) (λ kept. subst S (sym is) (among-without hash_of its_log.hashes.items p.key (slots_of c.self.inside.index.list.cells) (c.self.invariant.logged kept)));
@@ -56,10 +55,10 @@ invariant_of-self g c =
 pub returns-clause-count : goal.returns-clause-count
 returns-clause-count g c =
     let P : SplitRowsState g.row.H.Denot → Type 0 = λ v. IsSome (key_of_place v.places c.args.place) in
-    let p = at-place c.args.place c.self.inside.index.list.cells c.reveal_invariant.ensures.apart c.self.invariant.rows.rows.split.distinct (subst P (sym c.self.view_is) c.requires) in
+    let p = at-place c.args.place c.self.inside.index.list.cells c.reveal_invariant.ensures.apart c.reveal_invariant.ensures.directory.distinct (subst P (sym c.self.view_is) c.requires) in
     let cells = c.self.inside.index.list.cells in
     let is : item_at c.args.place cells ≡ Some p.found.item = ap first_item p.found.is ∙ p.found.has in
-    let there = objects-there cells c.reveal_invariant.ensures.apart c.self.invariant.rows.rows.split.distinct c.args.place p p.found.item.chain (ap (option_map (λ (item : Item). item.chain)) is) in
+    let there = objects-there cells c.reveal_invariant.ensures.apart c.reveal_invariant.ensures.directory.distinct c.args.place p p.found.item.chain (ap (option_map (λ (item : Item). item.chain)) is) in
     let count = sym (ap (option_map (λ (item : Item). length item.chain)) is) ∙ c.delete-dropped_objects.ensures.count in
     let Q : SplitRowsState g.row.H.Denot → Type 0 = λ v. option_map (λ (ts : List Term). length ts) (objects_in v.slots (key_of_place v.places c.args.place)) ≡ Some c.delete-dropped_objects.result in
     subst Q c.self.view_is (ap (option_map (λ (ts : List Term). length ts)) there ∙ count)
@@ -67,14 +66,14 @@ returns-clause-count g c =
 pub returns-clause-now : goal.returns-clause-now
 returns-clause-now g c =
     let P : SplitRowsState g.row.H.Denot → Type 0 = λ v. IsSome (key_of_place v.places c.args.place) in
-    let p = at-place c.args.place c.self.inside.index.list.cells c.reveal_invariant.ensures.apart c.self.invariant.rows.rows.split.distinct (subst P (sym c.self.view_is) c.requires) in
+    let p = at-place c.args.place c.self.inside.index.list.cells c.reveal_invariant.ensures.apart c.reveal_invariant.ensures.directory.distinct (subst P (sym c.self.view_is) c.requires) in
     let Q : SplitRowsState g.row.H.Denot → Type 0 = λ v. (gone : Term) → key_of_place v.places c.args.place ≡ Some gone → content_of c.delete-dropped_objects.new.self.list.cells ≡ without v.slots gone in
-    subst Q c.self.view_is (content-removed c.args.place c.self.inside.index.list.cells c.delete-dropped_objects.new.self.list.cells c.reveal_invariant.ensures.apart c.self.invariant.rows.rows.split.distinct p c.delete-dropped_objects.ensures.cells)
+    subst Q c.self.view_is (content-removed c.args.place c.self.inside.index.list.cells c.delete-dropped_objects.new.self.list.cells c.reveal_invariant.ensures.apart c.reveal_invariant.ensures.directory.distinct p c.delete-dropped_objects.ensures.cells)
 
 pub returns-clause-before : goal.returns-clause-before
 returns-clause-before g c =
     let P : SplitRowsState g.row.H.Denot → Type 0 = λ v. IsSome (key_of_place v.places c.args.place) in
-    let p = at-place c.args.place c.self.inside.index.list.cells c.reveal_invariant.ensures.apart c.self.invariant.rows.rows.split.distinct (subst P (sym c.self.view_is) c.requires) in
+    let p = at-place c.args.place c.self.inside.index.list.cells c.reveal_invariant.ensures.apart c.reveal_invariant.ensures.directory.distinct (subst P (sym c.self.view_is) c.requires) in
     let Q : SplitRowsState g.row.H.Denot → Type 0 =
     λ v. (gone : Term) → key_of_place v.places c.args.place ≡ Some gone → (other : ℕ) (key : Term) → key_of_place v.places other ≡ Some key → ComesBefore v.slots key gone → key_of_place (places_of c.delete-dropped_objects.new.self.list.cells) other ≡ Some key in
-    subst Q c.self.view_is (places-before c.args.place c.self.inside.index.list.cells c.delete-dropped_objects.new.self.list.cells c.reveal_invariant.ensures.apart c.self.invariant.rows.rows.split.distinct p c.delete-dropped_objects.ensures.cells)
+    subst Q c.self.view_is (places-before c.args.place c.self.inside.index.list.cells c.delete-dropped_objects.new.self.list.cells c.reveal_invariant.ensures.apart c.reveal_invariant.ensures.directory.distinct p c.delete-dropped_objects.ensures.cells)

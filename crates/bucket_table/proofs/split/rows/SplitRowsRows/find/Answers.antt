@@ -7,4 +7,4 @@ use Rattle.bucket_table.proofs.split.rows.SplitRowsRows.find.Goals as goal
 pub returns : goal.returns
 returns g c =
     let P : SplitRowsState g.row.H.Denot → Type 0 = λ v. MatchOption c.find.result (objects_of v.slots c.args.key.now ≡ None) (λ at. (key_of_place v.places at ≡ Some c.args.key.now) × IsSome (objects_of v.slots c.args.key.now)) in
-    subst P c.self.view_is (placed-there c.self.inside.index.list.cells c.reveal_invariant.ensures.apart c.self.invariant.rows.rows.split.distinct c.args.key.now c.find.result c.find.ensures.found)
+    subst P c.self.view_is (placed-there c.self.inside.index.list.cells c.reveal_invariant.ensures.apart c.reveal_invariant.ensures.directory.distinct c.args.key.now c.find.result c.find.ensures.found)

@@ -10,7 +10,7 @@ use Rattle.bucket_table.proofs.sweep.Order.{content-swept}
 use Rattle.bucket_table.proofs.split.rows.SplitRowsRows.purge.Goals as goal
 
 pub overflow_sub-self : goal.overflow_sub-self
-overflow_sub-self g c = omega (arith, c.purge_hashes.ensures.each.len, c.purge_hashes.ensures.each.fewer, c.self.invariant.counted, c.len.ensures.value, c.len-before.ensures.value)
+overflow_sub-self g c = omega (arith, c.purge_hashes.ensures.each.len, c.purge_hashes.ensures.each.fewer, c.self.invariant.counted, c.nodes.ensures, c.nodes-before.ensures)
 
 pub invariant_of-self : goal.invariant_of-self
 invariant_of-self g c =
@@ -20,8 +20,7 @@ invariant_of-self g c =
     let D : List (Option ℕ) → Type 0 = λ ds. IsFirstUnready ds c.self.inside.first_unready in
     let N : List Slot → Type 0 = λ ss. TombstonesAreAmong hash_of hashes ss in
     record {
-      rows = e.rows;
-      counted = omega (arith, e.each.len, e.each.fewer, c.self.invariant.counted, c.len.ensures.value, c.len-before.ensures.value);
+      counted = omega (arith, e.each.len, e.each.fewer, c.self.invariant.counted, c.nodes.ensures, c.nodes-before.ensures);
       due = subst D (sym e.keeps.directory) c.self.invariant.due;
       logged = λ kept. subst N (sym e.slots) (among-purged hash_of hashes (slots_of c.self.inside.index.list.cells));
     }

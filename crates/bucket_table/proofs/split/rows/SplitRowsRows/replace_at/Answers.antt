@@ -1,59 +1,50 @@
 use Rattle.ets_term.specs.declared.term.Term.{Term}
-use Rattle.std.proofs.Math.Nat.{mod-eq_of_lt}
+use Rattle.node_list.specs.declared.node.Item.{Item}
+use Rattle.node_list.specs.Places.{item_at, first_item}
 use Rattle.bucket_table.specs.Slots.{Slot, has_objects}
 use Rattle.bucket_table.specs.inside.TombstoneLog.{IsAmong, TombstonesAreAmong}
 use Rattle.bucket_table.proofs.sweep.Log.{among-with, among-more, tombstone-counted}
-use Rattle.bucket_table.proofs.hints.Parts.{item-small}
-use Rattle.std.proofs.Common.{◌≡◌, ◌-◌, ℕ, List, arith, length, IsSome, Some, sym, ◌∙◌, ap, subst, ◌^◌, ◌+◌}
+use Rattle.std.proofs.Common.{◌≡◌, ◌-◌, ℕ, List, arith, length, IsSome, Some, option_map, sym, ◌∙◌, ap, subst}
 use Rattle.bucket_table.specs.Entries.{objects_in, with_objects_in}
 use Rattle.bucket_table.specs.SplitRowsState.{SplitRowsState, key_of_place}
 use Rattle.bucket_table.specs.inside.Nodes.{slots_of, places_of}
 use Rattle.node_list.specs.Changes.{cells_with}
 use Rattle.bucket_table.proofs.list.Content.{found-item}
 use Rattle.bucket_table.proofs.list.Length.{length-set_value}
-use Rattle.bucket_table.proofs.hints.Invariant.{rows-with}
-use Rattle.bucket_table.proofs.list.Places.{at-place, at-is_place, hash-key, length-with, places-with}
+use Rattle.bucket_table.proofs.list.Places.{at-place, length-with, places-with}
 use Rattle.ets_term.specs.Order.{same}
 use Rattle.bucket_table.specs.inside.Order.{content_of}
 use Rattle.bucket_table.proofs.order.Read.{objects-there, objects-put}
-use Rattle.bucket_table.proofs.hints.Change.{hints-with}
 use Rattle.bucket_table.proofs.split.rows.SplitRowsRows.replace_at.Goals as goal
+
+some-same : {n m : ℕ} → Some n ≡ Some m → n ≡ m
+some-same e = cc
 
 pub chain_mut-chain-requires : goal.chain_mut-chain-requires
 chain_mut-chain-requires g c =
     let P : SplitRowsState g.row.H.Denot → Type 0 = λ v. IsSome (key_of_place v.places c.args.place) in
-    let p = at-place c.args.place c.self.inside.index.list.cells c.reveal_invariant.ensures.apart c.self.invariant.rows.rows.split.distinct (subst P (sym c.self.view_is) c.requires) in
+    let p = at-place c.args.place c.self.inside.index.list.cells c.reveal_invariant.ensures.apart c.reveal_invariant.ensures.directory.distinct (subst P (sym c.self.view_is) c.requires) in
     found-item p.key c.args.place c.self.inside.index.list.cells p.found
 
-pub split_key-requires : goal.split_key-requires
-split_key-requires g c =
+pub hash_at-hash-requires : goal.hash_at-hash-requires
+hash_at-hash-requires g c =
     let P : SplitRowsState g.row.H.Denot → Type 0 = λ v. IsSome (key_of_place v.places c.args.place) in
-    let p = at-place c.args.place c.self.inside.index.list.cells c.reveal_invariant.ensures.apart c.self.invariant.rows.rows.split.distinct (subst P (sym c.self.view_is) c.requires) in
-    at-is_place c.args.place c.self.inside.index.list.cells p
-
-pub item_hash-hash-requires : goal.item_hash-hash-requires
-item_hash-hash-requires g c =
-    let P : SplitRowsState g.row.H.Denot → Type 0 = λ v. IsSome (key_of_place v.places c.args.place) in
-    let p = at-place c.args.place c.self.inside.index.list.cells c.reveal_invariant.ensures.apart c.self.invariant.rows.rows.split.distinct (subst P (sym c.self.view_is) c.requires) in
-    let key = hash-key (g.H.KeyHash.hash c.self.inside.index.hasher) c.self.inside.index.directory p.key c.args.place c.self.inside.index.list.cells c.self.invariant.rows.rows.split.placed p.found c.split_key.result c.split_key.ensures in
-    let small = item-small ((g.H.KeyHash.hash c.self.inside.index.hasher) p.key) in
-    omega (arith, key, small)
+    let p = at-place c.args.place c.self.inside.index.list.cells c.reveal_invariant.ensures.apart c.reveal_invariant.ensures.directory.distinct (subst P (sym c.self.view_is) c.requires) in
+    found-item p.key c.args.place c.self.inside.index.list.cells p.found
 
 pub invariant_of-self : goal.invariant_of-self
 invariant_of-self g c =
     let P : SplitRowsState g.row.H.Denot → Type 0 = λ v. IsSome (key_of_place v.places c.args.place) in
-    let p = at-place c.args.place c.self.inside.index.list.cells c.reveal_invariant.ensures.apart c.self.invariant.rows.rows.split.distinct (subst P (sym c.self.view_is) c.requires) in
+    let p = at-place c.args.place c.self.inside.index.list.cells c.reveal_invariant.ensures.apart c.reveal_invariant.ensures.directory.distinct (subst P (sym c.self.view_is) c.requires) in
     let h = p.found in
-    let rows = rows-with (g.H.KeyHash.hash c.self.inside.index.hasher) c.self.inside.index.directory c.self.inside.index.hints.interval_bits c.self.inside.index.hints.current c.self.inside.index.list.cells c.self.invariant.rows.rows p.key c.args.place c.replace.new.dest h in
     let hash_of = g.H.KeyHash.hash c.self.inside.index.hasher in
     let ss = slots_of c.self.inside.index.list.cells in
     let hs = c.log_hash.new.self.hashes.items in
     let H : ℕ → Type 0 = λ n. IsAmong n hs in
     let N : List Slot → Type 0 = λ zs. TombstonesAreAmong hash_of hs zs in
-    let key = hash-key hash_of c.self.inside.index.directory p.key c.args.place c.self.inside.index.list.cells c.self.invariant.rows.rows.split.placed p.found c.split_key.result c.split_key.ensures in
-    let hash : c.item_hash-hash.result ≡ hash_of p.key = c.item_hash-hash.ensures (hash_of p.key) key ∙ mod-eq_of_lt (g.met.H.KeyHash.below c.self.inside.index.hasher p.key) in
+    let is : item_at c.args.place c.self.inside.index.list.cells ≡ Some p.found.item = ap first_item p.found.is ∙ p.found.has in
+    let hash : c.hash_at-hash.result ≡ hash_of p.key = some-same (sym c.hash_at-hash.ensures ∙ ap (option_map (λ (i : Item). hash_of i.term)) is) ∙ ap hash_of p.found.same_term in
     record {
-      rows = record { rows = rows; previous = hints-with (2 ^ (c.self.inside.index.hints.interval_bits + 1)) c.self.inside.index.hints.previous c.args.place c.replace.new.dest c.self.inside.index.list.cells c.self.invariant.rows.previous };
       counted = c.self.invariant.counted ∙ sym (ap length (h.replaced c.replace.new.dest) ∙ length-set_value (same p.key) ss c.replace.new.dest);
       due = c.self.invariant.due;
       logged = λ kept. subst N (sym (h.replaced c.replace.new.dest)) (among-with hash_of hs p.key c.replace.new.dest ss
@@ -64,16 +55,16 @@ invariant_of-self g c =
 pub returns-clause-objects : goal.returns-clause-objects
 returns-clause-objects g c =
     let P : SplitRowsState g.row.H.Denot → Type 0 = λ v. IsSome (key_of_place v.places c.args.place) in
-    let p = at-place c.args.place c.self.inside.index.list.cells c.reveal_invariant.ensures.apart c.self.invariant.rows.rows.split.distinct (subst P (sym c.self.view_is) c.requires) in
+    let p = at-place c.args.place c.self.inside.index.list.cells c.reveal_invariant.ensures.apart c.reveal_invariant.ensures.directory.distinct (subst P (sym c.self.view_is) c.requires) in
     let Q : SplitRowsState g.row.H.Denot → Type 0 = λ v. objects_in v.slots (key_of_place v.places c.args.place) ≡ Some c.chain_mut-chain.result.now in
-    subst Q c.self.view_is (objects-there c.self.inside.index.list.cells c.reveal_invariant.ensures.apart c.self.invariant.rows.rows.split.distinct c.args.place p c.chain_mut-chain.result.now c.chain_mut-chain.ensures.value) ∙ ap Some (sym c.replace.ensures.value)
+    subst Q c.self.view_is (objects-there c.self.inside.index.list.cells c.reveal_invariant.ensures.apart c.reveal_invariant.ensures.directory.distinct c.args.place p c.chain_mut-chain.result.now c.chain_mut-chain.ensures.value) ∙ ap Some (sym c.replace.ensures.value)
 
 pub returns-clause-now : goal.returns-clause-now
 returns-clause-now g c =
     let P : SplitRowsState g.row.H.Denot → Type 0 = λ v. IsSome (key_of_place v.places c.args.place) in
-    let p = at-place c.args.place c.self.inside.index.list.cells c.reveal_invariant.ensures.apart c.self.invariant.rows.rows.split.distinct (subst P (sym c.self.view_is) c.requires) in
+    let p = at-place c.args.place c.self.inside.index.list.cells c.reveal_invariant.ensures.apart c.reveal_invariant.ensures.directory.distinct (subst P (sym c.self.view_is) c.requires) in
     let Q : SplitRowsState g.row.H.Denot → Type 0 = λ v. content_of (cells_with c.args.place c.replace.new.dest c.self.inside.index.list.cells) ≡ with_objects_in v.slots (key_of_place v.places c.args.place) c.args.objects in
-    subst Q c.self.view_is (objects-put c.self.inside.index.list.cells c.reveal_invariant.ensures.apart c.self.invariant.rows.rows.split.distinct c.args.place p c.replace.new.dest ∙ ap (with_objects_in (content_of c.self.inside.index.list.cells) (key_of_place (places_of c.self.inside.index.list.cells) c.args.place)) c.replace.ensures.after)
+    subst Q c.self.view_is (objects-put c.self.inside.index.list.cells c.reveal_invariant.ensures.apart c.reveal_invariant.ensures.directory.distinct c.args.place p c.replace.new.dest ∙ ap (with_objects_in (content_of c.self.inside.index.list.cells) (key_of_place (places_of c.self.inside.index.list.cells) c.args.place)) c.replace.ensures.after)
 
 pub returns-clause-place : goal.returns-clause-place
 returns-clause-place g c = ap (λ (ps : List (ℕ × Term)). key_of_place ps c.args.place) (places-with c.args.place c.replace.new.dest c.self.inside.index.list.cells ∙ ap (λ (v : SplitRowsState g.row.H.Denot). v.places) c.self.view_is)

@@ -7,4 +7,4 @@ use Rattle.bucket_table.proofs.split.rows.SplitRowsRows.reveal_invariant.Goals a
 pub returns : goal.returns
 returns g c =
     let P : SplitRowsState g.row.H.Denot → Type 0 = λ v. HasDistinctKeys v.slots in
-    subst P c.self.view_is (keys-distinct c.self.inside.index.list.cells c.reveal_invariant.ensures.apart c.self.invariant.rows.rows.split.distinct)
+    subst P c.self.view_is (keys-distinct c.self.inside.index.list.cells c.reveal_invariant.ensures.apart c.reveal_invariant.ensures.directory.distinct)
